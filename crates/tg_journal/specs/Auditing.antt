@@ -1,20 +1,38 @@
 -- What an audit says of the entries that it was fed.
-use Rattle.std.specs.Prelude.{◌≡◌, ◌<◌, ℕ, List, take, length}
-use Rattle.tg_model.specs.Graph.{ProtectionGraph}
+use Rattle.std.specs.Prelude.{◌≡◌, ◌<◌, ◌≤◌, ◌⊎◌, ℕ, List, take, length}
+use Rattle.tg_model.specs.Graph.{ProtectionGraph, IsReachable, IsSound}
 use Rattle.tg_journal.specs.declared.auditor.AuditStopped.{AuditStopped}
 use Rattle.tg_journal.specs.declared.entry.Entry.{Entry}
 use Rattle.tg_journal.specs.declared.replay.AuditFault.TheVariants.{OutOfMemory, BadEntry}
 use Rattle.tg_journal.specs.History.{IsLegal, IsFirstBad, graph_after}
 
--- the entries are a legal history of the first graph, and the second is the one after them
-pub record Passes (old : ProtectionGraph) (es : List Entry) (new : ProtectionGraph) : Type 0 where
-  pub legal : IsLegal old es
-  pub graph : new ≡ graph_after old es
+-- a vertex that a subject reaches, or a name that wasn't made yet: what no subject reaches of those made never is reached again
+abbrev pub MayMatter : ProtectionGraph → ℕ → Type 0
+MayMatter g y = IsReachable g y ⊎ (g.made ≤ y)
+
+-- The second graph has the subjects, the number made and the limit of the first, and the same labels and values at all that its
+-- subjects reach. What else it has of vertices that were made is anything.
+pub record AlikeWhereReached (g kept : ProtectionGraph) : Type 0 where
+  pub subjects : kept.subjects ≡ g.subjects
+  pub made : kept.made ≡ g.made
+  pub limit : kept.limit ≡ g.limit
+  pub label : (x y : ℕ) → MayMatter g x → kept.label x y ≡ g.label x y
+  pub value : (y : ℕ) → IsReachable g y → kept.value y ≡ g.value y
+
+-- an audit, of which this graph was kept, has come to the first one
+pub record HasComeTo (g kept : ProtectionGraph) : Type 0 where
+  pub sound : IsSound g
+  pub alike : AlikeWhereReached g kept
+
+-- the entries are a legal history of the first graph, and the audit has come to the one after them
+pub record Passes (g : ProtectionGraph) (es : List Entry) (kept : ProtectionGraph) : Type 0 where
+  pub legal : IsLegal g es
+  pub next : HasComeTo (graph_after g es) kept
 
 -- An audit stopped at an entry of the part: those before it passed. Where memory was wanting, the audit has come to the graph before
 -- it; else it is the first bad one, and that place is told.
-pub record IsStopped (old : ProtectionGraph) (es : List Entry) (new : ProtectionGraph) (stopped : AuditStopped) : Type 0 where
+pub record IsStopped (g : ProtectionGraph) (es : List Entry) (kept : ProtectionGraph) (stopped : AuditStopped) : Type 0 where
   pub inside : stopped.at < length es
-  pub before : IsLegal old (take stopped.at es)
-  pub resumes : stopped.why ≡ OutOfMemory → new ≡ graph_after old (take stopped.at es)
-  pub bad : (at : ℕ) → stopped.why ≡ BadEntry at → (at ≡ stopped.at) × IsFirstBad old es at
+  pub before : IsLegal g (take stopped.at es)
+  pub resumes : stopped.why ≡ OutOfMemory → HasComeTo (graph_after g (take stopped.at es)) kept
+  pub bad : (at : ℕ) → stopped.why ≡ BadEntry at → (at ≡ stopped.at) × IsFirstBad g es at

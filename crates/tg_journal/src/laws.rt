@@ -6,9 +6,12 @@
 ghost use Rattle.std.specs.Prelude.{◌≡◌, ◌↔◌, ◌⊎◌, ◌<◌, ◌≤◌, ℕ, List, [], ◌∷◌, ◌++◌, map, take, slice_get, Some, IfSome};
 ghost use Rattle.tg_model.specs.Graph.{ProtectionGraph, IsSubject, IsReachable, IsSound};
 ghost use Rattle.tg_model.specs.Opened.{Plan, IsPlan, ValueFits, start_of};
-ghost use Rattle.tg_model.specs.Rules.{step};
+ghost use Rattle.tg_model.specs.Rules.{step, answer_of};
+ghost use Rattle.tg_model.specs.declared.command.Deed.{Deed};
 ghost use Rattle.tg_model.specs.Edition1.{Plan1, Entry1, IsLegal1, start_of1, plan_now};
 ghost use Rattle.tg_journal.specs.Edition1.{entry_today, IsFirstBad1};
+ghost use Rattle.tg_journal.specs.Auditing.{HasComeTo};
+ghost use Rattle.tg_journal.specs.Live.{IsSwept};
 ghost use Rattle.tg_journal.specs.History.{IsLegalEntry, IsLegal, graph_after, IsFirstBad};
 ghost use Rattle.tg_journal.specs.declared.entry.Entry.{Entry};
 ghost use Rattle.tg_model.specs.declared.reply.Reply.TheVariants.{Name};
@@ -93,6 +96,23 @@ pub fn the_unreachable_stay()
     ensures value { (g : ProtectionGraph) (es : List Entry) (u : ℕ) →
         IsSound g → IsLegal g es → u < g.made → ¬ IsReachable g u →
         (graph_after g es).value u ≡ g.value u }
+{}
+
+/// A graph that has the same labels and values as another at all that its subjects reach answers each deed of a subject as
+/// the other does, and is so again after it: it has nothing to know of what can't be reached. An entry is legal on both or
+/// on none.
+pub fn where_subjects_reach_is_enough()
+    ensures answer { (g kept : ProtectionGraph) (x : ℕ) (deed : Deed) →
+        HasComeTo g kept → IsSubject g x → answer_of kept x deed ≡ answer_of g x deed }
+    ensures step { (g kept : ProtectionGraph) (x : ℕ) (deed : Deed) →
+        HasComeTo g kept → IsSubject g x → HasComeTo (step g x deed) (step kept x deed) }
+    ensures entry { (g kept : ProtectionGraph) (e : Entry) →
+        HasComeTo g kept → IsLegalEntry kept e ↔ IsLegalEntry g e }
+{}
+
+/// What no subject reaches may be forgotten: the graph stays alike where subjects reach.
+pub fn the_unreached_may_be_forgotten()
+    ensures { (g kept swept : ProtectionGraph) → HasComeTo g kept → IsSwept kept swept → HasComeTo g swept }
 {}
 
 /// A history is legal or has a first bad place. One with a first bad place isn't legal, and has no other.

@@ -1,24 +1,33 @@
-use Rattle.std.proofs.Common.{◌≡◌, ◌∙◌, ℕ, refl, sym, ap, subst, ◌++◌, ◌∷◌, [], take}
+use Rattle.std.proofs.Common.{◌≡◌, ◌∙◌, ap, sym, refl, subst, ◌++◌, ◌∷◌, [], ◌+◌, take}
 use Rattle.std.proofs.lemmas.List.{take_more}
 use Rattle.std.proofs.lemmas.Option.{slice_get_read}
-use Rattle.tg_model.specs.Graph.{ProtectionGraph}
-use Rattle.tg_model.specs.Rules.{step}
-use Rattle.tg_model.specs.Plain.{graph_of}
-use Rattle.tg_journal.specs.History.{IsLegal, IsLegalEntry, graph_after}
-use Rattle.tg_journal.proofs.HistoryLaws.{IsLegal-push, graph_after-push}
+use Rattle.tg_journal.specs.Auditing.{Passes}
+use Rattle.tg_journal.specs.Live.{Kept, graph_kept}
+use Rattle.tg_journal.proofs.AuditLaws.{passed_on, stopped_for_want, stopped_at_bad, still_passes}
 use Rattle.tg_journal.proofs.auditor.Auditor.feed.Goals as goal
 
 pub loop-at-preserved : goal.loop-at-preserved
-loop-at-preserved c =
-    let g = graph_of c.args.self.now in
+loop-at-preserved c = λ g come.
+    let es = c.args.entries.now in
     let at = c.loop-at.at in
     let x = c.index-entries-at.result in
-    let before = take at c.args.entries.now in
-    let more = take_more c.args.entries.now at x c.loop-at-test.true ∙ ap (λ y. before ++ y ∷ []) (sym c.index-entries-at.is) in
-    let this = subst (λ (h : ProtectionGraph). IsLegalEntry h x) c.loop-at.invariant.graph (c.in-Ok.ensures.legal.0 c.if-not-legal.false) in
-    record {
-      legal = subst (IsLegal g) (sym more) (IsLegal-push g before x c.loop-at.invariant.legal this);
-      graph =
-          c.in-Ok.ensures.next c.if-not-legal.false ∙ ap (λ h. step h x.worker x.deed) c.loop-at.invariant.graph
-          ∙ sym (graph_after-push g before x) ∙ ap (graph_after g) (sym more);
-    }
+    let more : take (at + 1) es ≡ take at es ++ x ∷ [] =
+    take_more es at x c.loop-at-test.true ∙ ap (λ y. take at es ++ y ∷ []) (sym c.index-entries-at.is) in
+    passed_on g _ _ es at x (subst (λ (k : Kept). Passes g (take at es) (graph_kept k)) (sym c.self.view_is) (still_passes g _ _ _ (c.loop-at.invariant g come) c.sweep_where_due.ensures)) (c.in-Ok.ensures.legal.0 c.if-not-legal.false) (c.in-Ok.ensures.next c.if-not-legal.false) more
+
+pub returns-then-not-legal-clause-stopped : goal.returns-then-not-legal-clause-stopped
+returns-then-not-legal-clause-stopped c = λ g come.
+    let es = c.args.entries.now in
+    let at = c.loop-at.at in
+    let x = c.index-entries-at.result in
+    stopped_at_bad g _ _ es at x (subst (λ (k : Kept). Passes g (take at es) (graph_kept k)) (sym c.self.view_is) (still_passes g _ _ _ (c.loop-at.invariant g come) c.sweep_where_due.ensures)) c.loop-at-test.true
+    (slice_get_read es _ at x refl c.loop-at-test.true c.index-entries-at.is)
+    (λ legal. let same = c.in-Ok.ensures.legal.1 legal in cc (same, c.if-not-legal.true))
+
+pub returns-in_default-clause-stopped : goal.returns-in_default-clause-stopped
+returns-in_default-clause-stopped c = λ g come.
+    let es = c.args.entries.now in
+    let at = c.loop-at.at in
+    stopped_for_want g _ _ es at c.index-entries-at.result
+    (subst (λ (k : Kept). Passes g (take at es) (graph_kept k)) (sym c.self.view_is) (still_passes g _ _ _ (c.loop-at.invariant g come) c.sweep_where_due.ensures))
+    c.loop-at-test.true c.in_default.ensures.refused

@@ -1,11 +1,9 @@
-use Rattle.std.proofs.Common.{◌≡◌, take}
-use Rattle.tg_model.specs.Plain.{graph_of}
-use Rattle.tg_journal.specs.History.{IsLegal, graph_after}
+use Rattle.std.proofs.Common.{take}
+use Rattle.tg_model.specs.Graph.{ProtectionGraph}
+use Rattle.tg_journal.specs.Auditing.{HasComeTo, Passes}
+use Rattle.tg_journal.specs.Live.{graph_kept}
 use Rattle.tg_journal.proofs.auditor.Auditor.feed.Given as goal
 
 -- the entries so far passed
 abbrev pub invariant-loop-at : goal.invariant-loop-at
-invariant-loop-at l = record {
-  legal : IsLegal (graph_of l.fn.self) (take l.at l.entries);
-  graph : graph_of l.self-inside.graph ≡ graph_after (graph_of l.fn.self) (take l.at l.entries);
-}
+invariant-loop-at l = (g : ProtectionGraph) → HasComeTo g (graph_kept l.fn.self) → Passes g (take l.at l.entries) (graph_kept l.self)

@@ -1,0 +1,97 @@
+-- What the changes of a deed come to in the graph that is kept.
+use Rattle.std.proofs.Common.{◌≡◌, ◌==◌, ◌+◌, ◌<◌, ◌++◌, ◌∷◌, [], ℕ, List, length, Bool, true, false, cond, Option, Some, None, refl, sym, ap, subst, ◌∙◌, arith}
+use mathlib.Core.Bool.{true≢false}
+use Rattle.std.proofs.lemmas.Bool.{eqb-true}
+use Rattle.tg_rights.specs.RightSet.{RightSet, no_rights, is_none_held}
+use Rattle.tg_model.specs.declared.value.Value.{Value}
+use Rattle.tg_model.specs.declared.command.Deed.TheVariants.{Create, Spawn}
+use Rattle.tg_model.specs.declared.opening.TheConstants.{MAX_WORKERS}
+use Rattle.tg_model.specs.Graph.{ProtectionGraph, IsReachable, with_rights}
+use Rattle.tg_model.specs.Opened.{Plan, start_of}
+use Rattle.tg_model.specs.Rules.{step, with_value, with_vertex}
+use Rattle.tg_model.proofs.AllowedLaws.{step-created, step-spawned}
+use Rattle.tg_journal.specs.Live.{Kept, Labels, graph_kept, label_between, value_of, IsAsBefore, IsSwept}
+
+abbrev pub kept : List ℕ → ℕ → ℕ → Labels → List (ℕ × Value) → Kept
+kept s n l es vs = record { subjects = s; made = n; limit = l; labels = es; values = vs }
+
+-- ---- the parts that change
+
+module _ (s : List ℕ) (n l : ℕ) (es : Labels) (vs : List (ℕ × Value)) (k : Kept) (view : kept s n l es vs ≡ k) where
+  pub relabelled : (new : Labels) (f : (ℕ → ℕ → RightSet) → ℕ → ℕ → RightSet) → label_between new ≡ f (label_between es) → graph_kept (kept s n l new vs) ≡ record (graph_kept k) { label = f (label_between k.labels) }
+  relabelled new f same =
+      (λ i. record { subjects = s; made = n; limit = l; label = same i; value = value_of vs })
+      ∙ ap (λ (k : Kept). record (graph_kept k) { label = f (label_between k.labels) }) view
+
+  pub rewritten : (new : List (ℕ × Value)) (f : (ℕ → Option Value) → ℕ → Option Value) → ((a : ℕ) → value_of new a ≡ f (value_of vs) a) → graph_kept (kept s n l es new) ≡ record (graph_kept k) { value = f (value_of k.values) }
+  rewritten new f same =
+      (λ i. record { subjects = s; made = n; limit = l; label = label_between es; value = λ a. same a i })
+      ∙ ap (λ (k : Kept). record (graph_kept k) { value = f (value_of k.values) }) view
+
+  -- a vertex more
+  pub created : (x : ℕ) (r : RightSet) (v : Value) (new : Labels) (us : List (ℕ × Value)) → label_between new ≡ with_rights (label_between es) x n r → ((a : ℕ) → value_of us a ≡ with_value (value_of vs) n v a) → n < l → graph_kept (kept s (n + 1) l new us) ≡ step (graph_kept k) x (Create r v.law v.state)
+  created x r v new us labels values room =
+      (λ i. record { subjects = s; made = n + 1; limit = l; label = labels i; value = λ a. values a i })
+      ∙ sym (step-created (graph_kept (kept s n l es vs)) x r v.law v.state room)
+      ∙ ap (λ (k : Kept). step (graph_kept k) x (Create r v.law v.state)) view
+
+  -- ---- want of memory
+
+  pub nothing_changed : (new : Labels) (us : List (ℕ × Value)) → new ≡ es → us ≡ vs → IsAsBefore (graph_kept k) (graph_kept (kept s n l new us))
+  nothing_changed new us labels values = subst (λ (k : Kept). IsAsBefore (graph_kept k) (graph_kept (kept s n l new us))) view (record {
+    subjects = refl;
+    made = refl;
+    limit = refl;
+    label = ap label_between labels;
+    value = λ y below. ap (λ (vs : List (ℕ × Value)). value_of vs y) values;
+  })
+
+  -- a value of a name that wasn't made yet
+  pub later_value : (v : Value) (new : Labels) (us : List (ℕ × Value)) → new ≡ es → ((a : ℕ) → value_of us a ≡ with_value (value_of vs) n v a) → IsAsBefore (graph_kept k) (graph_kept (kept s n l new us))
+  later_value v new us labels values = subst (λ (k : Kept). IsAsBefore (graph_kept k) (graph_kept (kept s n l new us))) view (record {
+    subjects = refl;
+    made = refl;
+    limit = refl;
+    label = ap label_between labels;
+    value = λ y below. values y ∙ stays y below (y == n) refl;
+  })
+    where
+      stays : (y : ℕ) → y < n → (b : Bool) → b ≡ (y == n) → cond b (Some v) (value_of vs y) ≡ value_of vs y
+      stays y below true is = let same = eqb-true y n (sym is) in absurd (omega (arith, below, same))
+      stays y below false is = refl
+
+-- a vertex more, which is a subject
+pub spawned : (g next : ProtectionGraph) (k : Kept) (x : ℕ) (r : RightSet) (v : Value) (subjects : List ℕ) (name : ℕ) → next ≡ step g x (Create r v.law v.state) → next ≡ graph_kept k → g.made < g.limit → length g.subjects < MAX_WORKERS → subjects ≡ g.subjects ++ name ∷ [] → name ≡ g.made → graph_kept (record k { subjects = subjects }) ≡ step g x (Spawn r v.law v.state)
+spawned g next k x r v subjects name is stands room few more made =
+    let parts : graph_kept k ≡ with_vertex g x r v = sym stands ∙ is ∙ step-created g x r v.law v.state room in
+    (λ i. record (parts i) { subjects = (more ∙ ap (λ n. g.subjects ++ n ∷ []) made) i }) ∙ sym (step-spawned g x r v.law v.state room few)
+
+-- the graph of an opening
+pub opened : (p : Plan) (s : List ℕ) (n l : ℕ) (es : Labels) (vs : List (ℕ × Value)) → s ≡ (start_of p).subjects → n ≡ p.workers → l ≡ p.limit → label_between es ≡ (start_of p).label → value_of vs ≡ (start_of p).value → graph_kept (kept s n l es vs) ≡ start_of p
+opened p s n l es vs subjects made limit labels values =
+    λ i. record { subjects = subjects i; made = made i; limit = limit i; label = labels i; value = values i }
+
+-- ---- a sweep
+
+pub kept_edge : (b : Bool) (r : RightSet) → is_none_held (cond b r no_rights) ≡ false → is_none_held r ≡ false
+kept_edge true r some = some
+kept_edge false r some = absurd (true≢false some)
+
+module _ (s : List ℕ) (n l : ℕ) (es : Labels) (vs : List (ℕ × Value)) (k : Kept) (view : kept s n l es vs ≡ k) (names : ℕ → Bool) (new : Labels) (us : List (ℕ × Value)) (reached : (y : ℕ) → (names y ≡ true → IsReachable (graph_kept k) y) × (IsReachable (graph_kept k) y → names y ≡ true)) (labels : (x y : ℕ) → label_between new x y ≡ cond (names x) (label_between es x y) no_rights) (values : (y : ℕ) → value_of us y ≡ cond (names y) (value_of vs y) None) where
+  is_out : (y : ℕ) → (IsReachable (graph_kept k) y → ⊥) → names y ≡ false
+  is_out y out = not_in (names y) refl
+    where
+      not_in : (b : Bool) → b ≡ names y → names y ≡ false
+      not_in true is = absurd (out ((reached y).0 (sym is)))
+      not_in false is = sym is
+
+  pub swept : IsSwept (graph_kept k) (graph_kept (kept s n l new us))
+  swept = record {
+    subjects = ap (λ (k : Kept). k.subjects) view;
+    made = ap (λ (k : Kept). k.made) view;
+    limit = ap (λ (k : Kept). k.limit) view;
+    label = λ x y there. labels x y ∙ ap (λ b. cond b (label_between es x y) no_rights) ((reached x).1 there) ∙ ap (λ (k : Kept). label_between k.labels x y) view;
+    value = λ y there. values y ∙ ap (λ b. cond b (value_of vs y) None) ((reached y).1 there) ∙ ap (λ (k : Kept). value_of k.values y) view;
+    no_label = λ x y out. labels x y ∙ ap (λ b. cond b (label_between es x y) no_rights) (is_out x out);
+    no_value = λ y out. values y ∙ ap (λ b. cond b (value_of vs y) None) (is_out y out);
+  }

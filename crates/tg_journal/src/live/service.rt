@@ -1,0 +1,160 @@
+//! What deeds change, and what is answered.
+ghost use Rattle.std.specs.Prelude.{◌≡◌, ◌<◌, ℕ, None, IfOk, OnOk, OnErr};
+
+use crate::live::LiveGraph;
+use std::alloc::AllocError;
+use tg_model::{Command, Deed, Law, MAX_WORKERS, Numbers, Reply, Value};
+use tg_rights::Label;
+
+impl LiveGraph {
+    ghost use Rattle.tg_model.specs.Graph.{IsSubject, with_rights, without_rights, without_subject};
+    ghost use Rattle.tg_model.specs.Rules.{HoldsOver, denial_of, step, answer_of, effect, reply_of, state_of};
+    ghost use Rattle.tg_journal.specs.Live.{IsAsBefore, graph_kept};
+
+    /// Takes a deed of a subject. The answer is that of the rules, and the graph becomes the next one. Fails only when out of
+    /// memory, and the graph is then as before but for what names store that weren't made yet.
+    pub(crate) fn apply(&mut self, worker: u64, deed: &Deed) -> Result<Reply, AllocError>
+        ensures reply { IfOk result (λ reply. reply ≡ answer_of (graph_kept self.old) worker deed.now) }
+        ensures step { OnOk result (graph_kept self.new ≡ step (graph_kept self.old) worker deed.now) }
+        ensures refused { OnErr result (IsAsBefore (graph_kept self.old) (graph_kept self.new)) }
+    {
+        match deed {
+            Deed::Create { label, law, state } => self.create(worker, *label, *law, state),
+            Deed::Spawn { label, law, state } => self.spawn(worker, *label, *law, state),
+            Deed::Plain(command) => match self.denial(worker, command) {
+                Some(denial) => Ok(Reply::Denied(denial)),
+                None => self.serve(worker, command),
+            },
+        }
+    }
+
+    // Makes a vertex and the edge of the worker to it.
+    fn create(
+        &mut self,
+        worker: u64,
+        label: Label,
+        law: Law,
+        state: &Numbers,
+    ) -> Result<Reply, AllocError>
+        ensures reply { IfOk result (λ reply. reply ≡ answer_of (graph_kept self.old) worker (Deed.Create label law state.now)) }
+        ensures step { OnOk result (graph_kept self.new ≡ step (graph_kept self.old) worker (Deed.Create label law state.now)) }
+        ensures refused { OnErr result (IsAsBefore (graph_kept self.old) (graph_kept self.new)) }
+    {
+        let name = self.made;
+        if name >= self.max_vertices {
+            return Ok(Reply::VerticesFull);
+        }
+        let state = state.copy(self.alloc)?;
+        self.values.insert(name, Value { law, state })?;
+        self.edges.add(worker, name, label)?;
+        self.made = name + 1;
+        Ok(Reply::Name(name))
+    }
+
+    // Makes a vertex that is a subject, and the edge of the worker to it.
+    fn spawn(
+        &mut self,
+        worker: u64,
+        label: Label,
+        law: Law,
+        state: &Numbers,
+    ) -> Result<Reply, AllocError>
+        ensures reply { IfOk result (λ reply. reply ≡ answer_of (graph_kept self.old) worker (Deed.Spawn label law state.now)) }
+        ensures step { OnOk result (graph_kept self.new ≡ step (graph_kept self.old) worker (Deed.Spawn label law state.now)) }
+        ensures refused { OnErr result (IsAsBefore (graph_kept self.old) (graph_kept self.new)) }
+    {
+        let name = self.made;
+        if name >= self.max_vertices {
+            return Ok(Reply::VerticesFull);
+        }
+        if self.subjects.len() as u64 >= MAX_WORKERS {
+            return Ok(Reply::WorkersFull);
+        }
+        // The new list stands before the vertex is made, so that nothing is refused after that.
+        let mut subjects = Vec::from_slice(self.alloc, &self.subjects)?;
+        subjects.push(name)?;
+        let reply = self.create(worker, label, law, state)?;
+        self.subjects = subjects;
+        Ok(reply)
+    }
+
+    // Does what a command asks for that is served.
+    fn serve(&mut self, worker: u64, command: &Command) -> Result<Reply, AllocError>
+        requires { denial_of (graph_kept self.old).label (graph_kept self.old).value worker command.now ≡ None }
+        ensures reply { IfOk result (λ r. r ≡ reply_of (graph_kept self.old).label (graph_kept self.old).value (graph_kept self.old).made worker command.now) }
+        ensures step { OnOk result (graph_kept self.new ≡ effect (graph_kept self.old) worker command.now) }
+        ensures refused { OnErr result (IsAsBefore (graph_kept self.old) (graph_kept self.new)) }
+    {
+        match *command {
+            Command::Take { target, rights, .. } => self.add(worker, target, rights),
+            Command::Grant {
+                via,
+                target,
+                rights,
+            } => self.add(via, target, rights),
+            Command::Remove { target, rights } => {
+                self.remove(worker, target, rights);
+                Ok(Reply::Done)
+            }
+            Command::Read { target } => self.read(target),
+            Command::Write { target, value } | Command::Append { target, value } => {
+                self.write(target, value)
+            }
+            Command::Inspect { target } => Ok(Reply::Edges(self.edges.row(self.alloc, target)?)),
+            Command::List => Ok(Reply::Edges(self.edges.row(self.alloc, worker)?)),
+            Command::Retire => {
+                self.retire(worker);
+                Ok(Reply::Done)
+            }
+        }
+    }
+
+    // Gives one vertex rights over another, which someone holds already.
+    fn add(&mut self, from: u64, to: u64, label: Label) -> Result<Reply, AllocError>
+        requires { (x : ℕ) × HoldsOver (graph_kept self.old).label x to label }
+        ensures done { IfOk result (λ reply. reply ≡ Reply.Done) }
+        ensures ok { OnOk result (graph_kept self.new ≡ record (graph_kept self.old) { label = with_rights (graph_kept self.old).label from to label }) }
+        ensures err { OnErr result (self.new ≡ self.old) }
+    {
+        self.edges.add(from, to, label)?;
+        Ok(Reply::Done)
+    }
+
+    // Takes rights away.
+    fn remove(&mut self, from: u64, to: u64, label: Label)
+        ensures { graph_kept self.new ≡ record (graph_kept self.old) { label = without_rights (graph_kept self.old).label from to label } }
+    {
+        self.edges.lose(from, to, label.rights());
+    }
+
+    // What a vertex stores.
+    fn read(&self, target: u64) -> Result<Reply, AllocError>
+        ensures { IfOk result (λ reply. reply ≡ Reply.Values (state_of ((graph_kept self.now).value target))) }
+    {
+        let state = match self.values.get(&target) {
+            Some(value) => value.state.copy(self.alloc)?,
+            None => Numbers::none(),
+        };
+        Ok(Reply::Values(state))
+    }
+
+    // Writes to a vertex.
+    fn write(&mut self, target: u64, value: u64) -> Result<Reply, AllocError>
+        ensures done { IfOk result (λ reply. reply ≡ Reply.Done) }
+        ensures ok { OnOk result (graph_kept self.new ≡ effect (graph_kept self.old) target (Command.Write target value)) }
+        ensures err { OnErr result (self.new ≡ self.old) }
+    {
+        let Some(stored) = self.values.get_mut(&target) else {
+            return Ok(Reply::Done);
+        };
+        stored.law.write(self.alloc, &mut stored.state, value)?;
+        Ok(Reply::Done)
+    }
+
+    // Ends a subject.
+    fn retire(&mut self, worker: u64)
+        ensures { graph_kept self.new ≡ record (graph_kept self.old) { subjects = without_subject (graph_kept self.old).subjects worker } }
+    {
+        self.subjects.retain(|subject| *subject != worker);
+    }
+}
