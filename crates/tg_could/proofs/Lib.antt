@@ -2,3 +2,5 @@ pub mod SeparationLaws
 pub mod StillLaws
 pub mod MarkLaws
 pub mod TurnLaws
+pub mod ToldLaws
+pub mod ListedLaws

@@ -2,3 +2,5 @@ pub mod Turns
 pub mod Separation
 pub mod Trial
 pub mod Answered
+pub mod Told
+pub mod Listed

@@ -12,24 +12,33 @@
 //! - `WantsNames`: they do where so many more vertices may be made than are left.
 //! - `Open`: neither was shown. That this doesn't come is tested, and not proved.
 //!
+//! [`who_could`] and [`what_could`] tell of everybody, and of everything, by one search: who or what isn't told is `Never`.
+//!
 //! A question about a grant is asked before it is made, on the picture with the new edge (`Picture::with`).
 //!
 //! What a reader has to believe stands in `specs/`: `Turns` (turns, `NeverHolds`, `LeadThere`) and `Answered` (what an answer
-//! says); of `Separation` no more than that a law speaks of it. The theorem is that of Jones, Lipton and Snyder ("A linear time
-//! algorithm for deciding security", 1976) and of Lipton and Snyder ("A linear time algorithm for deciding subject
-//! security", Journal of the ACM 24(3), 1977). The search (`search`) and the turns that it leads to (`plan`) promise nothing:
-//! what they find is checked. [`laws`] has what holds of the definitions alone.
+//! says); of `Separation`, `Told` and `Listed` no more than that a law or a later call speaks of them. The theorem is that of
+//! Jones, Lipton and Snyder ("A linear time algorithm for deciding security", 1976) and of Lipton and Snyder ("A linear time
+//! algorithm for deciding subject security", Journal of the ACM 24(3), 1977). The search (`search`) and the turns that it leads
+//! to (`plan`) promise nothing: what they find is checked. [`laws`] has what holds of the definitions alone.
 #![tactic(auto)]
 
 mod answer;
 mod chains;
+mod chance;
 pub mod laws;
+mod marks;
 mod plan;
 mod search;
 mod separation;
 mod trial;
+mod what;
+mod who;
 mod witness;
 
 pub use answer::{Answer, could_hold};
+pub use chance::Chance;
 pub use separation::Separation;
+pub use what::{What, what_could};
+pub use who::{Who, who_could};
 pub use witness::lead_there;
