@@ -1,15 +1,14 @@
 -- What isn't told is never held.
-use Rattle.std.proofs.Common.{◌≡◌, ◌≢◌, ⊎_elim, ℕ, ◌<◌, ◌≤◌, Bool, true, false, List, slice_index_or, subst, sym, ◌∙◌}
+use Rattle.std.proofs.Common.{◌≡◌, ◌≢◌, ⊎_elim, ℕ, ◌<◌, ◌≤◌, true, List, slice_index_or, subst, sym, ◌∙◌}
 use Rattle.std.specs.List.{All, Contains}
 use Rattle.std.proofs.lemmas.Bool.{true_from_ne_false}
 use Rattle.std.proofs.lemmas.Bool.Decides.{eqb_tells}
-use Rattle.tg_rights.specs.RightSet.{RightSet, has, holds_all}
+use Rattle.tg_rights.specs.RightSet.{has, holds_all}
 use Rattle.tg_rights.specs.RightLaws.{has-holds_all}
 use Rattle.tg_rights.specs.declared.Right.{Right}
 use Rattle.tg_model.specs.declared.edge.Edge.{Edge}
 use Rattle.tg_model.specs.Graph.{ProtectionGraph}
-use Rattle.tg_model.specs.Opened.{label_in}
-use Rattle.tg_model.specs.Picture.{Holds, Shown, IsPictureOf}
+use Rattle.tg_model.specs.Picture.{Shown, IsPictureOf}
 use Rattle.tg_could.specs.Turns.{NeverHolds}
 use Rattle.tg_could.specs.Separation.{Sides, MayAdd, IsEven}
 use Rattle.tg_could.specs.Listed.{IsUnlisted, ListsEdge, ListsActor, rights_over}

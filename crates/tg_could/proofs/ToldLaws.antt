@@ -1,8 +1,8 @@
 -- Whoever isn't told never holds the right.
-use Rattle.std.proofs.Common.{◌≡◌, ◌≢◌, ⊎_elim, ℕ, ◌<◌, ◌≤◌, ◌/◌, length, Bool, true, List, slice_index_or, subst, sym, ◌∙◌, ap}
+use Rattle.std.proofs.Common.{◌≡◌, ◌≢◌, ⊎_elim, ℕ, ◌<◌, ◌≤◌, length, true, List, slice_index_or, subst, sym, ◌∙◌}
 use Rattle.std.specs.List.{All, Contains}
 use Rattle.std.proofs.lemmas.Bool.Decides.{eqb_tells}
-use Rattle.tg_rights.specs.RightSet.{RightSet, has}
+use Rattle.tg_rights.specs.RightSet.{has}
 use Rattle.tg_rights.specs.declared.Right.{Right}
 use Rattle.tg_model.specs.declared.edge.Edge.{Edge}
 use Rattle.tg_model.specs.declared.opening.TheConstants.{MAX_WORKERS}
@@ -13,7 +13,7 @@ use Rattle.tg_could.specs.Turns.{NeverHolds}
 use Rattle.tg_could.specs.Separation.{Sides, Keeps, Walks, MayAdd, IsEven}
 use Rattle.tg_could.specs.Told.{IsTold, IsUntold, TellsHolder, TellsOf, TellsActor}
 use Rattle.tg_could.specs.declared.who.Told.{Told}
-use Rattle.tg_could.proofs.MarkLaws.{IsNot, none_holds, Fits, Parts-edges, pictured-never, pictured-same, pictured-alone}
+use Rattle.tg_could.proofs.MarkLaws.{none_holds, Parts-edges, pictured-never, pictured-same, pictured-alone}
 
 -- an edge that leads out of neither set by take and grant leads out of neither
 pub keeps-walks : (s : Sides) (r : Right) (y : ℕ) (edge : Edge) → Walks s edge → (has edge.label r ≡ true → edge.to ≡ y → s.back edge.from ≡ true) → Keeps s r y (λ a b. edge.label) edge.from edge.to

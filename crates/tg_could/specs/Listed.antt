@@ -2,7 +2,7 @@
 use Rattle.std.specs.Prelude.{◌≡◌, ◌≢◌, ℕ, ◌<◌, ◌≤◌, true, false, slice_index_or}
 use Rattle.tg_rights.specs.RightSet.{RightSet, has, no_rights, holds_all}
 use Rattle.tg_rights.specs.declared.Right.{Right}
-use Rattle.tg_rights.specs.declared.Right.TheVariants.{T, G}
+use Rattle.tg_rights.specs.declared.Right.TheVariants.{G}
 use Rattle.tg_model.specs.declared.edge.Edge.{Edge}
 use Rattle.tg_model.specs.Picture.{Shown}
 use Rattle.tg_could.specs.Separation.{Sides, Walks, ComesLater}

@@ -1,8 +1,8 @@
 -- What is told at once of everybody, or of everything.
-use Rattle.std.specs.Prelude.{◌≡◌, ◌≢◌, ℕ, ◌<◌, ◌≤◌, Bool, true, false}
-use Rattle.tg_rights.specs.RightSet.{RightSet, has}
+use Rattle.std.specs.Prelude.{◌≡◌, ◌≢◌, ℕ, ◌<◌, ◌≤◌, true}
+use Rattle.tg_rights.specs.RightSet.{has}
 use Rattle.tg_rights.specs.declared.Right.{Right}
-use Rattle.tg_rights.specs.declared.Right.TheVariants.{T, G}
+use Rattle.tg_rights.specs.declared.Right.TheVariants.{G}
 use Rattle.tg_model.specs.declared.edge.Edge.{Edge}
 use Rattle.tg_model.specs.Picture.{Shown}
 use Rattle.tg_could.specs.Separation.{Sides, Walks, ComesLater, is_marked}

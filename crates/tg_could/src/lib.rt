@@ -13,6 +13,7 @@
 //! - `Open`: neither was shown. That this doesn't come is tested, and not proved.
 //!
 //! [`who_could`] and [`what_could`] tell of everybody, and of everything, by one search: who or what isn't told is `Never`.
+//! [`needs`] tells whose turns would be enough.
 //!
 //! A question about a grant is asked before it is made, on the picture with the new edge (`Picture::with`).
 //!
@@ -26,6 +27,7 @@
 mod answer;
 mod chains;
 mod chance;
+mod enough;
 pub mod laws;
 mod marks;
 mod plan;
@@ -38,6 +40,7 @@ mod witness;
 
 pub use answer::{Answer, could_hold};
 pub use chance::Chance;
+pub use enough::needs;
 pub use separation::Separation;
 pub use what::{What, what_could};
 pub use who::{Who, who_could};
