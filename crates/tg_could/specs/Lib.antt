@@ -3,3 +3,5 @@ pub mod Separation
 pub mod Trial
 pub mod Answered
 pub mod Reached
+pub mod Told
+pub mod Listed

@@ -1,14 +1,16 @@
 -- Why x never holds a right over y: a separation. This is the theorem of Lipton and Snyder ("A linear time algorithm for
 -- deciding subject security", Journal of the ACM, 1977) seen from outside: islands, bridges and spans join what no
 -- separation can part.
-use Rattle.std.specs.Prelude.{◌≡◌, ℕ, ◌<◌, ◌≤◌, Bool, true, false, slice_index_or}
+use Rattle.std.specs.Prelude.{◌≡◌, ℕ, ◌<◌, ◌≤◌, ◌==◌, ◌/◌, ◌%◌, ◌^◌, Bool, true, not, List, bit_and, slice_index_or}
 use Rattle.tg_rights.specs.RightSet.{RightSet, has}
 use Rattle.tg_rights.specs.declared.Right.{Right}
 use Rattle.tg_rights.specs.declared.Right.TheVariants.{T, G}
 use Rattle.tg_model.specs.Graph.{ProtectionGraph}
+use Rattle.tg_model.specs.declared.edge.Edge.{Edge}
 use Rattle.tg_model.specs.Picture.{Holds, Shown}
 use Rattle.tg_could.specs.Turns.{Acts, MayCome}
 use Rattle.tg_could.specs.declared.separation.Separation.{Separation}
+use Rattle.tg_could.specs.declared.separation.Place.{Place}
 
 -- Two sets of vertices. `back` has each vertex from which a walk of take edges leads to one who may come to hold the
 -- right; `forward` each vertex to which one leads from one who acts and may.
@@ -47,12 +49,38 @@ pub record Separates (silent : ℕ → Type 0) (s : Sides) (x : ℕ) (right : Ri
 
 -- ---- as marks
 
+-- a name whose bit is set
+unfoldable pub is_marked : List ℕ → ℕ → Bool
+is_marked words name = bit_and (slice_index_or words (name / 64) 0 / 2 ^ (name % 64)) 1 == 1
+
 -- the sides that marks stand for
 abbrev pub sides_of : Separation → Sides
 sides_of m = record {
-  forward = λ v. slice_index_or m.forward.items v false;
-  back = λ v. slice_index_or m.back.items v false;
+  forward = λ v. is_marked m.forward.words.items v;
+  back = λ v. is_marked m.back.words.items v;
 }
+
+-- the sides that they stand for where a search went back from x: whom it didn't reach
+abbrev pub sides_against : Separation → Sides
+sides_against m = record {
+  forward = λ v. not (is_marked m.back.words.items v);
+  back = λ v. not (is_marked m.forward.words.items v);
+}
+
+-- take and grant lead out of neither set, between vertices in these
+pub record Stays (label : RightSet) (from to : Place) : Type 0 where
+  pub take_on : has label T ≡ true → from.forward ≡ true → to.forward ≡ true
+  pub take_back : has label T ≡ true → to.back ≡ true → from.back ≡ true
+  pub grant_on : has label G ≡ true → from.forward ≡ true → to.back ≡ true
+  pub grant_back : has label G ≡ true → to.forward ≡ true → from.back ≡ true
+
+-- where a vertex is
+abbrev pub place_in : Sides → ℕ → Place
+place_in s v = record { forward = s.forward v; back = s.back v }
+
+-- take and grant lead out of neither set along this edge
+abbrev pub Walks : Sides → Edge → Type 0
+Walks s edge = Stays edge.label (place_in s edge.from) (place_in s edge.to)
 
 -- a name that isn't made yet on a picture and may be made
 abbrev pub ComesLater : Shown → ℕ → Type 0

@@ -12,29 +12,41 @@
 //! - `WantsNames`: they do where so many more vertices may be made than are left.
 //! - `Open`: neither was shown. That this doesn't come is tested, and not proved.
 //!
+//! [`who_could`] and [`what_could`] tell of everybody, and of everything, by one search: who or what isn't told is `Never`.
+//! [`needs`] tells whose turns would be enough.
+//!
 //! A question about a grant is asked before it is made, on the picture with the new edge (`Picture::with`).
 //!
 //! Of a store there is a picture of what its active subjects reach. On it [`could_hold_reached`] asks: whom nobody reaches is
 //! told as `Unreached`, and all else as it is on the whole graph.
 //!
 //! What a reader has to believe stands in `specs/`: `Turns` (turns, `NeverHolds`, `LeadThere`), `Answered` (what an answer
-//! says) and `Reached`; of `Separation` no more than that a law speaks of it. The theorem is that of Jones, Lipton and Snyder
-//! ("A linear time algorithm for deciding security", 1976) and of Lipton and Snyder ("A linear time algorithm for deciding
-//! subject security", Journal of the ACM 24(3), 1977). The search (`search`) and the turns that it leads to (`plan`) promise
-//! nothing: what they find is checked. [`laws`] has what holds of the definitions alone.
+//! says) and `Reached`; of `Separation`, `Told` and `Listed` no more than that a law or a later call speaks of them. The theorem
+//! is that of Jones, Lipton and Snyder ("A linear time algorithm for deciding security", 1976) and of Lipton and Snyder ("A
+//! linear time algorithm for deciding subject security", Journal of the ACM 24(3), 1977). The search (`search`) and the turns
+//! that it leads to (`plan`) promise nothing: what they find is checked. [`laws`] has what holds of the definitions alone.
 #![tactic(auto)]
 
 mod answer;
 mod chains;
+mod chance;
+mod enough;
 pub mod laws;
+mod marks;
 mod plan;
 mod reached;
 mod search;
 mod separation;
 mod trial;
+mod what;
+mod who;
 mod witness;
 
 pub use answer::{Answer, could_hold};
+pub use chance::Chance;
+pub use enough::needs;
 pub use reached::{Told, could_hold_reached, is_reached};
 pub use separation::Separation;
+pub use what::{What, what_could};
+pub use who::{Who, who_could};
 pub use witness::lead_there;

@@ -1,25 +1,51 @@
 //! The search: who may come to hold a right, and on which way. What it finds is checked (`Separation::parts`, `leads_there`), so
 //! that nothing has to be believed of it. Each edge is looked at four times at most.
 use crate::chains::{Chains, NONE, place};
+use crate::marks::Marks;
 use crate::separation::{Separation, comes_later, has, is_silent};
 use std::alloc::{AllocError, Global};
 use tg_model::{Edge, Picture};
 use tg_rights::Right;
 
-/// A vertex that was put into a set, and the place of the step that led there, `NONE` where the search began.
+/// A vertex that was put into a set.
 #[derive(Clone, Copy, Debug, Drop)]
 pub(crate) struct Step {
     pub(crate) vertex: u64,
-    pub(crate) before: u32,
     pub(crate) forward: bool,
 }
 
-/// What the search has found: the sets, its steps in order, and for each vertex whether it acts.
+// A step as it is kept, in 8 bytes: the vertex twice, and one more where it was put into the first set; and the place of the step
+// that led there, `NONE` where the search began.
+#[derive(Clone, Copy, Debug, Drop)]
+struct Kept {
+    packed: u32,
+    before: u32,
+}
+
+/// What the search has found: the sets, its steps in order, and who acts.
 #[derive(Drop)]
 pub(crate) struct Found {
     pub(crate) sides: Separation,
-    steps: Vec<Step>,
-    acting: Vec<bool>,
+    steps: Vec<Kept>,
+    acting: Marks,
+}
+
+impl Kept {
+    // None for a vertex past the most that are numbered, 2^31 - 1.
+    fn of(vertex: u64, forward: bool, before: u32) -> Option<Kept> {
+        let twice = vertex.checked_mul(2)?;
+        match u32::try_from(twice | u64::from(forward)) {
+            Ok(packed) => Some(Kept { packed, before }),
+            Err(_) => None,
+        }
+    }
+
+    fn step(self) -> Step {
+        Step {
+            vertex: u64::from(self.packed / 2),
+            forward: self.packed % 2 == 1,
+        }
+    }
 }
 
 /// The least sets that hold those who have the right and that no edge and nobody who acts leads out of. Where y may yet be
@@ -33,10 +59,34 @@ pub(crate) fn search(
 ) -> Result<Found, AllocError> {
     let mut found = Found::start(alloc, picture, silent)?;
     if comes_later(picture, y) {
-        found.put_actors(picture)?;
+        found.put_actors(picture, false)?;
     }
     for edge in picture.edges() {
         if edge.to == y && has(edge.label, right) {
+            found.put(edge.from, false, NONE)?;
+        }
+    }
+    found.spread(alloc, picture)?;
+    Ok(found)
+}
+
+/// The same walks, gone back from x: the first set has those whose rights x may get, the second those who may hand x what they
+/// get. Where x may yet be made, who acts is taken for x. Fails only when out of memory.
+pub(crate) fn search_back(
+    alloc: Global,
+    picture: &Picture,
+    silent: &[u64],
+    x: u64,
+) -> Result<Found, AllocError> {
+    let mut found = Found::start(alloc, picture, silent)?;
+    if comes_later(picture, x) {
+        found.put_actors(picture, true)?;
+    }
+    if found.acts(x) {
+        found.put(x, true, NONE)?;
+    }
+    for edge in picture.edges() {
+        if edge.to == x && has(edge.label, Right::G) {
             found.put(edge.from, false, NONE)?;
         }
     }
@@ -48,13 +98,10 @@ impl Found {
     // No vertex is in a set.
     fn start(alloc: Global, picture: &Picture, silent: &[u64]) -> Result<Found, AllocError> {
         let made = picture.made() as usize;
-        let mut acting = vec![in alloc; false; made]?;
+        let mut acting = Marks::none(alloc, made)?;
         for subject in picture.subjects() {
-            if is_silent(silent, picture.made(), *subject) {
-                continue;
-            }
-            if let Some(acts) = acting.get_mut(*subject as usize) {
-                *acts = true;
+            if !is_silent(silent, picture.made(), *subject) {
+                acting.put(*subject);
             }
         }
         Ok(Found {
@@ -64,11 +111,11 @@ impl Found {
         })
     }
 
-    // Puts everybody who acts into the second set.
-    fn put_actors(&mut self, picture: &Picture) -> Result<(), AllocError> {
+    // Puts everybody who acts into one of the sets.
+    fn put_actors(&mut self, picture: &Picture, forward: bool) -> Result<(), AllocError> {
         for subject in picture.subjects() {
             if self.acts(*subject) {
-                self.put(*subject, false, NONE)?;
+                self.put(*subject, forward, NONE)?;
             }
         }
         Ok(())
@@ -81,9 +128,10 @@ impl Found {
         let of_holders = Chains::of_holders(alloc, made, edges)?;
         let of_targets = Chains::of_targets(alloc, made, edges)?;
         for at in 0..NONE {
-            let Some(step) = self.steps.get(at as usize).copied() else {
+            let Some(kept) = self.steps.get(at as usize).copied() else {
                 break;
             };
+            let step = kept.step();
             if self.acts(step.vertex) {
                 self.put(step.vertex, !step.forward, at)?;
             }
@@ -97,12 +145,10 @@ impl Found {
 
     // Puts a vertex into a set.
     fn put(&mut self, vertex: u64, forward: bool, before: u32) -> Result<(), AllocError> {
-        if self.sides.put(vertex, forward) {
-            self.steps.push(Step {
-                vertex,
-                before,
-                forward,
-            })?;
+        if self.sides.put(vertex, forward)
+            && let Some(kept) = Kept::of(vertex, forward, before)
+        {
+            self.steps.push(kept)?;
         }
         Ok(())
     }
@@ -155,7 +201,7 @@ impl Found {
 
     /// Whether a vertex is one who acts.
     pub(crate) fn acts(&self, vertex: u64) -> bool {
-        self.acting.get(vertex as usize).copied().unwrap_or(false)
+        self.acting.has(vertex)
     }
 
     /// The steps that led to a vertex in a set, the first one first; none where it isn't in it. Fails only when out of memory.
@@ -166,19 +212,27 @@ impl Found {
         forward: bool,
     ) -> Result<Vec<Step>, AllocError> {
         let mut path = Vec::new(alloc);
-        let end = self
-            .steps
-            .iter()
-            .position(|step| step.vertex == vertex && step.forward == forward);
-        let mut next = end.map_or(NONE, place);
+        let mut next = self.place(vertex, forward);
         for _ in 0..self.steps.len() {
-            let Some(step) = self.steps.get(next as usize).copied() else {
+            let Some(kept) = self.steps.get(next as usize).copied() else {
                 break;
             };
-            path.push(step)?;
-            next = step.before;
+            path.push(kept.step())?;
+            next = kept.before;
         }
         path.reverse();
         Ok(path)
+    }
+
+    // The place of the step that put a vertex into a set, `NONE` where none did.
+    fn place(&self, vertex: u64, forward: bool) -> u32 {
+        let Some(wanted) = Kept::of(vertex, forward, NONE) else {
+            return NONE;
+        };
+        let end = self
+            .steps
+            .iter()
+            .position(|kept| kept.packed == wanted.packed);
+        end.map_or(NONE, place)
     }
 }

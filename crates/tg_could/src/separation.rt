@@ -7,17 +7,25 @@ ghost use Rattle.tg_model.specs.Opened.{label_in};
 ghost use Rattle.tg_model.specs.declared.opening.TheConstants.{MAX_WORKERS};
 ghost use Rattle.tg_model.specs.Picture.{Holds, IsPictureOf};
 ghost use Rattle.tg_could.specs.Turns.{NeverHolds};
-ghost use Rattle.tg_could.specs.Separation.{MayAdd, Parts, sides_of, ComesLater, IsEven};
+ghost use Rattle.tg_could.specs.Separation.{MayAdd, Parts, Stays, sides_of, sides_against, place_in, ComesLater, IsEven};
 
+use crate::marks::Marks;
 use std::alloc::{AllocError, Global};
 use tg_model::{Edge, MAX_WORKERS, Picture};
 use tg_rights::{Label, Right, Rights};
 
-/// Why x never holds a right: for each name whether it is in the one set, and in the other. Names past the last are in none.
+/// Why x never holds a right: two sets of names, a bit of each name in each.
 #[derive(Drop)]
 pub struct Separation {
-    forward: Vec<bool>,
-    back: Vec<bool>,
+    forward: Marks,
+    back: Marks,
+}
+
+/// Where a vertex is: in the first set, and in the second.
+#[derive(Clone, Copy, Debug, Drop)]
+pub(crate) struct Place {
+    pub(crate) forward: bool,
+    pub(crate) back: bool,
 }
 
 // Whether a label has a right.
@@ -27,22 +35,22 @@ pub(crate) fn has(label: Label, right: Right) -> bool
     label.rights().contains(Rights::of(right))
 }
 
-// Whether a third thing holds where two others do.
-fn leads(one: bool, two: bool, third: bool) -> bool
+/// Whether a third thing holds where two others do.
+pub(crate) fn leads(one: bool, two: bool, third: bool) -> bool
     ensures { IsTrue result → IsTrue one → IsTrue two → IsTrue third }
 {
     !one || !two || third
 }
 
-// Whether two things hold.
-fn are_both(one: bool, two: bool) -> bool
+/// Whether two things hold.
+pub(crate) fn are_both(one: bool, two: bool) -> bool
     ensures { IsTrue result → IsTrue one × IsTrue two }
 {
     one && two
 }
 
-// Whether one of three things doesn't hold.
-fn are_not_all(one: bool, two: bool, third: bool) -> bool
+/// Whether one of three things doesn't hold.
+pub(crate) fn are_not_all(one: bool, two: bool, third: bool) -> bool
     ensures { IsTrue result → IsTrue one → IsTrue two → ¬ IsTrue third }
 {
     !one || !two || !third
@@ -74,24 +82,30 @@ fn lacks(edges: &[Edge], x: u64, right: Right, y: u64) -> bool
     true
 }
 
-// Puts a name into a set. Whether it wasn't there.
-fn mark(set: &mut Vec<bool>, name: u64) -> bool {
-    match set.get_mut(name as usize) {
-        Some(mark) => {
-            let new = !*mark;
-            *mark = true;
-            new
-        }
-        None => false,
+/// Whether take and grant lead out of neither set, along an edge from a vertex to another.
+pub(crate) fn stays(label: Label, from: Place, to: Place) -> bool
+    ensures { IsTrue result → Stays label from to }
+{
+    let take = has(label, Right::T);
+    let grant = has(label, Right::G);
+    if !leads(take, from.forward, to.forward) {
+        return false;
     }
+    if !leads(take, to.back, from.back) {
+        return false;
+    }
+    if !leads(grant, from.forward, to.back) {
+        return false;
+    }
+    leads(grant, to.forward, from.back)
 }
 
 impl Separation {
     /// Sets on so many names, which no name is in. Fails only when out of memory.
     pub(crate) fn none(alloc: Global, made: usize) -> Result<Separation, AllocError> {
         Ok(Separation {
-            forward: vec![in alloc; false; made]?,
-            back: vec![in alloc; false; made]?,
+            forward: Marks::none(alloc, made)?,
+            back: Marks::none(alloc, made)?,
         })
     }
 
@@ -99,28 +113,42 @@ impl Separation {
     pub(crate) fn is_forward(&self, name: u64) -> bool
         ensures { result ≡ (sides_of self.now).forward name }
     {
-        match self.forward.get(name as usize) {
-            Some(mark) => *mark,
-            None => false,
-        }
+        self.forward.has(name)
     }
 
     /// Whether a name is in the second set.
     pub(crate) fn is_back(&self, name: u64) -> bool
         ensures { result ≡ (sides_of self.now).back name }
     {
-        match self.back.get(name as usize) {
-            Some(mark) => *mark,
-            None => false,
+        self.back.has(name)
+    }
+
+    /// In which of the sets a name is.
+    pub(crate) fn place(&self, name: u64) -> Place
+        ensures { result ≡ place_in (sides_of self.now) name }
+    {
+        Place {
+            forward: self.is_forward(name),
+            back: self.is_back(name),
+        }
+    }
+
+    /// In which of the sets it is of those whom a search that went back from x didn't reach.
+    pub(crate) fn place_against(&self, name: u64) -> Place
+        ensures { result ≡ place_in (sides_against self.now) name }
+    {
+        Place {
+            forward: !self.is_back(name),
+            back: !self.is_forward(name),
         }
     }
 
     /// Puts a name into one of the sets. Whether it wasn't there.
     pub(crate) fn put(&mut self, name: u64, forward: bool) -> bool {
         if forward {
-            mark(&mut self.forward, name)
+            self.forward.put(name)
         } else {
-            mark(&mut self.back, name)
+            self.back.put(name)
         }
     }
 
@@ -128,35 +156,23 @@ impl Separation {
     fn fits(&self, edge: &Edge, x: u64, right: Right, y: u64) -> bool
         ensures { IsTrue result → MayAdd (sides_of self.now) x right y edge.now.from edge.now.to edge.now.label }
     {
-        let take = has(edge.label, Right::T);
+        let from = self.place(edge.from);
+        let to = self.place(edge.to);
         let grant = has(edge.label, Right::G);
         let held = has(edge.label, right);
-        let from_forward = self.is_forward(edge.from);
-        let from_back = self.is_back(edge.from);
-        let to_forward = self.is_forward(edge.to);
-        let to_back = self.is_back(edge.to);
         let at_x = edge.from == x;
         let to_x = edge.to == x;
         let to_y = edge.to == y;
-        if !leads(take, from_forward, to_forward) {
+        if !stays(edge.label, from, to) {
             return false;
         }
-        if !leads(take, to_back, from_back) {
-            return false;
-        }
-        if !leads(grant, from_forward, to_back) {
-            return false;
-        }
-        if !leads(grant, to_forward, from_back) {
-            return false;
-        }
-        if !leads(held, to_y, from_back) {
+        if !leads(held, to_y, from.back) {
             return false;
         }
         if !are_not_all(at_x, to_y, held) {
             return false;
         }
-        are_not_all(to_x, grant, from_forward)
+        are_not_all(to_x, grant, from.forward)
     }
 
     // Whether the two sets part x from a right over y, as far as these edges go.
@@ -217,8 +233,8 @@ impl Separation {
     }
 }
 
-// Whether nobody but y acts, and as many subjects as may be are active.
-fn is_alone(picture: &Picture, silent: &[u64], y: u64) -> bool
+/// Whether nobody but y acts, and as many subjects as may be are active.
+pub(crate) fn is_alone(picture: &Picture, silent: &[u64], y: u64) -> bool
     ensures many { IsTrue result → MAX_WORKERS ≤ length picture.now.subjects }
     ensures alone { IsTrue result →
         All (λ v. ¬ (Contains silent.now v × (v < picture.now.made)) → v ≡ y) picture.now.subjects }

@@ -1,0 +1,12 @@
+use Rattle.std.specs.List.{AllWithin, Contains}
+use Rattle.tg_model.specs.Graph.{ProtectionGraph, without_subject}
+use Rattle.tg_model.specs.Picture.{IsPictureOf}
+use Rattle.tg_could.specs.Turns.{NeverHolds}
+use Rattle.tg_could.proofs.enough.needs.Given as goal
+
+-- with each before this place that isn't told, x never holds the right
+abbrev pub invariant-loop-host : goal.invariant-loop-host
+invariant-loop-host l =
+    AllWithin
+    (λ host. ¬ Contains l.enough.items host → (g : ProtectionGraph) → IsPictureOf l.picture g → NeverHolds (without_subject l.silent host) g l.x l.right l.y)
+    l.silent 0 l.host-index

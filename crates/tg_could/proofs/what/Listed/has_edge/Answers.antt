@@ -1,0 +1,26 @@
+use Rattle.std.proofs.Common.{◌≡◌, not, refl, sym, ap, ap₂, ◌∙◌, subst, eq-eqb}
+use Rattle.std.proofs.lemmas.Bool.{ne_eqb}
+use Rattle.tg_rights.specs.RightSet.{holds_all}
+use Rattle.tg_could.specs.Separation.{Stays, sides_against, place_in}
+use Rattle.tg_could.specs.Listed.{rights_over}
+use Rattle.tg_could.specs.declared.separation.Place.{Place}
+use Rattle.tg_could.proofs.what.Listed.has_edge.Goals as goal
+
+pub returns : goal.returns
+returns c t =
+    let s = sides_against c.args.sides.now in
+    let e = c.args.edge.now in
+    let told : c.contains-told.result ≡ holds_all (rights_over c.args.self.now e.to) e.label =
+    c.contains-told.ensures ∙ ap₂ holds_all c.over.ensures c.rights.ensures.same in
+    record {
+      walks =
+          subst (λ (p : Place). Stays e.label p (place_in s e.to)) c.place_against-from.ensures
+          (subst (λ (p : Place). Stays e.label c.place_against-from.result p) c.place_against.ensures (c.stays.ensures c.if-not-stays.false));
+      held = λ at_x. sym told ∙ c.leads.ensures c.if-not-leads.false (eq-eqb e.from c.args.x at_x) refl;
+      got = λ differ out.
+          sym told
+          ∙ c.leads-2.ensures c.if-not-leads-2.false (ap not (ne_eqb e.to c.args.x differ))
+          (ap not (ap (λ (p : Place). p.back) c.place_against-from.ensures ∙ out));
+      not_given = λ at_x is f.
+          c.are_not_all.ensures t (eq-eqb e.to c.args.x at_x) (c.has.ensures ∙ is) (ap (λ (p : Place). p.forward) c.place_against-from.ensures ∙ f);
+    }

@@ -1,0 +1,40 @@
+-- What is told at once of all that someone could ever come to hold.
+use Rattle.std.specs.Prelude.{◌≡◌, ◌≢◌, ℕ, ◌<◌, ◌≤◌, true, false, slice_index_or}
+use Rattle.tg_rights.specs.RightSet.{RightSet, has, no_rights, holds_all}
+use Rattle.tg_rights.specs.declared.Right.{Right}
+use Rattle.tg_rights.specs.declared.Right.TheVariants.{G}
+use Rattle.tg_model.specs.declared.edge.Edge.{Edge}
+use Rattle.tg_model.specs.Picture.{Shown}
+use Rattle.tg_could.specs.Separation.{Sides, Walks, ComesLater}
+use Rattle.tg_could.specs.declared.what.What.{What}
+use Rattle.tg_could.specs.declared.what.Listed.{Listed}
+
+-- the rights over a name that are told
+abbrev pub rights_over : Listed → ℕ → RightSet
+rights_over listed name = slice_index_or listed.rights.items name no_rights
+
+-- the right over y isn't told, nor are rights over names that aren't made yet, where y is one and isn't x
+pub record IsUnlisted (listed : Listed) (x made limit : ℕ) (right : Right) (y : ℕ) : Type 0 where
+  pub unlisted : ¬ (has (rights_over listed y) right ≡ true)
+  pub not_later : made ≤ y → y < limit → y ≢ x → ¬ (listed.later ≡ true)
+
+-- the right over y isn't told, and what isn't was shown never to be held
+pub record IsLeftOut (what : What) (right : Right) (y : ℕ) : Type 0 where
+  pub shown : what.is_shown ≡ true
+  pub untold : IsUnlisted what.listed what.holder what.made what.limit right y
+
+-- ---- what is checked
+
+-- the edge leads out of neither set, what x may get of it is told, and nobody grants to x who may hold what isn't
+pub record ListsEdge (s : Sides) (listed : Listed) (x : ℕ) (edge : Edge) : Type 0 where
+  pub walks : Walks s edge
+  pub held : edge.from ≡ x → holds_all (rights_over listed edge.to) edge.label ≡ true
+  pub got : edge.to ≢ x → s.back edge.from ≡ false → holds_all (rights_over listed edge.to) edge.label ≡ true
+  pub not_given : edge.to ≡ x → has edge.label G ≡ true → ¬ (s.forward edge.from ≡ true)
+
+-- one who acts is in both sets or in none, and in none where x is it or may be made by it, or else names that aren't made yet are told
+pub record ListsActor (s : Sides) (listed : Listed) (shown : Shown) (x : ℕ) (p : ℕ) : Type 0 where
+  pub alike : s.forward p ≡ s.back p
+  pub not_x : p ≡ x → ¬ (s.back p ≡ true)
+  pub later : s.back p ≡ false → listed.later ≡ true
+  pub x_may_come : ComesLater shown x → ¬ (s.back p ≡ true)

@@ -1,0 +1,43 @@
+-- What is told at once of everybody, or of everything.
+use Rattle.std.specs.Prelude.{◌≡◌, ◌≢◌, ℕ, ◌<◌, ◌≤◌, true}
+use Rattle.tg_rights.specs.RightSet.{has}
+use Rattle.tg_rights.specs.declared.Right.{Right}
+use Rattle.tg_rights.specs.declared.Right.TheVariants.{G}
+use Rattle.tg_model.specs.declared.edge.Edge.{Edge}
+use Rattle.tg_model.specs.Picture.{Shown}
+use Rattle.tg_could.specs.Separation.{Sides, Walks, ComesLater, is_marked}
+use Rattle.tg_could.specs.declared.who.Who.{Who}
+use Rattle.tg_could.specs.declared.who.Told.{Told}
+
+-- a name is told
+abbrev pub IsTold : Told → ℕ → Type 0
+IsTold told x = is_marked told.marks.words.items x ≡ true
+
+-- x isn't told, nor are names that aren't made yet, where x is one and isn't y
+pub record IsUntold (told : Told) (y made limit x : ℕ) : Type 0 where
+  pub unmarked : ¬ IsTold told x
+  pub not_later : made ≤ x → x < limit → x ≢ y → ¬ (told.later ≡ true)
+
+-- x isn't told, and whoever isn't was shown never to hold the right
+pub record IsLeftOut (who : Who) (x : ℕ) : Type 0 where
+  pub shown : who.is_shown ≡ true
+  pub untold : IsUntold who.told who.over who.made who.limit x
+
+-- ---- what is checked
+
+-- who holds the right over y by this edge is told
+abbrev pub TellsHolder : Told → Right → ℕ → Edge → Type 0
+TellsHolder told right y edge = edge.to ≡ y → has edge.label right ≡ true → IsTold told edge.from
+
+-- the edge leads out of neither set, and who may be granted the right by it is told
+pub record TellsOf (s : Sides) (told : Told) (right : Right) (y : ℕ) (edge : Edge) : Type 0 where
+  pub walks : Walks s edge
+  pub held : has edge.label right ≡ true → edge.to ≡ y → s.back edge.from ≡ true
+  pub given : has edge.label G ≡ true → s.forward edge.from ≡ true → edge.to ≢ y → IsTold told edge.to
+
+-- one who acts is in both sets or in none, and is told where it is in them
+pub record TellsActor (s : Sides) (told : Told) (shown : Shown) (y : ℕ) (p : ℕ) : Type 0 where
+  pub alike : s.forward p ≡ s.back p
+  pub told_itself : s.back p ≡ true → p ≢ y → IsTold told p
+  pub later : s.back p ≡ true → told.later ≡ true
+  pub y_may_come : ComesLater shown y → s.back p ≡ true

@@ -1,0 +1,180 @@
+//! What someone could ever come to hold.
+ghost use Rattle.std.specs.Prelude.{◌≡◌, ◌↔◌, ◌<◌, ℕ, IfOk, IsTrue, slice_index_or};
+ghost use Rattle.std.specs.List.{All, Contains};
+ghost use Rattle.tg_rights.specs.RightSet.{no_rights, has as has_right};
+ghost use Rattle.tg_rights.specs.declared.Right.{Right as TheRight};
+ghost use Rattle.tg_model.specs.Graph.{ProtectionGraph};
+ghost use Rattle.tg_model.specs.Picture.{IsPictureOf};
+ghost use Rattle.tg_could.specs.declared.chance.Chance.TheVariants.{Never};
+ghost use Rattle.tg_could.specs.Turns.{NeverHolds};
+ghost use Rattle.tg_could.specs.Separation.{sides_against};
+ghost use Rattle.tg_could.specs.Listed.{IsUnlisted, IsLeftOut, ListsEdge, ListsActor};
+
+use crate::chance::Chance;
+use crate::search::{Found, search_back};
+use crate::separation::{Separation, are_not_all, comes_later, has, is_silent, leads, stays};
+use std::alloc::{AllocError, Global};
+use tg_model::{Edge, Picture};
+use tg_rights::{Right, Rights};
+
+/// What someone could ever come to hold, as [`what_could`] tells it.
+#[derive(Drop)]
+pub struct What {
+    listed: Listed,
+    is_shown: bool,
+    holder: u64,
+    made: u64,
+    limit: u64,
+}
+
+/// The rights over each vertex that are told, and whether all are over those that aren't made yet.
+#[derive(Drop)]
+struct Listed {
+    rights: Vec<Rights>,
+    later: bool,
+}
+
+impl What {
+    /// What is told of a right over a name: `Never` of each that is left out. Of names that aren't made yet all is told alike, and of
+    /// one that can't be made any more it is `Never`.
+    pub fn of(&self, right: Right, name: u64) -> Chance
+        ensures { (result ≡ Never) ↔ IsLeftOut self.now right name }
+    {
+        if !self.is_shown || self.listed.has(right, name) {
+            return Chance::Perhaps;
+        }
+        if self.listed.later && self.made <= name && name < self.limit && name != self.holder {
+            return Chance::Perhaps;
+        }
+        Chance::Never
+    }
+}
+
+/// What x could ever come to hold, by any turns of the active subjects but the silent ones. Each right over a name of which
+/// `Never` is told it never holds; `Perhaps` says nothing. One search: time and memory in proportion to the picture. Fails
+/// only when out of memory.
+pub fn what_could(
+    alloc: Global,
+    picture: &Picture,
+    silent: &[u64],
+    x: u64,
+) -> Result<What, AllocError>
+    ensures { IfOk result (λ what. (g : ProtectionGraph) → IsPictureOf picture.now g → (right : TheRight) (y : ℕ) → IsLeftOut what right y → NeverHolds silent.now g x right y) }
+{
+    let found = search_back(alloc, picture, silent, x)?;
+    let listed = Listed::of(alloc, picture, &found, x)?;
+    let is_shown = listed.leaves_out(&found.sides, picture, silent, x);
+    Ok(What {
+        listed,
+        is_shown,
+        holder: x,
+        made: picture.made(),
+        limit: picture.limit(),
+    })
+}
+
+impl Listed {
+    // What x holds, and what is held by those whose rights it may get. Fails only when out of memory.
+    fn of(alloc: Global, picture: &Picture, found: &Found, x: u64) -> Result<Listed, AllocError> {
+        let mut rights = vec![in alloc; Rights::empty(); picture.made() as usize]?;
+        for edge in picture.edges() {
+            if edge.from != x && (edge.to == x || !found.sides.is_forward(edge.from)) {
+                continue;
+            }
+            if let Some(over) = rights.get_mut(edge.to as usize) {
+                *over = over.union(edge.label.rights());
+            }
+        }
+        let mut later = false;
+        for subject in picture.subjects() {
+            later = later || found.acts(*subject) && found.sides.is_forward(*subject);
+        }
+        Ok(Listed { rights, later })
+    }
+
+    // The rights over a name that are told.
+    fn over(&self, name: u64) -> Rights
+        ensures { result ≡ slice_index_or self.now.rights.items name no_rights }
+    {
+        match self.rights.get(name as usize) {
+            Some(rights) => *rights,
+            None => Rights::empty(),
+        }
+    }
+
+    // Whether a right over a name is told.
+    fn has(&self, right: Right, name: u64) -> bool
+        ensures { result ≡ has_right (slice_index_or self.now.rights.items name no_rights) right }
+    {
+        self.over(name).contains(Rights::of(right))
+    }
+
+    // Whether x never holds what isn't told, as far as the two sets show it.
+    fn leaves_out(&self, sides: &Separation, picture: &Picture, silent: &[u64], x: u64) -> bool
+        ensures { IsTrue result → (g : ProtectionGraph) → IsPictureOf picture.now g → (right : TheRight) (y : ℕ) →
+            IsUnlisted self.now x picture.now.made picture.now.limit right y → NeverHolds silent.now g x right y }
+    {
+        if !self.has_actors(sides, picture, silent, x) {
+            return false;
+        }
+        self.has_edges(sides, picture.edges(), x)
+    }
+
+    // Whether no edge leads out of the two sets, and what x may get of each is told.
+    fn has_edges(&self, sides: &Separation, edges: &[Edge], x: u64) -> bool
+        ensures { IsTrue result → All (ListsEdge (sides_against sides.now) self.now x) edges.now }
+    {
+        for edge in edges {
+            if !self.has_edge(sides, edge, x) {
+                return false;
+            }
+        }
+        true
+    }
+
+    // The same of one edge.
+    fn has_edge(&self, sides: &Separation, edge: &Edge, x: u64) -> bool
+        ensures { IsTrue result → ListsEdge (sides_against sides.now) self.now x edge.now }
+    {
+        let from = sides.place_against(edge.from);
+        let told = self.over(edge.to).contains(edge.label.rights());
+        if !stays(edge.label, from, sides.place_against(edge.to)) {
+            return false;
+        }
+        if !leads(edge.from == x, true, told) {
+            return false;
+        }
+        if !leads(edge.to != x, !from.back, told) {
+            return false;
+        }
+        are_not_all(edge.to == x, has(edge.label, Right::G), from.forward)
+    }
+
+    // Whether each who acts is in both sets or in none, and where it has to be.
+    fn has_actors(&self, sides: &Separation, picture: &Picture, silent: &[u64], x: u64) -> bool
+        ensures { IsTrue result →
+            All (λ v. ¬ (Contains silent.now v × (v < picture.now.made)) → ListsActor (sides_against sides.now) self.now picture.now x v) picture.now.subjects }
+    {
+        let made = picture.made();
+        for subject in picture.subjects() {
+            if !is_silent(silent, made, *subject) && !self.has_actor(sides, picture, x, *subject) {
+                return false;
+            }
+        }
+        true
+    }
+
+    // The same of one who acts.
+    fn has_actor(&self, sides: &Separation, picture: &Picture, x: u64, subject: u64) -> bool
+        ensures { IsTrue result → ListsActor (sides_against sides.now) self.now picture.now x subject }
+    {
+        let place = sides.place_against(subject);
+        if place.forward != place.back {
+            return false;
+        }
+        if place.back {
+            return subject != x && !comes_later(picture, x);
+        }
+        self.later
+    }
+}
