@@ -8,4 +8,6 @@ pub mod HistoryLaws
 mod ReadLaws
 pub mod RoomLaws
 pub mod StandLaws
+mod ReachingLaws
+mod PictureLaws
 mod ErrLaws
