@@ -9,4 +9,6 @@ pub mod HandLaws
 mod ReadLaws
 pub mod RoomLaws
 pub mod StandLaws
+mod ReachingLaws
+mod PictureLaws
 mod ErrLaws

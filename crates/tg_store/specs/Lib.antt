@@ -6,3 +6,4 @@ pub mod Room
 pub mod Answering
 pub mod Collecting
 pub mod Made
+pub mod Reaching

@@ -28,6 +28,8 @@
 //!
 //! A store is generic in its payloads, and a box of a payload is a payload (`tg_payload`): so payloads of several kinds
 //! stand side by side in boxes, and the store makes none. Only a read, a write or an append that the rules allow reaches one.
+//!
+//! What could ever come about is asked of [`Store::picture`] (`tg_could`): what the active subjects reach on the graph.
 #![tactic(auto)]
 
 mod answer;

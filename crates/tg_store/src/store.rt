@@ -3,6 +3,8 @@ ghost use Rattle.std.specs.Prelude.{◌≡◌, ◌≢◌, ◌↔◌, ◌⊎◌, 
 ghost use Rattle.tg_model.specs.Rules.{step};
 ghost use Rattle.tg_store.specs.Faults.{IsFirstDifference};
 
+mod picture;
+
 use crate::answer::{Replies, answer_command};
 use crate::census::Census;
 use crate::fault::{ApplyFault, CreateFault, CreateRefused, OpenFault, OpenRefused};

@@ -1,0 +1,369 @@
+-- What a walk over a heap from its active subjects finds on its way, and that at its end this is all that they reach.
+use Rattle.std.proofs.Common.{◌≡◌, ◌≢◌, ◌↔◌, ◌⊎◌, inl, inr, ⊎_elim, ℕ, zero, suc, ◌+◌, ◌<◌, ◌≤◌, ◌==◌, Bool, true, false, List, [], ◌∷◌, ◌++◌, length, get_or, map, replicate, set, take, refl, sym, ap, ◌∙◌, subst, arith}
+use Rattle.std.specs.List.{All, Contains, IsDistinct, list_any}
+use Rattle.std.proofs.lemmas.Bool.{cases_Bool, cases_eq, cases_lt, false≢true}
+use Rattle.std.proofs.lemmas.Cmp.{nat_eq_equiv}
+use Rattle.std.proofs.lemmas.List.{append-nil, append_assoc, get_or_append_left, get_or_default, get_or_past, get_or-map, get_or-set_other, get_or-set_same, length-append, length-map, map-append, take_all, take_more}
+use Rattle.std.proofs.lemmas.List.Elements.{All-nil, All-push, Contains-append_cases, Contains-append_left, Contains-append_right, Contains-push, Contains-push_cases}
+use Rattle.std.proofs.lemmas.Map.Keys.{IsDistinct-from_apart, IsDistinct-push}
+use Rattle.std.proofs.lemmas.Map.Steps.{length-le_from_distinct_below}
+use Rattle.std.proofs.lemmas.Map.Views.{Contains-from_any, exact_unsigned_eq}
+use Rattle.tg_rights.specs.RightSet.{RightSet, is_none_held}
+use Rattle.tg_model.specs.declared.edge.Edge.{Edge}
+use Rattle.tg_model.specs.Graph.{HasEdge, listing_of}
+use Rattle.tg_model.specs.Walks.{begins, goes, Walk-within}
+use Rattle.tg_word.specs.declared.Place.{Place}
+use Rattle.tg_space.specs.SpaceList.{SpaceList}
+use Rattle.tg_graph.specs.Content.{Content}
+use Rattle.tg_graph.specs.Rows.{IsVertexAt}
+use Rattle.tg_graph.specs.Standing.{IsReached}
+use Rattle.tg_graph.proofs.Listing.{listed, listed_from}
+use Rattle.tg_graph.proofs.Members.{Contains-cases, Contains-from_map, Contains-map, Contains-none}
+use Rattle.tg_store.specs.Reaching.{FindsMore, IsEdgeOf, IsFoundIn, IsReachedEdgeOf, names_found}
+use Rattle.tg_store.specs.declared.store.picture.Found.{Found}
+
+-- ---- one vertex more
+
+-- a name that isn't among them passes no test
+none_any : (xs : List ℕ) (x : ℕ) → ¬ Contains xs x → list_any (λ y. x == y) xs ≡ false
+none_any xs x none =
+    ⊎_elim (λ t. absurd (none (Contains-from_any exact_unsigned_eq x xs t))) (λ f. f) (cases_Bool (list_any (λ y. x == y) xs))
+
+module _ (h : SpaceList) (old new : Found) (name : ℕ) (place : Place) (is : IsFoundIn h old) (vertices : new.vertices.items ≡ old.vertices.items ++ (name, place) ∷ []) where
+  names_pushed : names_found new.vertices.items ≡ names_found old.vertices.items ++ name ∷ []
+  names_pushed = ap names_found vertices ∙ map-append (λ (v : ℕ × Place). v.0) old.vertices.items ((name, place) ∷ [])
+
+  was_or_is : (x : ℕ) → Contains (names_found new.vertices.items) x → Contains (names_found old.vertices.items) x ⊎ (name ≡ x)
+  was_or_is x has = Contains-push_cases (names_found old.vertices.items) name x (subst (λ (xs : List ℕ). Contains xs x) names_pushed has)
+
+  pub still_found : (x : ℕ) → Contains (names_found old.vertices.items) x → Contains (names_found new.vertices.items) x
+  still_found x has = subst (λ (xs : List ℕ). Contains xs x) (sym names_pushed) (Contains-append_left (names_found old.vertices.items) (name ∷ []) x has)
+
+  now_found : Contains (names_found new.vertices.items) name
+  now_found = subst (λ (xs : List ℕ). Contains xs name) (sym names_pushed) (Contains-push (names_found old.vertices.items) name)
+
+  pub found_added : name < length old.marks.items → get_or old.marks.items name false ≡ false → IsVertexAt h name place → new.marks.items ≡ set old.marks.items name true → IsFoundIn h new
+  found_added low unmarked vertex marks = record {
+    marked = λ x. (
+      λ t. ⊎_elim
+          (λ (here : x ≡ name). subst (Contains (names_found new.vertices.items)) (sym here) now_found)
+          (λ (other : x ≢ name). still_found x ((is.marked x).0 (sym (mark_other x other) ∙ t)))
+          (cases_eq x name),
+      λ has. ⊎_elim
+          (λ (here : x ≡ name). ap (λ k. get_or new.marks.items k false) here ∙ mark_here)
+          (λ (other : x ≢ name). mark_other x other ∙ (is.marked x).1 (⊎_elim (λ was. was) (λ at. absurd (other (sym at))) (was_or_is x has)))
+          (cases_eq x name),
+    );
+    once = subst (IsDistinct (λ a b. a == b)) (sym names_pushed)
+        (IsDistinct-push nat_eq_equiv (names_found old.vertices.items) name is.once
+        (none_any (names_found old.vertices.items) name (λ has. false≢true (sym unmarked ∙ (is.marked name).1 has))));
+    placed = subst (All (λ (v : ℕ × Place). IsVertexAt h v.0 v.1)) (sym vertices) (All-push (λ (v : ℕ × Place). IsVertexAt h v.0 v.1) old.vertices.items (name, place) is.placed vertex);
+  }
+    where
+      mark_here : get_or new.marks.items name false ≡ true
+      mark_here = ap (λ (m : List Bool). get_or m name false) marks ∙ get_or-set_same old.marks.items name true false low
+
+      mark_other : (x : ℕ) → x ≢ name → get_or new.marks.items x false ≡ get_or old.marks.items x false
+      mark_other x other = ap (λ (m : List Bool). get_or m x false) marks ∙ get_or-set_other old.marks.items name x true false other
+
+  pub finds_added : FindsMore old new (λ x. x ≡ name)
+  finds_added = record {
+    more = (name, place) ∷ [];
+    behind = vertices;
+    only = λ x has. ⊎_elim (λ (at : name ≡ x). sym at) (λ none. absurd (Contains-none x none)) (Contains-cases name [] x has);
+    all = λ x at. subst (Contains (names_found new.vertices.items)) (sym at) now_found;
+  }
+
+-- where it was found before
+pub finds_none : (h : SpaceList) (found : Found) (name : ℕ) → IsFoundIn h found → get_or found.marks.items name false ≡ true → FindsMore found found (λ x. x ≡ name)
+finds_none h found name is marked = record {
+  more = [];
+  behind = sym (append-nil found.vertices.items);
+  only = λ x none. absurd (Contains-none x none);
+  all = λ x at. subst (Contains (names_found found.vertices.items)) (sym at) ((is.marked name).0 marked);
+}
+
+-- nothing is found yet
+pub finds_nothing : (h : SpaceList) (found : Found) (made : ℕ) → found.vertices.items ≡ [] → found.marks.items ≡ replicate made false → IsFoundIn h found
+finds_nothing h found made vertices marks = record {
+  marked = λ x. (
+    λ t. absurd (false≢true (sym (unmarked x) ∙ t)),
+    λ has. absurd (Contains-none x (subst (λ (vs : List (ℕ × Place)). Contains (names_found vs) x) vertices has)),
+  );
+  once = subst (λ (vs : List (ℕ × Place)). IsDistinct (λ a b. a == b) (names_found vs)) (sym vertices) (IsDistinct-from_apart (λ a b. a == b) [] (λ i j d lt low. absurd (omega (arith, low))));
+  placed = subst (All (λ (v : ℕ × Place). IsVertexAt h v.0 v.1)) (sym vertices) (All-nil (λ (v : ℕ × Place). IsVertexAt h v.0 v.1));
+}
+  where
+    all_false : (n x : ℕ) → get_or (replicate n false) x false ≡ false
+    all_false zero x = refl
+    all_false (suc n) zero = refl
+    all_false (suc n) (suc x) = all_false n x
+
+    unmarked : (x : ℕ) → get_or found.marks.items x false ≡ false
+    unmarked x = ap (λ (m : List Bool). get_or m x false) marks ∙ all_false made x
+
+-- there are no more than names
+pub few_found : (h : SpaceList) (found : Found) → IsFoundIn h found → length found.vertices.items ≤ length found.marks.items
+few_found h found is =
+    let few = length-le_from_distinct_below (names_found found.vertices.items) (length found.marks.items) is.once below in
+    let long = length-map found.vertices.items (λ (v : ℕ × Place). v.0) in
+    omega (arith, few, long)
+  where
+    below : (q : ℕ) → list_any (λ y. q == y) (names_found found.vertices.items) ≡ true → q < length found.marks.items
+    below q any =
+        let t = (is.marked q).1 (Contains-from_any exact_unsigned_eq q (names_found found.vertices.items) any) in
+        ⊎_elim (λ low. low) (λ past. absurd (false≢true (sym (get_or_past found.marks.items q false past) ∙ t))) (cases_lt q (length found.marks.items))
+
+-- ---- one row more
+
+-- names that were found stay so where vertices come behind
+pub found_behind : (old new : Found) (more : List (ℕ × Place)) → new.vertices.items ≡ old.vertices.items ++ more → names_found new.vertices.items ≡ names_found old.vertices.items ++ names_found more
+found_behind old new more behind = ap names_found behind ∙ map-append (λ (v : ℕ × Place). v.0) old.vertices.items more
+
+pub stays_found : (old new : Found) (more : List (ℕ × Place)) → new.vertices.items ≡ old.vertices.items ++ more → (x : ℕ) → Contains (names_found old.vertices.items) x → Contains (names_found new.vertices.items) x
+stays_found old new more behind x has = subst (λ (xs : List ℕ). Contains xs x) (sym (found_behind old new more behind)) (Contains-append_left (names_found old.vertices.items) (names_found more) x has)
+
+-- one subject more
+pub subjects_more : (old new : Found) (names : List ℕ) (name : ℕ) → FindsMore old new (λ x. x ≡ name) → ((x : ℕ) → Contains (names_found old.vertices.items) x ↔ Contains names x) → (x : ℕ) → Contains (names_found new.vertices.items) x ↔ Contains (names ++ name ∷ []) x
+subjects_more old new names name finds are x = (
+  λ has. ⊎_elim
+      (λ was. Contains-append_left names (name ∷ []) x ((are x).0 was))
+      (λ came. subst (Contains (names ++ name ∷ [])) (sym (finds.only x came)) (Contains-push names name))
+      (Contains-append_cases (names_found old.vertices.items) (names_found finds.more) x
+      (subst (λ (xs : List ℕ). Contains xs x) (found_behind old new finds.more finds.behind) has)),
+  λ has. ⊎_elim
+      (λ was. stays_found old new finds.more finds.behind x ((are x).1 was))
+      (λ (at : name ≡ x). finds.all x (sym at))
+      (Contains-push_cases names name x has),
+)
+
+-- an edge of a row, as a list has it
+abbrev pub edge_from : ℕ → ℕ × RightSet → Edge
+edge_from from a = record { from = from; to = a.0; label = a.1 }
+
+abbrev pub row_edges : ℕ → List (ℕ × RightSet) → List Edge
+row_edges from row = map (edge_from from) row
+
+-- The first edges of a row were put behind a list, and the vertices to which they lead were found.
+pub record FollowsRow (label : ℕ → ℕ → RightSet) (from : ℕ) (row : List (ℕ × RightSet)) (old new : Found) (before after : List Edge) (n : ℕ) : Type 0 where
+  pub more : List (ℕ × Place)
+  pub behind : new.vertices.items ≡ old.vertices.items ++ more
+  pub only : (x : ℕ) → Contains (names_found more) x → HasEdge label from x
+  pub all : (x : ℕ × RightSet) → Contains (take n row) x → Contains (names_found new.vertices.items) x.0
+  pub edges : after ≡ before ++ row_edges from (take n row)
+
+module _ (label : ℕ → ℕ → RightSet) (from : ℕ) (row : List (ℕ × RightSet)) (old : Found) (before : List Edge) where
+  pub row_begins : FollowsRow label from row old old before before 0
+  row_begins = record {
+    more = [];
+    behind = sym (append-nil old.vertices.items);
+    only = λ x none. absurd (Contains-none x none);
+    all = λ x none. absurd (Contains-none x none);
+    edges = sym (append-nil before);
+  }
+
+  module _ (now next : Found) (after later : List Edge) (n : ℕ) (a : ℕ × RightSet) (low : n < length row) (here : a ≡ get_or row n a) (so_far : FollowsRow label from row old now before after n) where
+    taken : take (n + 1) row ≡ take n row ++ a ∷ []
+    taken = take_more row n a low ∙ ap (λ (x : ℕ × RightSet). take n row ++ x ∷ []) (sym here)
+
+    pub row_goes : HasEdge label from a.0 → FindsMore now next (λ x. x ≡ a.0) → later ≡ after ++ edge_from from a ∷ [] → FollowsRow label from row old next before later (n + 1)
+    row_goes edge finds pushed = record {
+      more = so_far.more ++ finds.more;
+      behind = finds.behind ∙ ap (λ (vs : List (ℕ × Place)). vs ++ finds.more) so_far.behind ∙ append_assoc old.vertices.items so_far.more finds.more;
+      only = λ x has. ⊎_elim (so_far.only x) (λ new_one. subst (HasEdge label from) (sym (finds.only x new_one)) edge)
+          (Contains-append_cases (names_found so_far.more) (names_found finds.more) x
+          (subst (λ (xs : List ℕ). Contains xs x) (map-append (λ (v : ℕ × Place). v.0) so_far.more finds.more) has));
+      all = λ x has. ⊎_elim
+          (λ was. stays_found now next finds.more finds.behind x.0 (so_far.all x was))
+          (λ (at : a ≡ x). finds.all x.0 (sym (ap (λ (e : ℕ × RightSet). e.0) at)))
+          (Contains-push_cases (take n row) a x (subst (λ (xs : List (ℕ × RightSet)). Contains xs x) taken has));
+      edges =
+          pushed
+          ∙ ap (λ (es : List Edge). es ++ edge_from from a ∷ []) so_far.edges
+          ∙ append_assoc before (row_edges from (take n row)) (edge_from from a ∷ [])
+          ∙ ap (λ (es : List Edge). before ++ es)
+          (sym (map-append (edge_from from) (take n row) (a ∷ [])) ∙ ap (row_edges from) (sym taken));
+    }
+
+  -- the whole row, which is the listing of the vertex
+  module _ (new : Found) (after : List Edge) (n made : ℕ) (past : length row ≤ n) (is : row ≡ listing_of label made from) (follows : FollowsRow label from row old new before after n) where
+    whole : take n row ≡ row
+    whole = take_all n row past
+
+    in_row : (a : ℕ × RightSet) → Contains row a → (a.0 < made) × (a.1 ≡ label from a.0) × (is_none_held a.1 ≡ false)
+    in_row a has = listed_from label made from a (subst (λ (xs : List (ℕ × RightSet)). Contains xs a) is has)
+
+    pub row_found : ((y : ℕ) → HasEdge label from y → y < made) → FindsMore old new (HasEdge label from)
+    row_found below = record {
+      more = follows.more;
+      behind = follows.behind;
+      only = follows.only;
+      all = λ x edge.
+          let there : Contains row (x, label from x) = subst (λ (xs : List (ℕ × RightSet)). Contains xs (x, label from x)) (sym is) (listed label made from x (below x edge) edge) in
+          follows.all (x, label from x) (subst (λ (xs : List (ℕ × RightSet)). Contains xs (x, label from x)) (sym whole) there);
+    }
+
+    edges_are : after ≡ before ++ row_edges from row
+    edges_are = follows.edges ∙ ap (λ (xs : List (ℕ × RightSet)). before ++ row_edges from xs) whole
+
+    of_row : (edge : Edge) → Contains (row_edges from row) edge → (edge.from ≡ from) × IsEdgeOf label edge
+    of_row edge has =
+        let at = Contains-from_map (edge_from from) row edge has in
+        let a = at.0 in
+        let told = in_row a at.1 in
+        let made_edge : Edge = edge_from from a in
+        let P : Edge → Type 0 = λ e. (e.from ≡ from) × IsEdgeOf label e in
+        let own : P made_edge = (refl, record { there = ap is_none_held (sym told.1) ∙ told.2; rights = told.1 }) in
+        subst P at.2 own
+
+    in_edges : (edge : Edge) → edge.from ≡ from → IsEdgeOf label edge → ((y : ℕ) → HasEdge label from y → y < made) → Contains (row_edges from row) edge
+    in_edges edge at edge_is below =
+        let there : HasEdge label from edge.to = subst (λ (k : ℕ). HasEdge label k edge.to) at edge_is.there in
+        let held : edge.label ≡ label from edge.to = edge_is.rights ∙ ap (λ (k : ℕ). label k edge.to) at in
+        let a : ℕ × RightSet = (edge.to, label from edge.to) in
+        let listed_there : Contains row a = subst (λ (xs : List (ℕ × RightSet)). Contains xs a) (sym is) (listed label made from edge.to (below edge.to there) there) in
+        let same : edge_from from a ≡ edge = λ i. record { from = sym at i; to = edge.to; label = sym held i } in
+        subst (Contains (row_edges from row)) same
+        (Contains-map (edge_from from) row a listed_there)
+
+    pub row_edges_are : ((y : ℕ) → HasEdge label from y → y < made) → (edge : Edge) → Contains after edge ↔ (Contains before edge ⊎ ((edge.from ≡ from) × IsEdgeOf label edge))
+    row_edges_are below edge = (
+      λ has. ⊎_elim inl (λ row_has. inr (of_row edge row_has)) (Contains-append_cases before (row_edges from row) edge (subst (λ (es : List Edge). Contains es edge) edges_are has)),
+      λ either. subst (λ (es : List Edge). Contains es edge) (sym edges_are)
+          (⊎_elim
+          (Contains-append_left before (row_edges from row) edge)
+          (λ (at, edge_is). Contains-append_right before (row_edges from row) edge (in_edges edge at edge_is below))
+          either),
+    )
+
+-- ---- the walk
+
+-- the name stands among the first n
+abbrev pub IsWalked : List ℕ → ℕ → ℕ → Type 0
+IsWalked names n x = (k : ℕ) × (k < n) × (k < length names) × (get_or names k x ≡ x)
+
+walked_grows : (names more : List ℕ) (n x : ℕ) → IsWalked names n x → IsWalked (names ++ more) (n + 1) x
+walked_grows names more n x walked =
+    let long = length-append names more in
+    let low = walked.1 in
+    let inside = walked.2 in
+    (walked.0, omega (arith, low), omega (arith, long, inside), get_or_append_left names more x walked.0 inside ∙ walked.3)
+
+walked_cases : (names more : List ℕ) (n from x : ℕ) → n < length names → from ≡ get_or names n from → IsWalked (names ++ more) (n + 1) x → IsWalked names n x ⊎ (x ≡ from)
+walked_cases names more n from x low here walked =
+    let high = walked.1 in
+    ⊎_elim
+    (λ (before : walked.0 < n). let inside : walked.0 < length names = omega (arith, before, low) in inl (walked.0, before, inside, sym (get_or_append_left names more x walked.0 inside) ∙ walked.3))
+    (λ (not_before : n ≤ walked.0).
+    let at : walked.0 ≡ n = omega (arith, not_before, high) in
+    let there : get_or (names ++ more) n x ≡ x = ap (λ k. get_or (names ++ more) k x) (sym at) ∙ walked.3 in
+    inr (sym there ∙ get_or_append_left names more x n low ∙ get_or_default names n x from low ∙ sym here))
+    (cases_lt walked.0 n)
+
+walked_here : (names more : List ℕ) (n from : ℕ) → n < length names → from ≡ get_or names n from → IsWalked (names ++ more) (n + 1) from
+walked_here names more n from low here =
+    let long = length-append names more in
+    (n, omega arith, omega (arith, long, low), get_or_append_left names more from n low ∙ sym here)
+
+-- The rows of the first n that were found were walked along: their edges are the list's, and those to whom they lead were found.
+pub record Walks (c : Content) (subjects : List ℕ) (found : Found) (edges : List Edge) (n : ℕ) : Type 0 where
+  pub roots : (x : ℕ) → Contains subjects x → Contains (names_found found.vertices.items) x
+  pub reached : (x : ℕ) → Contains (names_found found.vertices.items) x → IsReached c subjects x
+  pub closed : (a b : ℕ) → IsWalked (names_found found.vertices.items) n a → HasEdge c.label a b → Contains (names_found found.vertices.items) b
+  pub shown : (edge : Edge) → Contains edges edge ↔ (IsWalked (names_found found.vertices.items) n edge.from × IsEdgeOf c.label edge)
+
+module _ (c : Content) (subjects : List ℕ) where
+  pub walk_begins : (found : Found) → ((x : ℕ) → Contains (names_found found.vertices.items) x ↔ Contains subjects x) → Walks c subjects found [] 0
+  walk_begins found are = record {
+    roots = λ x has. (are x).1 has;
+    reached = λ x has. begins ((are x).0 has);
+    closed = λ a b walked. let low = walked.1 in absurd (omega (arith, low));
+    shown = λ edge. (λ none. absurd (Contains-none edge none), λ (walked, is). let low = walked.1 in absurd (omega (arith, low)));
+  }
+
+  module _ (old new : Found) (before after : List Edge) (n from : ℕ) (walks : Walks c subjects old before n) (low : n < length (names_found old.vertices.items)) (here : from ≡ get_or (names_found old.vertices.items) n from) (finds : FindsMore old new (HasEdge c.label from)) where
+    abbrev was : List ℕ
+    was = names_found old.vertices.items
+
+    abbrev came : List ℕ
+    came = names_found finds.more
+
+    grown : names_found new.vertices.items ≡ was ++ came
+    grown = found_behind old new finds.more finds.behind
+
+    from_reached : IsReached c subjects from
+    from_reached = walks.reached from (n, low, sym here)
+
+    on_grown : (P : List ℕ → Type 0) → P (was ++ came) → P (names_found new.vertices.items)
+    on_grown P is = subst P (sym grown) is
+
+    off_grown : (P : List ℕ → Type 0) → P (names_found new.vertices.items) → P (was ++ came)
+    off_grown P is = subst P grown is
+
+    step_cases : (x : ℕ) → IsWalked (names_found new.vertices.items) (n + 1) x → IsWalked was n x ⊎ (x ≡ from)
+    step_cases x walked = walked_cases was came n from x low here (off_grown (λ xs. IsWalked xs (n + 1) x) walked)
+
+    pub walk_goes : ((edge : Edge) → Contains after edge ↔ (Contains before edge ⊎ ((edge.from ≡ from) × IsEdgeOf c.label edge))) → Walks c subjects new after (n + 1)
+    walk_goes edges_are = record {
+      roots = λ x is. stays_found old new finds.more finds.behind x (walks.roots x is);
+      reached = λ x has. ⊎_elim (walks.reached x) (λ new_one. goes from_reached (finds.only x new_one))
+          (Contains-append_cases was came x (off_grown (λ xs. Contains xs x) has));
+      closed = λ a b walked edge. ⊎_elim
+          (λ before_it. stays_found old new finds.more finds.behind b (walks.closed a b before_it edge))
+          (λ (at : a ≡ from). finds.all b (subst (λ (k : ℕ). HasEdge c.label k b) at edge))
+          (step_cases a walked);
+      shown = λ edge. (
+        λ has. ⊎_elim
+            (λ old_edge. let is = (walks.shown edge).0 old_edge in (on_grown (λ xs. IsWalked xs (n + 1) edge.from) (walked_grows was came n edge.from is.0), is.1))
+            (λ (at, is).
+            let there : IsWalked (was ++ came) (n + 1) edge.from = subst (IsWalked (was ++ came) (n + 1)) (sym at) (walked_here was came n from low here) in
+            (on_grown (λ xs. IsWalked xs (n + 1) edge.from) there, is))
+            ((edges_are edge).0 has),
+        λ (walked, is). (edges_are edge).1 (⊎_elim (λ before_it. inl ((walks.shown edge).1 (before_it, is))) (λ at. inr (at, is)) (step_cases edge.from walked)),
+      );
+    }
+
+  -- at the end all that is reached was walked along
+  pub walk_ends : (found : Found) (edges : List Edge) (n : ℕ) → Walks c subjects found edges n → length (names_found found.vertices.items) ≤ n → (edge : Edge) → Contains edges edge ↔ IsReachedEdgeOf c subjects edge
+  walk_ends found edges n walks past edge = (
+    λ has. let is = (walks.shown edge).0 has in record { from = walks.reached edge.from (found_of edge.from is.0); is = is.1 },
+    λ is. (walks.shown edge).1 (walked_of edge.from (all_found edge.from is.from), is.is),
+  )
+    where
+      found_of : (x : ℕ) → IsWalked (names_found found.vertices.items) n x → Contains (names_found found.vertices.items) x
+      found_of x walked = (walked.0, walked.2, walked.3)
+
+      walked_of : (x : ℕ) → Contains (names_found found.vertices.items) x → IsWalked (names_found found.vertices.items) n x
+      walked_of x has = let inside = has.1 in (has.0, omega (arith, inside, past), inside, has.2)
+
+      all_found : (x : ℕ) → IsReached c subjects x → Contains (names_found found.vertices.items) x
+      all_found = Walk-within (Contains (names_found found.vertices.items)) walks.roots (λ a b has edge. walks.closed a b (walked_of a has) edge)
+
+-- ---- what is read
+
+-- a mark that was read
+pub mark_is : (marks : List Bool) (x : ℕ) (mark : Bool) → x < length marks → mark ≡ get_or marks x mark → get_or marks x false ≡ mark
+mark_is marks x mark low is = get_or_default marks x false mark low ∙ sym is
+
+-- a vertex that was read
+pub vertex_at : (h : SpaceList) (found : Found) (n : ℕ) (v : ℕ × Place) → IsFoundIn h found → n < length found.vertices.items → v ≡ get_or found.vertices.items n v → IsVertexAt h v.0 v.1
+vertex_at h found n v is low here = subst (λ (w : ℕ × Place). IsVertexAt h w.0 w.1) (sym here) (is.placed n v low)
+
+-- an edge of a listing
+pub listed_at : (label : ℕ → ℕ → RightSet) (from : ℕ) (row : List (ℕ × RightSet)) (made n : ℕ) (a : ℕ × RightSet) → row ≡ listing_of label made from → n < length row → a ≡ get_or row n a → (a.0 < made) × HasEdge label from a.0
+listed_at label from row made n a is low here =
+    let told = listed_from label made from a (subst (λ (xs : List (ℕ × RightSet)). Contains xs a) is (n, low, sym here)) in
+    (told.0, ap is_none_held (sym told.1) ∙ told.2)
+
+-- the walk goes on with the row of a vertex that was read
+pub walk_row : (c : Content) (subjects : List ℕ) (old new : Found) (before after : List Edge) (n : ℕ) (v : ℕ × Place) → Walks c subjects old before n → n < length old.vertices.items → v ≡ get_or old.vertices.items n v → FindsMore old new (HasEdge c.label v.0) → ((edge : Edge) → Contains after edge ↔ (Contains before edge ⊎ ((edge.from ≡ v.0) × IsEdgeOf c.label edge))) → Walks c subjects new after (n + 1)
+walk_row c subjects old new before after n v walks low here finds edges_are =
+    let long = length-map old.vertices.items (λ (w : ℕ × Place). w.0) in
+    let low_name : n < length (names_found old.vertices.items) = omega (arith, long, low) in
+    let name : v.0 ≡ get_or (names_found old.vertices.items) n v.0 = ap (λ (w : ℕ × Place). w.0) here ∙ sym (get_or-map (λ (w : ℕ × Place). w.0) old.vertices.items n v v.0 low) in
+    walk_goes c subjects old new before after n v.0 walks low_name name finds edges_are
+
+pub walk_over : (c : Content) (subjects : List ℕ) (found : Found) (edges : List Edge) (n : ℕ) → Walks c subjects found edges n → length found.vertices.items ≤ n → (edge : Edge) → Contains edges edge ↔ IsReachedEdgeOf c subjects edge
+walk_over c subjects found edges n walks past =
+    let long = length-map found.vertices.items (λ (w : ℕ × Place). w.0) in
+    walk_ends c subjects found edges n walks (omega (arith, long, past))

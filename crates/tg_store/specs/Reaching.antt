@@ -1,0 +1,44 @@
+-- What a walk over a heap from its active subjects has found on its way.
+use Rattle.std.specs.Prelude.{◌≡◌, ◌↔◌, ◌==◌, ◌++◌, ◌<◌, ℕ, true, false, List, map, slice_index_or}
+use Rattle.std.specs.List.{All, Contains, IsDistinct}
+use Rattle.tg_rights.specs.RightSet.{RightSet}
+use Rattle.tg_model.specs.declared.edge.Edge.{Edge}
+use Rattle.tg_model.specs.Graph.{HasEdge}
+use Rattle.tg_word.specs.declared.Place.{Place}
+use Rattle.tg_space.specs.SpaceList.{SpaceList}
+use Rattle.tg_graph.specs.Content.{Content, IsNamed}
+use Rattle.tg_graph.specs.Rows.{IsVertexAt}
+use Rattle.tg_graph.specs.Standing.{IsReached}
+use Rattle.tg_store.specs.declared.store.picture.Found.{Found}
+
+-- the names of a content are below `made`, and so are those to which its edges lead
+pub record AreBelow (c : Content) (made : ℕ) : Type 0 where
+  pub names : (x : ℕ) → IsNamed c x → x < made
+  pub targets : (a b : ℕ) → HasEdge c.label a b → b < made
+
+-- the names of vertices
+abbrev pub names_found : List (ℕ × Place) → List ℕ
+names_found vertices = map (λ v. v.0) vertices
+
+-- vertices of a heap, each once, and marks on exactly their names
+pub record IsFoundIn (h : SpaceList) (found : Found) : Type 0 where
+  pub marked : (x : ℕ) → (slice_index_or found.marks.items x false ≡ true) ↔ Contains (names_found found.vertices.items) x
+  pub once : IsDistinct (λ a b. a == b) (names_found found.vertices.items)
+  pub placed : All (λ v. IsVertexAt h v.0 v.1) found.vertices.items
+
+-- vertices came behind those that were found: none but these, and all of these are found then
+pub record FindsMore (old new : Found) (these : ℕ → Type 0) : Type 0 where
+  pub more : List (ℕ × Place)
+  pub behind : new.vertices.items ≡ old.vertices.items ++ more
+  pub only : (x : ℕ) → Contains (names_found more) x → these x
+  pub all : (x : ℕ) → these x → Contains (names_found new.vertices.items) x
+
+-- it is an edge, with all of its rights
+pub record IsEdgeOf (label : ℕ → ℕ → RightSet) (edge : Edge) : Type 0 where
+  pub there : HasEdge label edge.from edge.to
+  pub rights : edge.label ≡ label edge.from edge.to
+
+-- the same, of one that is reached from these subjects
+pub record IsReachedEdgeOf (c : Content) (subjects : List ℕ) (edge : Edge) : Type 0 where
+  pub from : IsReached c subjects edge.from
+  pub is : IsEdgeOf c.label edge
