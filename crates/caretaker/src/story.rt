@@ -258,8 +258,8 @@ fn audited<P: Payload>(alloc: Global, store: &Store<P>) -> Result<u64, StoreFaul
     Ok(audit_own(alloc, store)?)
 }
 
-// Audits the store's own journal, of which nothing was handed out, and answers how many entries it has. As the journal of
-// a store is always a legal history, the audit can fail for want of memory alone.
+// Audits the store's own journal, of which nothing was handed out, and answers how many entries it has. As the journal
+// of a store is always a legal history, the audit can fail for want of memory alone.
 fn audit_own<P: Payload>(alloc: Global, store: &Store<P>) -> Result<u64, AuditFault>
     ensures count { store.now.handed ≡ 0 → IfOk result (λ count. count ≡ length store.now.entries) }
     ensures fault { store.now.handed ≡ 0 → IfErr result (λ fault. fault ≡ AuditFault.OutOfMemory) }

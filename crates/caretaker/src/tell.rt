@@ -17,8 +17,8 @@ pub fn tell_reply<R: Print>(rt: &R, asked: &str, reply: &Reply) -> io::Result<()
     }
 }
 
-// Prints why what was asked for was denied: two vertices that are one, rights that are missing on an edge, or a target that
-// stores no log.
+// Prints why what was asked for was denied: two vertices that are one, rights that are missing on an edge, or a target
+// that stores no log.
 fn tell_denial<R: Print>(rt: &R, asked: &str, denial: &Denial) -> io::Result<()> {
     match denial.cause {
         Cause::NotDistinct => println!(rt; "{asked}: denied, its vertices have to differ"),

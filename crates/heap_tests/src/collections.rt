@@ -26,8 +26,8 @@ const CELLS: u64 = 192;
 enum Content {
     // objects without references
     Alone,
-    // by fours an object that links to a chunk, an object, a chunk that links to the next, and that one; all but the last refer
-    // to objects, several to each
+    // by fours an object that links to a chunk, an object, a chunk that links to the next, and that one; all but the
+    // last refer to objects, several to each
     Linked,
 }
 
@@ -138,9 +138,9 @@ fn as_taken(alloc: Global, roots: &[Root]) -> Result<Vec<Root>, AllocError> {
     Ok(taken)
 }
 
-// Whether a seat is served as one thread is that has the roots in the order of the seat, and gives each cell the same place in a full
-// collection, which no contract says. In a nursery collection it looks at eight roots at a time, so that other cells may go straight
-// to Old.
+// Whether a seat is served as one thread is that has the roots in the order of the seat, and gives each cell the same
+// place in a full collection, which no contract says. In a nursery collection it looks at eight roots at a time, so
+// that other cells may go straight to Old.
 fn same_at_a_seat(alloc: Global, spaces: &Spaces, roots: &[Root], kind: Kind) -> bool
     requires { AreSound spaces.now.spaces roots.now }
 {

@@ -1,5 +1,5 @@
-//! The journal of the script `grant_then_denied_write`, written by hand, as it is, altered and damaged; and journals of appends and
-//! inspections, and of subjects that come and go.
+//! The journal of the script `grant_then_denied_write`, written by hand, as it is, altered and damaged; and journals of
+//! appends and inspections, and of subjects that come and go.
 
 use crate::rows_on_the_plain_graph::label;
 use std::alloc::{AllocError, Global};
@@ -272,7 +272,8 @@ static JOURNALS: [(&'static [Said], Option<u64>); 16] = [
     (&[Said::Logged, Said::NotLog], Some(1)),
     (&[Said::Appendable, Said::NotLog], None),
     (&[Said::Appendable, Said::Appended], Some(1)),
-    // a new subject retires; then it acts after that, an object acts, and a subject too many is told where there is room
+    // a new subject retires; then it acts after that, an object acts, and a subject too many is told where there is
+    // room
     (&[Said::Spawned, Said::Retired(2), Said::Retired(0)], None),
     (
         &[Said::Spawned, Said::Retired(2), Said::Retired(2)],

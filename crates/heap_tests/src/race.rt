@@ -167,8 +167,8 @@ fn race_of_three_cells(rt: HostRuntime) -> Result<(), Fail> {
     Ok(())
 }
 
-// What one helper is handed at a table: its chunk of roots, whether a cell has no place yet, a block of Old, an aged one, and how many
-// words it closes with.
+// What one helper is handed at a table: its chunk of roots, whether a cell has no place yet, a block of Old, an aged
+// one, and how many words it closes with.
 fn handed_at_the_table(alloc: Global) -> Result<(u64, bool, u64, u64, usize), Fail> {
     // three blocks of Old stay, and five cells behind them may be moved
     let Opened {

@@ -207,8 +207,8 @@ fn answered(graph: &mut Graph, lines: &[(u64, Ask, Want)]) -> usize {
     lines.len()
 }
 
-// A run: how many workers there are, how many vertices may ever be made, the edges in front, and each line with its worker and with
-// what is to be answered.
+// A run: how many workers there are, how many vertices may ever be made, the edges in front, and each line with its
+// worker and with what is to be answered.
 #[derive(Clone, Copy)]
 struct WorkedRun<'a> {
     name: &'a str,
@@ -557,7 +557,8 @@ static SUBJECTS: [WorkedRun<'static>; 4] = [
     },
 ];
 
-// Each group is read by a function of its own, since a function is the dearer to prove the longer the tables are that it names.
+// Each group is read by a function of its own, since a function is the dearer to prove the longer the tables are that
+// it names.
 fn runs_of_rights() -> &'static [WorkedRun<'static>] {
     &RIGHTS
 }

@@ -8,8 +8,8 @@ use tg_rights::Label;
 use tg_shared::{Round, Session, SharedStore};
 use tg_store::{ApplyFault, Kind, StoreFault};
 
-/// What a client sees as it leaves: how many vertices a full collection counts before its retire and after it, and why its next line
-/// is refused.
+/// What a client sees as it leaves: how many vertices a full collection counts before its retire and after it, and why
+/// its next line is refused.
 #[derive(Clone, Copy, Debug)]
 pub struct Leave {
     pub before: u64,
@@ -43,9 +43,9 @@ fn command<L: Round, R: Wait>(
     Ok(())
 }
 
-/// Makes a document and spawns a client, with these rights over both, and puts its session behind those of the other clients. Hands
-/// the rights over the document on to the client, and gives up those over the client: what the client makes is reached through itself
-/// alone. Answers the document's name.
+/// Makes a document and spawns a client, with these rights over both, and puts its session behind those of the other
+/// clients. Hands the rights over the document on to the client, and gives up those over the client: what the client
+/// makes is reached through itself alone. Answers the document's name.
 pub fn welcome<L: Round, R: Wait + AllocGlobal>(
     rt: &R,
     store: &SharedStore<L, SumPayload>,

@@ -1,7 +1,8 @@
 //! An example: a service whose clients come and go.
 //!
-//! The service spawns three clients and hands each a document. They write at once, each on a thread of its own, and meanwhile one of
-//! them leaves. What it alone had a right over goes with it, though it gave up nothing; what it wrote to its document stays.
+//! The service spawns three clients and hands each a document. They write at once, each on a thread of its own, and
+//! meanwhile one of them leaves. What it alone had a right over goes with it, though it gave up nothing; what it wrote
+//! to its document stays.
 #![tactic(auto)]
 
 ghost use Rattle.tg_shared.specs.Sessions.{MayShare};

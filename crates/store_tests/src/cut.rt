@@ -108,8 +108,8 @@ fn look_at(alloc: Global, cut: &StoreInParts) -> Option<SeenOfCut> {
     })
 }
 
-// Parts begin where the last one ended. The second alone reads what was made in the first, and what the store holds reads what was
-// made in the second.
+// Parts begin where the last one ended. The second alone reads what was made in the first, and what the store holds
+// reads what was made in the second.
 #[test]
 fn a_store_is_cut_and_forgets(rt: HostRuntime) -> Result<(), Fail> {
     let cut = cut_twice(rt.alloc()).ok_or("a refusal")?;

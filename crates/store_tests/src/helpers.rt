@@ -29,7 +29,8 @@ const BOTH_KINDS: Row<'static> = Row {
     written: b"ok\nok 2\n",
 };
 
-// Collects the store with so many helpers, the nurseries and then all. How often they passed the gate, where none missed another.
+// Collects the store with so many helpers, the nurseries and then all. How often they passed the gate, where none
+// missed another.
 fn passes_of_both<R: Threads + Wait + Sync>(
     rt: &R,
     alloc: Global,
@@ -45,7 +46,8 @@ fn passes_of_both<R: Threads + Wait + Sync>(
     (!gate.is_missed()).then_some(gate.passes())
 }
 
-// Collects a store of two workers in the same way. How often the helpers passed a gate at which they met, where none missed another.
+// Collects a store of two workers in the same way. How often the helpers passed a gate at which they met, where none
+// missed another.
 fn passes_of_a_store<R: Threads + Wait + Sync>(rt: &R, alloc: Global, helpers: u32) -> Option<u64>
     requires { (1 ≤ helpers) × (helpers ≤ 8) }
 {
@@ -56,7 +58,8 @@ fn passes_of_a_store<R: Threads + Wait + Sync>(rt: &R, alloc: Global, helpers: u
     passes
 }
 
-// In each collection the gate is passed for the workers' rows, which are one chunk of roots, and once more by each helper.
+// In each collection the gate is passed for the workers' rows, which are one chunk of roots, and once more by each
+// helper.
 #[test]
 fn helpers_of_a_store_at_one_gate(rt: HostRuntime) -> Result<(), Fail> {
     for (helpers, passes) in [(1, 4), (2, 6), (3, 8), (8, 18)] {
@@ -84,7 +87,8 @@ fn run_both_kinds<C: Collector>(alloc: Global, collector: &C, helpers: u32) -> R
     Ok(ran.written)
 }
 
-// Collects on the thread that runs the script, and keeps how many helpers it was last asked for, for a collection of each kind.
+// Collects on the thread that runs the script, and keeps how many helpers it was last asked for, for a collection of
+// each kind.
 #[derive(Drop)]
 struct Keeps {
     nursery: AtomicU64,
@@ -126,7 +130,8 @@ impl Collector for Keeps {
     }
 }
 
-// Serves the same script of one worker with so many helpers. The counts of the source and of the sink are those of the ledgers A and F.
+// Serves the same script of one worker with so many helpers. The counts of the source and of the sink are those of the
+// ledgers A and F.
 fn serve_counted<C: Collector, A: Ledger, F: Ledger, R: Threads + Wait + Sync>(
     rt: &R,
     alloc: Global,

@@ -45,7 +45,8 @@ fn lent(store: &Store<Tagged>, worker: u64, name: u64) -> u64 {
     }
 }
 
-// What worker 0 is lent of vertex 2, what it is lent of itself and of worker 1, and what worker 1 and one who is no worker are lent.
+// What worker 0 is lent of vertex 2, what it is lent of itself and of worker 1, and what worker 1 and one who is no
+// worker are lent.
 fn all_lent(store: &Store<Tagged>) -> [u64; 5] {
     [
         lent(store, 0, 2),
@@ -82,8 +83,8 @@ fn give_up(store: &mut Store<Tagged>) -> Option<()> {
     command(store, Command::Remove { target: 2, rights })
 }
 
-// What is lent once vertex 2 was written and collected, and then once the right to read it was given up; and how many entries
-// there are in the end.
+// What is lent once vertex 2 was written and collected, and then once the right to read it was given up; and how many
+// entries there are in the end.
 fn lent_in_turn(alloc: Global, store: &mut Store<Tagged>) -> Option<([u64; 5], [u64; 5], usize)> {
     make_and_write(alloc, store)?;
     let before = all_lent(store);

@@ -1,8 +1,8 @@
 //! Tests of the store and of all that is above it, and of the payloads that both name.
 //!
 //! They stand here and not beside what they test, since a crate with tests is proved twice. A test is named for what it
-//! shows; each file has one topic. Nothing here is called by any crate. What a whole script is answered is no test here: such
-//! scripts are rows of `rows/`, which the program is run on.
+//! shows; each file has one topic. Nothing here is called by any crate. What a whole script is answered is no test
+//! here: such scripts are rows of `rows/`, which the program is run on.
 #![tactic(auto)]
 
 #[cfg(test)]

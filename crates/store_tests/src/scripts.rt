@@ -66,7 +66,8 @@ fn ran_with_counting(
     Ok(run_with(alloc, &OneThread, settings, workers, stock, script)?)
 }
 
-// Whether the run of a script whose second create is refused writes what it should, and how many boxes are dropped by its end.
+// Whether the run of a script whose second create is refused writes what it should, and how many boxes are dropped by
+// its end.
 fn dropped_by_a_run(alloc: Global) -> Result<(bool, u64), Fail> {
     let drops = Arc::new(alloc, AtomicU64::new(0))?;
     let script = b"0 create rw\n0 create rw\n0 read 1\n";

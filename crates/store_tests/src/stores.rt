@@ -361,8 +361,8 @@ struct Death {
     helpers: Option<u32>,
 }
 
-// How many boxes of such a cycle are dropped before nobody has rights over it, how many vertices the collection that it dies in
-// leaves, and how many boxes are dropped then.
+// How many boxes of such a cycle are dropped before nobody has rights over it, how many vertices the collection that it
+// dies in leaves, and how many boxes are dropped then.
 fn dropped_by_collections<P: Payload, R: Threads + Wait + Sync>(
     rt: &R,
     alloc: Global,
@@ -515,8 +515,8 @@ fn vertex_limit_and_unknown_worker(rt: HostRuntime) -> Result<(), Fail> {
     Ok(())
 }
 
-// Makes vertex 1 for the first payload and vertex 2 for the second, over which the worker may append and inspect. The first may read
-// the second.
+// Makes vertex 1 for the first payload and vertex 2 for the second, over which the worker may append and inspect. The
+// first may read the second.
 fn make_appendable<P: Payload>(
     alloc: Global,
     store: &mut Store<P>,
@@ -567,7 +567,8 @@ fn are_served<P: Payload>(store: &mut Store<P>) -> bool {
     is_taken_in(store, 1) && is_no_log(store, 2) && first_inspected(store, 1) == Some(2)
 }
 
-// Whether that is so before a full collection and behind it, how many numbers vertex 1 then has, and how many entries there are.
+// Whether that is so before a full collection and behind it, how many numbers vertex 1 then has, and how many entries
+// there are.
 fn served_twice<P: Payload>(
     alloc: Global,
     store: &mut Store<P>,

@@ -1,5 +1,5 @@
-//! Runs between a reader and a writer: one that fails once and then goes on, one that takes a byte at a time, and a client that
-//! waits for its replies.
+//! Runs between a reader and a writer: one that fails once and then goes on, one that takes a byte at a time, and a
+//! client that waits for its replies.
 ghost use Rattle.tg_script.specs.Counting.{MayCountStreams};
 
 use crate::races::raced::cells;
@@ -171,7 +171,8 @@ fn run_counted<A: Ledger, B: Ledger, C: Ledger, R: BufRead + Drop, W: Write + Dr
     Ok((writer, outcome))
 }
 
-// Whether this is written for the reader's script of so many workers where the writer has this trouble, and how the run ends.
+// Whether this is written for the reader's script of so many workers where the writer has this trouble, and how the run
+// ends.
 fn run_to_trickle<R: Read + Drop>(
     alloc: Global,
     workers: u64,
@@ -286,8 +287,8 @@ fn run_for_client(
     Ok((screen.flushes, outcome))
 }
 
-// Who sends a line, or a line and a part of the next, and waits, is answered; what comes in one piece is flushed before the next
-// piece is waited for, and not line by line.
+// Who sends a line, or a line and a part of the next, and waits, is answered; what comes in one piece is flushed before
+// the next piece is waited for, and not line by line.
 #[test]
 fn client_waits_for_its_replies(rt: HostRuntime) -> Result<(), Fail> {
     let alloc = rt.alloc();

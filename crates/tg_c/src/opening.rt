@@ -12,8 +12,8 @@ use tg_model::{Edge, MAX_VERTICES, MAX_WORKERS};
 use tg_payload::Draft;
 use tg_store::Limits;
 
-/// Looks at what an opening asks for, one demand after the other, and takes no memory. Where all are met the answer is the
-/// limits of the heap, and else what is told of the first that isn't.
+/// Looks at what an opening asks for, one demand after the other, and takes no memory. Where all are met the answer is
+/// the limits of the heap, and else what is told of the first that isn't.
 pub fn check_opening(
     alloc: Global,
     workers: &[ValueIn],

@@ -13,10 +13,11 @@ use tg_rights::Label;
 pub struct RecordOut {
     /// The worker that asked.
     pub worker: u64,
-    /// What it asked for: 0 take, 1 grant, 2 remove, 3 read, 4 write, 5 append, 6 inspect, 8 list, 9 retire, 16 create, 17 spawn.
+    /// What it asked for: 0 take, 1 grant, 2 remove, 3 read, 4 write, 5 append, 6 inspect, 8 list, 9 retire, 16 create,
+    /// 17 spawn.
     pub deed: u32,
-    /// What was answered: 0 done, 1 denied, 2 a name, 3 values, 4 edges, 16 that no more vertices may be made, 17 that no
-    /// more subjects may be active.
+    /// What was answered: 0 done, 1 denied, 2 a name, 3 values, 4 edges, 16 that no more vertices may be made, 17 that
+    /// no more subjects may be active.
     pub reply: u32,
     /// Of a create or a spawn: what a write does, as in `ValueIn`.
     pub law: u32,

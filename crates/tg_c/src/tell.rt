@@ -80,7 +80,8 @@ pub fn tell_list(answer: Result<Reply, CallRefusal>, edges: &mut [EdgeOut], coun
     }
 }
 
-/// Tells the edges that were inspected, as many as there is room for, and how many there are; or why the command was denied.
+/// Tells the edges that were inspected, as many as there is room for, and how many there are; or why the command was
+/// denied.
 pub fn tell_inspect(
     answer: Result<Reply, CallRefusal>,
     edges: &mut [EdgeOut],

@@ -13,17 +13,17 @@ use std::alloc::{AllocError, Global};
 use tg_model::{Deed, Picture};
 use tg_rights::Right;
 
-/// What comes of the question whether x could ever come to hold a right over y. Who acts is an active subject that isn't
-/// silent; whoever is spawned later acts too.
+/// What comes of the question whether x could ever come to hold a right over y. Who acts is an active subject that
+/// isn't silent; whoever is spawned later acts too.
 #[derive(Drop)]
 pub enum Answer {
-    /// x never holds it, after no list of turns of those who act. The separation shows it, and may be kept and asked again
-    /// ([`Separation::parts`]) when the graph has changed.
+    /// x never holds it, after no list of turns of those who act. The separation shows it, and may be kept and asked
+    /// again ([`Separation::parts`]) when the graph has changed.
     Never(Separation),
     /// x holds it after these turns, each of one who acts by then.
     Could(Vec<(u64, Deed)>),
-    /// x holds it after these turns where so many more vertices may be made than are left. This doesn't say whether others
-    /// lead there with those that are left. It never comes where 64 names are left behind those asked about.
+    /// x holds it after these turns where so many more vertices may be made than are left. This doesn't say whether
+    /// others lead there with those that are left. It never comes where 64 names are left behind those asked about.
     WantsNames {
         /// The turns, each of one who acts by then.
         turns: Vec<(u64, Deed)>,
@@ -34,10 +34,10 @@ pub enum Answer {
     Open,
 }
 
-/// Whether x could ever come to hold a right over y, by any turns of the active subjects but the silent ones, on the graph of
-/// which this is a picture. A name in `silent` that was never made counts for nothing. Who retired is asked about like any object. A
-/// name that isn't made yet is asked about as one that whoever acts may make, and may have the right over, or hand it
-/// to. Takes time and memory in proportion to the picture. Fails only when out of memory.
+/// Whether x could ever come to hold a right over y, by any turns of the active subjects but the silent ones, on the
+/// graph of which this is a picture. A name in `silent` that was never made counts for nothing. Who retired is asked
+/// about like any object. A name that isn't made yet is asked about as one that whoever acts may make, and may have the
+/// right over, or hand it to. Takes time and memory in proportion to the picture. Fails only when out of memory.
 pub fn could_hold(
     alloc: Global,
     picture: &Picture,

@@ -1,4 +1,5 @@
-//! The edges at each vertex, as chains through a list of edges. Nothing is believed of them: who follows one looks at the edge.
+//! The edges at each vertex, as chains through a list of edges. Nothing is believed of them: who follows one looks at
+//! the edge.
 use std::alloc::{AllocError, Global};
 use tg_model::Edge;
 

@@ -10,9 +10,9 @@ use std::alloc::{AllocError, Global};
 use tg_model::Picture;
 use tg_rights::Right;
 
-/// Whose turns would be enough: each of the silent ones for whom [`could_hold`](crate::could_hold) answers other than `Never` when it
-/// alone is taken out of the silent ones. Of each one left out it is proved that x never holds the right over y then. One
-/// search for each. Fails only when out of memory.
+/// Whose turns would be enough: each of the silent ones for whom [`could_hold`](crate::could_hold) answers other than
+/// `Never` when it alone is taken out of the silent ones. Of each one left out it is proved that x never holds the
+/// right over y then. One search for each. Fails only when out of memory.
 pub fn needs(
     alloc: Global,
     picture: &Picture,

@@ -17,8 +17,8 @@ pub fn the_separated_never_hold()
         IsMade g → Separates (IsSilent silent g) s x right y g → NeverHolds silent g x right y }
 {}
 
-/// No take or grant edge leaves or enters a set of vertices: then none of the set ever holds a right over a vertex made before
-/// that none of the set held at first.
+/// No take or grant edge leaves or enters a set of vertices: then none of the set ever holds a right over a vertex made
+/// before that none of the set held at first.
 pub fn the_confined_never_hold()
     ensures { (silent : List ℕ) (g : ProtectionGraph) (inside : ℕ → Bool) (right : Right) (y : ℕ) →
         IsMade g → IsConfined inside g → y < g.made →
@@ -26,8 +26,8 @@ pub fn the_confined_never_hold()
         (x : ℕ) → x < g.made → inside x ≡ true → NeverHolds silent g x right y }
 {}
 
-/// A question is asked of a grant before it is made: where x never holds the right on the graph with the new edge, it never does
-/// after the host's grant either, whatever the others do while the host is silent.
+/// A question is asked of a grant before it is made: where x never holds the right on the graph with the new edge, it
+/// never does after the host's grant either, whatever the others do while the host is silent.
 pub fn a_grant_is_asked_about_before_it_is_made()
     ensures { (silent : List ℕ) (g : ProtectionGraph) (host via target : ℕ) (rights : RightSet) (x : ℕ) (right : Right) (y : ℕ) →
         Contains silent host → Permits g.label g.value host (Grant rights via target) →

@@ -1,30 +1,32 @@
 //! Could x ever come to hold a right over y, by any turns of those whom one doesn't trust?
 //!
-//! A reference monitor says what is allowed now. Who builds a capability system asks the other question before each grant: could
-//! this plug-in ever come to write that document? [`could_hold`] answers it for a graph of `tg_model`, of which it is shown a
-//! `Picture`: the active subjects, the edges, and how many vertices were made and may be. Whom the host trusts it names as
-//! silent, itself foremost: these take no turns. All other active subjects act, and so does whoever is spawned later.
+//! A reference monitor says what is allowed now. Who builds a capability system asks the other question before each
+//! grant: could this plug-in ever come to write that document? [`could_hold`] answers it for a graph of `tg_model`, of
+//! which it is shown a `Picture`: the active subjects, the edges, and how many vertices were made and may be. Whom the
+//! host trusts it names as silent, itself foremost: these take no turns. All other active subjects act, and so does
+//! whoever is spawned later.
 //!
-//! - `Never`: after no list of turns of those who act does x hold the right over y, whatever they create or give up, and whoever
-//!   retires. With it comes a [`Separation`], which [`Separation::parts`] checks in one pass over the edges: a host may keep it,
-//!   and ask again after changes.
+//! - `Never`: after no list of turns of those who act does x hold the right over y, whatever they create or give up,
+//!   and whoever retires. With it comes a [`Separation`], which [`Separation::parts`] checks in one pass over the
+//!   edges: a host may keep it, and ask again after changes.
 //! - `Could`: these very turns lead there. [`lead_there`] replays turns, anybody's.
 //! - `WantsNames`: they do where so many more vertices may be made than are left.
 //! - `Open`: neither was shown. That this doesn't come is tested, and not proved.
 //!
-//! [`who_could`] and [`what_could`] tell of everybody, and of everything, by one search: who or what isn't told is `Never`.
-//! [`needs`] tells whose turns would be enough.
+//! [`who_could`] and [`what_could`] tell of everybody, and of everything, by one search: who or what isn't told is
+//! `Never`. [`needs`] tells whose turns would be enough.
 //!
 //! A question about a grant is asked before it is made, on the picture with the new edge (`Picture::with`).
 //!
-//! Of a store there is a picture of what its active subjects reach. On it [`could_hold_reached`] asks: whom nobody reaches is
-//! told as `Unreached`, and all else as it is on the whole graph.
+//! Of a store there is a picture of what its active subjects reach. On it [`could_hold_reached`] asks: whom nobody
+//! reaches is told as `Unreached`, and all else as it is on the whole graph.
 //!
-//! What a reader has to believe stands in `specs/`: `Turns` (turns, `NeverHolds`, `LeadThere`), `Answered` (what an answer
-//! says) and `Reached`; of `Separation`, `Told` and `Listed` no more than that a law or a later call speaks of them. The theorem
-//! is that of Jones, Lipton and Snyder ("A linear time algorithm for deciding security", 1976) and of Lipton and Snyder ("A
-//! linear time algorithm for deciding subject security", Journal of the ACM 24(3), 1977). The search (`search`) and the turns
-//! that it leads to (`plan`) promise nothing: what they find is checked. [`laws`] has what holds of the definitions alone.
+//! What a reader has to believe stands in `specs/`: `Turns` (turns, `NeverHolds`, `LeadThere`), `Answered` (what an
+//! answer says) and `Reached`; of `Separation`, `Told` and `Listed` no more than that a law or a later call speaks of
+//! them. The theorem is that of Jones, Lipton and Snyder ("A linear time algorithm for deciding security", 1976) and of
+//! Lipton and Snyder ("A linear time algorithm for deciding subject security", Journal of the ACM 24(3), 1977). The
+//! search (`search`) and the turns that it leads to (`plan`) promise nothing: what they find is checked. [`laws`] has
+//! what holds of the definitions alone.
 #![tactic(auto)]
 
 mod answer;

@@ -1,4 +1,5 @@
-//! Turns that are to lead to a right, tried on the graph of a picture. Nothing has to be believed of them: they are replayed.
+//! Turns that are to lead to a right, tried on the graph of a picture. Nothing has to be believed of them: they are
+//! replayed.
 use crate::search::{Found, Step};
 use crate::separation::{comes_later, has};
 use crate::trial::Trial;
@@ -111,7 +112,8 @@ impl<'a> Plan<'a> {
         Ok(name)
     }
 
-    // Makes a subject over which x has take and grant. Where as many as may be are active, another who acts retires first.
+    // Makes a subject over which x has take and grant. Where as many as may be are active, another who acts retires
+    // first.
     fn spawn(&mut self, x: u64) -> Result<u64, AllocError> {
         if self.trial.subjects().len() as u64 >= MAX_WORKERS {
             self.make_room(x)?;

@@ -1,5 +1,5 @@
-//! The search: who may come to hold a right, and on which way. What it finds is checked (`Separation::parts`, `leads_there`), so
-//! that nothing has to be believed of it. Each edge is looked at four times at most.
+//! The search: who may come to hold a right, and on which way. What it finds is checked (`Separation::parts`,
+//! `leads_there`), so that nothing has to be believed of it. Each edge is looked at four times at most.
 use crate::chains::{Chains, NONE, place};
 use crate::marks::Marks;
 use crate::separation::{Separation, comes_later, has, is_silent};
@@ -14,8 +14,8 @@ pub(crate) struct Step {
     pub(crate) forward: bool,
 }
 
-// A step as it is kept, in 8 bytes: the vertex twice, and one more where it was put into the first set; and the place of the step
-// that led there, `NONE` where the search began.
+// A step as it is kept, in 8 bytes: the vertex twice, and one more where it was put into the first set; and the place
+// of the step that led there, `NONE` where the search began.
 #[derive(Clone, Copy, Debug, Drop)]
 struct Kept {
     packed: u32,
@@ -48,8 +48,8 @@ impl Kept {
     }
 }
 
-/// The least sets that hold those who have the right and that no edge and nobody who acts leads out of. Where y may yet be
-/// made, who acts is taken for one who has the right. Fails only when out of memory.
+/// The least sets that hold those who have the right and that no edge and nobody who acts leads out of. Where y may yet
+/// be made, who acts is taken for one who has the right. Fails only when out of memory.
 pub(crate) fn search(
     alloc: Global,
     picture: &Picture,
@@ -70,8 +70,8 @@ pub(crate) fn search(
     Ok(found)
 }
 
-/// The same walks, gone back from x: the first set has those whose rights x may get, the second those who may hand x what they
-/// get. Where x may yet be made, who acts is taken for x. Fails only when out of memory.
+/// The same walks, gone back from x: the first set has those whose rights x may get, the second those who may hand x
+/// what they get. Where x may yet be made, who acts is taken for x. Fails only when out of memory.
 pub(crate) fn search_back(
     alloc: Global,
     picture: &Picture,
@@ -204,7 +204,8 @@ impl Found {
         self.acting.has(vertex)
     }
 
-    /// The steps that led to a vertex in a set, the first one first; none where it isn't in it. Fails only when out of memory.
+    /// The steps that led to a vertex in a set, the first one first; none where it isn't in it. Fails only when out of
+    /// memory.
     pub(crate) fn path(
         &self,
         alloc: Global,

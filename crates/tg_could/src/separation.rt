@@ -215,9 +215,10 @@ impl Separation {
         true
     }
 
-    /// Whether x never holds the right over y, as far as the two sets show it: after no list of turns of the active subjects but
-    /// the silent ones, those spawned on the way included. Looks at each edge once. Where x is y, or nobody but y acts and
-    /// as many subjects as may be are active, the sets play no part: who holds nothing then never does.
+    /// Whether x never holds the right over y, as far as the two sets show it: after no list of turns of the active
+    /// subjects but the silent ones, those spawned on the way included. Looks at each edge once. Where x is y, or
+    /// nobody but y acts and as many subjects as may be are active, the sets play no part: who holds nothing then never
+    /// does.
     pub fn parts(&self, picture: &Picture, silent: &[u64], x: u64, right: Right, y: u64) -> bool
         ensures { IsTrue result → (g : ProtectionGraph) → IsPictureOf picture.now g → NeverHolds silent.now g x right y }
     {

@@ -127,8 +127,9 @@ impl Trial {
         self.subjects.contains(&worker) && !is_silent(silent, first, worker)
     }
 
-    /// Takes a turn of one who acts, where it is allowed and adds rights, makes a vertex or retires. Whether it was taken; else the
-    /// graph is as it was. Silent is who is in the list and has a name below `first`. Fails only when out of memory.
+    /// Takes a turn of one who acts, where it is allowed and adds rights, makes a vertex or retires. Whether it was
+    /// taken; else the graph is as it was. Silent is who is in the list and has a name below `first`. Fails only when
+    /// out of memory.
     pub(crate) fn take_turn(
         &mut self,
         edges: &[Edge],

@@ -35,8 +35,8 @@ struct Listed {
 }
 
 impl What {
-    /// What is told of a right over a name: `Never` of each that is left out. Of names that aren't made yet all is told alike, and of
-    /// one that can't be made any more it is `Never`.
+    /// What is told of a right over a name: `Never` of each that is left out. Of names that aren't made yet all is told
+    /// alike, and of one that can't be made any more it is `Never`.
     pub fn of(&self, right: Right, name: u64) -> Chance
         ensures { (result ≡ Never) ↔ IsLeftOut self.now right name }
     {
@@ -50,9 +50,9 @@ impl What {
     }
 }
 
-/// What x could ever come to hold, by any turns of the active subjects but the silent ones. Each right over a name of which
-/// `Never` is told it never holds; `Perhaps` says nothing. One search: time and memory in proportion to the picture. Fails
-/// only when out of memory.
+/// What x could ever come to hold, by any turns of the active subjects but the silent ones. Each right over a name of
+/// which `Never` is told it never holds; `Perhaps` says nothing. One search: time and memory in proportion to the
+/// picture. Fails only when out of memory.
 pub fn what_could(
     alloc: Global,
     picture: &Picture,

@@ -34,8 +34,8 @@ struct Told {
 }
 
 impl Who {
-    /// What is told of a name: `Never` of each one left out. Of names that aren't made yet all is told alike, and of one that can't
-    /// be made any more it is `Never`.
+    /// What is told of a name: `Never` of each one left out. Of names that aren't made yet all is told alike, and of
+    /// one that can't be made any more it is `Never`.
     pub fn of(&self, name: u64) -> Chance
         ensures { (result ≡ Never) ↔ IsLeftOut self.now name }
     {
@@ -49,9 +49,9 @@ impl Who {
     }
 }
 
-/// Who could ever come to hold a right over y, by any turns of the active subjects but the silent ones. Each name of which
-/// `Never` is told never does; `Perhaps` says nothing. One search: time and memory in proportion to the picture. Fails only
-/// when out of memory.
+/// Who could ever come to hold a right over y, by any turns of the active subjects but the silent ones. Each name of
+/// which `Never` is told never does; `Perhaps` says nothing. One search: time and memory in proportion to the picture.
+/// Fails only when out of memory.
 pub fn who_could(
     alloc: Global,
     picture: &Picture,
@@ -74,7 +74,8 @@ pub fn who_could(
 }
 
 impl Told {
-    // Who holds the right, who acts and may come to hold it, and to whom one who may can grant. Fails only when out of memory.
+    // Who holds the right, who acts and may come to hold it, and to whom one who may can grant. Fails only when out of
+    // memory.
     fn of(
         alloc: Global,
         picture: &Picture,

@@ -9,9 +9,9 @@ use std::alloc::{AllocError, Global};
 use tg_model::{Deed, Picture};
 use tg_rights::{Right, Rights};
 
-/// Whether these turns lead to x's holding a right over y, where so many more vertices may be made: each is that of one who
-/// acts by then, it adds rights, makes a vertex or retires, and is allowed; and behind the last x holds the right. Fails only
-/// when out of memory.
+/// Whether these turns lead to x's holding a right over y, where so many more vertices may be made: each is that of one
+/// who acts by then, it adds rights, makes a vertex or retires, and is allowed; and behind the last x holds the right.
+/// Fails only when out of memory.
 pub fn lead_there(
     alloc: Global,
     picture: &Picture,

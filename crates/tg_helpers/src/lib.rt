@@ -1,7 +1,8 @@
 //! A store's collections by several helpers.
 //!
-//! [`collect_with`] is `Store::collect` with up to eight helpers on threads. It stands in a crate of its own, over the store and
-//! over `tg_parallel`, because a library for C can't hold what starts threads or waits, and the store is part of one.
+//! [`collect_with`] is `Store::collect` with up to eight helpers on threads. It stands in a crate of its own, over the
+//! store and over `tg_parallel`, because a library for C can't hold what starts threads or waits, and the store is part
+//! of one.
 #![tactic(auto)]
 
 ghost use Rattle.std.specs.Prelude.{◌≡◌, ◌≢◌, Err, IfOk, OnOk};
@@ -18,14 +19,15 @@ use tg_payload::Payload;
 use tg_space::Kind;
 use tg_store::Store;
 
-/// Collects as `Store::collect` does, with as many helpers, from 1 to 8: one on the calling thread, and each other on a thread of
-/// its own, as the collectors of Halstead's Multilisp did. All threads that were started have ended before the answer, which is
-/// the number of vertices that the heap then has. Each space may then have as many blocks more than after `Store::collect` as
-/// there are helpers, since each may leave one open. Each helper passes the gate before each claim of roots.
+/// Collects as `Store::collect` does, with as many helpers, from 1 to 8: one on the calling thread, and each other on a
+/// thread of its own, as the collectors of Halstead's Multilisp did. All threads that were started have ended before
+/// the answer, which is the number of vertices that the heap then has. Each space may then have as many blocks more
+/// than after `Store::collect` as there are helpers, since each may leave one open. Each helper passes the gate before
+/// each claim of roots.
 ///
-/// `HeapFull` is answered only where the cells that are reached and would be moved may not fit into the blocks that a space
-/// may have, of which each helper may leave one open; `NoThread` where a thread couldn't be started, and never of one helper
-/// alone; else `OutOfMemory` alone. The store is then as it was.
+/// `HeapFull` is answered only where the cells that are reached and would be moved may not fit into the blocks that a
+/// space may have, of which each helper may leave one open; `NoThread` where a thread couldn't be started, and never of
+/// one helper alone; else `OutOfMemory` alone. The store is then as it was.
 pub fn collect_with<P: Payload, R: Threads + Wait + Sync, G: Gate>(
     rt: &R,
     alloc: Global,

@@ -12,10 +12,10 @@ use std::alloc::{AllocError, Global};
 use std::marker::Model;
 use tg_model::Opening;
 
-/// An audit that has come to some entry of a history. It keeps no entry, so each part of a history can be given up once it was
-/// fed; and of the graph after the entries that passed it may forget what no subject reaches, for good. So it takes memory by
-/// what can be reached, however many vertices were made. Contracts see the graph that it keeps; the one that it has come to is
-/// alike where subjects reach.
+/// An audit that has come to some entry of a history. It keeps no entry, so each part of a history can be given up once
+/// it was fed; and of the graph after the entries that passed it may forget what no subject reaches, for good. So it
+/// takes memory by what can be reached, however many vertices were made. Contracts see the graph that it keeps; the one
+/// that it has come to is alike where subjects reach.
 #[derive(Drop)]
 pub struct Auditor {
     graph: LiveGraph,
@@ -39,8 +39,8 @@ const FIRST_SWEEP: usize = 65_536;
 pub struct AuditStopped {
     /// How many entries of the part passed: the place in the part of the one at which the audit stopped.
     pub at: u64,
-    /// `OutOfMemory` says nothing of that entry, and the audit goes on where it is fed again from there; a bad one is at its
-    /// place in the part.
+    /// `OutOfMemory` says nothing of that entry, and the audit goes on where it is fed again from there; a bad one is
+    /// at its place in the part.
     pub why: AuditFault,
 }
 
@@ -55,10 +55,11 @@ impl Auditor {
         })
     }
 
-    /// Replays the next entries. `Ok` is answered only where they are a legal history of the graph so far, and then the audit has
-    /// come to the graph after them. Else those before the place that is told are, and the audit has come there; of a bad entry it
-    /// is the first, and of want of memory the audit can be fed again from it. It [sweeps](Auditor::sweep) by itself whenever it
-    /// has twice as many vertices as the last sweep left, and 65,536 at the least.
+    /// Replays the next entries. `Ok` is answered only where they are a legal history of the graph so far, and then the
+    /// audit has come to the graph after them. Else those before the place that is told are, and the audit has come
+    /// there; of a bad entry it is the first, and of want of memory the audit can be fed again from it. It
+    /// [sweeps](Auditor::sweep) by itself whenever it has twice as many vertices as the last sweep left, and 65,536 at
+    /// the least.
     pub fn feed(&mut self, entries: &[Entry]) -> Result<(), AuditStopped>
         ensures legal { (g : ProtectionGraph) → HasComeTo g (graph_kept self.old) → OnOk result (Passes g entries.now (graph_kept self.new)) }
         ensures stopped { (g : ProtectionGraph) → HasComeTo g (graph_kept self.old) → IfErr result (IsStopped g entries.now (graph_kept self.new)) }
@@ -82,8 +83,8 @@ impl Auditor {
         Ok(())
     }
 
-    /// Forgets the edges and the values of all vertices that no subject reaches: no later entry can depend on them. The audit
-    /// stays where it has come. Fails only when out of memory, and nothing is then forgotten.
+    /// Forgets the edges and the values of all vertices that no subject reaches: no later entry can depend on them. The
+    /// audit stays where it has come. Fails only when out of memory, and nothing is then forgotten.
     pub fn sweep(&mut self) -> Result<(), AllocError>
         ensures stays { (g : ProtectionGraph) → HasComeTo g (graph_kept self.old) → HasComeTo g (graph_kept self.new) }
         ensures swept { OnOk result (IsSwept (graph_kept self.old) (graph_kept self.new)) }
@@ -92,8 +93,8 @@ impl Auditor {
         self.graph.sweep()
     }
 
-    // Sweeps where there are twice as many vertices as the last sweep left. Want of memory for it stops no audit: the next one
-    // comes where there are twice as many again.
+    // Sweeps where there are twice as many vertices as the last sweep left. Want of memory for it stops no audit: the
+    // next one comes where there are twice as many again.
     fn sweep_where_due(&mut self)
         ensures { (g : ProtectionGraph) → HasComeTo g (graph_kept self.old) → HasComeTo g (graph_kept self.new) }
     {

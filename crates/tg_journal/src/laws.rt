@@ -2,7 +2,8 @@
 //! the law.
 //!
 //! The proofs of the crates above cite the lemmas behind the laws, which stand in `proofs/HistoryLaws` (histories cut,
-//! joined and extended, what they keep and what they leave), `proofs/NameLaws`, `proofs/Decided` and `proofs/Edition1Laws`.
+//! joined and extended, what they keep and what they leave), `proofs/NameLaws`, `proofs/Decided` and
+//! `proofs/Edition1Laws`.
 ghost use Rattle.std.specs.Prelude.{◌≡◌, ◌↔◌, ◌⊎◌, ◌<◌, ◌≤◌, ℕ, List, [], ◌∷◌, ◌++◌, map, take, slice_get, Some, IfSome};
 ghost use Rattle.tg_model.specs.Graph.{ProtectionGraph, IsSubject, IsReachable, IsSound};
 ghost use Rattle.tg_model.specs.Opened.{Plan, IsPlan, ValueFits, start_of};
@@ -98,9 +99,9 @@ pub fn the_unreachable_stay()
         (graph_after g es).value u ≡ g.value u }
 {}
 
-/// A graph that has the same labels and values as another at all that its subjects reach answers each deed of a subject as
-/// the other does, and is so again after it: it has nothing to know of what can't be reached. An entry is legal on both or
-/// on none.
+/// A graph that has the same labels and values as another at all that its subjects reach answers each deed of a subject
+/// as the other does, and is so again after it: it has nothing to know of what can't be reached. An entry is legal on
+/// both or on none.
 pub fn where_subjects_reach_is_enough()
     ensures answer { (g kept : ProtectionGraph) (x : ℕ) (deed : Deed) →
         HasComeTo g kept → IsSubject g x → answer_of kept x deed ≡ answer_of g x deed }
@@ -124,7 +125,8 @@ pub fn legal_or_one_first_bad_place()
 {}
 
 /// A journal that was made when there were four rights, and no append, inspect, spawn or retire, is legal today exactly
-/// where it was legal then, and so is each front of it. Where it isn't, its first bad place is the same: an audit answers as it did.
+/// where it was legal then, and so is each front of it. Where it isn't, its first bad place is the same: an audit
+/// answers as it did.
 pub fn first_edition_is_judged_alike()
     ensures legal { (plan : Plan1) (es : List Entry1) →
         IsLegal (start_of (plan_now plan)) (map entry_today es) ↔ IsLegal1 (start_of1 plan) es }

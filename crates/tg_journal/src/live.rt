@@ -14,8 +14,8 @@ use std::collections::BTreeMap;
 use std::marker::Model;
 use tg_model::{Opening, Value};
 
-/// A protection graph as edges by their ends and values by name, so that it takes memory by what it has and not by the names that
-/// were made. Contracts see it as `Kept`, the record of its parts, and speak of the protection graph
+/// A protection graph as edges by their ends and values by name, so that it takes memory by what it has and not by the
+/// names that were made. Contracts see it as `Kept`, the record of its parts, and speak of the protection graph
 /// `graph_kept` that these stand for.
 #[derive(Drop)]
 pub(crate) struct LiveGraph {

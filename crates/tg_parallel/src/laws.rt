@@ -27,14 +27,14 @@ pub fn parts_become_one()
     ensures part { (kind : Kind) (t : SpaceTable) (roots : List Root) (v w : Record) (a c b d : Numbered) → IsPart kind t roots v a c → IsPart kind t roots w b d → IsPart kind t roots (both v w) (a ++ b) (c ++ d) }
 {}
 
-/// Where the record that stands for all has claimed a block past the limit, a collection by so many helpers may lack room for
-/// the cells that are reached.
+/// Where the record that stands for all has claimed a block past the limit, a collection by so many helpers may lack
+/// room for the cells that are reached.
 pub fn a_block_past_the_limit_tells_of_want_of_room()
     ensures { (kind : Kind) (t : SpaceTable) (roots : List Root) (k : Counts) (words : List ℕ) (done : Record) → AreCountsOf kind t.spaces roots k → IsClosedTable k words done → AreEarned kind t.spaces roots done → IsPastLimit t done → LacksRoomFor t.limits.space_blocks k.helpers (kept_blocks kind t.spaces) (IsReachedFrom kind t.spaces roots) }
 {}
 
-/// Where one record stands for all helpers, the blocks that they have handed over are within the limit, and as many as the
-/// copies need, but for one a helper.
+/// Where one record stands for all helpers, the blocks that they have handed over are within the limit, and as many as
+/// the copies need, but for one a helper.
 pub fn helpers_blocks_are_few()
     ensures { (kind : Kind) (t : SpaceTable) (roots : List Root) (k : Counts) (words : List ℕ) (done : Record) (aged old : Numbered) → IsWholePart kind t roots k words done aged old → (aged_blocks old_blocks : BlockList) → AreMerged kind (kept_blocks kind t.spaces) aged old aged_blocks old_blocks → AreFewBlocks t.limits.space_blocks (kept_blocks kind t.spaces) k.helpers words aged_blocks old_blocks }
 {}
@@ -44,13 +44,15 @@ pub fn helpers_copy_cells_in_use()
     ensures { (kind : Kind) (t : SpaceTable) (roots : List Root) (k : Counts) (words : List ℕ) (done : Record) → IsSpaceTable t → AreSound t.spaces roots → AreCountsOf kind t.spaces roots k → IsClosedTable k words done → AreEarned kind t.spaces roots done → copies_in words 0 + copies_in words 1 ≤ used_cells kind t.spaces }
 {}
 
-/// Where one record stands for all helpers and has claimed past the last chunk, what they have handed over is a collection,
-/// with the words of the closed table. The notes are those of the remembered roots, and of the new blocks of Old.
+/// Where one record stands for all helpers and has claimed past the last chunk, what they have handed over is a
+/// collection, with the words of the closed table. The notes are those of the remembered roots, and of the new blocks
+/// of Old.
 pub fn what_helpers_made_is_a_collection()
     ensures { (kind : Kind) (t : SpaceTable) (roots : List Root) (k : Counts) (words : List ℕ) (done : Record) (aged old : Numbered) → IsSpaceTable t → t.limits.space_blocks ≤ MOST_SPACE_BLOCKS → IsWholePart kind t roots k words done aged old → (aged_blocks old_blocks : BlockList) → AreMerged kind (kept_blocks kind t.spaces) aged old aged_blocks old_blocks → (notes : List Place) → ((p : Place) → Contains notes p ↔ ((Contains roots (Remembered p) × NamesYoung (moved_cell kind t.spaces words p)) ⊎ (IsPlaceIn 0 (kept_blocks kind t.spaces) old_blocks p × NamesYoung (new_cell (kept_blocks kind t.spaces) old_blocks p)))) → IsCollection kind t.spaces roots words aged_blocks old_blocks notes }
 {}
 
-/// A reached cell is a cell in use: so where a collection may lack room for what is reached, it may for the cells in use.
+/// A reached cell is a cell in use: so where a collection may lack room for what is reached, it may for the cells in
+/// use.
 pub fn lack_of_room_is_of_cells_in_use()
     ensures { (kind : Kind) (t : SpaceTable) (roots : List Root) (space_blocks helpers kept : ℕ) → IsSpaceTable t → AreSound t.spaces roots → LacksRoomFor space_blocks helpers kept (IsReachedFrom kind t.spaces roots) → MayLackRoom space_blocks helpers kept (used_cells kind t.spaces) }
 {}

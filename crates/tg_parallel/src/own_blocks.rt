@@ -46,8 +46,8 @@ impl OwnBlocks {
         }
     }
 
-    /// The word of the place of a cell that the helper hasn't met: that which another helper gave it, or else the next of these
-    /// blocks. A block is claimed late, for a cell that needs it.
+    /// The word of the place of a cell that the helper hasn't met: that which another helper gave it, or else the next
+    /// of these blocks. A block is claimed late, for a cell that needs it.
     ///
     /// It is refused with `HeapFull` where the block is past the limit, and takes no memory.
     #[inline(always)]
@@ -91,7 +91,8 @@ impl OwnBlocks {
 
     // Claims a block. No place is left.
     //
-    // It is small, and refers to nothing that stands in the seat but by a call that is laid out here: so the seat is kept in registers.
+    // It is small, and refers to nothing that stands in the seat but by a call that is laid out here: so the seat is
+    // kept in registers.
     #[inline(always)]
     fn open(&mut self, winner: &mut Winner, table: &RaceTable, limit: u64) -> Result<(), RoomFault>
         requires held { IsHeldBy table.now winner.old self.now }

@@ -108,13 +108,14 @@ fn next_block(alloc: Global, blocks: &mut IntoIter<Block>) -> Result<Block, Allo
     }
 }
 
-/// Claims roots until there are none left, wins the cells that they lead to and that no other helper has won, and copies
-/// each to its place: one of several that collect together, as the collectors of Halstead's Multilisp do. No call of it
-/// waits, but that of the gate may. Copies go to the spare blocks first, and its list of won cells stands in the spare room.
+/// Claims roots until there are none left, wins the cells that they lead to and that no other helper has won, and
+/// copies each to its place: one of several that collect together, as the collectors of Halstead's Multilisp do. No
+/// call of it waits, but that of the gate may. Copies go to the spare blocks first, and its list of won cells stands in
+/// the spare room.
 ///
-/// The record of the helper tells what it has won and seen, and its part has the copies of what it has won. It claims no block
-/// number twice. A helper that is refused memory, or room, says so and leaves what it has claimed claimed: the collection is then
-/// refused.
+/// The record of the helper tells what it has won and seen, and its part has the copies of what it has won. It claims
+/// no block number twice. A helper that is refused memory, or room, says so and leaves what it has claimed claimed: the
+/// collection is then refused.
 pub fn help<G: Gate>(
     alloc: Global,
     table: &RaceTable,
@@ -281,8 +282,8 @@ fn help_kind<G: Gate>(
     }
 }
 
-// The lists of a helper at a table of so many words that has done nothing yet. That of what it will have won stands in the room, where
-// that is enough.
+// The lists of a helper at a table of so many words that has done nothing yet. That of what it will have won stands in
+// the room, where that is enough.
 fn lists_of(alloc: Global, words: usize, room: Vec<u64>) -> Result<Lists, AllocError>
     ensures lists { IfOk result (AreEmptyLists words) }
     ensures few { IfOk result (AreSmallLists words (vec_capacity room)) }

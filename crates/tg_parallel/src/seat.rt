@@ -165,7 +165,8 @@ impl<'a> Seat<'a> {
         self.give_word(at, space)
     }
 
-    // Gives a cell that has no place the next one of a space, unless another helper does so first, and answers its word.
+    // Gives a cell that has no place the next one of a space, unless another helper does so first, and answers its
+    // word.
     #[inline(always)]
     fn give_word(&mut self, at: CellWord, space: u64) -> Result<u64, RoomFault>
         requires word { IsWordIn self.now.board at }

@@ -19,7 +19,8 @@ use tg_word::next_link;
 #[derive(Drop)]
 pub struct Winner {
     helper: Helper,
-    // Twice the number of each cell that was won, in the order in which they were, and 1 more where its copy is in Aged.
+    // Twice the number of each cell that was won, in the order in which they were, and 1 more where its copy is in
+    // Aged.
     won: Vec<u64>,
 }
 
@@ -36,7 +37,8 @@ impl Model for Winner {
 }
 
 impl Winner {
-    /// A helper that has won nothing yet. Its list of won cells stands in the room, whatever that holds, and doesn't grow.
+    /// A helper that has won nothing yet. Its list of won cells stands in the room, whatever that holds, and doesn't
+    /// grow.
     #[inline(always)]
     pub fn new(helper: Helper, mut room: Vec<u64>) -> Self
         requires none { helper.done.won ≡ [] }
@@ -108,8 +110,8 @@ impl Winner {
         self.helper.look_word(table, at)
     }
 
-    /// Gives a cell that the helper hasn't met the next place of these blocks, unless another helper gives it one first, and
-    /// answers the word of the place that it has.
+    /// Gives a cell that the helper hasn't met the next place of these blocks, unless another helper gives it one
+    /// first, and answers the word of the place that it has.
     #[inline(always)]
     pub fn claim_next(&mut self, table: &RaceTable, at: CellWord, blocks: &mut OwnBlocks) -> u64
         requires held { IsHeldBy table.now self.old blocks.old }

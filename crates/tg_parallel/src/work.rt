@@ -67,8 +67,9 @@ fn copy_chunk(
     walk(seat, spaces, kind, reads, chunk_of(roots, chunk), copies)
 }
 
-// The roots of a chunk: eights of them are counted from the end. What stands first reaches more of what the others reach, as a
-// subject's row leads to those that it made, so that one helper had most of the work where the first came first.
+// The roots of a chunk: eights of them are counted from the end. What stands first reaches more of what the others
+// reach, as a subject's row leads to those that it made, so that one helper had most of the work where the first came
+// first.
 fn chunk_of(roots: &[Root], chunk: u64) -> &[Root]
     requires { CHUNK * chunk < length roots.now }
     ensures { result.now ≡ roots_of_chunk roots.now chunk }

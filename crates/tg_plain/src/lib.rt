@@ -1,12 +1,12 @@
 //! Runs the lines of a script on the plain graph of `tg_model`: no heap, no journal, and no collection.
 //!
-//! A [`Script`] is what standard input has, up to its first bad line, and what it runs on: workers, a limit of vertices and a
-//! stock. [`PlainRun::open`] is the graph with which it begins, [`PlainRun::take`] runs a line, and [`PlainRun::of`] runs all.
-//! [`read_options`] has the words of the command line that say what a script runs on, which each program here has beside its
-//! own.
+//! A [`Script`] is what standard input has, up to its first bad line, and what it runs on: workers, a limit of vertices
+//! and a stock. [`PlainRun::open`] is the graph with which it begins, [`PlainRun::take`] runs a line, and
+//! [`PlainRun::of`] runs all. [`read_options`] has the words of the command line that say what a script runs on, which
+//! each program here has beside its own.
 //!
-//! What a reader has to believe stands in `specs/Lines`: which graph a line leaves, and how many boxes were taken. Nothing is
-//! proved of how standard input comes to lines but that each is what `tg_text` reads in its bytes.
+//! What a reader has to believe stands in `specs/Lines`: which graph a line leaves, and how many boxes were taken.
+//! Nothing is proved of how standard input comes to lines but that each is what `tg_text` reads in its bytes.
 #![tactic(auto)]
 
 mod fault;

@@ -25,8 +25,8 @@ impl PlainRun {
     ghost use Rattle.tg_model.specs.Plain.{graph_of};
     ghost use Rattle.tg_plain.specs.Lines.{Leads, Makes, RunsScript, Steps, stage_of, start_of_script};
 
-    /// The run of a script's edge lines: the graph that it begins with. `Opening` where the workers and vertices don't fit
-    /// each other; else it fails only when out of memory.
+    /// The run of a script's edge lines: the graph that it begins with. `Opening` where the workers and vertices don't
+    /// fit each other; else it fails only when out of memory.
     pub fn open(script: &Script) -> Result<PlainRun, PlainFault>
         ensures { IfOk result (λ run. stage_of run ≡ start_of_script script.now) }
     {
@@ -50,8 +50,8 @@ impl PlainRun {
         Ok(run)
     }
 
-    /// Runs a line with the boxes of this stock. What it is answered; an edge line and a collection do nothing here. Fails only
-    /// when out of memory, and nothing changes then.
+    /// Runs a line with the boxes of this stock. What it is answered; an edge line and a collection do nothing here.
+    /// Fails only when out of memory, and nothing changes then.
     pub fn take(&mut self, stock: &[StockItem], line: &Line) -> Result<Answer, AllocError>
         ensures ok { OnOk result (Leads stock.now (stage_of self.old) line.now (stage_of self.new)) }
         ensures err { OnErr result (self.new ≡ self.old) }

@@ -83,7 +83,8 @@ impl Script {
         }
     }
 
-    /// Adds the lines of standard input up to the first bad one. An edge stands before all other lines, and between workers.
+    /// Adds the lines of standard input up to the first bad one. An edge stands before all other lines, and between
+    /// workers.
     pub fn read<R: Input>(&mut self, rt: &R) -> Result<(), PlainFault> {
         for number in 1..u64::MAX {
             if !self.read_next(rt, number) {

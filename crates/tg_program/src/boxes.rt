@@ -1,7 +1,7 @@
 //! The boxes of a run.
 //!
-//! Boxes are made here, by a closure that says what is in each, and the run over them is generic in its payloads, because no
-//! contract can speak of boxes that a function gives to its caller.
+//! Boxes are made here, by a closure that says what is in each, and the run over them is generic in its payloads,
+//! because no contract can speak of boxes that a function gives to its caller.
 ghost use Rattle.std.specs.Prelude.{◌≡◌, IfOk};
 ghost use Rattle.tg_program.specs.Boxes.{value_of};
 ghost use Rattle.tg_program.specs.Serving.{ServesFrom};
@@ -16,8 +16,8 @@ use std::thread::Threads;
 use tg_payload::{CellPayload, LogPayload, MaxPayload, PayloadBox, SumPayload};
 use tg_script::{Collector, Sink, Source, StockItem};
 
-/// Runs the source's script from the start, with new boxes: a cell with 0 for each worker, and those of the stock. Memory may
-/// be wanting before it; then nothing is read or written.
+/// Runs the source's script from the start, with new boxes: a cell with 0 for each worker, and those of the stock.
+/// Memory may be wanting before it; then nothing is read or written.
 pub(crate) fn serve_with_boxes<R: Threads + Wait + Sync, C: Collector, S: Source, K: Sink>(
     rt: &R,
     alloc: Global,

@@ -6,8 +6,9 @@
 //! threads (`on_threads`). What goes wrong is one line on standard error and a status (`stop`). [`obey`] does all of
 //! it.
 //!
-//! What a reader has to believe stands in `specs/`: `Words` says what the words ask for, `Ranges` and `Starts` what is refused
-//! before any input is read, `Boxes` what boxes begin with, `Serving` what a run reads and writes, and `Faults` the statuses.
+//! What a reader has to believe stands in `specs/`: `Words` says what the words ask for, `Ranges` and `Starts` what is
+//! refused before any input is read, `Boxes` what boxes begin with, `Serving` what a run reads and writes, and `Faults`
+//! the statuses.
 #![tactic(auto)]
 
 mod boxes;

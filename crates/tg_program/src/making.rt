@@ -14,9 +14,9 @@ use std::thread::Threads;
 use tg_payload::{Draft, Payload};
 use tg_script::{Collector, Sink, Source, StockItem};
 
-/// Runs the source's script from the start, with what `make` makes: a cell with 0 for each worker, and for each item of the
-/// stock its payload, of which a draft is made before the next one is. Memory may be wanting before it; then nothing is read
-/// or written.
+/// Runs the source's script from the start, with what `make` makes: a cell with 0 for each worker, and for each item of
+/// the stock its payload, of which a draft is made before the next one is. Memory may be wanting before it; then
+/// nothing is read or written.
 pub(crate) fn serve_made<
     P: Payload + Send,
     M: Fn(StockItem) -> Result<P, AllocError>,

@@ -22,9 +22,9 @@ pub struct RunPayloads<P: Payload> {
     pub stock: Vec<Draft<P>>,
 }
 
-/// Runs the source's script from the start with these payloads, and puts the replies into the sink, as `run_script_with` does
-/// with the start's settings, or, where the start says so, as `run_race` does. Memory may be wanting for drafts of what the
-/// workers store; then nothing is read or written.
+/// Runs the source's script from the start with these payloads, and puts the replies into the sink, as
+/// `run_script_with` does with the start's settings, or, where the start says so, as `run_race` does. Memory may be
+/// wanting for drafts of what the workers store; then nothing is read or written.
 pub fn serve<P: Payload + Send, R: Threads + Wait + Sync, C: Collector, S: Source, K: Sink>(
     rt: &R,
     alloc: Global,

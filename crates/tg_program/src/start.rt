@@ -58,8 +58,8 @@ impl From<StockFault> for StartFault {
     }
 }
 
-/// What the options ask for. Else `BadStock`, then `BadLimits`, exactly where they hold, or `OutOfMemory`; a bad stock is
-/// found whatever memory there is.
+/// What the options ask for. Else `BadStock`, then `BadLimits`, exactly where they hold, or `OutOfMemory`; a bad stock
+/// is found whatever memory there is.
 pub fn prepare(alloc: Global, options: &Options) -> Result<Start, StartFault>
     requires { AreInRange options.now.settings }
     ensures settings { IfOk result (λ start. (start.settings ≡ options.now.settings) × MayHoldWorkers start.settings) }

@@ -31,9 +31,9 @@ pub(crate) struct Ended<R: Drop, W: Drop> {
     pub reason: Option<&'static str>,
 }
 
-/// Runs the reader's script from the start with new boxes, and writes the replies. Whatever was written is flushed before more is
-/// read than the reader holds, and at the end, after a fault too. Memory may be wanting for the two buffers; then nothing is
-/// read or written.
+/// Runs the reader's script from the start with new boxes, and writes the replies. Whatever was written is flushed
+/// before more is read than the reader holds, and at the end, after a fault too. Memory may be wanting for the two
+/// buffers; then nothing is read or written.
 pub(crate) fn serve_buffered<
     T: Threads + Wait + Sync,
     C: Collector,

@@ -7,21 +7,23 @@ use tg_payload::Payload;
 use tg_store::{Kind, Store};
 use tg_text::Refusal;
 
-/// What makes the collections of a script. Nothing here starts threads: what does stands above, and a run is the same over it.
+/// What makes the collections of a script. Nothing here starts threads: what does stands above, and a run is the same
+/// over it.
 pub trait Collector {
     ghost use Rattle.std.specs.Prelude.{◌≡◌, IfErr, IfOk};
     ghost use Rattle.tg_model.specs.Graph.{ProtectionGraph, IsReachable};
     ghost use Rattle.tg_script.specs.Script.{MayWant};
     ghost use Rattle.tg_store.specs.Store.{IsCountOf, StandsFor};
 
-    /// What a caller has to know of the collector: where it shares a value among threads, that the value's type allows it.
+    /// What a caller has to know of the collector: where it shares a value among threads, that the value's type allows
+    /// it.
     ghost Ready: { Type 0 };
 
-    /// Collects the store with so many helpers, or with fewer. A full collection answers how many vertices can be reached, and
-    /// leaves these alone; of a nursery collection nothing is said of the number.
+    /// Collects the store with so many helpers, or with fewer. A full collection answers how many vertices can be
+    /// reached, and leaves these alone; of a nursery collection nothing is said of the number.
     ///
-    /// It may be refused with `Memory`, with `Heap` where a space would need more blocks than it may have, or with `Threads` where
-    /// there was to be more than one helper; the store then stands for the graph that it stood for.
+    /// It may be refused with `Memory`, with `Heap` where a space would need more blocks than it may have, or with
+    /// `Threads` where there was to be more than one helper; the store then stands for the graph that it stood for.
     fn collect<P: Payload>(
         &self,
         store: &mut Store<P>,

@@ -1,17 +1,17 @@
 //! Scripts: a store that is driven by lines of text.
 //!
-//! A script is a list of lines: first the edges between the opening's workers, then commands, each of one subject, and collections. Its
-//! bytes come from a [`Source`], and the replies, one line each, go to a [`Sink`]. [`run_script_with`] runs a whole
-//! script: it reads a line, answers it and writes the reply before it reads the next. What makes its collections is a
-//! [`Collector`]; [`run_script_one`] is the run with [`OneThread`].
+//! A script is a list of lines: first the edges between the opening's workers, then commands, each of one subject, and
+//! collections. Its bytes come from a [`Source`], and the replies, one line each, go to a [`Sink`]. [`run_script_with`]
+//! runs a whole script: it reads a line, answers it and writes the reply before it reads the next. What makes its
+//! collections is a [`Collector`]; [`run_script_one`] is the run with [`OneThread`].
 //!
 //! How lines and answers are spelled, and how bytes are read, is `tg_text`'s; what callers need of it is offered here
 //! again. What a reader has to believe besides stands in `specs/`: `Script` says what is answered to the lines and in
 //! which cases a line may be refused instead, and `Running` what then stands in the sink. The other files of `specs/`
 //! are inside matters of this crate.
 //!
-//! Nothing here waits or starts a thread, and no line takes memory but an edge line and what the store takes. Programs call
-//! [`run_script_with`] with [`OfRead`] and [`OfWrite`]; [`Bytes`] and [`Written`] serve in memory.
+//! Nothing here waits or starts a thread, and no line takes memory but an edge line and what the store takes. Programs
+//! call [`run_script_with`] with [`OfRead`] and [`OfWrite`]; [`Bytes`] and [`Written`] serve in memory.
 #![tactic(auto)]
 
 mod collector;

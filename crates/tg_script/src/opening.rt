@@ -47,8 +47,9 @@ pub(crate) fn read_edges<S: Source, K: Sink>(
     Ok(Front { edges, first: None })
 }
 
-/// Opens the store with the workers, the edges between them and their payloads, and these limits. Refused for a number of vertices that
-/// is out of its range, or else for want of memory, or of a block for each worker where the heap may have fewer.
+/// Opens the store with the workers, the edges between them and their payloads, and these limits. Refused for a number
+/// of vertices that is out of its range, or else for want of memory, or of a block for each worker where the heap may
+/// have fewer.
 pub fn open_store<P: Payload>(
     alloc: Global,
     workers: u64,

@@ -1,5 +1,5 @@
-//! How the faults of a store are told to who asked: as a refusal in the text of a reply. `Refusals` of `specs/` says what each
-//! fault is told as. Nothing here knows how a store came to it.
+//! How the faults of a store are told to who asked: as a refusal in the text of a reply. `Refusals` of `specs/` says
+//! what each fault is told as. Nothing here knows how a store came to it.
 ghost use Rattle.std.specs.Prelude.{◌≡◌};
 ghost use Rattle.tg_script.specs.Refusals.{apply_refusal, create_answer, collect_refusal, helpers_refusal};
 
@@ -19,8 +19,8 @@ pub fn apply_refusal(fault: ApplyFault) -> Refusal
     }
 }
 
-/// What a create or a spawn is told that made no vertex. That there are as many vertices as there may be, or as many active subjects,
-/// is a reply.
+/// What a create or a spawn is told that made no vertex. That there are as many vertices as there may be, or as many
+/// active subjects, is a reply.
 pub fn create_answer(fault: CreateFault) -> Answer
     ensures { result ≡ create_answer fault }
 {

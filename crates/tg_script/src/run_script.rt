@@ -30,21 +30,23 @@ pub struct Settings {
     pub workers: u64,
     /// How many helpers each collection has.
     pub helpers: Helpers,
-    /// The most vertices that may ever be made, subjects that are spawned included: from 1 to 2^24 and not below the number of workers.
+    /// The most vertices that may ever be made, subjects that are spawned included: from 1 to 2^24 and not below the
+    /// number of workers.
     pub max_vertices: u64,
     /// How many blocks the heap may have.
     pub limits: Limits,
 }
 
-/// Runs the script, with one payload for each worker of the opening, by rising name, and a stock of payloads for the vertices that the
-/// script makes: a create or spawn line takes the first that is left, and where no vertex is made it stands in front again. The
-/// store opens at the first line that is no edge line, or at the end of the input; each reply is written before the
-/// next line is run, and what was written is finished before the source is asked for what it doesn't hold. What is written is
-/// the text for the lines before the first fault, and after `WriteFailed` all of it but a part of the last reply. The
-/// source is asked for at most 1,048,577 bytes. The sink is finished at the end, after a fault too, which then stands.
+/// Runs the script, with one payload for each worker of the opening, by rising name, and a stock of payloads for the
+/// vertices that the script makes: a create or spawn line takes the first that is left, and where no vertex is made it
+/// stands in front again. The store opens at the first line that is no edge line, or at the end of the input; each
+/// reply is written before the next line is run, and what was written is finished before the source is asked for what
+/// it doesn't hold. What is written is the text for the lines before the first fault, and after `WriteFailed` all of it
+/// but a part of the last reply. The source is asked for at most 1,048,577 bytes. The sink is finished at the end,
+/// after a fault too, which then stands.
 ///
-/// The collector makes the collections, each with as many helpers as the settings have. Where that is more than one, a line may be
-/// answered `refused threads` for want of a thread; nothing is changed then.
+/// The collector makes the collections, each with as many helpers as the settings have. Where that is more than one, a
+/// line may be answered `refused threads` for want of a thread; nothing is changed then.
 pub fn run_script_with<P: Payload, C: Collector, S: Source, K: Sink>(
     alloc: Global,
     collector: &C,
@@ -62,8 +64,8 @@ pub fn run_script_with<P: Payload, C: Collector, S: Source, K: Sink>(
     finish(sink, outcome)
 }
 
-/// Runs the script as [`run_script_with`] does, with collections by the thread that runs it alone: how many helpers the settings have
-/// isn't looked at.
+/// Runs the script as [`run_script_with`] does, with collections by the thread that runs it alone: how many helpers the
+/// settings have isn't looked at.
 pub fn run_script_one<P: Payload, S: Source, K: Sink>(
     alloc: Global,
     source: &mut S,
@@ -90,7 +92,8 @@ pub struct InMemory {
     pub outcome: Result<(), ScriptFault>,
 }
 
-/// Runs a script that lies in memory, as [`run_script_with`] does, and keeps what is written in memory. Reading never fails.
+/// Runs a script that lies in memory, as [`run_script_with`] does, and keeps what is written in memory. Reading never
+/// fails.
 pub fn run_in_memory<P: Payload, C: Collector>(
     alloc: Global,
     collector: &C,

@@ -43,8 +43,8 @@ impl Script {
         }
     }
 
-    /// The next line, or `None` at the end of the input, or else the first fault. What was put into the sink is finished before
-    /// the source is asked for what it doesn't hold.
+    /// The next line, or `None` at the end of the input, or else the first fault. What was put into the sink is
+    /// finished before the source is asked for what it doesn't hold.
     #[inline(always)]
     pub(crate) fn next<S: Source, K: Sink>(
         &mut self,

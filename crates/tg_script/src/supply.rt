@@ -45,7 +45,8 @@ impl<P: Payload> Supply<P> {
     }
 }
 
-// Takes the last payload. Where less than half of the list's room is used then, the rest of it is given back, if the allocator can.
+// Takes the last payload. Where less than half of the list's room is used then, the rest of it is given back, if the
+// allocator can.
 fn take_last<P: Payload>(list: &mut Vec<Draft<P>>) -> Option<Draft<P>>
     ensures items { list.old.items ≡ list.new.items ++ option_to_list result }
     ensures empty { IfNone result (list.old.items ≡ []) }

@@ -19,9 +19,9 @@ pub struct WholeScript {
     pub lines: Vec<Line>,
 }
 
-/// Reads a whole script for so many workers, or up to its first fault; `OutOfMemory` where there is none for a line, `ReadFailed`
-/// and `WriteFailed` exactly where the source or the sink failed. The source is asked for at most 1,048,577 bytes, and what was put
-/// into the sink is finished before it is asked for what it doesn't hold.
+/// Reads a whole script for so many workers, or up to its first fault; `OutOfMemory` where there is none for a line,
+/// `ReadFailed` and `WriteFailed` exactly where the source or the sink failed. The source is asked for at most
+/// 1,048,577 bytes, and what was put into the sink is finished before it is asked for what it doesn't hold.
 pub fn read_script<S: Source, K: Sink>(
     alloc: Global,
     source: &mut S,

@@ -26,12 +26,12 @@ impl<L: Round> Session<L> {
     ghost use denote.Follow.{follows_so};
     ghost use Rattle.tg_shared.specs.contracts.session.Session.{the_row};
 
-    /// Asks the shared store for a command of the session's subject, by one call of [`Locked::apply`](crate::Locked::apply)
-    /// under the lock. Answers the reply, lent from the receipt: exactly one was added, with this command and this reply.
-    /// Its entry came next in the journal of a store that may have been behind the lock, the shared one, gone on, and was legal
-    /// there: the reply is the rules' on the graph of that store. Where the call is refused, the receipts stay, and of such a
-    /// store the refusal was due: there was no such worker, or the command was allowed and a cell was lacking. Want of memory
-    /// may come at any call.
+    /// Asks the shared store for a command of the session's subject, by one call of
+    /// [`Locked::apply`](crate::Locked::apply) under the lock. Answers the reply, lent from the receipt: exactly one
+    /// was added, with this command and this reply. Its entry came next in the journal of a store that may have been
+    /// behind the lock, the shared one, gone on, and was legal there: the reply is the rules' on the graph of that
+    /// store. Where the call is refused, the receipts stay, and of such a store the refusal was due: there was no such
+    /// worker, or the command was allowed and a cell was lacking. Want of memory may come at any call.
     pub fn call<P: Payload, R: Wait>(
         &mut self,
         rt: &R,
@@ -54,10 +54,11 @@ impl<L: Round> Session<L> {
         Ok(self.last_reply())
     }
 
-    /// Makes a vertex of the session's subject, by one call of [`Locked::create`](crate::Locked::create) under the lock.
-    /// A name, and `VerticesFull`, have added exactly one receipt, with this create and that answer. Its entry came next in the
-    /// journal of a store that may have been behind the lock, and was legal there. Where the call is refused otherwise, the
-    /// receipts stay, and of such a store the refusal was due, but for want of memory. A refused draft is handed back.
+    /// Makes a vertex of the session's subject, by one call of [`Locked::create`](crate::Locked::create) under the
+    /// lock. A name, and `VerticesFull`, have added exactly one receipt, with this create and that answer. Its entry
+    /// came next in the journal of a store that may have been behind the lock, and was legal there. Where the call is
+    /// refused otherwise, the receipts stay, and of such a store the refusal was due, but for want of memory. A refused
+    /// draft is handed back.
     pub fn create<P: Payload, R: Wait>(
         &mut self,
         rt: &R,
@@ -85,13 +86,14 @@ impl<L: Round> Session<L> {
         created
     }
 
-    /// Makes a subject, by one call of [`Locked::spawn`](crate::Locked::spawn) under the lock, and answers its session, which has no
-    /// receipt. The session that asks then has exactly one more, with this spawn and the new name. Its entry came next in the
-    /// journal of a store that may have been behind the lock, and was legal there. The new session goes to
-    /// [`close`](crate::close) with the others: a round does not end without it, so it is kept where nothing else is refused.
+    /// Makes a subject, by one call of [`Locked::spawn`](crate::Locked::spawn) under the lock, and answers its session,
+    /// which has no receipt. The session that asks then has exactly one more, with this spawn and the new name. Its
+    /// entry came next in the journal of a store that may have been behind the lock, and was legal there. The new
+    /// session goes to [`close`](crate::close) with the others: a round does not end without it, so it is kept where
+    /// nothing else is refused.
     ///
-    /// `VerticesFull` and `WorkersFull` have added a receipt with that answer. Where the call is refused otherwise, the receipts
-    /// stay, and of such a store the refusal was due, but for want of memory. A refused draft is handed back.
+    /// `VerticesFull` and `WorkersFull` have added a receipt with that answer. Where the call is refused otherwise, the
+    /// receipts stay, and of such a store the refusal was due, but for want of memory. A refused draft is handed back.
     pub fn spawn<P: Payload, R: Wait>(
         &mut self,
         rt: &R,
@@ -120,8 +122,9 @@ impl<L: Round> Session<L> {
         spawned
     }
 
-    /// The rights that the session's subject holds over a vertex, by one call of [`Locked::label`](crate::Locked::label) under the
-    /// lock: the label of a store that may have been behind the lock, the shared one, gone on. It makes no entry and no receipt.
+    /// The rights that the session's subject holds over a vertex, by one call of
+    /// [`Locked::label`](crate::Locked::label) under the lock: the label of a store that may have been behind the lock,
+    /// the shared one, gone on. It makes no entry and no receipt.
     pub fn label<P: Payload, R: Wait>(
         &self,
         rt: &R,
@@ -136,9 +139,9 @@ impl<L: Round> Session<L> {
         locked.label(self, target)
     }
 
-    /// Collects the heap of the shared store, by one call of [`Locked::collect`](crate::Locked::collect) under the lock,
-    /// and answers how many vertices it then has: the number of a store that may have been behind the lock, and after a full
-    /// collection that of the vertices that can be reached. It makes no entry and no receipt.
+    /// Collects the heap of the shared store, by one call of [`Locked::collect`](crate::Locked::collect) under the
+    /// lock, and answers how many vertices it then has: the number of a store that may have been behind the lock, and
+    /// after a full collection that of the vertices that can be reached. It makes no entry and no receipt.
     pub fn collect<P: Payload, R: Wait>(
         &self,
         rt: &R,

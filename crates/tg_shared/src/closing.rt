@@ -35,8 +35,8 @@ pub struct LockedRefused<L: Round, P: Payload> {
 impl<L: Round, P: Payload> Locked<L, P> {
     ghost use Rattle.tg_shared.specs.Sessions.{AreSharedOut, GoesOn, MayClose, count_of, handed_of, held_from, parts_of};
 
-    /// Ends a round: hands out the store, where all sessions are given back and their receipts are right. Then the journal
-    /// has grown by as many entries as there are receipts, and they are shared out among the sessions.
+    /// Ends a round: hands out the store, where all sessions are given back and their receipts are right. Then the
+    /// journal has grown by as many entries as there are receipts, and they are shared out among the sessions.
     ///
     /// `SessionsMissing` is answered exactly where the sessions stand for fewer than were made, and looked for first;
     /// `ReceiptMismatch` exactly where they stand for as many, and may not close. What was handed in then comes back.

@@ -42,14 +42,14 @@ impl<L: Round, P: Payload> Locked<L, P> {
 }
 
 impl<L: Round> Session<L> {
-    /// Collects the heap of the shared store as [`collect`](Session::collect) does, with as many helpers, from 1 to 8: one on
-    /// the calling thread, and each other on a thread of its own. Each of them passes the gate. It is one call of
-    /// [`Locked::collect_with`](crate::Locked::collect_with) under the lock, and all threads that were started have ended
-    /// before the lock is let go. Answers how many vertices the heap then has.
+    /// Collects the heap of the shared store as [`collect`](Session::collect) does, with as many helpers, from 1 to 8:
+    /// one on the calling thread, and each other on a thread of its own. Each of them passes the gate. It is one call
+    /// of [`Locked::collect_with`](crate::Locked::collect_with) under the lock, and all threads that were started have
+    /// ended before the lock is let go. Answers how many vertices the heap then has.
     ///
-    /// Of a store that may have been behind the lock `HeapFull` was due, where each helper may leave a block open; `NoThread`
-    /// is answered where a thread couldn't be started, and never of one helper alone; else `OutOfMemory` alone. It makes no entry
-    /// and no receipt.
+    /// Of a store that may have been behind the lock `HeapFull` was due, where each helper may leave a block open;
+    /// `NoThread` is answered where a thread couldn't be started, and never of one helper alone; else `OutOfMemory`
+    /// alone. It makes no entry and no receipt.
     pub fn collect_with<P: Payload, R: Threads + Wait + Sync, G: Gate>(
         &self,
         rt: &R,

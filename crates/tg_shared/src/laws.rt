@@ -35,18 +35,18 @@ pub fn as_many_receipts_share_out()
         MayClose entries first sessions → length entries ≡ first + count_of sessions → AreSharedOut (drop first entries) sessions }
 {}
 
-/// What [`close`](crate::close) says of receipts, for who has kept all parts of a journal and all receipts of each of its
-/// sessions, whether these were taken over or not: where the receipts match part by part, no two sessions are of one worker, and
-/// there are as many receipts as entries, each entry stands in exactly one of them, and the receipts of each session are all its
-/// entries, in their order. The last part may be what the store still holds.
+/// What [`close`](crate::close) says of receipts, for who has kept all parts of a journal and all receipts of each of
+/// its sessions, whether these were taken over or not: where the receipts match part by part, no two sessions are of
+/// one worker, and there are as many receipts as entries, each entry stands in exactly one of them, and the receipts of
+/// each session are all its entries, in their order. The last part may be what the store still holds.
 pub fn kept_parts_share_out()
     ensures { (entries : List Entry) (first : ℕ) (parts : List Entries) (sessions : List SessionState) →
         AreParts first entries parts → All (KeptInParts parts) sessions → AllPairs (λ s t. s.worker ≢ t.worker) sessions →
         length entries ≡ first + count_of sessions → AreSharedOut (drop first entries) sessions }
 {}
 
-/// Of a store that was shared whole, no entry made since is handed out while it is shared. So where `close` says from which place
-/// on it has looked, that is the place where the store was shared.
+/// Of a store that was shared whole, no entry made since is handed out while it is shared. So where `close` says from
+/// which place on it has looked, that is the place where the store was shared.
 pub fn a_whole_journal_is_held()
     ensures { (start : SharedStart) (s : StoreState) → GoesOn start s → start.in_parts ≡ false → held_from start s ≡ length start.entries }
 {}

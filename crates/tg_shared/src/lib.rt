@@ -1,7 +1,7 @@
 //! The locked store: a store that many threads use, and a proof at the end that nothing was lost.
 //!
-//! [`SharedStore::new`] puts a store behind a lock and gives one [`Session`] for each active subject. A session may go to a
-//! thread of its own. Each of its calls takes the lock, makes one call of the store, and lets go:
+//! [`SharedStore::new`] puts a store behind a lock and gives one [`Session`] for each active subject. A session may go
+//! to a thread of its own. Each of its calls takes the lock, makes one call of the store, and lets go:
 //!
 //! ```text
 //!     session 0   [receipts] --call--+
@@ -11,31 +11,31 @@
 //!     session 2   [receipts] --call--+      +--------------------------------+
 //! ```
 //!
-//! A call that makes an entry of the journal leaves a [`Receipt`] with the session: the entry and its place. So a session
-//! has what it was answered, and [`close`] compares: it takes all sessions back, looks whether each receipt is the
-//! journal's entry at its place, and hands out the store.
+//! A call that makes an entry of the journal leaves a [`Receipt`] with the session: the entry and its place. So a
+//! session has what it was answered, and [`close`] compares: it takes all sessions back, looks whether each receipt is
+//! the journal's entry at its place, and hands out the store.
 //!
-//! What a call does to the value behind the lock stands in the contracts of [`Locked`], the type that is locked: each of
-//! its calls is one call of the store and makes at most one receipt. A caller of a session is told of its own receipts, and
-//! that its answer was right of some store that may have been behind the lock: of the shared one, gone on (see 'What a
-//! session can know' in docs/ARCHITECTURE.md). Whenever the lock is free, the store is that one and keeps its promise ([`Locked::store`]), and the
-//! book that stands beside it has counted each entry since.
+//! What a call does to the value behind the lock stands in the contracts of [`Locked`], the type that is locked: each
+//! of its calls is one call of the store and makes at most one receipt. A caller of a session is told of its own
+//! receipts, and that its answer was right of some store that may have been behind the lock: of the shared one, gone on
+//! (see 'What a session can know' in docs/ARCHITECTURE.md). Whenever the lock is free, the store is that one and keeps
+//! its promise ([`Locked::store`]), and the book that stands beside it has counted each entry since.
 //!
-//! A session may make a subject, and is answered its session ([`Session::spawn`]), which is owed to [`close`] like the others. A
-//! subject that retires makes no entry any more; its session is owed all the same.
+//! A session may make a subject, and is answered its session ([`Session::spawn`]), which is owed to [`close`] like the
+//! others. A subject that retires makes no entry any more; its session is owed all the same.
 //!
 //! A service that goes on for years takes the journal and the receipts in parts: who shares the store so has its
 //! [`Keeper`], who takes the entries while the sessions go on, and each session hands its receipts out
 //! ([`Session::take_receipts`]), to be looked at with the part that has their entries ([`receipts_match`]; [`laws`]
-//! join the parts). One that is done goes into another ([`Session::take_over`]). Of a store that is shared whole nothing
-//! is handed out before it is closed.
+//! join the parts). One that is done goes into another ([`Session::take_over`]). Of a store that is shared whole
+//! nothing is handed out before it is closed.
 //!
-//! The book is that of a ledger ([`std::sync::ledger`]). That there are as many receipts as entries, where a close succeeds,
-//! is told by 'Why the count is known at the close' in docs/ARCHITECTURE.md.
+//! The book is that of a ledger ([`std::sync::ledger`]). That there are as many receipts as entries, where a close
+//! succeeds, is told by 'Why the count is known at the close' in docs/ARCHITECTURE.md.
 //!
-//! **Why nothing is refused between an entry and its receipt.** A session makes room for the receipt, and copies the state
-//! of a vertex to be made, before it takes the lock ([`Session::make_room`]); the reply moves into the receipt. So under
-//! the lock memory is wanted by the store's call alone, which is refused before it makes an entry.
+//! **Why nothing is refused between an entry and its receipt.** A session makes room for the receipt, and copies the
+//! state of a vertex to be made, before it takes the lock ([`Session::make_room`]); the reply moves into the receipt.
+//! So under the lock memory is wanted by the store's call alone, which is refused before it makes an entry.
 #![tactic(auto)]
 
 mod call;

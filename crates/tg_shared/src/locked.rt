@@ -15,8 +15,8 @@ use tg_rights::Label;
 use tg_store::{ApplyFault, CreateFault, CreateRefused, Kind, RoomFault, Store};
 use tg_subjects::Subject;
 
-/// What is behind the lock: the store, the book that counts its entries since it was shared, and the parts of the ledger
-/// that no session has. Each call is one call of the store, with its contract, and makes at most one receipt.
+/// What is behind the lock: the store, the book that counts its entries since it was shared, and the parts of the
+/// ledger that no session has. Each call is one call of the store, with its contract, and makes at most one receipt.
 ///
 /// Contracts see a `LockedState`: the store, and how many sessions were made.
 #[derive(Drop)]
@@ -53,10 +53,10 @@ impl<L: Round, P: Payload> Locked<L, P> {
     ghost use Rattle.tg_store.specs.Store.{HandsOut, HasFewBlocks, IsFaithful, StandsFor};
     ghost use Rattle.tg_shared.specs.Sessions.{AreFresh, GoesOn, IsFresh, KeepsLocked, MayNote, MayShare, Records, RecordsNothing, sessions_made, subjects_at};
 
-    /// The store. What holds whenever the lock is free is told here: the store's own promise, that its journal is a legal
-    /// history of its opening and its heap stands for the graph after it; and it is the store that was shared, gone on: with its
-    /// opening and its limits, and with all entries from before. One session was made for each subject that it had then, and one
-    /// for each that was made since.
+    /// The store. What holds whenever the lock is free is told here: the store's own promise, that its journal is a
+    /// legal history of its opening and its heap stands for the graph after it; and it is the store that was shared,
+    /// gone on: with its opening and its limits, and with all entries from before. One session was made for each
+    /// subject that it had then, and one for each that was made since.
     pub fn store(&self) -> &Store<P>
         ensures same { result.now ≡ self.now.store }
         ensures faithful { IsFaithful self.now.store }
@@ -70,8 +70,8 @@ impl<L: Round, P: Payload> Locked<L, P> {
         &self.store
     }
 
-    /// Shares a store: the value to be locked, and a session for each subject of the graph that the store stands for. The
-    /// blank is spent, and has to have one part more than vertices may be made. Fails only when out of memory, and
+    /// Shares a store: the value to be locked, and a session for each subject of the graph that the store stands for.
+    /// The blank is spent, and has to have one part more than vertices may be made. Fails only when out of memory, and
     /// hands the store back.
     pub fn open(
         alloc: Global,
@@ -99,9 +99,9 @@ impl<L: Round, P: Payload> Locked<L, P> {
         Ok((locked, sessions))
     }
 
-    /// Takes a command of the session's subject, by one call of the store. A call that makes an entry adds a receipt with
-    /// the reply, which is that of the rules on the graph that the store stands for; a call that is refused leaves the
-    /// store and the receipts as they were. There has to be room for the receipt.
+    /// Takes a command of the session's subject, by one call of the store. A call that makes an entry adds a receipt
+    /// with the reply, which is that of the rules on the graph that the store stands for; a call that is refused leaves
+    /// the store and the receipts as they were. There has to be room for the receipt.
     pub fn apply(&mut self, session: &mut Session<L>, command: Command) -> Result<(), ApplyFault>
         requires room { 0 < session.old.spare }
         ensures entry { (g : ProtectionGraph) → StandsFor self.old.store g → OnOk result (Records self.old.store self.new.store session.old session.new (Deed.Plain command) (answer_of g session.old.worker (Deed.Plain command))) }
@@ -130,8 +130,8 @@ impl<L: Round, P: Payload> Locked<L, P> {
     }
 
     /// Makes a vertex of the session's subject, by one call of the store. A call that makes an entry adds a receipt; so
-    /// does `VerticesFull`. Any other refusal leaves the store and the receipts as they were. There has to be room for the
-    /// receipt, and the session has to have a copy of the draft's state.
+    /// does `VerticesFull`. Any other refusal leaves the store and the receipts as they were. There has to be room for
+    /// the receipt, and the session has to have a copy of the draft's state.
     pub fn create(
         &mut self,
         session: &mut Session<L>,
@@ -173,11 +173,11 @@ impl<L: Round, P: Payload> Locked<L, P> {
         created
     }
 
-    /// Makes a subject, by one call of the store, and a session for it: with no receipt, and with one part of the ledger, cut
-    /// from the rest behind the lock. A call that makes an entry adds a receipt to the session that asks; so do `VerticesFull`
-    /// and `WorkersFull`. Any other refusal leaves the store and the receipts as they were. There has to be room for the
-    /// receipt, and the session has to have a copy of the draft's state. The new session takes no memory, so nothing is refused
-    /// behind the store's call.
+    /// Makes a subject, by one call of the store, and a session for it: with no receipt, and with one part of the
+    /// ledger, cut from the rest behind the lock. A call that makes an entry adds a receipt to the session that asks;
+    /// so do `VerticesFull` and `WorkersFull`. Any other refusal leaves the store and the receipts as they were. There
+    /// has to be room for the receipt, and the session has to have a copy of the draft's state. The new session takes
+    /// no memory, so nothing is refused behind the store's call.
     pub fn spawn(
         &mut self,
         session: &mut Session<L>,
@@ -231,16 +231,16 @@ impl<L: Round, P: Payload> Locked<L, P> {
         }
     }
 
-    /// The rights that the session's subject holds over a vertex, by one call of the store. It changes nothing, and makes no entry
-    /// and no receipt.
+    /// The rights that the session's subject holds over a vertex, by one call of the store. It changes nothing, and
+    /// makes no entry and no receipt.
     pub fn label(&self, session: &Session<L>, target: u64) -> Option<Label>
         ensures held { (g : ProtectionGraph) → StandsFor self.now.store g → IsHeldOver g session.now.worker target result }
     {
         self.store.label(session.worker(), target)
     }
 
-    /// Hands out the entries that the store holds, by one call of the store, where it was shared so as to be handed out in
-    /// parts. No session is touched: its receipts are of the entries that they were of, wherever these are.
+    /// Hands out the entries that the store holds, by one call of the store, where it was shared so as to be handed out
+    /// in parts. No session is touched: its receipts are of the entries that they were of, wherever these are.
     pub fn take_journal(&mut self) -> Journal
         requires in_parts { L.start.in_parts ≡ true }
         ensures entries { result.entries ≡ self.old.store.entries }

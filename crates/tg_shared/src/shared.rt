@@ -47,11 +47,11 @@ impl<L: Round, P: Payload> SharedStore<L, P> {
     ghost use Rattle.tg_store.specs.Store.{StandsFor};
     ghost use Rattle.tg_shared.specs.Sessions.{MayShare};
 
-    /// Shares a store: puts it behind a lock, and makes a session for each active subject of the graph that it stands for. The
-    /// blank is spent, and has to have one part more than vertices may be made. Fails only when out of memory.
+    /// Shares a store: puts it behind a lock, and makes a session for each active subject of the graph that it stands
+    /// for. The blank is spent, and has to have one part more than vertices may be made. Fails only when out of memory.
     ///
-    /// The round's start says whether the journal stays whole (`start_of_store`), or may be handed out in parts while it is
-    /// shared (`start_in_parts`).
+    /// The round's start says whether the journal stays whole (`start_of_store`), or may be handed out in parts while
+    /// it is shared (`start_in_parts`).
     pub fn new(
         alloc: Global,
         blank: Blank,
@@ -73,8 +73,8 @@ impl<L: Round, P: Payload> SharedStore<L, P> {
         }
     }
 
-    /// What was behind the lock, for a caller who wants to name it: [`Locked::close`] then tells exactly whether the round
-    /// ends. It is the store that was shared, gone on. Takes no memory, and no lock is waited for.
+    /// What was behind the lock, for a caller who wants to name it: [`Locked::close`] then tells exactly whether the
+    /// round ends. It is the store that was shared, gone on. Takes no memory, and no lock is waited for.
     pub fn into_locked(self) -> Locked<L, P>
         ensures faithful { IsFaithful result.store }
         ensures gone_on { GoesOn L.start result.store }
@@ -89,10 +89,11 @@ impl<L: Round, P: Payload> SharedStore<L, P> {
     }
 }
 
-/// Ends a round: hands out the store, where all sessions are given back and their receipts are right. The store's journal
-/// has then grown by as many entries as there are receipts: each entry since the store was shared stands in exactly one of
-/// them, and the receipts of each session are all its entries, in their order. It is the store that was shared, with its
-/// opening, its limits and the entries that it had. It is [`SharedStore::into_locked`] and [`Locked::close`] in a row.
+/// Ends a round: hands out the store, where all sessions are given back and their receipts are right. The store's
+/// journal has then grown by as many entries as there are receipts: each entry since the store was shared stands in
+/// exactly one of them, and the receipts of each session are all its entries, in their order. It is the store that was
+/// shared, with its opening, its limits and the entries that it had. It is [`SharedStore::into_locked`] and
+/// [`Locked::close`] in a row.
 ///
 /// `SessionsMissing` is looked for first. Where it is answered, more sessions were made than those handed in stand for,
 /// by a journal that may have been behind the lock; fewer than there were subjects when the store was shared are always

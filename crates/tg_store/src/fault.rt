@@ -43,7 +43,8 @@ pub enum ApplyFault {
     HeapFull,
 }
 
-/// Why no vertex was made. The store is as it was, but that `VerticesFull` and `WorkersFull` have an entry in the journal.
+/// Why no vertex was made. The store is as it was, but that `VerticesFull` and `WorkersFull` have an entry in the
+/// journal.
 #[derive(Clone, Copy, PartialEq, Eq, Debug, Error)]
 pub enum CreateFault {
     /// The one who asks is no worker.

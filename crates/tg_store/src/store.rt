@@ -74,9 +74,9 @@ impl<P: Payload> Store<P> {
 
     /// A store that starts from the opening, with the payloads of the drafts, one for each worker, and with no entry in
     /// its journal. Its heap takes a block for each worker and no more. `PayloadMismatch` is answered exactly where the
-    /// drafts' laws and states aren't the opening's, with the first such place; `HeapFull` exactly where they are, and the
-    /// heap may have fewer blocks than there are workers; else `OutOfMemory` alone. The opening and the drafts are then
-    /// handed back as they were.
+    /// drafts' laws and states aren't the opening's, with the first such place; `HeapFull` exactly where they are, and
+    /// the heap may have fewer blocks than there are workers; else `OutOfMemory` alone. The opening and the drafts are
+    /// then handed back as they were.
     pub fn open(
         alloc: Global,
         opening: Opening,
@@ -226,11 +226,11 @@ impl<P: Payload> Store<P> {
     /// name, by the graph that the store stands for; exactly the entry of the create with that name was added to the
     /// journal, and then the store stands for the next graph.
     ///
-    /// `NoSuchWorker` is answered exactly where no worker has the name, and looked for first; `VerticesFull` exactly where
-    /// as many vertices were made as may be, but for `OutOfMemory`; `HeapFull` only where
-    /// a vertex may be made, and it and the reference to it need more cells than the nursery of the worker has left and
-    /// gets; else `OutOfMemory` alone. A block is added only there where the cells left are too few. After a fault the draft is handed back and the store is as it was; but `VerticesFull` has an
-    /// entry.
+    /// `NoSuchWorker` is answered exactly where no worker has the name, and looked for first; `VerticesFull` exactly
+    /// where as many vertices were made as may be, but for `OutOfMemory`; `HeapFull` only where a vertex may be made,
+    /// and it and the reference to it need more cells than the nursery of the worker has left and gets; else
+    /// `OutOfMemory` alone. A block is added only there where the cells left are too few. After a fault the draft is
+    /// handed back and the store is as it was; but `VerticesFull` has an entry.
     pub fn create(
         &mut self,
         worker: u64,
@@ -248,13 +248,14 @@ impl<P: Payload> Store<P> {
         self.make(worker, Making::Object, label, draft)
     }
 
-    /// Makes a vertex as [`create`](Store::create) does, which is a subject too: it issues commands of its own, as a worker. Its
-    /// name is the next one, above all names ever given, and it is the last of the active subjects.
+    /// Makes a vertex as [`create`](Store::create) does, which is a subject too: it issues commands of its own, as a
+    /// worker. Its name is the next one, above all names ever given, and it is the last of the active subjects.
     ///
-    /// Refusals are looked for in this order: `NoSuchWorker` exactly where no active subject has the name of the one who asks;
-    /// `OutOfMemory` for the entry; `VerticesFull` exactly where as many vertices were made as may be; `WorkersFull` exactly where
-    /// more may be made, and 64 subjects are active; then `OutOfMemory` or `HeapFull` as `create` has them. After a fault the draft
-    /// is handed back and the store is as it was; but `VerticesFull` and `WorkersFull` have an entry.
+    /// Refusals are looked for in this order: `NoSuchWorker` exactly where no active subject has the name of the one
+    /// who asks; `OutOfMemory` for the entry; `VerticesFull` exactly where as many vertices were made as may be;
+    /// `WorkersFull` exactly where more may be made, and 64 subjects are active; then `OutOfMemory` or `HeapFull` as
+    /// `create` has them. After a fault the draft is handed back and the store is as it was; but `VerticesFull` and
+    /// `WorkersFull` have an entry.
     pub fn spawn(
         &mut self,
         worker: u64,
@@ -352,10 +353,10 @@ impl<P: Payload> Store<P> {
         }
     }
 
-    /// What the vertex with a name stores, where a worker may read it: `Some` exactly where a read command of the worker would
-    /// be served, so `None` too where no worker has the name. It lends the payload itself, whose value is that of the graph
-    /// that the store stands for. It changes nothing and makes no entry: no journal tells of what is read this way. Takes no
-    /// memory.
+    /// What the vertex with a name stores, where a worker may read it: `Some` exactly where a read command of the
+    /// worker would be served, so `None` too where no worker has the name. It lends the payload itself, whose value is
+    /// that of the graph that the store stands for. It changes nothing and makes no entry: no journal tells of what is
+    /// read this way. Takes no memory.
     pub fn payload(&self, worker: u64, name: u64) -> Option<&P>
         ensures allowed { (g : ProtectionGraph) → StandsFor self.now g → IsSome result ↔ (IsSubject g worker × IsAllowed g worker (Deed.Plain (Command.Read name))) }
         ensures stored { (g : ProtectionGraph) → StandsFor self.now g → IfSome result (λ payload. g.value name ≡ Some (P.value payload.now)) }
@@ -366,10 +367,10 @@ impl<P: Payload> Store<P> {
         readable(&self.heap, worker, name)
     }
 
-    /// The rights that a worker holds over the vertex with a name: exactly the label between the two on the graph that the store
-    /// stands for. `None` where there is no edge, as from a worker to itself, to a name that was never made and to one that was
-    /// collected, and where no worker has the name. It changes nothing and makes no entry: no journal tells of what is asked this
-    /// way. Takes no memory.
+    /// The rights that a worker holds over the vertex with a name: exactly the label between the two on the graph that
+    /// the store stands for. `None` where there is no edge, as from a worker to itself, to a name that was never made
+    /// and to one that was collected, and where no worker has the name. It changes nothing and makes no entry: no
+    /// journal tells of what is asked this way. Takes no memory.
     pub fn label(&self, worker: u64, target: u64) -> Option<Label>
         ensures held { (g : ProtectionGraph) → StandsFor self.now g → IsHeldOver g worker target result }
     {
@@ -378,9 +379,9 @@ impl<P: Payload> Store<P> {
         Label::new(found.rights)
     }
 
-    /// The names of the vertices that the heap has, in the order of the places of their cells, each once: the first of them that
-    /// fit go to `into`, and what there is room for behind them stays as it is. Answers how many there are. A vertex that nobody
-    /// reaches is among them until it is collected. Takes no memory, and makes no entry.
+    /// The names of the vertices that the heap has, in the order of the places of their cells, each once: the first of
+    /// them that fit go to `into`, and what there is room for behind them stays as it is. Answers how many there are. A
+    /// vertex that nobody reaches is among them until it is collected. Takes no memory, and makes no entry.
     pub fn names(&self, into: &mut [u64]) -> u64
         ensures number { result ≡ length (content_of self.now.heap).names }
         ensures shown { into.new ≡ shown_in (content_of self.now.heap).names into.old }
@@ -393,20 +394,20 @@ impl<P: Payload> Store<P> {
     /// does the graph that the store stands for: a vertex that can be reached on it is kept, with its labels and its
     /// payload. What isn't kept is given up with its payload.
     ///
-    /// A full collection moves all cells that the workers' rows reach to Old, and keeps exactly the vertices that can be
-    /// reached. A nursery collection moves the younger cells alone, to Aged or to Old, and keeps all cells of Old, of
-    /// which it looks at the remembered ones and the workers' rows alone: it may keep vertices that nobody reaches. After
-    /// either no nursery has a block, and only those cells of Old are remembered that name a younger one, which after a full
-    /// collection are none.
+    /// A full collection moves all cells that the workers' rows reach to Old, and keeps exactly the vertices that can
+    /// be reached. A nursery collection moves the younger cells alone, to Aged or to Old, and keeps all cells of Old,
+    /// of which it looks at the remembered ones and the workers' rows alone: it may keep vertices that nobody reaches.
+    /// After either no nursery has a block, and only those cells of Old are remembered that name a younger one, which
+    /// after a full collection are none.
     ///
-    /// After a full collection there are no more blocks than the cells in use need, 64 in each. A nursery collection leaves
-    /// the blocks of Old, and adds no more than the younger cells in use need, or one more, since it fills blocks of Old and of
-    /// Aged. No space has more blocks than `Limits` gives it, or else no more than it had.
+    /// After a full collection there are no more blocks than the cells in use need, 64 in each. A nursery collection
+    /// leaves the blocks of Old, and adds no more than the younger cells in use need, or one more, since it fills
+    /// blocks of Old and of Aged. No space has more blocks than `Limits` gives it, or else no more than it had.
     ///
     /// A nursery collection that finds no younger cells, and none that are remembered, takes no memory.
     ///
-    /// `HeapFull` is answered only where the cells that are reached and would be moved may not fit into the blocks that a space
-    /// may have, so never for what nobody reaches; else `OutOfMemory` alone. The store is then as it was.
+    /// `HeapFull` is answered only where the cells that are reached and would be moved may not fit into the blocks that
+    /// a space may have, so never for what nobody reaches; else `OutOfMemory` alone. The store is then as it was.
     pub fn collect(&mut self, kind: Kind) -> Result<u64, RoomFault>
         ensures swept { IfOk result (IsSwept kind self.old self.new) }
         ensures blocks { OnOk result (HasFewBlocks kind 0 self.old.heap.table self.new.heap.table) }
@@ -443,10 +444,10 @@ impl<P: Payload> Store<P> {
         Ok(copied)
     }
 
-    /// What a collection of this kind starts from: the rows of the workers, by rising name; for a nursery collection the
-    /// remembered cells too, and a row from the first cell on that may name a young one. The collections from it
-    /// are those from the whole rows, and it reaches the same cells. This, [`spaces`](Store::spaces) and [`settle`](Store::settle) are for collectors outside of this
-    /// crate. Fails only when out of memory.
+    /// What a collection of this kind starts from: the rows of the workers, by rising name; for a nursery collection
+    /// the remembered cells too, and a row from the first cell on that may name a young one. The collections from it
+    /// are those from the whole rows, and it reaches the same cells. This, [`spaces`](Store::spaces) and
+    /// [`settle`](Store::settle) are for collectors outside of this crate. Fails only when out of memory.
     pub fn roots(&self, kind: Kind) -> Result<Vec<Root>, AllocError>
         ensures roots { IfOk result (λ roots. CollectAlike kind self.now.heap.table.spaces (roots_of kind self.now.heap) roots.items) }
         ensures targets { IfOk result (λ roots. all_root_targets (from_space kind) self.now.heap.table.spaces roots.items ≡ all_root_targets (from_space kind) self.now.heap.table.spaces (roots_of kind self.now.heap)) }
@@ -455,7 +456,8 @@ impl<P: Payload> Store<P> {
         self.heap.roots(self.alloc, kind)
     }
 
-    /// What the last collection left, for one by a collector outside of this crate to use. Nothing is left then. Takes no memory.
+    /// What the last collection left, for one by a collector outside of this crate to use. Nothing is left then. Takes
+    /// no memory.
     pub fn take_spare(&mut self) -> Spare
         ensures { self.new ≡ self.old }
     {
@@ -469,8 +471,8 @@ impl<P: Payload> Store<P> {
         self.heap.spaces()
     }
 
-    /// Puts what a collection of the store's own cells made, from its own roots, in the place of what it moved, and answers how
-    /// many vertices the heap then has. Fails only when out of memory; the store is then as it was.
+    /// Puts what a collection of the store's own cells made, from its own roots, in the place of what it moved, and
+    /// answers how many vertices the heap then has. Fails only when out of memory; the store is then as it was.
     pub fn settle(&mut self, kind: Kind, copied: Copied) -> Result<u64, AllocError>
         requires { IsCollection kind self.old.heap.table.spaces (roots_of kind self.old.heap) copied.forward.words copied.adoption.aged copied.adoption.old copied.remembered.places }
         ensures swept { IfOk result (IsSwept kind self.old self.new) }

@@ -7,8 +7,8 @@ use tg_payload::{DraftRefused, Payload};
 use tg_space::RoomFault;
 use thiserror::Error;
 
-/// Any refusal of a store, from the opening to the audit. The question mark makes it of each of them. What a refused call handed
-/// back, an opening, drafts or one draft, is dropped: who wants it looks at the call's own refusal.
+/// Any refusal of a store, from the opening to the audit. The question mark makes it of each of them. What a refused
+/// call handed back, an opening, drafts or one draft, is dropped: who wants it looks at the call's own refusal.
 #[derive(Clone, Copy, PartialEq, Eq, Debug, Error)]
 pub enum StoreFault {
     /// There was no memory for a payload, a draft or a list.

@@ -27,20 +27,21 @@ use tg_store::Store;
 use tg_text::{Line, Sink, Source};
 use tg_weave::{Told, in_script_order, sessions_of, share_out, tell_all};
 
-/// Runs the script, with one payload for each worker, by rising name, and a stock of payloads for the vertices that it makes: the
-/// i-th create or spawn line has the i-th of them, and where no vertex is made it is dropped.
+/// Runs the script, with one payload for each worker, by rising name, and a stock of payloads for the vertices that it
+/// makes: the i-th create or spawn line has the i-th of them, and where no vertex is made it is dropped.
 ///
-/// The whole script is read first; with a fault in it no line is run. Then each worker has a thread with its session, which runs the
-/// worker's lines in script order and passes the turnstile before each; the collections are worker 0's, each by as many helpers as the
-/// settings say. Behind a worker's own retire that was entered, its lines are told that there is no such worker; so is each line of
-/// anybody who is no worker of the opening, also of a subject that a spawn line made, whose session runs no line. Once all have ended
-/// the store is closed and audited, and only then anything is written: the reply to each line in script order, and the line with the
-/// number of entries. In what order lines of different workers are run is open, and who waits for whom.
+/// The whole script is read first; with a fault in it no line is run. Then each worker has a thread with its session,
+/// which runs the worker's lines in script order and passes the turnstile before each; the collections are worker 0's,
+/// each by as many helpers as the settings say. Behind a worker's own retire that was entered, its lines are told that
+/// there is no such worker; so is each line of anybody who is no worker of the opening, also of a subject that a spawn
+/// line made, whose session runs no line. Once all have ended the store is closed and audited, and only then anything
+/// is written: the reply to each line in script order, and the line with the number of entries. In what order lines of
+/// different workers are run is open, and who waits for whom.
 ///
-/// After a fault nothing was written but after `WriteFailed`, which leaves a front of the text. A thread that can't be started is
-/// `NoThread`; those that were started have ended. `ReceiptMismatch` is answered too where a session finds no such worker though no
-/// retire of its worker was entered. The source is asked for at most 1,048,577 bytes. The sink is finished at the end,
-/// after a fault too, which then stands.
+/// After a fault nothing was written but after `WriteFailed`, which leaves a front of the text. A thread that can't be
+/// started is `NoThread`; those that were started have ended. `ReceiptMismatch` is answered too where a session finds
+/// no such worker though no retire of its worker was entered. The source is asked for at most 1,048,577 bytes. The sink
+/// is finished at the end, after a fault too, which then stands.
 pub fn run_race<
     P: Payload + Send,
     S: Source,
@@ -180,8 +181,8 @@ impl<P: Payload> Raced<P> {
     }
 }
 
-// Replays entries from an opening, and answers how many there are. Refused at the first that isn't legal, or for want of
-// memory.
+// Replays entries from an opening, and answers how many there are. Refused at the first that isn't legal, or for want
+// of memory.
 fn count_audited(alloc: Global, opening: &Opening, entries: &[Entry]) -> Result<u64, AuditFault>
     ensures count { IfOk result (λ count. (count ≡ length entries.now) × IsLegal (start_of opening.now) entries.now) }
     ensures fault { IfErr result (IsAuditFault (start_of opening.now) entries.now) }

@@ -58,7 +58,8 @@ impl<T: Drop> From<AllocFailed<T>> for ThreadsFault {
     }
 }
 
-/// What a worker's thread has to bring back: its session, which has run these lines, with so many helpers of a collection.
+/// What a worker's thread has to bring back: its session, which has run these lines, with so many helpers of a
+/// collection.
 #[derive(Drop)]
 pub(crate) struct Assigned<P: Payload> {
     helpers: Helpers,
@@ -75,10 +76,10 @@ impl<L: Round, P: Payload> Promise<Result<Finished<L>, ThreadsFault>> for Assign
     ghost kept_by = { λ p r. IfErr r (λ fault. fault ≢ NoThread) × IfOk r (λ finished. Brings p.helpers L.start.opening.workers p.worker (map boxed_of p.tasks.value.items) finished) };
 }
 
-/// Gives each worker a thread that runs its lines, and waits for all of them. What they bring back stands in the order of the
-/// workers: each session has run its lines one after the other, and each line has come to a receipt, to a refusal or to a
-/// collection, which has so many helpers. Where a thread can't be started, those that were started run to their end. The sessions
-/// never had a receipt.
+/// Gives each worker a thread that runs its lines, and waits for all of them. What they bring back stands in the order
+/// of the workers: each session has run its lines one after the other, and each line has come to a receipt, to a
+/// refusal or to a collection, which has so many helpers. Where a thread can't be started, those that were started run
+/// to their end. The sessions never had a receipt.
 pub fn run_threads<
     L: Round + Send + Sync,
     P: Payload + Send,

@@ -34,11 +34,11 @@ use tg_weave::{Task, Told};
 /// A worker's session after its lines, and what each of them came to, in their order.
 pub type Finished<L> = tg_weave::Finished<Session<L>>;
 
-/// Runs the lines, one after the other, and passes the turnstile before each. A collection has so many helpers. Behind its own
-/// retire that was entered, the worker's lines are refused and their payloads dropped; collections are run on.
+/// Runs the lines, one after the other, and passes the turnstile before each. A collection has so many helpers. Behind
+/// its own retire that was entered, the worker's lines are refused and their payloads dropped; collections are run on.
 ///
-/// Want of memory is answered before any line is run, and `NoSuchWorker` where the session answers it though no retire of the
-/// worker was entered.
+/// Want of memory is answered before any line is run, and `NoSuchWorker` where the session answers it though no retire
+/// of the worker was entered.
 pub(crate) fn run_tasks<L: Round, P: Payload, G: Turnstile, R: Threads + Wait + Sync>(
     rt: &R,
     alloc: Global,
@@ -215,8 +215,8 @@ fn spawn<L: Round, P: Payload, R: Wait>(
     }
 }
 
-// What a create or a spawn is told that made no vertex, as in a script; where it has an entry, that tells it. That there is no such
-// worker is a fault.
+// What a create or a spawn is told that made no vertex, as in a script; where it has an entry, that tells it. That
+// there is no such worker is a fault.
 fn not_made<L: Round>(session: &Session<L>, why: CreateFault) -> Result<Told, ThreadsFault>
     requires { (reply : ReplyOf) → create_answer why ≡ Answer.Reply reply → 0 < length session.now.receipts }
     ensures refused { (refusal : RefusalOf) → create_answer why ≡ Answer.Refused refusal → IfOk result (λ told. told ≡ Told.Refused refusal) }
@@ -255,11 +255,11 @@ fn collect<L: Round, P: Payload, R: Threads + Wait + Sync>(
     }
 }
 
-/// A race's collection, which a worker's thread asks its session for: by so many helpers, each of whom passes the gate. One helper
-/// is that thread, which collects alone and passes no gate. Answers how many vertices the heap then has.
+/// A race's collection, which a worker's thread asks its session for: by so many helpers, each of whom passes the gate.
+/// One helper is that thread, which collects alone and passes no gate. Answers how many vertices the heap then has.
 ///
-/// Of a store that may have been behind the lock `Heap` was due, where each of several helpers may leave a block open; `Threads` is
-/// answered of several helpers alone, where a thread couldn't be started; else `Memory` alone.
+/// Of a store that may have been behind the lock `Heap` was due, where each of several helpers may leave a block open;
+/// `Threads` is answered of several helpers alone, where a thread couldn't be started; else `Memory` alone.
 pub fn collect_by<L: Round, P: Payload, R: Threads + Wait + Sync, G: Gate>(
     rt: &R,
     store: &SharedStore<L, P>,

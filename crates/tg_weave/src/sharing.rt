@@ -12,9 +12,10 @@ use std::vec::IntoIter;
 use tg_payload::{Draft, Payload};
 use tg_text::Line;
 
-/// Gives each session the lines that it has to run, in script order, each create line and each spawn line with the payload that
-/// stands in the stock where the line stands among these. The sessions are those of all workers, by number. The payload of a line that
-/// names no worker is dropped. Fails only when out of memory, and then drops what came in.
+/// Gives each session the lines that it has to run, in script order, each create line and each spawn line with the
+/// payload that stands in the stock where the line stands among these. The sessions are those of all workers, by
+/// number. The payload of a line that names no worker is dropped. Fails only when out of memory, and then drops what
+/// came in.
 pub fn share_out<S: Drop, P: Payload>(
     alloc: Global,
     sessions: Vec<S>,

@@ -10,8 +10,8 @@ use itoa::Buffer;
 use tg_journal::Journal;
 use tg_text::{Answer, Sink, WriteFailed, put_texts, write_reply, write_reply_of};
 
-/// Writes the reply to each line, and behind them the line with the number of entries that were audited, or a front of that
-/// where the sink fails. Takes no memory.
+/// Writes the reply to each line, and behind them the line with the number of entries that were audited, or a front of
+/// that where the sink fails. Takes no memory.
 pub fn tell_all<K: Sink>(
     sink: &mut K,
     journal: &Journal,

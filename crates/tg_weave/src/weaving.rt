@@ -9,9 +9,9 @@ use crate::work::Finished;
 use std::alloc::{AllocError, Global};
 use tg_text::{Line, Refusal};
 
-/// What each line of the script came to, in its order, from what each worker's session brought back, by the number of the worker.
-/// A line that no session runs is refused, as it names no worker. Each brings as many as it was given lines. Fails only
-/// when out of memory.
+/// What each line of the script came to, in its order, from what each worker's session brought back, by the number of
+/// the worker. A line that no session runs is refused, as it names no worker. Each brings as many as it was given
+/// lines. Fails only when out of memory.
 pub fn in_script_order<S: Drop>(
     alloc: Global,
     lines: &[Line],
@@ -49,8 +49,8 @@ fn next_told<S: Drop>(finished: &[Finished<S>], seen: &mut Vec<usize>, line: &Li
     told
 }
 
-/// The sessions of the workers, whose lines were run, each with those of the subjects that its lines made. Fails only when out
-/// of memory, and the sessions are then lost.
+/// The sessions of the workers, whose lines were run, each with those of the subjects that its lines made. Fails only
+/// when out of memory, and the sessions are then lost.
 pub fn sessions_of<S: Drop>(alloc: Global, finished: Vec<Finished<S>>) -> Result<Vec<S>, AllocError>
     ensures { IfOk result (λ sessions. sessions.items ≡ all_sessions finished.items) }
 {

@@ -1,10 +1,10 @@
 //! Answers whether x could ever come to hold a right over y, on the graph that a script leaves.
 //!
-//! It reads the script that `tgstore` reads, with the same options `--workers`, `--vertices` and `--stock`. `tg_plain` runs
-//! it on the plain graph, and `tg_could` answers of its picture; what is printed is that answer's text.
+//! It reads the script that `tgstore` reads, with the same options `--workers`, `--vertices` and `--stock`. `tg_plain`
+//! runs it on the plain graph, and `tg_could` answers of its picture; what is printed is that answer's text.
 //!
-//! The words of the command line are `options`' matter, what is asked `question`'s. `ask` asks it and tells the answer, whose
-//! texts are in `text`.
+//! The words of the command line are `options`' matter, what is asked `question`'s. `ask` asks it and tells the answer,
+//! whose texts are in `text`.
 #![tactic(auto)]
 
 mod ask;
@@ -156,8 +156,8 @@ fn add_answers(
     Ok(())
 }
 
-// Says on standard error how many boxes the lines of an answer want beside these, and whether what must never come about
-// could: this is the answer.
+// Says on standard error how many boxes the lines of an answer want beside these, and whether what must never come
+// about could: this is the answer.
 fn note<R: Eprint>(rt: &R, asked: &Asked, told: &Told, boxes: u64) -> Result<bool, AskFault> {
     let text = asked.text;
     if told.made > boxes {

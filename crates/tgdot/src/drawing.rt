@@ -6,8 +6,8 @@ use crate::run::Run;
 use tg_plain::{PlainRun, Script};
 use tg_text::Line;
 
-/// Writes the graph that a script leaves as a digraph: its vertices by rising name, then its edges. What a collection would take is there
-/// too. A bad line leaves nothing to be drawn.
+/// Writes the graph that a script leaves as a digraph: its vertices by rising name, then its edges. What a collection
+/// would take is there too. A bad line leaves nothing to be drawn.
 pub fn write_last(text: &mut Draft, script: &Script) -> Result<(), DrawFault> {
     script.whole()?;
     let mut run = Run::new(script.alloc, PlainRun::open(script)?);

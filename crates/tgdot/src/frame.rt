@@ -27,8 +27,8 @@ const LEAST_IN_CIRCLE: usize = 6;
 
 const MOST_IN_CIRCLE: usize = 12;
 
-/// The vertices and edges that ever stand at a step, and how many columns the texts of each take, so that every picture has the same
-/// places. It remembers whether memory was wanting for a part of it.
+/// The vertices and edges that ever stand at a step, and how many columns the texts of each take, so that every picture
+/// has the same places. It remembers whether memory was wanting for a part of it.
 #[derive(Drop)]
 pub struct Frame {
     /// The room of each vertex.

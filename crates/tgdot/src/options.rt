@@ -21,7 +21,8 @@ vertex red that should store a log. Neither the heap nor memory refuses a line h
 const EXAMPLE: &str = "Example:
   printf '0 create rw\\n0 list\\n' | tgdot --workers 1 --stock c | dot -Tsvg > graph.svg";
 
-// How many workers there are at first, and how many vertices may be made, where the words don't say it: as tgstore has it.
+// How many workers there are at first, and how many vertices may be made, where the words don't say it: as tgstore has
+// it.
 const DEFAULT_WORKERS: u64 = 2;
 
 const DEFAULT_VERTICES: u64 = 1_000_000;
@@ -101,7 +102,8 @@ impl LineRange {
     }
 }
 
-/// Reads the words, the first of which is the program's name. An `Err` is the text for the user, of the help as of a fault.
+/// Reads the words, the first of which is the program's name. An `Err` is the text for the user, of the help as of a
+/// fault.
 pub fn read_words<'a, S: AsStr>(alloc: Global, words: &'a [S]) -> Result<DotOptions<'a>, Error> {
     let mut args = Vec::new(alloc);
     add_args(&mut args, alloc, CHOICES)?;

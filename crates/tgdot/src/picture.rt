@@ -46,8 +46,8 @@ fn write_padded(text: &mut Draft, line: &[u8], columns: usize) {
     text.add("\\l");
 }
 
-// What holds of all vertices and of all edges. The letters of all texts are equally wide, so that a text's columns tell its width. Among
-// many edges a line leads from each label to its own.
+// What holds of all vertices and of all edges. The letters of all texts are equally wide, so that a text's columns tell
+// its width. Among many edges a line leads from each label to its own.
 fn write_kinds(text: &mut Draft, are_many: bool) {
     text.add("    node [fontname=Courier fixedsize=true]\n    edge [fontname=Courier");
     text.add(if are_many { " decorate=true]\n" } else { "]\n" });

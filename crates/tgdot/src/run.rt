@@ -9,8 +9,9 @@ use tg_plain::{PlainRun, Script, value_of};
 use tg_rights::Rights;
 use tg_text::{Answer, Line, Refusal, StockItem};
 
-/// The run of a script. The plain graph of `tg_plain` says what the rules do. Beside it stand what each vertex stores, and between which vertices there
-/// are edges, so that nobody has to ask each pair of vertices for its edge. It remembers whether memory was wanting for a part of it.
+/// The run of a script. The plain graph of `tg_plain` says what the rules do. Beside it stand what each vertex stores,
+/// and between which vertices there are edges, so that nobody has to ask each pair of vertices for its edge. It
+/// remembers whether memory was wanting for a part of it.
 #[derive(Drop)]
 pub struct Run {
     alloc: Global,
@@ -59,7 +60,8 @@ impl Run {
         self.is_short || self.reached.is_short
     }
 
-    /// Runs a line with the boxes of this stock. What it is answered. An edge line does nothing here: the graph began with its edge.
+    /// Runs a line with the boxes of this stock. What it is answered. An edge line does nothing here: the graph began
+    /// with its edge.
     pub fn take(&mut self, stock: &[StockItem], line: &Line) -> Answer {
         match *line {
             Line::Full => self.collect(),

@@ -12,7 +12,8 @@ use std::thread::Threads;
 use tg_parallel::{Gate, HelpersFault, NoGate, collect_many};
 use tg_space::{Kind, Root, Spaces, Spare};
 
-// A heap to collect: what stands in it, how many blocks each space may have, and how many first cells have their rows as roots.
+// A heap to collect: what stands in it, how many blocks each space may have, and how many first cells have their rows
+// as roots.
 #[derive(Clone, Copy)]
 struct Heap {
     content: Content,
@@ -20,7 +21,8 @@ struct Heap {
     rows: u64,
 }
 
-// Why a full collection of a sound heap by so many helpers, who pass the gate, is refused. One by a seat is as one by one thread.
+// Why a full collection of a sound heap by so many helpers, who pass the gate, is refused. One by a seat is as one by
+// one thread.
 fn refusal_of<R: Threads + Wait + Sync, G: Gate>(
     rt: &R,
     alloc: Global,
@@ -56,8 +58,9 @@ fn refusal<R: Threads + Wait + Sync, G: Gate>(
     refusal_of(rt, alloc, &spaces, &roots, helpers, gate)
 }
 
-// A gate at which each of so many helpers waits at its first pass for all others, for so many turns, until one was missed. A helper
-// that comes a second time lets the others go first, so that one of two has claimed a chunk before all are gone.
+// A gate at which each of so many helpers waits at its first pass for all others, for so many turns, until one was
+// missed. A helper that comes a second time lets the others go first, so that one of two has claimed a chunk before all
+// are gone.
 #[derive(Drop)]
 struct Meet {
     // How often each helper has passed.
@@ -146,8 +149,8 @@ fn met_on<R: Threads + Wait + Sync>(
     })
 }
 
-// Each object is named by several, which the helpers copy side by side. The gate is passed for each of twelve chunks of roots, and
-// once more by each helper.
+// Each object is named by several, which the helpers copy side by side. The gate is passed for each of twelve chunks of
+// roots, and once more by each helper.
 #[test]
 fn helpers_at_one_gate(rt: HostRuntime) -> Result<(), Fail> {
     let heap = Heap {
@@ -164,9 +167,9 @@ fn helpers_at_one_gate(rt: HostRuntime) -> Result<(), Fail> {
     Ok(())
 }
 
-// Each of two helpers needs a block, of which there may be one. Where one helper is refused for that, the other claims all
-// chunks that are left, and passes the gate once more at its end. Only where one helper is too late to claim a chunk, neither is
-// refused.
+// Each of two helpers needs a block, of which there may be one. Where one helper is refused for that, the other claims
+// all chunks that are left, and passes the gate once more at its end. Only where one helper is too late to claim a
+// chunk, neither is refused.
 #[test]
 fn a_refused_helper_stops_no_other(rt: HostRuntime) -> Result<(), Fail> {
     let heap = Heap {

@@ -13,7 +13,8 @@ use tg_block::{CHUNK_TAG, OBJECT_TAG, WORDS};
 use tg_space::{Root, Spaces};
 use tg_word::{PRESENT_AT, Place, SPACES, place_of, rights_of};
 
-/// Whether each cell has its layout, no chunk is linked to twice, and the roots are rows or cells of Old. `false` says nothing.
+/// Whether each cell has its layout, no chunk is linked to twice, and the roots are rows or cells of Old. `false` says
+/// nothing.
 pub fn are_sound(spaces: &Spaces, roots: &[Root]) -> bool
     ensures { IsTrue result → AreSound spaces.now.spaces roots.now }
 {

@@ -23,8 +23,8 @@ fn is_told<R: Threads + Wait + Sync>(rt: &R, alloc: Global) -> Result<bool, Fail
     Ok(ran.outcome == Ok(()) && ran.written.as_slice().ends_with(TWELVE_LINES.written))
 }
 
-// What is written of each line is the rules' answer in some order of them by the contract of a race. That all twelve have entries
-// says that none was refused.
+// What is written of each line is the rules' answer in some order of them by the contract of a race. That all twelve
+// have entries says that none was refused.
 #[test]
 fn twelve_lines_of_three_workers(rt: HostRuntime) -> Result<(), Fail> {
     for _ in 0..50u64 {

@@ -28,7 +28,8 @@ pub(crate) fn cells(alloc: Global, count: u64) -> Result<Vec<Draft<CellPayload>>
     drafts_of(alloc, payloads)
 }
 
-/// Runs the row side by side, with a cell with 0 for each worker and for each item of the stock. Collections have so many helpers.
+/// Runs the row side by side, with a cell with 0 for each worker and for each item of the stock. Collections have so
+/// many helpers.
 pub(crate) fn race_row<G: Turnstile + Sync, R: Threads + Wait + Sync>(
     rt: &R,
     alloc: Global,

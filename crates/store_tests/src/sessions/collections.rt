@@ -59,8 +59,9 @@ fn collect<L: Round, R: Threads + Wait + Sync>(
         .ok()
 }
 
-/// A vertex is made and given up, and a nursery collection follows. Another one is made, and lies in Old after a full collection; it is
-/// given up too, and a collection of each kind follows. How many vertices the heap has after each of the four collections.
+/// A vertex is made and given up, and a nursery collection follows. Another one is made, and lies in Old after a full
+/// collection; it is given up too, and a collection of each kind follows. How many vertices the heap has after each of
+/// the four collections.
 pub(crate) fn left_by_each<L: Round, R: Threads + Wait + Sync>(
     rt: &R,
     alloc: Global,
@@ -100,9 +101,9 @@ fn met_on_two<R: Threads + Wait + Sync>(
     (!gate.is_missed()).then_some((left, gate.passes()))
 }
 
-// A nursery collection drops a young vertex that was given up, and none that lies in Old; a full one drops it. In each of the four
-// the gate is passed for the workers' rows, which are one chunk of roots, and once more by each of several helpers. In the third no
-// vertex is young, so there one thread collects, which passes it twice.
+// A nursery collection drops a young vertex that was given up, and none that lies in Old; a full one drops it. In each
+// of the four the gate is passed for the workers' rows, which are one chunk of roots, and once more by each of several
+// helpers. In the third no vertex is young, so there one thread collects, which passes it twice.
 #[test]
 fn collections_of_each_kind(rt: HostRuntime) -> Result<(), Fail> {
     for in_race in [false, true] {

@@ -10,7 +10,8 @@ use tg_rights::Label;
 use tg_shared::{Round, Session, SharedStore};
 use tg_store::Store;
 
-/// What is seen once the first of two workers, who may read one another, has made vertex 2. Labels are seen by their bits.
+/// What is seen once the first of two workers, who may read one another, has made vertex 2. Labels are seen by their
+/// bits.
 #[derive(Clone, Copy)]
 pub(crate) struct Labels {
     // what the first worker holds over vertex 2, over the second worker and over itself
@@ -80,8 +81,8 @@ pub(crate) fn labels_of(store: &Store<CellPayload>, asked: [u8; 2]) -> Labels {
     }
 }
 
-// A worker is told its own label and no other, a session that of its own worker. The names stand in the order of their cells, of which
-// the first worker's come first. No entry is made of either.
+// A worker is told its own label and no other, a session that of its own worker. The names stand in the order of their
+// cells, of which the first worker's come first. No entry is made of either.
 #[test]
 fn labels_and_names_are_told(rt: HostRuntime) -> Result<(), Fail> {
     let alloc = rt.alloc();

@@ -1,4 +1,5 @@
-//! Two sessions that take turns on one thread, what is answered where one of them is kept back, and what they have receipts of.
+//! Two sessions that take turns on one thread, what is answered where one of them is kept back, and what they have
+//! receipts of.
 
 use crate::sessions::opened::{make, opening_with};
 use crate::sessions::story::{Seen, Story, seen_of};
@@ -38,8 +39,8 @@ pub(crate) struct Turns {
     why_not_closed: CloseFault,
     // how many entries it has when it is closed with both
     entries: u64,
-    // whether the second session's receipts of what it wrote, read and was denied match the journal, whether they do with another
-    // reply, and whether they do with a write in place of the append
+    // whether the second session's receipts of what it wrote, read and was denied match the journal, whether they do
+    // with another reply, and whether they do with a write in place of the append
     matches: [bool; 3],
 }
 
@@ -67,7 +68,8 @@ fn receipt(at: u64, command: Command, reply: Reply) -> Receipt {
     }
 }
 
-// Whether receipts of worker 1 match the journal that say that it wrote 7, read this number, and was denied this as an append.
+// Whether receipts of worker 1 match the journal that say that it wrote 7, read this number, and was denied this as an
+// append.
 fn matches_with(alloc: Global, journal: &Journal, number: u64, denied: Command) -> Option<bool> {
     let read = Reply::Values(Numbers::one(number));
     let mut receipts = Vec::new(alloc);
@@ -79,7 +81,8 @@ fn matches_with(alloc: Global, journal: &Journal, number: u64, denied: Command) 
     Some(receipts_match(journal, 1, &receipts))
 }
 
-// How many entries a journal has, and whether such receipts match it as all was, with another number, and with a write that was denied.
+// How many entries a journal has, and whether such receipts match it as all was, with another number, and with a write
+// that was denied.
 fn seen_of_journal(alloc: Global, journal: &Journal) -> Option<(u64, [bool; 3])> {
     let as_it_was = matches_with(alloc, journal, 7, APPEND)?;
     let altered = matches_with(alloc, journal, 8, APPEND)?;
@@ -117,8 +120,8 @@ pub(crate) fn turns_of(
     })
 }
 
-// Two vertices are made, one by each session; there is room for no third, which has an entry of its own. The store isn't closed
-// without the second session, whose receipts are those of what it did.
+// Two vertices are made, one by each session; there is room for no third, which has an entry of its own. The store
+// isn't closed without the second session, whose receipts are those of what it did.
 #[test]
 fn sessions_in_turn(rt: HostRuntime) -> Result<(), Fail> {
     let alloc = rt.alloc();

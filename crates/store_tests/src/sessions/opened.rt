@@ -21,7 +21,8 @@ fn edge(from: u64, to: u64, letters: &str) -> Option<Edge> {
     Some(Edge { from, to, label })
 }
 
-/// An opening of two workers, who store cells with 0, and have these rights over one another. Four vertices may be made.
+/// An opening of two workers, who store cells with 0, and have these rights over one another. Four vertices may be
+/// made.
 pub(crate) fn opening_with(alloc: Global, letters: &str) -> Option<Opening> {
     let mut edges = Vec::new(alloc);
     edges.push(edge(0, 1, letters)?).ok()?;

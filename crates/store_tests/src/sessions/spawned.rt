@@ -153,8 +153,8 @@ fn seen_of_journal(alloc: Global, journal: &Journal) -> Option<(u64, Result<(), 
     Some((journal.len(), audit(alloc, &kept, journal.entries())))
 }
 
-// A new subject has a name, holds nothing, and is no subject any more once it has retired; its vertex stays, and is read by who
-// spawned it. The store isn't closed without its session.
+// A new subject has a name, holds nothing, and is no subject any more once it has retired; its vertex stays, and is
+// read by who spawned it. The store isn't closed without its session.
 #[test]
 fn a_spawned_session(rt: HostRuntime) -> Result<(), Fail> {
     let alloc = rt.alloc();

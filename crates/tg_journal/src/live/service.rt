@@ -11,8 +11,8 @@ impl LiveGraph {
     ghost use Rattle.tg_model.specs.Rules.{HoldsOver, denial_of, step, answer_of, effect, reply_of, state_of};
     ghost use Rattle.tg_journal.specs.Live.{IsAsBefore, graph_kept};
 
-    /// Takes a deed of a subject. The answer is that of the rules, and the graph becomes the next one. Fails only when out of
-    /// memory, and the graph is then as before but for what names store that weren't made yet.
+    /// Takes a deed of a subject. The answer is that of the rules, and the graph becomes the next one. Fails only when
+    /// out of memory, and the graph is then as before but for what names store that weren't made yet.
     pub(crate) fn apply(&mut self, worker: u64, deed: &Deed) -> Result<Reply, AllocError>
         ensures reply { IfOk result (λ reply. reply ≡ answer_of (graph_kept self.old) worker deed.now) }
         ensures step { OnOk result (graph_kept self.new ≡ step (graph_kept self.old) worker deed.now) }
