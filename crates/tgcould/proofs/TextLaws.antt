@@ -21,3 +21,10 @@ grew {X} text_of xs i x front old new inside is before now =
     let more : take (i + 1) xs ≡ take i xs ++ x ∷ [] = take_more xs i x inside ∙ ap (λ (y : X). take i xs ++ y ∷ []) (sym is) in
     now ∙ ap (λ (ys : List ℕ). ys ++ text_of x) before ∙ flat_map_more text_of front (take i xs) x
     ∙ ap (λ (ys : List X). front ++ flat_map text_of ys) (sym more)
+
+-- the same, where the one at this place is read from the list
+pub grew_at : {X : Type 0} (text_of : X → List ℕ) (xs : List X) (i : ℕ) (d : X) (front old new : List ℕ) → i < length xs →
+    old ≡ front ++ flat_map text_of (take i xs) → new ≡ old ++ text_of (get_or xs i d) → new ≡ front ++ flat_map text_of (take (i + 1) xs)
+grew_at {X} text_of xs i d front old new inside before now =
+    now ∙ ap (λ (ys : List ℕ). ys ++ text_of (get_or xs i d)) before ∙ flat_map_more text_of front (take i xs) (get_or xs i d)
+    ∙ ap (λ (ys : List X). front ++ flat_map text_of ys) (sym (take_more xs i d inside))
