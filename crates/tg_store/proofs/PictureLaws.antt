@@ -7,7 +7,7 @@ use Rattle.tg_rights.specs.RightSet.{is_none_held}
 use Rattle.tg_model.specs.declared.edge.Edge.{Edge}
 use Rattle.tg_model.specs.Graph.{ProtectionGraph, IsSound}
 use Rattle.tg_model.specs.Picture.{Shown}
-use Rattle.tg_model.proofs.SubjectLaws.{there_or_not}
+use Rattle.tg_journal.proofs.Decided.{contains}
 use Rattle.tg_could.specs.Reached.{IsReachedEdge, IsReachedPicture}
 use Rattle.tg_journal.proofs.HistoryLaws.{IsSound-opened}
 use Rattle.tg_graph.specs.Content.{Content}
@@ -36,7 +36,7 @@ module _ (s : StoreState) (faithful : IsFaithful s) where
     targets = λ a b edge. ⊎_elim
         (λ named. let ends = sound.ends_made a b (ap is_none_held (sym (faithful.stands.labels a b named)) ∙ edge) in ends.1)
         (λ unnamed. absurd (false≢true (sym edge ∙ ap is_none_held (OnlyNamedHold-content_of s.heap a unnamed b))))
-        (there_or_not content.names a);
+        (contains content.names a);
   }
 
   to_graph : (edge : Edge) → IsReachedEdgeOf content (subject_names s.heap) edge → IsReachedEdge graph edge
