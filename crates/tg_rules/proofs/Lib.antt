@@ -1,4 +1,4 @@
 pub mod DecisionLaws
 mod FaultLaws
 mod IndexLaws
-mod SubjectNames
+pub mod SubjectNames

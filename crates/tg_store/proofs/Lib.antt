@@ -12,3 +12,4 @@ pub mod StandLaws
 mod ReachingLaws
 mod PictureLaws
 mod ErrLaws
+mod LeaveLaws

@@ -7,3 +7,4 @@ pub mod Answering
 pub mod Collecting
 pub mod Made
 pub mod Reaching
+pub mod Leaving

@@ -38,6 +38,7 @@ mod answer;
 mod census;
 mod fault;
 pub mod laws;
+mod leaving;
 mod making;
 mod store;
 mod store_fault;

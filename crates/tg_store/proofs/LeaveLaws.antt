@@ -1,0 +1,282 @@
+-- Who gives up each edge of its row, one after the other, and retires, holds nothing then, and all else is as it was.
+use mathlib.Core.Bool.{true≢false}
+use Rattle.std.proofs.Common.{◌≡◌, ◌≢◌, ℕ, zero, suc, ◌+◌, ◌<◌, ◌≤◌, ◌==◌, ◌&&◌, nat_lt, Bool, true, false, cond, not, List, [], ◌∷◌, ◌++◌, map, refl, sym, ap, subst, ◌∙◌, arith}
+use Rattle.std.specs.List.{Contains, filter, range_with_len}
+use Rattle.std.specs.Prelude.{Option, Some, None}
+use Rattle.tg_model.specs.declared.reply.Denial.{Denial}
+use Rattle.tg_subjects.specs.declared.subject.Subject.{Subject}
+use Rattle.tg_model.specs.Opened.{IsPlan, start_of}
+use Rattle.tg_graph.specs.Heap.{HeapState, KeepsPlaces, content_of, subject_names}
+use Rattle.tg_graph.specs.Standing.{IsContentOf}
+use Rattle.tg_store.specs.Store.{StoreState, IsFaithful, IsStore, graph_of_store}
+use Rattle.tg_subjects.specs.Subjects.{nursery_held}
+use Rattle.tg_rules.specs.Verdict.{HasSubject}
+use Rattle.std.proofs.lemmas.Bool.{eqb-true, eqb-false, eq-eqb, ne_eqb, ltb-true, ltb-false}
+use Rattle.tg_rights.specs.RightSet.{RightSet, no_rights, is_none_held, minus, holds_all}
+use Rattle.tg_rights.specs.RightLaws.{none_held-same}
+use Rattle.tg_model.specs.declared.command.Command.TheVariants.{Remove, Retire}
+use Rattle.tg_model.specs.declared.command.Deed.TheVariants.{Plain}
+use Rattle.tg_model.specs.declared.reply.Reply.TheVariants.{Done}
+use Rattle.tg_model.specs.Graph.{ProtectionGraph, IsSubject, IsSound, listing_of, without_rights, without_subject}
+use Rattle.tg_model.specs.Rules.{Permits, denial_of, denied_or, effect, step, unless_denied}
+use Rattle.tg_model.proofs.AllowedLaws.{no_denial-permits, step-allowed}
+use Rattle.tg_journal.specs.declared.entry.Entry.{Entry}
+use Rattle.tg_journal.specs.History.{IsLegal, IsLegalEntry, graph_after}
+use Rattle.tg_journal.proofs.HistoryLaws.{IsLegal-append, IsLegal-push, IsSound-opened, graph_after-append, graph_after-push}
+use Rattle.tg_store.specs.Leaving.{leaving, left_by, removal, retiring}
+
+-- ---- sets of rights
+
+and_not : (held : Bool) → (held && not held) ≡ false
+and_not true = refl
+and_not false = refl
+
+none_left : (s : RightSet) → minus s s ≡ no_rights
+none_left s = λ i. record {
+  r = and_not s.r i;
+  w = and_not s.w i;
+  t = and_not s.t i;
+  g = and_not s.g i;
+  a = and_not s.a i;
+  l = and_not s.l i;
+  u = and_not s.u i;
+  v = and_not s.v i;
+}
+
+holds_itself : (s : RightSet) → holds_all s s ≡ true
+holds_itself s = ap is_none_held (none_left s)
+
+-- ---- one edge
+
+abbrev with_labels : ProtectionGraph → (ℕ → ℕ → RightSet) → ProtectionGraph
+with_labels g label = record g { label = label }
+
+module _ (g : ProtectionGraph) (x y : ℕ) (subject : IsSubject g x) (apart : x ≢ y) where
+  permitted : Permits g.label g.value x (Remove (g.label x y) y)
+  permitted = (apart, holds_itself (g.label x y))
+
+  pub legal_removal : IsLegalEntry g (removal x (y, g.label x y))
+  legal_removal = record {
+    subject = subject;
+    fits = tt;
+    reply = ap (λ d. denied_or d Done) (sym (no_denial-permits g.label g.value x (Remove (g.label x y) y) permitted));
+  }
+
+  pub step_removal : step g x (Plain (Remove (g.label x y) y)) ≡ with_labels g (without_rights g.label x y (g.label x y))
+  step_removal = step-allowed g x (Remove (g.label x y) y) permitted
+
+-- ---- a row
+
+-- the edges over names from n on, of m names
+abbrev row_from : (ℕ → RightSet) → ℕ → ℕ → List (ℕ × RightSet)
+row_from f n m = filter (λ e. not (is_none_held e.1)) (map (λ y. (y, f y)) (range_with_len n m))
+
+row_same : (m n : ℕ) (f h : ℕ → RightSet) → ((y : ℕ) → n ≤ y → f y ≡ h y) → row_from f n m ≡ row_from h n m
+row_same zero n f h same = refl
+row_same (suc m) n f h same =
+    let here = same n (omega arith) in
+    let rest = row_same m (n + 1) f h (λ y le. same y (omega (arith, le))) in
+    λ i. cond (not (is_none_held (here i))) ((n, here i) ∷ rest i) (rest i)
+
+-- What x held over m names from n on was given up, and nothing else.
+record GivenUp (x n m : ℕ) (label after : ℕ → ℕ → RightSet) : Type 0 where
+  pub others : (a b : ℕ) → a ≢ x → after a b ≡ label a b
+  pub before : (b : ℕ) → b < n → after x b ≡ label x b
+  pub inside : (b : ℕ) → n ≤ b → b < n + m → after x b ≡ no_rights
+  pub behind : (b : ℕ) → n + m ≤ b → after x b ≡ label x b
+
+-- the same of a history from one graph to another
+record GivesUp (x n m : ℕ) (g : ProtectionGraph) (es : List Entry) : Type 0 where
+  pub legal : IsLegal g es
+  pub label : ℕ → ℕ → RightSet
+  pub graph : graph_after g es ≡ with_labels g label
+  pub given_up : GivenUp x n m g.label label
+
+cond_both_false : (v : Bool) (s r : RightSet) → cond (v && false) s r ≡ r
+cond_both_false true s r = refl
+cond_both_false false s r = refl
+
+module _ (label : ℕ → ℕ → RightSet) (x n : ℕ) where
+  abbrev lost : ℕ → ℕ → RightSet
+  lost = without_rights label x n (label x n)
+
+  lost_others : (a b : ℕ) → a ≢ x → lost a b ≡ label a b
+  lost_others a b apart = ap (λ v. cond (v && (b == n)) (minus (label a b) (label x n)) (label a b)) (ne_eqb a x apart)
+
+  lost_elsewhere : (b : ℕ) → b ≢ n → lost x b ≡ label x b
+  lost_elsewhere b apart = ap (λ v. cond ((x == x) && v) (minus (label x b) (label x n)) (label x b)) (ne_eqb b n apart) ∙ cond_both_false (x == x) (minus (label x b) (label x n)) (label x b)
+
+  lost_here : lost x n ≡ no_rights
+  lost_here = (λ i. cond (eq-eqb x x refl i && eq-eqb n n refl i) (minus (label x n) (label x n)) (label x n)) ∙ none_left (label x n)
+
+-- an edge first, then the names behind it
+given_up_more : (x n m : ℕ) (label after : ℕ → ℕ → RightSet) → GivenUp x (n + 1) m (lost label x n) after → GivenUp x n (suc m) label after
+given_up_more x n m label after given = record {
+  others = λ a b apart. given.others a b apart ∙ lost_others label x n a b apart;
+  before = λ b low. given.before b (omega (arith, low)) ∙ lost_elsewhere label x n b (λ e. omega (arith, e, low));
+  inside = λ b low high.
+      elim (b == n) as (λ v. (b == n) ≡ v → after x b ≡ no_rights) [
+        | true ↦ λ e. let here : b ≡ n = eqb-true b n e in given.before b (omega (arith, here)) ∙ ap (λ y. lost label x n x y) here ∙ lost_here label x n
+        | false ↦ λ e. let apart : b ≢ n = eqb-false b n e in given.inside b (omega (arith, low, apart)) (omega (arith, high))
+      ] refl;
+  behind = λ b high. given.behind b (omega (arith, high)) ∙ lost_elsewhere label x n b (λ e. omega (arith, e, high));
+}
+
+-- a name over which nothing is held first
+given_up_none : (x n m : ℕ) (label after : ℕ → ℕ → RightSet) → label x n ≡ no_rights → GivenUp x (n + 1) m label after → GivenUp x n (suc m) label after
+given_up_none x n m label after none given = record {
+  others = given.others;
+  before = λ b low. given.before b (omega (arith, low));
+  inside = λ b low high.
+      elim (b == n) as (λ v. (b == n) ≡ v → after x b ≡ no_rights) [
+        | true ↦ λ e. let here : b ≡ n = eqb-true b n e in given.before b (omega (arith, here)) ∙ ap (λ y. label x y) here ∙ none
+        | false ↦ λ e. let apart : b ≢ n = eqb-false b n e in given.inside b (omega (arith, low, apart)) (omega (arith, high))
+      ] refl;
+  behind = λ b high. given.behind b (omega (arith, high));
+}
+
+given_up_nothing : (x n : ℕ) (label : ℕ → ℕ → RightSet) → GivenUp x n 0 label label
+given_up_nothing x n label = record {
+  others = λ a b apart. refl;
+  before = λ b low. refl;
+  inside = λ b low high. absurd (omega (arith, low, high));
+  behind = λ b high. refl;
+}
+
+-- what x gives up on the graph without an edge of its, it gives up behind that edge
+gives_up_more : (m n : ℕ) (g : ProtectionGraph) (x : ℕ) → IsSubject g x → x ≢ n
+    → GivesUp x (n + 1) m (with_labels g (lost g.label x n)) (map (removal x) (row_from (lost g.label x n x) (n + 1) m))
+    → GivesUp x n (suc m) g (removal x (n, g.label x n) ∷ map (removal x) (row_from (g.label x) (n + 1) m))
+gives_up_more m n g x subject apart next =
+    let next_graph : ProtectionGraph = with_labels g (lost g.label x n) in
+    let row = row_same m (n + 1) (lost g.label x n x) (g.label x) (λ y le. lost_elsewhere g.label x n y (λ e. omega (arith, e, le))) in
+    let rest : GivesUp x (n + 1) m next_graph (map (removal x) (row_from (g.label x) (n + 1) m)) =
+    subst (λ es. GivesUp x (n + 1) m next_graph (map (removal x) es)) row next in
+    let stepped = step_removal g x n subject apart in
+    record {
+      legal = (legal_removal g x n subject apart, subst (λ (h : ProtectionGraph). IsLegal h (map (removal x) (row_from (g.label x) (n + 1) m))) (sym stepped) rest.legal);
+      label = rest.label;
+      graph = ap (λ (h : ProtectionGraph). graph_after h (map (removal x) (row_from (g.label x) (n + 1) m))) stepped ∙ rest.graph;
+      given_up = given_up_more x n m g.label rest.label rest.given_up;
+    }
+
+gives_up_none : (m n : ℕ) (g : ProtectionGraph) (x : ℕ) (es : List Entry) → g.label x n ≡ no_rights → GivesUp x (n + 1) m g es → GivesUp x n (suc m) g es
+gives_up_none m n g x es none next = record {
+  legal = next.legal;
+  label = next.label;
+  graph = next.graph;
+  given_up = given_up_none x n m g.label next.label none next.given_up;
+}
+
+-- x gives up its edges over m names from n on, one after the other
+gives_up : (m n : ℕ) (g : ProtectionGraph) (x : ℕ) → IsSubject g x → g.label x x ≡ no_rights → GivesUp x n m g (map (removal x) (row_from (g.label x) n m))
+gives_up zero n g x subject loop = record { legal = tt; label = g.label; graph = refl; given_up = given_up_nothing x n g.label }
+gives_up (suc m) n g x subject loop =
+    let rest = row_from (g.label x) (n + 1) m in
+    elim (is_none_held (g.label x n)) as (λ v. is_none_held (g.label x n) ≡ v → GivesUp x n (suc m) g (map (removal x) (cond (not v) ((n, g.label x n) ∷ rest) rest))) [
+      | true ↦ λ none. gives_up_none m n g x (map (removal x) rest) (none_held-same (g.label x n) none) (gives_up m (n + 1) g x subject loop)
+      | false ↦ λ held.
+          let apart : x ≢ n = λ same. true≢false (sym (ap is_none_held (ap (λ y. g.label x y) (sym same) ∙ loop)) ∙ held) in
+          gives_up_more m n g x subject apart (gives_up m (n + 1) (with_labels g (lost g.label x n)) x subject (lost_elsewhere g.label x n x apart ∙ loop))
+    ] refl
+
+-- ---- all of it
+
+module _ (g : ProtectionGraph) (x : ℕ) (sound : IsSound g) (subject : IsSubject g x) where
+  abbrev removals : List Entry
+  removals = map (removal x) (listing_of g.label g.made x)
+
+  given : GivesUp x 0 g.made g removals
+  given = gives_up g.made 0 g x subject (sound.no_loop x)
+
+  past_made : (b : ℕ) → g.made ≤ b → g.label x b ≡ no_rights
+  past_made b past =
+      elim (is_none_held (g.label x b)) as (λ v. is_none_held (g.label x b) ≡ v → g.label x b ≡ no_rights) [
+        | true ↦ λ none. none_held-same (g.label x b) none
+        | false ↦ λ held. absurd (omega (arith, past, (sound.ends_made x b held).1))
+      ] refl
+
+  row_empty : (b : ℕ) → given.label x b ≡ no_rights
+  row_empty b =
+      elim (nat_lt b g.made) as (λ v. nat_lt b g.made ≡ v → given.label x b ≡ no_rights) [
+        | true ↦ λ low. let below : b < g.made = ltb-true b g.made low in given.given_up.inside b (omega arith) (omega (arith, below))
+        | false ↦ λ high. let past : g.made ≤ b = ltb-false b g.made high in given.given_up.behind b (omega (arith, past)) ∙ past_made b past
+      ] refl
+
+  labels_left : (a b : ℕ) → given.label a b ≡ cond (a == x) no_rights (g.label a b)
+  labels_left a b =
+      elim (a == x) as (λ v. (a == x) ≡ v → given.label a b ≡ cond v no_rights (g.label a b)) [
+        | true ↦ λ e. ap (λ y. given.label y b) (eqb-true a x e) ∙ row_empty b
+        | false ↦ λ e. given.given_up.others a b (eqb-false a x e)
+      ] refl
+
+  removed : graph_after g removals ≡ with_labels g (λ a b. cond (a == x) no_rights (g.label a b))
+  removed = given.graph ∙ (λ i. with_labels g (λ a b. labels_left a b i))
+
+  pub legal_removals : IsLegal g removals
+  legal_removals = given.legal
+
+  pub legal_leaving : IsLegal g (leaving g x)
+  legal_leaving = IsLegal-push g removals (retiring x) given.legal (record {
+    subject = subst (λ (h : ProtectionGraph). IsSubject h x) (sym removed) subject;
+    fits = tt;
+    reply = refl;
+  })
+
+  pub graph_left : graph_after g (leaving g x) ≡ left_by g x
+  graph_left = graph_after-push g removals (retiring x) ∙ ap (λ (h : ProtectionGraph). step h x (Plain Retire)) removed
+
+-- ---- on the heap
+
+-- what is answered that it is done isn't denied
+pub served : (o : Option Denial) → Done ≡ denied_or o Done → o ≡ None
+served None e = refl
+served (Some denial) e = let no : ⊥ = cc e in absurd no
+
+-- a subject stays one where all places stay
+pub HasSubject-kept : (old new : HeapState) (subject : Subject) → KeepsPlaces old new → HasSubject old subject → HasSubject new subject
+HasSubject-kept old new subject kept is = record {
+  there = subst (λ (subjects : List Subject). Contains subjects subject) (sym kept.subjects) is.there;
+  nursery = is.nursery ∙ ap (λ (subjects : List Subject). nursery_held subjects subject.name) (sym kept.subjects);
+  vertex = kept.vertices subject.name subject.place is.vertex;
+}
+
+lost_either : (o : Option Denial) (g : ProtectionGraph) (x y : ℕ) (rights : RightSet) → (unless_denied o g (effect g x (Remove rights y))).subjects ≡ g.subjects
+lost_either None g x y rights = refl
+lost_either (Some denial) g x y rights = refl
+
+same_subjects : (row : List (ℕ × RightSet)) (g : ProtectionGraph) (x : ℕ) → (graph_after g (map (removal x) row)).subjects ≡ g.subjects
+same_subjects [] g x = refl
+same_subjects (e ∷ row) g x =
+    same_subjects row (step g x (Plain (Remove e.1 e.0))) x ∙ lost_either (denial_of g.label g.value x (Remove e.1 e.0)) g x e.0 e.1
+
+-- who gives up edges stays a subject
+pub still_subject : (g : ProtectionGraph) (x : ℕ) (row : List (ℕ × RightSet)) → IsSubject g x → IsSubject (graph_after g (map (removal x) row)) x
+still_subject g x row subject = subst (λ (subjects : List ℕ). Contains subjects x) (sym (same_subjects row g x)) subject
+
+-- ---- the store
+
+module _ (old new : StoreState) (x : ℕ) (faithful : IsFaithful old) (subject : IsSubject (graph_of_store old) x)
+    (opening : new.opening ≡ old.opening) (entries : new.entries ≡ old.entries ++ leaving (graph_of_store old) x) where
+  pub sound_before : IsSound (graph_of_store old)
+  sound_before = IsSound-opened old.opening old.entries faithful.plan faithful.legal
+
+  longer : graph_of_store new ≡ graph_after (graph_of_store old) (leaving (graph_of_store old) x)
+  longer = (λ i. graph_after (start_of (opening i)) (entries i)) ∙ graph_after-append (start_of old.opening) old.entries (leaving (graph_of_store old) x)
+
+  pub graph_of_left : graph_of_store new ≡ left_by (graph_of_store old) x
+  graph_of_left = longer ∙ graph_left (graph_of_store old) x sound_before subject
+
+  pub IsStore-left : (made : ℕ) → made ≡ (graph_of_store old).made
+      → IsContentOf (content_of new.heap) (step (graph_after (graph_of_store old) (map (removal x) (listing_of (graph_of_store old).label (graph_of_store old).made x))) x (Plain Retire))
+      → subject_names new.heap ≡ without_subject (subject_names old.heap) x → IsStore new made
+  IsStore-left made is_made stands names = record {
+    faithful = record {
+      plan = subst IsPlan (sym opening) faithful.plan;
+      legal = rw (opening, entries) (IsLegal-append (start_of old.opening) old.entries (leaving (graph_of_store old) x) faithful.legal (legal_leaving (graph_of_store old) x sound_before subject));
+      stands = subst (λ (h : ProtectionGraph). IsContentOf (content_of new.heap) h)
+          (sym (longer ∙ graph_after-push (graph_of_store old) (map (removal x) (listing_of (graph_of_store old).label (graph_of_store old).made x)) (retiring x))) stands;
+      subjects = names ∙ ap (λ (subjects : List ℕ). without_subject subjects x) faithful.subjects ∙ ap (λ (h : ProtectionGraph). h.subjects) (sym graph_of_left);
+    };
+    is_made = is_made ∙ ap (λ (h : ProtectionGraph). h.made) (sym graph_of_left);
+  }
