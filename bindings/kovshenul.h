@@ -113,7 +113,7 @@ typedef struct tg_edge {
 
 /* 24 bytes. */
 typedef struct tg_limits {
-    uint64_t max_vertices;        /* that may ever be made, workers included: from those of the opening to 2^24 */
+    uint64_t max_vertices;        /* that may ever be made, workers included: from those of the opening to 2^48 */
     uint64_t max_blocks;          /* of 64 cells of 64 bytes, in all: from 1 to 65,536, and one a worker at least */
     uint64_t max_space_blocks;    /* in one space: from 1 to 2^20 */
 } tg_limits;

@@ -120,7 +120,7 @@ class Edge(NamedTuple):
 
 
 class Limits(NamedTuple):
-    """How many vertices may ever be made (to 2^24), and how many blocks of 64 cells the heap (to 65,536) and one space
+    """How many vertices may ever be made (to 2^48), and how many blocks of 64 cells the heap (to 65,536) and one space
     of it (to 2^20) may have."""
 
     max_vertices: int = 2**20

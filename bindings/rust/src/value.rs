@@ -37,7 +37,7 @@ pub struct Edge {
 #[repr(C)]
 #[derive(Clone, Copy, PartialEq, Eq, Hash, Debug)]
 pub struct Limits {
-    /// How many vertices may ever be made, workers included: from those of the opening to 2^24.
+    /// How many vertices may ever be made, workers included: from those of the opening to 2^48.
     pub max_vertices: u64,
     /// How many blocks of 64 cells of 64 bytes there may be in all: from 1 to 65,536, and one a worker at least.
     pub max_blocks: u64,

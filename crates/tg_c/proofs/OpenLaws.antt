@@ -3,7 +3,8 @@ use Rattle.std.proofs.Common.{◌≡◌, ◌≤◌, ◌<◌, inl, inr, ℕ, List
 use Rattle.tg_model.specs.declared.edge.Edge.{Edge}
 use Rattle.tg_model.specs.declared.value.Value.{Value}
 use Rattle.tg_model.specs.declared.opening.OpeningFault.{OpeningFault}
-use Rattle.tg_model.specs.Opened.{IsFaultOf, Plan}
+use Rattle.tg_model.specs.declared.opening.TheConstants.{MAX_LASTING_VERTICES}
+use Rattle.tg_model.specs.Opened.{IsFaultTo, Plan}
 use Rattle.tg_store.specs.Faults.{IsFirstDifference}
 use Rattle.tg_store.specs.declared.fault.OpenFault.{OpenFault}
 use Rattle.tg_store.specs.declared.fault.OpenFault.TheVariants as opened
@@ -46,9 +47,9 @@ not_done refusal.BadPlace is = omega (arith, is)
 
 pub no_plan_fault : (workers : List ValueIn) (edges : List EdgeIn) (limits : LimitsIn) (values : List Value) (list : List Edge) (why : OpeningFault)
     → AreMet (demands_of workers edges limits) → values ≡ map value_in workers → list ≡ map edge_in edges
-    → IsFaultOf (record { workers = length workers; edges = list; values = values; limit = limits.max_vertices }) why → ⊥
+    → IsFaultTo MAX_LASTING_VERTICES (record { workers = length workers; edges = list; values = values; limit = limits.max_vertices }) why → ⊥
 no_plan_fault workers edges limits values list why met same_values same_edges says =
-    no_fault (plan_of workers edges limits.max_vertices) why (plan_is workers edges limits met) (subst (λ (p : Plan). IsFaultOf p why)
+    no_fault (plan_of workers edges limits.max_vertices) why (plan_is workers edges limits met) (subst (λ (p : Plan). IsFaultTo MAX_LASTING_VERTICES p why)
     (ap (λ vs. record { workers = length workers; edges = list; values = vs; limit = limits.max_vertices }) same_values
     ∙ ap (λ es. record { workers = length workers; edges = es; values = map value_in workers; limit = limits.max_vertices }) same_edges) says)
 

@@ -7,7 +7,8 @@ use Rattle.tg_model.specs.declared.law.Law.TheVariants as law
 use Rattle.tg_model.specs.declared.value.Value.{Value}
 use Rattle.tg_model.specs.declared.opening.OpeningFault.{OpeningFault}
 use Rattle.tg_model.specs.declared.opening.OpeningFault.TheVariants as fault
-use Rattle.tg_model.specs.Opened.{HasValues, IsFaultOf, IsFirstWithout, IsPlan, IsValuesFault, JoinsWorkers, Plan, ValueFits}
+use Rattle.tg_model.specs.declared.opening.TheConstants.{MAX_LASTING_VERTICES}
+use Rattle.tg_model.specs.Opened.{HasValues, IsFaultTo, IsFirstWithout, IsPlan, IsValuesFault, JoinsWorkers, Plan, ValueFits}
 use Rattle.tg_c.specs.declared.forms.EdgeIn.{EdgeIn}
 use Rattle.tg_c.specs.declared.forms.LimitsIn.{LimitsIn}
 use Rattle.tg_c.specs.declared.forms.ValueIn.{ValueIn}
@@ -72,7 +73,7 @@ no_values_fault n values at has (inl first) = not_without ValueFits values at (v
     (subst (λ vs. IsFirstWithout ValueFits vs at) (take_all n values (omega (arith, has.0))) first)
 no_values_fault n values at has (inr differ) = differ.1 has.0
 
-pub no_fault : (p : Plan) (why : OpeningFault) → IsPlan p → IsFaultOf p why → ⊥
+pub no_fault : (p : Plan) (why : OpeningFault) → IsPlan p → IsFaultTo MAX_LASTING_VERTICES p why → ⊥
 no_fault p fault.BadWorkers is says = says is.workers
 no_fault p fault.BadLimits is says = says.1 is.limits
 no_fault p (fault.BadEdge at) is says = not_without (JoinsWorkers p.workers) p.edges at (edge_in any_edge) is.edges says.2

@@ -5,7 +5,8 @@ use Rattle.std.specs.List.{IsDistinct}
 use Rattle.tg_rights.specs.RightSet.{RightSet, bits_of}
 use Rattle.tg_model.specs.Graph.{ProtectionGraph, IsSubject}
 use Rattle.tg_model.specs.Rules.{IsAllowed, step, answer_of}
-use Rattle.tg_model.specs.Opened.{HasLimits, HasWorkers, start_of}
+use Rattle.tg_model.specs.Opened.{HasLimitsTo, HasWorkers, start_of}
+use Rattle.tg_model.specs.declared.opening.TheConstants.{MAX_LASTING_VERTICES}
 use Rattle.tg_model.specs.declared.command.Command.{Command}
 use Rattle.tg_model.specs.declared.command.Command.TheVariants as command
 use Rattle.tg_model.specs.declared.command.Deed.TheVariants.{Plain, Create, Spawn}
@@ -295,7 +296,7 @@ demands_of workers edges limits =
     demand (AreValues workers) refusal.BadLaw
     ∷ demand (HaveLabels edges) refusal.BadRights
     ∷ demand (HasWorkers (plan_of workers edges limits.max_vertices)) refusal.BadWorkers
-    ∷ demand (HasLimits (plan_of workers edges limits.max_vertices)) refusal.BadLimits
+    ∷ demand (HasLimitsTo MAX_LASTING_VERTICES (plan_of workers edges limits.max_vertices)) refusal.BadLimits
     ∷ demand (JoinWorkers (length workers) edges) refusal.BadEdge
     ∷ demand (AreLimits (limits_of limits.max_blocks limits.max_space_blocks)) refusal.BadLimits
     ∷ demand (length workers ≤ limits.max_blocks) refusal.HeapFull

@@ -8,7 +8,7 @@ use crate::forms::{EdgeIn, LimitsIn, ValueIn, label_of};
 use crate::payload::LawPayload;
 use crate::refusal::CallRefusal;
 use std::alloc::Global;
-use tg_model::{Edge, MAX_VERTICES, MAX_WORKERS};
+use tg_model::{Edge, MAX_LASTING_VERTICES, MAX_WORKERS};
 use tg_payload::Draft;
 use tg_store::Limits;
 
@@ -31,7 +31,7 @@ pub fn check_opening(
         return Err(CallRefusal::BadWorkers);
     }
     let max_vertices = limits.max_vertices;
-    if max_vertices < 1 || MAX_VERTICES < max_vertices || max_vertices < count {
+    if max_vertices < 1 || MAX_LASTING_VERTICES < max_vertices || max_vertices < count {
         return Err(CallRefusal::BadLimits);
     }
     check_ends(count, edges)?;

@@ -4,7 +4,6 @@ ghost use Rattle.std.specs.List.{range_with_len};
 ghost use Rattle.tg_model.specs.Opened.{IsPlan, start_of};
 ghost use Rattle.tg_journal.specs.Live.{label_between, value_of, graph_kept};
 
-mod denial;
 mod service;
 mod sweep;
 
@@ -12,7 +11,8 @@ use crate::edges::Edges;
 use std::alloc::{AllocError, Global};
 use std::collections::BTreeMap;
 use std::marker::Model;
-use tg_model::{Opening, Value};
+use tg_model::{Labelled, Opening, Value};
+use tg_rights::Rights;
 
 /// A protection graph as edges by their ends and values by name, so that it takes memory by what it has and not by the
 /// names that were made. Contracts see it as `Kept`, the record of its parts, and speak of the protection graph
@@ -70,6 +70,25 @@ impl LiveGraph {
     /// How many vertices it has.
     pub(crate) fn len(&self) -> usize {
         self.values.len()
+    }
+}
+
+impl Labelled for LiveGraph {
+    ghost use Rattle.tg_journal.specs.Live.{graph_kept};
+
+    ghost label = { λ g. (graph_kept g).label };
+
+    ghost value = { λ g. (graph_kept g).value };
+
+    fn rights_over(&self, from: u64, to: u64) -> Rights {
+        self.edges.label(from, to)
+    }
+
+    fn has_log(&self, name: u64) -> bool {
+        match self.values.get(&name) {
+            Some(value) => value.law.is_log(),
+            None => false,
+        }
     }
 }
 

@@ -14,7 +14,8 @@ use Rattle.std.proofs.lemmas.List.{take_all}
 use Rattle.tg_model.specs.declared.value.Value.{Value}
 use Rattle.tg_model.specs.declared.opening.OpeningFault.{OpeningFault}
 use Rattle.tg_model.specs.declared.opening.OpeningFault.TheVariants.{BadWorkers, BadLimits, BadEdge, BadValues}
-use Rattle.tg_model.specs.Opened.{Plan, JoinsWorkers, ValueFits, HasWorkers, HasLimits, HasValues, IsFirstWithout, IsValuesFault, IsFaultOf}
+use Rattle.tg_model.specs.declared.opening.TheConstants.{MAX_VERTICES}
+use Rattle.tg_model.specs.Opened.{Plan, JoinsWorkers, ValueFits, HasWorkers, HasLimits, HasValues, IsFirstWithout, IsValuesFault, IsFaultTo}
 use Rattle.tg_script.specs.Lines.{ReadsFrom, Passes, Behind, Follows, IsOfReading}
 use Rattle.tg_script.specs.Opening.{edge_lines, ReadsEdges, IsCommand}
 use Rattle.tg_script.proofs.LinesLaws.{behind_more}
@@ -97,7 +98,7 @@ no_values_fault workers values at h (inl first) =
 no_values_fault workers values at h (inr other) = other.1 h.0
 
 -- where workers, edges and values are as asked, only a limit is at fault
-pub only_limits : (p : Plan) (f : OpeningFault) → HasWorkers p → All (JoinsWorkers p.workers) p.edges → HasValues p.workers p.values → IsFaultOf p f → ¬ HasLimits p
+pub only_limits : (p : Plan) (f : OpeningFault) → HasWorkers p → All (JoinsWorkers p.workers) p.edges → HasValues p.workers p.values → IsFaultTo MAX_VERTICES p f → ¬ HasLimits p
 only_limits p BadWorkers workers edges values h = absurd (h workers)
 only_limits p BadLimits workers edges values h = h.1
 only_limits p (BadEdge at) workers edges values h = absurd (not_first (JoinsWorkers p.workers) p.edges at edges h.2)

@@ -3,7 +3,7 @@ ghost use Rattle.std.specs.Prelude.{◌≡◌, ◌<◌, ℕ, None, IfOk, OnOk, O
 
 use crate::live::LiveGraph;
 use std::alloc::AllocError;
-use tg_model::{Command, Deed, Law, MAX_WORKERS, Numbers, Reply, Value};
+use tg_model::{Command, Deed, Law, MAX_WORKERS, Numbers, Reply, Value, denial_on};
 use tg_rights::Label;
 
 impl LiveGraph {
@@ -21,7 +21,7 @@ impl LiveGraph {
         match deed {
             Deed::Create { label, law, state } => self.create(worker, *label, *law, state),
             Deed::Spawn { label, law, state } => self.spawn(worker, *label, *law, state),
-            Deed::Plain(command) => match self.denial(worker, command) {
+            Deed::Plain(command) => match denial_on(self, worker, command) {
                 Some(denial) => Ok(Reply::Denied(denial)),
                 None => self.serve(worker, command),
             },

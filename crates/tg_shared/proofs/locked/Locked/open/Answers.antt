@@ -14,7 +14,7 @@ returns-clause-sessions g c =
     λ graph stands. subst (λ (l : List ℕ). AreFresh l ss) (c.subjects.ensures.names graph stands) c.in-Ok.ensures.fresh
 
 -- a ledger's parts are a 64-bit number
-fits : (limit parts ledger : ℕ) → limit ≤ 16777216 → parts ≡ limit + 1 → parts ≡ ledger → ledger < 2 ^ 64
+fits : (limit parts ledger : ℕ) → limit ≤ 281474976710656 → parts ≡ limit + 1 → parts ≡ ledger → ledger < 2 ^ 64
 fits limit parts ledger within are same = omega (arith, within, are, same)
 
 few_enough : (subjects made limit parts : ℕ) → subjects ≤ made → made ≤ limit → parts ≡ limit + 1 → subjects < parts

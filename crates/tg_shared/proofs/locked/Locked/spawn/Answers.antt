@@ -23,7 +23,7 @@ entered_as E fault.HeapFull reply is v w = let no : ⊥ = cc in absurd no
 entered_as E fault.OutOfMemory reply is v w = let no : ⊥ = cc in absurd no
 
 -- a ledger's parts are a 64-bit number
-within_word : (limit parts : ℕ) → limit ≤ 16777216 → parts ≡ limit + 1 → parts < 2 ^ 64
+within_word : (limit parts : ℕ) → limit ≤ 281474976710656 → parts ≡ limit + 1 → parts < 2 ^ 64
 within_word limit parts within are = omega (arith, within, are)
 
 nothing_left : (new old : ℕ) → new + 0 ≡ old → old ≡ 0 → new ≡ 0
