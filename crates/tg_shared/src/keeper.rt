@@ -1,17 +1,21 @@
-//! Who may take a shared store's entries.
-ghost use Rattle.std.specs.Prelude.{◌≡◌, true};
+//! Who may take a shared store's entries, and see all of its graph.
+ghost use Rattle.std.specs.Prelude.{◌≡◌, true, IfOk};
+ghost use Rattle.tg_could.specs.Reached.{IsReachedPicture};
+ghost use Rattle.tg_store.specs.Store.{graph_of_store};
 ghost use Rattle.tg_shared.specs.Sessions.{AtSome};
 
 use crate::round::Round;
 use crate::shared::SharedStore;
+use std::alloc::{AllocError, Global};
 use std::marker::PhantomData;
 use std::sync::Wait;
 use tg_journal::Journal;
+use tg_model::Picture;
 use tg_payload::Payload;
 
-/// Who may take the entries of a shared store. There is one for each: [`SharedStore::new`] makes it with the sessions,
-/// and nothing else does. So who made the shared store decides who has it, and no session can take the journal away. It
-/// takes no memory, and [`close`](crate::close) doesn't ask for it.
+/// Who may take the entries of a shared store, and see its whole graph. There is one for each: [`SharedStore::new`]
+/// makes it with the sessions, and nothing else does. So who made the shared store decides who has it, and no session
+/// can take the journal away. It takes no memory, and [`close`](crate::close) doesn't ask for it.
 #[derive(Drop)]
 pub struct Keeper<L: Round> {
     round: PhantomData<L>,
@@ -39,5 +43,23 @@ impl<L: Round> Keeper<L> {
         // for what is told of it: the shared store, gone on
         let _ = locked.store();
         locked.take_journal()
+    }
+
+    /// The picture of what the active subjects reach, by one call of [`Locked::picture`](crate::Locked::picture) under
+    /// the lock: that of a store that may have been behind the lock, the shared one, gone on. Sessions wait while all
+    /// rows that are reached are gone over; questions are asked of the picture afterwards, without the lock. It makes
+    /// no entry and no receipt. Fails only when out of memory.
+    pub fn picture<P: Payload, R: Wait>(
+        &self,
+        rt: &R,
+        alloc: Global,
+        store: &SharedStore<L, P>,
+    ) -> Result<Picture, AllocError>
+        ensures { IfOk result (λ picture. AtSome L.start (λ s. IsReachedPicture picture (graph_of_store s))) }
+    {
+        let locked = store.locked.lock(rt);
+        // for what is told of it: the shared store, gone on
+        let _ = locked.store();
+        locked.picture(alloc)
     }
 }

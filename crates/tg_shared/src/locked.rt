@@ -9,7 +9,7 @@ use std::alloc::{AllocError, Global};
 use std::marker::Model;
 use std::sync::ledger::{Blank, Book, Share};
 use tg_journal::{Entry, Journal};
-use tg_model::{Command, Deed, Reply};
+use tg_model::{Command, Deed, Picture, Reply};
 use tg_payload::{Draft, Payload};
 use tg_rights::Label;
 use tg_store::{ApplyFault, CreateFault, CreateRefused, Kind, RoomFault, Store};
@@ -46,6 +46,7 @@ impl<L: Round, P: Payload> Locked<L, P> {
     ghost use Rattle.tg_model.specs.declared.reply.Denial.{Denial};
     ghost use Rattle.tg_graph.specs.Heap.{nursery_of};
     ghost use Rattle.tg_rules.specs.Effect.{AddsEdge, LacksCellsToServe};
+    ghost use Rattle.tg_could.specs.Reached.{IsReachedPicture};
     ghost use Rattle.tg_store.specs.Collecting.{IsSwept};
     ghost use Rattle.tg_store.specs.Held.{IsHeldOver};
     ghost use Rattle.tg_store.specs.Made.{IsMadeFor, MayRefuse};
@@ -237,6 +238,15 @@ impl<L: Round, P: Payload> Locked<L, P> {
         ensures held { (g : ProtectionGraph) → StandsFor self.now.store g → IsHeldOver g session.now.worker target result }
     {
         self.store.label(session.worker(), target)
+    }
+
+    /// The picture of what the active subjects reach, by one call of the store: that of the graph that it stands for.
+    /// It changes nothing, and makes no entry and no receipt. The lock is held while all rows that are reached are gone
+    /// over. Fails only when out of memory.
+    pub fn picture(&self, alloc: Global) -> Result<Picture, AllocError>
+        ensures { (g : ProtectionGraph) → StandsFor self.now.store g → IfOk result (λ picture. IsReachedPicture picture g) }
+    {
+        self.store.picture(alloc)
     }
 
     /// Hands out the entries that the store holds, by one call of the store, where it was shared so as to be handed out

@@ -8,3 +8,4 @@ pub mod Collecting
 pub mod Made
 pub mod Reaching
 pub mod Leaving
+pub mod Holding
