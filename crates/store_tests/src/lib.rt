@@ -35,3 +35,5 @@ mod shown;
 mod stores;
 #[cfg(test)]
 mod streams;
+#[cfg(test)]
+mod sweeps;

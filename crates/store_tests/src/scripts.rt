@@ -82,3 +82,22 @@ fn two_counting_boxes(rt: HostRuntime) -> Result<(), Fail> {
     assert_eq!(rt; dropped_by_a_run(rt.alloc())?, (true, 2));
     Ok(())
 }
+
+// As many lines as have more than 65,536 bytes of replies.
+fn many_lines(alloc: Global) -> Result<Vec<u8>, AllocError> {
+    let mut lines = Vec::new(alloc);
+    for _ in 0..4_000 {
+        lines.extend_from_slice(b"0 read 9\n")?;
+    }
+    Ok(lines)
+}
+
+// What is written to memory may be long.
+#[test]
+fn long_replies(rt: HostRuntime) -> Result<(), Fail> {
+    let alloc = rt.alloc();
+    let drops = Arc::new(alloc, AtomicU64::new(0))?;
+    let ran = ran_with_counting(alloc, &drops, many_lines(alloc)?.as_slice())?;
+    assert_eq!(rt; (ran.written.len(), ran.outcome), (76_000, Ok(())));
+    Ok(())
+}

@@ -1,6 +1,7 @@
 //! Sessions of a shared store: on two threads, in turn, with collections that they ask for, spawned, taken over, asked
 //! what they hold, and with a journal that is taken in parts.
 mod collections;
+mod cut_meanwhile;
 mod held;
 mod in_turn;
 pub(crate) mod opened;

@@ -103,6 +103,19 @@ fn replies_and_denials(rt: HostRuntime) -> Result<(), Fail> {
     Ok(())
 }
 
+// Whether a label with this right alone is shown so.
+fn is_label(alloc: Global, right: Right, wanted: &str) -> bool {
+    match Label::new(Rights::of(right)) {
+        Some(label) => is_shown(alloc, label, wanted),
+        None => false,
+    }
+}
+
+#[test]
+fn labels(rt: HostRuntime) {
+    assert!(rt; is_label(rt.alloc(), Right::W, "w"));
+}
+
 // Why the program ends where memory or a thread is wanting, or where a race is what it is proved never to be.
 const STOPS: [(Stop, &'static str); 6] = [
     (Stop::Start(StartFault::OutOfMemory), "out of memory"),

@@ -3,7 +3,8 @@ use Rattle.std.specs.Prelude.{◌≡◌, ◌≢◌, ℕ, ◌+◌, ◌<◌, ◌�
 use Rattle.std.specs.declared.sync.ledger.Blank.{Blank}
 use Rattle.std.specs.List.{All, AllPairs, count_by, filter, sum_by}
 use Rattle.tg_model.specs.declared.command.Deed.{Deed}
-use Rattle.tg_model.specs.declared.command.Deed.TheVariants.{Spawn}
+use Rattle.tg_model.specs.declared.command.Command.TheVariants.{Retire}
+use Rattle.tg_model.specs.declared.command.Deed.TheVariants.{Plain, Spawn}
 use Rattle.tg_model.specs.declared.reply.Reply.{Reply}
 use Rattle.tg_model.specs.declared.reply.Reply.TheVariants.{Name, VerticesFull, WorkersFull}
 use Rattle.tg_model.specs.declared.value.Value.{Value}
@@ -17,7 +18,8 @@ use Rattle.tg_journal.specs.History.{IsLegalEntry, graph_after}
 use Rattle.tg_journal.specs.Journal.{Entries}
 use Rattle.tg_graph.specs.Heap.{nursery_of}
 use Rattle.tg_graph.specs.Spots.{LacksCellsFor}
-use Rattle.tg_store.specs.Collecting.{KeepsHistory}
+use Rattle.tg_space.specs.declared.kind.Kind.{Kind}
+use Rattle.tg_store.specs.Collecting.{IsSwept, KeepsHistory}
 use Rattle.tg_store.specs.declared.fault.CreateFault.{CreateFault}
 use Rattle.tg_store.specs.declared.fault.CreateFault.TheVariants as fault
 use Rattle.tg_store.specs.declared.fault.CreateRefused.{CreateRefused}
@@ -26,12 +28,14 @@ use Rattle.tg_shared.specs.declared.receipt.Receipt.{Receipt}
 use Rattle.tg_shared.specs.Receipts.{MatchParts, ReceiptsMatch, all_receipts, receipt_of}
 
 -- A session: the name of its subject, its receipts in order, how many before them were handed out, for how many sessions it stands
--- (its own, and those that it took over), for how many more receipts there is room, and the copy of a state that the next may need.
+-- (its own, and those that it took over), whether it entered a retire of its own, for how many more receipts there is room, and the
+-- copy of a state that the next may need.
 pub record SessionState : Type 0 where
   pub worker : ℕ
   pub receipts : List Receipt
   pub handed : ℕ
   pub parts : ℕ
+  pub retired : Bool
   pub spare : ℕ
   pub copy : List ℕ
 
@@ -109,11 +113,21 @@ pub record GoesOn (start : SharedStart) (s : StoreState) : Type 0 where
 abbrev pub AtSome : SharedStart → (StoreState → Type 0) → Type 0
 AtSome start holds = (s : StoreState) × GoesOn start s × IsFaithful s × holds s
 
+-- A collection left so many vertices: of two stores that may have been behind the lock, with the same journal, it made the second
+-- out of the first.
+abbrev pub LeavesAtSome : SharedStart → Kind → ℕ → Type 0
+LeavesAtSome start kind number = AtSome start (λ old. AtSome start (λ new. (new.entries ≡ old.entries) × IsSwept kind old new number))
+
 -- ---- what a call does
 
 -- the same receipts
 abbrev pub KeepsReceipts : SessionState → SessionState → Type 0
-KeepsReceipts old new = (new.worker ≡ old.worker) × (new.receipts ≡ old.receipts) × (new.handed ≡ old.handed) × (new.parts ≡ old.parts)
+KeepsReceipts old new = (new.worker ≡ old.worker) × (new.receipts ≡ old.receipts) × (new.handed ≡ old.handed) × (new.parts ≡ old.parts) × (new.retired ≡ old.retired)
+
+-- whether a session has entered a retire of its own behind a deed of its worker
+abbrev pub retired_by : Bool → Deed → Bool
+retired_by retired (Plain Retire) = true
+retired_by retired deed = retired
 
 -- exactly one receipt more: at this place, with the session's worker, this deed and this reply
 abbrev pub AddsReceipt : SessionState → SessionState → ℕ → Deed → Reply → Type 0
@@ -122,6 +136,7 @@ AddsReceipt old new at deed reply =
     × (new.receipts ≡ old.receipts ++ receipt_of at (record { worker = old.worker; deed = deed; reply = reply }) ∷ [])
     × (new.handed ≡ old.handed)
     × (new.parts ≡ old.parts)
+    × (new.retired ≡ retired_by old.retired deed)
 
 -- A session took over one that ended, and stands for both: what that one handed out counts as handed out by this one.
 pub record TakesOver (old ended new : SessionState) : Type 0 where
@@ -129,6 +144,7 @@ pub record TakesOver (old ended new : SessionState) : Type 0 where
   pub receipts : new.receipts ≡ old.receipts
   pub handed : new.handed ≡ old.handed + ended.handed
   pub parts : new.parts ≡ old.parts + ended.parts
+  pub retired : new.retired ≡ old.retired
 
 -- Exactly one receipt more, of an entry with this deed and this reply. The entry came next in the journal of a store that may
 -- have been behind the lock, and was legal there: the reply is the rules' answer on that store's graph.
@@ -161,9 +177,9 @@ pub record KeepsLocked {T E : Type 0} (old new : LockedState) (result : Result T
   pub refused : OnErr result (new ≡ old)
   pub sessions : new.sessions ≡ old.sessions
 
--- a session that never had a receipt, and took none over
+-- a session as it is made: it never had a receipt, took no other over, and entered no retire
 abbrev pub IsFresh : SessionState → Type 0
-IsFresh s = (s.receipts ≡ []) × (s.handed ≡ 0) × (s.parts ≡ 1)
+IsFresh s = (s.receipts ≡ []) × (s.handed ≡ 0) × (s.parts ≡ 1) × (s.retired ≡ false)
 
 -- one session for each of the subjects, none of which ever had a receipt
 abbrev pub AreFresh : List ℕ → List SessionState → Type 0

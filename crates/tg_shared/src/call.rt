@@ -1,15 +1,15 @@
 //! The calls of a session, each under the lock.
-ghost use Rattle.std.specs.Prelude.{◌≡◌, ◌≢◌, ◌≤◌, ℕ, IfOk, IfErr, MatchResult, ⊤, length};
-ghost use Rattle.tg_model.specs.Graph.{IsReachable, IsSubject};
+ghost use Rattle.std.specs.Prelude.{◌≡◌, ◌≢◌, ◌≤◌, ℕ, IfOk, IfErr, IsErrAnd, MatchResult, true, ⊤};
+ghost use Rattle.tg_model.specs.Graph.{IsSubject};
 ghost use Rattle.tg_model.specs.Rules.{IsAllowed};
 ghost use Rattle.tg_model.specs.declared.command.Deed.TheVariants.{Create, Plain, Spawn};
 ghost use Rattle.tg_model.specs.declared.reply.Reply.TheVariants.{Name, WorkersFull};
-ghost use Rattle.tg_graph.specs.Heap.{content_of, nursery_of};
+ghost use Rattle.tg_graph.specs.Heap.{nursery_of};
 ghost use Rattle.tg_rules.specs.Effect.{AddsEdge, LacksCellsToServe};
 ghost use Rattle.tg_store.specs.Held.{IsHeldOver};
 ghost use Rattle.tg_store.specs.Room.{LacksRoomToCollect};
-ghost use Rattle.tg_store.specs.Store.{IsCountOf, graph_of_store};
-ghost use Rattle.tg_shared.specs.Sessions.{AtSome, IsAnswered, IsFresh, KeepsReceipts, MayRefuseAtSome};
+ghost use Rattle.tg_store.specs.Store.{graph_of_store};
+ghost use Rattle.tg_shared.specs.Sessions.{AtSome, IsAnswered, IsFresh, KeepsReceipts, LeavesAtSome, MayRefuseAtSome};
 
 use crate::round::Round;
 use crate::session::Session;
@@ -31,7 +31,8 @@ impl<L: Round> Session<L> {
     /// was added, with this command and this reply. Its entry came next in the journal of a store that may have been
     /// behind the lock, the shared one, gone on, and was legal there: the reply is the rules' on the graph of that
     /// store. Where the call is refused, the receipts stay, and of such a store the refusal was due: there was no such
-    /// worker, or the command was allowed and a cell was lacking. Want of memory may come at any call.
+    /// worker, or the command was allowed and a cell was lacking. Want of memory may come at any call. Behind a retire
+    /// that it entered itself it always answers that there is no such worker, and takes no lock.
     pub fn call<P: Payload, R: Wait>(
         &mut self,
         rt: &R,
@@ -43,7 +44,11 @@ impl<L: Round> Session<L> {
         ensures no_such_worker { IfErr result (λ why. why ≡ ApplyFault.NoSuchWorker → AtSome L.start (λ s. ¬ IsSubject (graph_of_store s) self.old.worker)) }
         ensures full { IfErr result (λ why. why ≡ ApplyFault.HeapFull → AtSome L.start (λ s.
             IsAllowed (graph_of_store s) self.old.worker (Plain command) × AddsEdge command × LacksCellsToServe s.heap.table (nursery_of s.heap self.old.worker) self.old.worker command)) }
+        ensures retired { self.old.retired ≡ true → IsErrAnd result (λ why. why ≡ ApplyFault.NoSuchWorker) }
     {
+        if self.retired() {
+            return Err(ApplyFault::NoSuchWorker);
+        }
         self.make_room(&[])?;
         let mut locked = store.locked.lock(rt);
         // for what is told of it: the shared store, gone on
@@ -70,7 +75,14 @@ impl<L: Round> Session<L> {
         ensures refusals { MayRefuseAtSome L.start (Create label draft.law draft.state) draft self.old self.new result }
         ensures refused { IfErr result (λ refused. refused.why ≢ CreateFault.VerticesFull → KeepsReceipts self.old self.new) }
         ensures no_workers_full { IfErr result (λ refused. refused.why ≢ CreateFault.WorkersFull) }
+        ensures retired { self.old.retired ≡ true → IsErrAnd result (λ refused. refused.why ≡ CreateFault.NoSuchWorker) }
     {
+        if self.retired() {
+            return Err(CreateRefused {
+                draft,
+                why: CreateFault::NoSuchWorker,
+            });
+        }
         if self.make_room(draft.value().state.as_slice()).is_err() {
             return Err(CreateRefused {
                 draft,
@@ -106,7 +118,14 @@ impl<L: Round> Session<L> {
         ensures refusals { MayRefuseAtSome L.start (Spawn label draft.law draft.state) draft self.old self.new result }
         ensures workers_full { IfErr result (λ refused. refused.why ≡ CreateFault.WorkersFull → IsAnswered L.start self.old self.new (Spawn label draft.law draft.state) WorkersFull) }
         ensures refused { IfErr result (λ refused. refused.why ≢ CreateFault.VerticesFull → refused.why ≢ CreateFault.WorkersFull → KeepsReceipts self.old self.new) }
+        ensures retired { self.old.retired ≡ true → IsErrAnd result (λ refused. refused.why ≡ CreateFault.NoSuchWorker) }
     {
+        if self.retired() {
+            return Err(CreateRefused {
+                draft,
+                why: CreateFault::NoSuchWorker,
+            });
+        }
         if self.make_room(draft.value().state.as_slice()).is_err() {
             return Err(CreateRefused {
                 draft,
@@ -141,15 +160,15 @@ impl<L: Round> Session<L> {
 
     /// Collects the heap of the shared store, by one call of [`Locked::collect`](crate::Locked::collect) under the
     /// lock, and answers how many vertices it then has: the number of a store that may have been behind the lock, and
-    /// after a full collection that of the vertices that can be reached. It makes no entry and no receipt.
+    /// that this collection left of another that may have been there; after a full one that of the vertices that can be
+    /// reached. It makes no entry and no receipt.
     pub fn collect<P: Payload, R: Wait>(
         &self,
         rt: &R,
         store: &SharedStore<L, P>,
         kind: Kind,
     ) -> Result<u64, RoomFault>
-        ensures number { IfOk result (λ number. AtSome L.start (λ s.
-            (number ≡ length (content_of s.heap).names) × (kind ≡ Kind.Full → IsCountOf (IsReachable (graph_of_store s)) number))) }
+        ensures number { IfOk result (LeavesAtSome L.start kind) }
         ensures full { IfErr result (λ why. why ≡ RoomFault.HeapFull → AtSome L.start (λ s.
             LacksRoomToCollect kind 1 s.heap)) }
     {

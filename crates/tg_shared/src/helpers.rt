@@ -1,11 +1,9 @@
 //! Collections of the shared store by several helpers.
-ghost use Rattle.std.specs.Prelude.{◌≡◌, ◌≢◌, Err, IfOk, IfErr, OnOk, length};
-ghost use Rattle.tg_model.specs.Graph.{IsReachable};
-ghost use Rattle.tg_graph.specs.Heap.{content_of};
+ghost use Rattle.std.specs.Prelude.{◌≡◌, ◌≢◌, Err, IfOk, IfErr, OnOk};
 ghost use Rattle.tg_store.specs.Collecting.{AreHelpers, IsSwept};
 ghost use Rattle.tg_store.specs.Room.{LacksRoomToCollect};
-ghost use Rattle.tg_store.specs.Store.{HasFewBlocks, IsCountOf, graph_of_store};
-ghost use Rattle.tg_shared.specs.Sessions.{AtSome, KeepsLocked};
+ghost use Rattle.tg_store.specs.Store.{HasFewBlocks};
+ghost use Rattle.tg_shared.specs.Sessions.{AtSome, KeepsLocked, LeavesAtSome};
 
 use crate::locked::Locked;
 use crate::round::Round;
@@ -59,8 +57,7 @@ impl<L: Round> Session<L> {
         gate: &G,
     ) -> Result<u64, HelpersFault>
         requires helpers { AreHelpers helpers }
-        ensures number { IfOk result (λ number. AtSome L.start (λ s.
-            (number ≡ length (content_of s.heap).names) × (kind ≡ Kind.Full → IsCountOf (IsReachable (graph_of_store s)) number))) }
+        ensures number { IfOk result (LeavesAtSome L.start kind) }
         ensures full { IfErr result (λ why. why ≡ HelpersFault.HeapFull → AtSome L.start (λ s.
             LacksRoomToCollect kind helpers s.heap)) }
         ensures alone { helpers ≡ 1 → result ≢ Err HelpersFault.NoThread }

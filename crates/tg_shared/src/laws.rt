@@ -1,14 +1,17 @@
 //! What receipts say of a history. A function here does nothing: what it ensures is the law.
 ghost use Rattle.std.specs.Prelude.{◌≡◌, ◌≢◌, ◌≤◌, ◌+◌, ℕ, List, drop, false, length, take};
 ghost use Rattle.std.specs.List.{All, AllPairs, Contains};
-ghost use Rattle.tg_model.specs.Graph.{ProtectionGraph};
+ghost use Rattle.tg_model.specs.Graph.{IsReachable, ProtectionGraph};
+ghost use Rattle.tg_graph.specs.Heap.{content_of};
+ghost use Rattle.tg_space.specs.declared.kind.Kind.{Kind};
 ghost use Rattle.tg_journal.specs.declared.entry.Entry.{Entry};
 ghost use Rattle.tg_journal.specs.History.{IsLegal, IsLegalEntry, graph_after};
 ghost use Rattle.tg_shared.specs.declared.receipt.Receipt.{Receipt};
 ghost use Rattle.tg_journal.specs.Journal.{Entries};
 ghost use Rattle.tg_shared.specs.Receipts.{AreParts, MatchParts, ReceiptsMatch, all_receipts};
-ghost use Rattle.tg_shared.specs.Sessions.{AreSharedOut, GoesOn, KeptInParts, MayClose, SessionState, SharedStart, count_of, held_from, parts_of};
-ghost use Rattle.tg_store.specs.Store.{StoreState};
+ghost use Rattle.tg_shared.specs.Sessions.{AreSharedOut, AtSome, GoesOn, KeptInParts, LeavesAtSome, MayClose, SessionState, SharedStart, count_of, held_from, parts_of};
+ghost use Rattle.tg_space.specs.declared.kind.Kind.TheVariants.{Full};
+ghost use Rattle.tg_store.specs.Store.{IsCountOf, StoreState, graph_of_store};
 
 /// The entry of each receipt that matches a legal history was answered by the rules, on the graph after all entries
 /// before it; and among these are the entries of all earlier receipts. So what a session reads stands after all that it
@@ -54,4 +57,11 @@ pub fn a_whole_journal_is_held()
 /// Sessions that took no other over stand for as many as they are.
 pub fn each_stands_for_itself()
     ensures { (sessions : List SessionState) → All (λ s. s.parts ≡ 1) sessions → parts_of sessions ≡ length sessions }
+{}
+
+/// What a collection of a session answers is how many vertices a store has that may have been behind the lock, and
+/// after a full one how many can be reached there.
+pub fn what_is_left_is_counted()
+    ensures { (start : SharedStart) (kind : Kind) (number : ℕ) → LeavesAtSome start kind number → AtSome start (λ s.
+        (number ≡ length (content_of s.heap).names) × (kind ≡ Full → IsCountOf (IsReachable (graph_of_store s)) number)) }
 {}

@@ -121,6 +121,8 @@ impl<L: Round, P: Payload> Locked<L, P> {
         let worker = session.worker();
         let deed = deed_of(&command);
         let reply = self.store.apply(worker, command)?;
+        // It tells that the store is faithful, so a session that has retired knows it.
+        let _ = self.store.journal();
         let entry = Entry {
             worker,
             deed,

@@ -3,7 +3,10 @@ use Rattle.std.proofs.Common.{◌≡◌, ◌≢◌, ◌⊎◌, inl, inr, ℕ, Bo
 use Rattle.std.specs.Prelude.{◌↔◌, IfOk, map, nat_lt}
 use Rattle.std.proofs.lemmas.Bool.{false≢true}
 use Rattle.std.specs.List.{All}
-use Rattle.std.proofs.lemmas.List.Elements.{All-head, All-tail}
+use Rattle.std.proofs.lemmas.Grind.{flat_map-append}
+use Rattle.std.proofs.lemmas.List.Concat.{flat_map-cons}
+use Rattle.std.proofs.lemmas.List.Elements.{All-head, All-nil, All-tail}
+use Rattle.tg_rights.specs.RightSet.{RightSet}
 use Rattle.tg_model.specs.declared.value.Value.{Value}
 use Rattle.tg_model.specs.declared.command.Command.{Command}
 use Rattle.tg_model.specs.declared.command.Deed.{Deed}
@@ -23,7 +26,9 @@ use Rattle.tg_shared.specs.Receipts.{receipt_of}
 use Rattle.tg_store.specs.declared.fault.CreateFault.{CreateFault}
 use Rattle.tg_store.specs.declared.fault.CreateFault.TheVariants as create
 use Rattle.tg_script.specs.Refusals.{create_answer}
-use Rattle.tg_shared.specs.Sessions.{IsAnswered, SessionState, SharedStart, KeepsReceipts}
+use Rattle.tg_script.specs.Script.{create_of}
+use Rattle.tg_shared.specs.Sessions.{AddsReceipt, AreFresh, IsAnswered, IsFresh, SessionState, SharedStart, KeepsReceipts}
+use Rattle.tg_shared.proofs.Fresh.{fresh_push}
 use Rattle.tg_threads.specs.declared.threads.ThreadsFault.{ThreadsFault}
 use Rattle.tg_threads.specs.declared.threads.ThreadsFault.TheVariants as threads
 use Rattle.tg_weave.specs.declared.task.Told.{Told}
@@ -31,7 +36,7 @@ use Rattle.tg_weave.specs.declared.task.Told.TheVariants as came
 use Rattle.tg_weave.specs.Boxes.{Boxed}
 use Rattle.tg_weave.proofs.ShareLaws.{named}
 use Rattle.tg_threads.specs.Output.{EntersOrRefuses, IsMade, IsOfStore, IsServed, Tells, has_thread}
-use Rattle.tg_threads.specs.Tasks.{IsRunBy, HasAsked, HasMade, HasCollected, HasRun, RunsOne, Runs, is_deed, served_past}
+use Rattle.tg_threads.specs.Tasks.{IsRunBy, HasAsked, HasMade, HasCollected, HasRun, RunsOne, Runs, is_deed, served_past, subject_spawned, subjects_spawned}
 
 -- ---- why a session refuses
 
@@ -81,6 +86,79 @@ pub not_made_asked : (start : SharedStart) (d : Deed) (why : CreateFault) (r : R
 not_made_asked start d why (Err f) old new makes fault full crowded kept refused entered = tt
 not_made_asked start d why (Ok t) old new makes fault full crowded kept refused entered =
     vertex_not_made start d why t old new makes (λ is. let same : ◌≡◌ {A = Result Told ThreadsFault} (Ok t) (Err threads.NoSuchWorker) = fault.1 is in let no : ⊥ = cc in no) full crowded kept refused entered
+
+-- ---- the subjects that a worker made
+
+-- one receipt more tells of the subject that its deed made
+pub more_subjects : (old new : SessionState) (at : ℕ) (d : Deed) (r : Reply) → AddsReceipt old new at d r → subjects_spawned new.receipts ≡ subjects_spawned old.receipts ++ subject_spawned d r
+more_subjects old new at d r adds =
+    let made : Receipt → List ℕ = λ x. subject_spawned x.entry.deed x.entry.reply in
+    let last : Receipt = receipt_of at (record { worker = old.worker; deed = d; reply = r }) in
+    ap subjects_spawned adds.1 ∙ flat_map-append made old.receipts (last ∷ []) ∙ ap (λ (l : List ℕ). subjects_spawned old.receipts ++ l) (flat_map-cons made last [] ∙ append-nil (subject_spawned d r))
+
+-- and of none where it made none
+no_subject : (old new : SessionState) (at : ℕ) (d : Deed) (r : Reply) → subject_spawned d r ≡ [] → AddsReceipt old new at d r → subjects_spawned new.receipts ≡ subjects_spawned old.receipts
+no_subject old new at d r none adds = more_subjects old new at d r adds ∙ ap (λ (l : List ℕ). subjects_spawned old.receipts ++ l) none ∙ append-nil (subjects_spawned old.receipts)
+
+plain_none : (command : Command) (r : Reply) → subject_spawned (deed.Plain command) r ≡ []
+plain_none command r = refl
+
+create_none : (label : RightSet) (value : Value) (r : Reply) → subject_spawned (create_of label value) r ≡ []
+create_none label value r = refl
+
+full_none : (d : Deed) → subject_spawned d reply.VerticesFull ≡ []
+full_none (deed.Create label law state) = refl
+full_none (deed.Spawn label law state) = refl
+full_none (deed.Plain command) = refl
+
+crowded_none : (d : Deed) → subject_spawned d reply.WorkersFull ≡ []
+crowded_none (deed.Create label law state) = refl
+crowded_none (deed.Spawn label law state) = refl
+crowded_none (deed.Plain command) = refl
+
+asked_none : (d : Deed) → ((r : Reply) → subject_spawned d r ≡ []) → (t : Told) (old new : SessionState) → HasAsked d t old new → subjects_spawned new.receipts ≡ subjects_spawned old.receipts
+asked_none d none (came.Entered at) old new h = no_subject old new at d h.0 (none h.0) h.1
+asked_none d none (came.Collected kept) old new h = absurd h
+asked_none d none (came.Refused r) old new h = ap subjects_spawned h.1.1
+
+made_none : (making : Value → Deed) → ((value : Value) (r : Reply) → subject_spawned (making value) r ≡ []) → (box : Option Value) (t : Told) (old new : SessionState) → HasMade making box t old new → subjects_spawned new.receipts ≡ subjects_spawned old.receipts
+made_none making none None t old new h = ap subjects_spawned h.1.1
+made_none making none (Some value) t old new h = asked_none (making value) (none value) t old new h
+
+-- a spawn that made no subject leaves them
+pub not_spawned : (start : SharedStart) (d : Deed) (why : CreateFault) (old new : SessionState) → (why ≡ create.VerticesFull → IsAnswered start old new d reply.VerticesFull) → (why ≡ create.WorkersFull → IsAnswered start old new d reply.WorkersFull) →
+    (why ≢ create.VerticesFull → why ≢ create.WorkersFull → KeepsReceipts old new) → subjects_spawned new.receipts ≡ subjects_spawned old.receipts
+not_spawned start d create.NoSuchWorker old new full crowded kept = ap subjects_spawned (kept (λ e. let no : ⊥ = cc in no) (λ e. let no : ⊥ = cc in no)).1
+not_spawned start d create.VerticesFull old new full crowded kept = let h = full refl in no_subject old new _ d reply.VerticesFull (full_none d) h.3.0
+not_spawned start d create.WorkersFull old new full crowded kept = let h = crowded refl in no_subject old new _ d reply.WorkersFull (crowded_none d) h.3.0
+not_spawned start d create.OutOfMemory old new full crowded kept = ap subjects_spawned (kept (λ e. let no : ⊥ = cc in no) (λ e. let no : ⊥ = cc in no)).1
+not_spawned start d create.HeapFull old new full crowded kept = ap subjects_spawned (kept (λ e. let no : ⊥ = cc in no) (λ e. let no : ⊥ = cc in no)).1
+
+pub ok_where : {T E : Type 0} (r : Result T E) (Q : Type 0) → Q → IfOk r (λ _. Q)
+ok_where (Ok t) Q held = held
+ok_where (Err e) Q held = tt
+
+-- their sessions are those that there were
+pub still_each : (old new : SessionState) (sessions : List SessionState) → subjects_spawned new.receipts ≡ subjects_spawned old.receipts → AreFresh (subjects_spawned old.receipts) sessions → AreFresh (subjects_spawned new.receipts) sessions
+still_each old new sessions same fresh = subst (λ (names : List ℕ). AreFresh names sessions) (sym same) fresh
+
+pub plain_each : (command : Command) (t : Told) (old new : SessionState) (sessions : List SessionState) → HasAsked (deed.Plain command) t old new → AreFresh (subjects_spawned old.receipts) sessions → AreFresh (subjects_spawned new.receipts) sessions
+plain_each command t old new sessions h = still_each old new sessions (asked_none (deed.Plain command) (plain_none command) t old new h)
+
+pub create_each : (label : RightSet) (box : Option Value) (t : Told) (old new : SessionState) (sessions : List SessionState) → HasMade (create_of label) box t old new → AreFresh (subjects_spawned old.receipts) sessions → AreFresh (subjects_spawned new.receipts) sessions
+create_each label box t old new sessions h = still_each old new sessions (made_none (create_of label) (create_none label) box t old new h)
+
+-- one more of a subject that was made
+pub one_spawned : (old new fresh : SessionState) (at : ℕ) (d : Deed) (r : Reply) (sessions : List SessionState) → subject_spawned d r ≡ fresh.worker ∷ [] → AddsReceipt old new at d r → IsFresh fresh → AreFresh (subjects_spawned old.receipts) sessions →
+    AreFresh (subjects_spawned new.receipts) (sessions ++ fresh ∷ [])
+one_spawned old new fresh at d r sessions made adds none had =
+    subst (λ (names : List ℕ). AreFresh names (sessions ++ fresh ∷ [])) (sym (more_subjects old new at d r adds ∙ ap (λ (l : List ℕ). subjects_spawned old.receipts ++ l) made))
+    (fresh_push (subjects_spawned old.receipts) fresh.worker sessions fresh had refl none)
+
+-- at first there is none
+pub none_spawned : (receipts : List Receipt) (sessions : List SessionState) → receipts ≡ [] → sessions ≡ [] → AreFresh (subjects_spawned receipts) sessions
+none_spawned receipts sessions none empty =
+    subst (λ (rs : List Receipt). AreFresh (subjects_spawned rs) sessions) (sym none) (subst (λ (ss : List SessionState). AreFresh [] ss) (sym empty) (refl, All-nil IsFresh))
 
 -- ---- one line
 

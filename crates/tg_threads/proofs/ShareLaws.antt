@@ -8,7 +8,7 @@ use Rattle.tg_weave.specs.declared.work.Work.{Work}
 use Rattle.tg_weave.specs.Boxes.{Boxed}
 use Rattle.tg_weave.specs.Shares.{is_run_by, lines_of, all_lines, lines_in}
 use Rattle.tg_weave.proofs.ShareLaws.{run_by}
-use Rattle.tg_threads.specs.Tasks.{IsRunBy, all_assigned, assigned_of}
+use Rattle.tg_threads.specs.Tasks.{HadNone, IsRunBy, all_assigned, assigned_of}
 
 -- each is run by the worker that is given it
 pub own_lines : (workers x : ℕ) (bs : List Boxed) → All (IsRunBy workers x) (lines_of workers x bs)
@@ -38,7 +38,8 @@ mapped_each f P [] h = All-nil (λ x. P (f x))
 mapped_each f P (x ∷ xs) h = All-cons (λ x. P (f x)) x xs (All-head P (f x) (map f xs) h) (mapped_each f P xs (All-tail P (f x) (map f xs) h))
 
 -- their sessions never had a receipt
-pub works_fresh : {P : Type 0} (xs : List ℕ) (works : List (Work SessionState P)) (sessions : List SessionState) → AreFresh xs sessions → map (λ w. w.session) works ≡ sessions → All (λ w. IsFresh w.session) works
+pub works_fresh : {P : Type 0} (xs : List ℕ) (works : List (Work SessionState P)) (sessions : List SessionState) → AreFresh xs sessions → map (λ w. w.session) works ≡ sessions → All (λ w. HadNone w.session) works
 works_fresh {P = P} xs works sessions fresh is =
     let session : Work SessionState P → SessionState = λ w. w.session in
-    mapped_each session IsFresh works (subst (All IsFresh) (sym is) fresh.1)
+    let none : All HadNone sessions = All-weaker IsFresh HadNone (λ s h. (h.0, h.1)) sessions fresh.1 in
+    mapped_each session HadNone works (subst (All HadNone) (sym is) none)

@@ -22,7 +22,7 @@ use Rattle.tg_weave.specs.Boxes.{Boxed, boxed, stock_behind}
 use Rattle.tg_weave.specs.Shares.{all_sessions, runner_of, is_run_by, lines_of, told_of, IsInScriptOrder}
 use Rattle.tg_weave.proofs.OrderLaws.{count_of}
 use Rattle.tg_threads.specs.Output.{HasEach, has_thread}
-use Rattle.tg_threads.specs.Tasks.{Runs, Brings, AllBring, HaveNone, all_assigned, AreRaced, served_past}
+use Rattle.tg_threads.specs.Tasks.{Runs, Brings, AllBring, all_assigned, AreRaced, served_past}
 use Rattle.tg_threads.proofs.ShareLaws.{own_lines}
 use Rattle.tg_threads.proofs.TellLaws.{thread_within}
 use Rattle.tg_threads.proofs.FitLaws.{FitAll, made_of, all_fit, woven, fit_told, fit_there, own_made, told_past}
@@ -48,7 +48,7 @@ record IsBrought (helpers workers : ℕ) (bs : List Boxed) (all : List (Finished
   at : slice_get all x ≡ Some f
   worker : f.session.worker ≡ x
   runs : Runs helpers (has_thread workers) (lines_of workers x bs) f.told.items f.session.receipts
-  none : HaveNone f.spawned.items
+  none : All IsFresh f.spawned.items
   handed : f.session.handed ≡ 0
 
 brought : (helpers workers : ℕ) (bs : List Boxed) (all : List (Finished SessionState)) → AllBring helpers workers (all_assigned workers bs) all → (x : ℕ) → x < workers → (f : Finished SessionState) × IsBrought helpers workers bs all x f
@@ -59,7 +59,7 @@ brought helpers workers bs all h x low =
     slice_get-get_or (all_assigned workers bs) x (0, []) (omega (arith, low, long)) ∙ ap (λ a. Some a) (get_or-map-range_with_len as_given 0 workers x x (0, []) low (omega arith)) in
     let b = brings_at helpers workers (all_assigned workers bs) all x (as_given x) h at in
     let ran = b.2 low (own_lines workers x bs) in
-    (b.0, record { at = b.1; worker = ran.0; runs = ran.1; none = ran.2; handed = ran.3 })
+    (b.0, record { at = b.1; worker = ran.0; runs = ran.1; none = ran.2.1; handed = ran.3 })
 
 -- ---- as many as there were lines
 
@@ -178,7 +178,7 @@ none_by x entries sessions each own none = ⊎_elim
     (idle_or_none x entries sessions own none)
 
 -- no session of one who is no worker of the opening has a receipt
-none_past : (workers x k : ℕ) (all : List (Finished SessionState)) → workers ≤ x → ((i : ℕ) → i < length all → (f : Finished SessionState) × (slice_get all i ≡ Some f) × (f.session.worker ≡ k + i) × HaveNone f.spawned.items) →
+none_past : (workers x k : ℕ) (all : List (Finished SessionState)) → workers ≤ x → ((i : ℕ) → i < length all → (f : Finished SessionState) × (slice_get all i ≡ Some f) × (f.session.worker ≡ k + i) × All IsFresh f.spawned.items) →
     k + length all ≤ workers → All (λ s. s.worker ≡ x → s.receipts ≡ []) (all_sessions all)
 none_past workers x k [] past each few = All-nil (λ s. s.worker ≡ x → s.receipts ≡ [])
 none_past workers x k (f ∷ all) past each few =
@@ -186,7 +186,7 @@ none_past workers x k (f ∷ all) past each few =
     let here = each 0 (omega arith) in
     let same : f ≡ here.0 = (let is : Some f ≡ Some here.0 = here.1 in cc) in
     let worker : f.session.worker ≡ k + 0 = ap (λ (g : Finished SessionState). g.session.worker) same ∙ here.2 in
-    let none : HaveNone f.spawned.items = subst (λ (g : Finished SessionState). HaveNone g.spawned.items) (sym same) here.3 in
+    let none : All IsFresh f.spawned.items = subst (λ (g : Finished SessionState). All IsFresh g.spawned.items) (sym same) here.3 in
     let later : All P (all_sessions all) =
     none_past workers x (k + 1) all past
     (λ i low. let next = each (suc i) (omega (arith, low)) in (next.0, next.1, next.2 ∙ (let e : k + suc i ≡ (k + 1) + i = omega arith in e), next.3))
@@ -203,14 +203,14 @@ others_none helpers workers x bs all h past =
 
 -- ---- nobody handed out a receipt
 
-none_handed_by : (all : List (Finished SessionState)) → ((i : ℕ) → i < length all → (f : Finished SessionState) × (slice_get all i ≡ Some f) × (f.session.handed ≡ 0) × HaveNone f.spawned.items) →
+none_handed_by : (all : List (Finished SessionState)) → ((i : ℕ) → i < length all → (f : Finished SessionState) × (slice_get all i ≡ Some f) × (f.session.handed ≡ 0) × All IsFresh f.spawned.items) →
     All (λ s. s.handed ≡ 0) (all_sessions all)
 none_handed_by [] each = All-nil (λ s. s.handed ≡ 0)
 none_handed_by (f ∷ all) each =
     let P : SessionState → Type 0 = λ s. s.handed ≡ 0 in
     let here = each 0 (omega arith) in
     let same : f ≡ here.0 = (let is : Some f ≡ Some here.0 = here.1 in cc) in
-    let none : HaveNone f.spawned.items = subst (λ (g : Finished SessionState). HaveNone g.spawned.items) (sym same) here.3 in
+    let none : All IsFresh f.spawned.items = subst (λ (g : Finished SessionState). All IsFresh g.spawned.items) (sym same) here.3 in
     let later : All P (all_sessions all) = none_handed_by all (λ i low. each (suc i) (omega (arith, low))) in
     All-cons P f.session (f.spawned.items ++ all_sessions all) (ap (λ (g : Finished SessionState). g.session.handed) same ∙ here.2)
     (All-append P f.spawned.items (all_sessions all) (All-weaker IsFresh P (λ s h. h.1) f.spawned.items none) later)

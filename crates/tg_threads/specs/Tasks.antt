@@ -1,11 +1,13 @@
 -- What a worker's lines come to on its thread, and how the parts of a race stand to what is told of it.
 use Rattle.std.specs.Prelude.{◌≡◌, ◌≢◌, ℕ, ◌<◌, Bool, true, false, if◌then◌else◌, List, [], ◌∷◌, ◌++◌, map, Option, Some, None, Result, IfOk, IfErr}
-use Rattle.std.specs.List.{All, range_with_len}
+use Rattle.std.specs.List.{All, flat_map, range_with_len}
 use Rattle.std.specs.Vec.{vec_capacity}
 use Rattle.std.specs.declared.vec.Vec.{Vec}
 use Rattle.tg_model.specs.declared.value.Value.{Value}
 use Rattle.tg_model.specs.declared.command.Deed.{Deed}
+use Rattle.tg_model.specs.declared.command.Deed.TheVariants as deed
 use Rattle.tg_model.specs.declared.reply.Reply.{Reply}
+use Rattle.tg_model.specs.declared.reply.Reply.TheVariants as reply
 use Rattle.tg_model.specs.Graph.{IsSubject}
 use Rattle.tg_space.specs.declared.kind.Kind.{Kind}
 use Rattle.tg_space.specs.declared.kind.Kind.TheVariants as kind
@@ -17,7 +19,7 @@ use Rattle.tg_text.specs.declared.answer.Answer.TheVariants as answer
 use Rattle.tg_text.specs.declared.answer.Refusal.TheVariants as refusal
 use Rattle.tg_shared.specs.declared.receipt.Receipt.{Receipt}
 use Rattle.tg_shared.specs.Receipts.{receipt_of}
-use Rattle.tg_shared.specs.Sessions.{SessionState, SharedStart, IsFresh, AddsReceipt, AtSome, KeepsReceipts}
+use Rattle.tg_shared.specs.Sessions.{SessionState, SharedStart, AreFresh, AddsReceipt, AtSome, KeepsReceipts}
 use Rattle.std.specs.declared.thread.PromisedHandle.{PromisedHandle}
 use Rattle.tg_threads.specs.declared.threads.Assigned.{Assigned}
 use Rattle.tg_threads.specs.declared.threads.ThreadsFault.{ThreadsFault}
@@ -102,20 +104,30 @@ pub record IsToldOrGone (start : SharedStart) (session : SessionState) (IsTold :
   pub asked : IfOk result IsTold
   pub gone : IfErr result (λ why. (why ≡ threads.NoSuchWorker) × AtSome start (λ s. ¬ IsSubject (graph_of_store s) session.worker))
 
--- no session of these ever had a receipt
-abbrev pub HaveNone : List SessionState → Type 0
-HaveNone sessions = All IsFresh sessions
+-- the session never had a receipt
+abbrev pub HadNone : SessionState → Type 0
+HadNone s = (s.receipts ≡ []) × (s.handed ≡ 0)
 
--- more sessions without a receipt may have come to those of the subjects that a worker made, into the room that there was
-pub record KeepsNone {A : Type 0} (sessions sessions' : Vec SessionState A) : Type 0 where
-  pub none : HaveNone sessions.items → HaveNone sessions'.items
+-- the subject that a deed with this reply made, if it made one
+abbrev pub subject_spawned : Deed → Reply → List ℕ
+subject_spawned (deed.Spawn label law state) (reply.Name name) = name ∷ []
+subject_spawned d r = []
+
+-- the subjects that the entries of these receipts made, in their order
+abbrev pub subjects_spawned : List Receipt → List ℕ
+subjects_spawned receipts = flat_map (λ r. subject_spawned r.entry.deed r.entry.reply) receipts
+
+-- Where there is a fresh session for each subject that a worker's session made, by its receipts, and no other, so there is behind a
+-- line that came to something: none of them is lost. They went into the room that there was.
+pub record KeepsSpawned {A E : Type 0} (before after : SessionState) (sessions sessions' : Vec SessionState A) (result : Result Told E) : Type 0 where
+  pub each : IfOk result (λ told. AreFresh (subjects_spawned before.receipts) sessions.items → AreFresh (subjects_spawned after.receipts) sessions'.items)
   pub kept : vec_capacity sessions' ≡ vec_capacity sessions
 
--- The session of one of so many workers ran its lines, all that its thread was given, and they came to this; the sessions of the
--- subjects that they made ran none, and none of them handed out a receipt.
+-- The session of one of so many workers ran its lines, all that its thread was given, and they came to this; there is a session for
+-- each subject that they made, which ran none, and none of them handed out a receipt.
 abbrev pub Brings : ℕ → ℕ → ℕ → List Boxed → Finished SessionState → Type 0
 Brings helpers workers x bs f =
-    x < workers → All (IsRunBy workers x) bs → (f.session.worker ≡ x) × Runs helpers (has_thread workers) bs f.told.items f.session.receipts × HaveNone f.spawned.items × (f.session.handed ≡ 0)
+    x < workers → All (IsRunBy workers x) bs → (f.session.worker ≡ x) × Runs helpers (has_thread workers) bs f.told.items f.session.receipts × AreFresh (subjects_spawned f.session.receipts) f.spawned.items × (f.session.handed ≡ 0)
 
 -- it ran these lines, or else there is a fault, but for want of a thread there is none
 pub record RunsTasks (helpers workers x : ℕ) (bs : List Boxed) (result : Result (Finished SessionState) ThreadsFault) : Type 0 where

@@ -1,8 +1,7 @@
 //! The threads of the workers.
 ghost use Rattle.std.specs.Prelude.{◌≡◌, ◌≢◌, ℕ, IfOk, IfErr, map};
 ghost use Rattle.std.specs.List.{All};
-ghost use Rattle.tg_shared.specs.Sessions.{IsFresh};
-ghost use Rattle.tg_threads.specs.Tasks.{AllBring, RunsTasks, assigned_of, promised_by};
+ghost use Rattle.tg_threads.specs.Tasks.{AllBring, HadNone, RunsTasks, assigned_of, promised_by};
 ghost use Rattle.tg_weave.specs.Boxes.{boxed_of};
 
 use crate::turnstile::Turnstile;
@@ -93,14 +92,14 @@ pub fn run_threads<
     helpers: Helpers,
     works: Vec<Work<L, P>>,
 ) -> Result<Vec<Finished<L>>, ThreadsFault>
-    requires fresh { All (λ w. IsFresh w.session) works.items }
+    requires fresh { All (λ w. HadNone w.session) works.items }
     ensures { IfOk result (λ all. AllBring helpers L.start.opening.workers (map assigned_of works.items) all.items) }
 {
     thread::scope(
         thread::scope_env(),
         rt,
         |scope| -> Result<Vec<Finished<L>>, ThreadsFault>
-            requires { All (λ w. IsFresh w.session) works.items }
+            requires { All (λ w. HadNone w.session) works.items }
             ensures { IfOk result (λ all. AllBring helpers L.start.opening.workers (map assigned_of works.items) all.items) }
         {
             let handles = start_all(rt, alloc, scope, store, turnstile, helpers, works)?;
@@ -126,7 +125,7 @@ fn start_all<
     helpers: Helpers,
     works: Vec<Work<L, P>>,
 ) -> Result<Vec<PromisedHandle<Result<Finished<L>, ThreadsFault>, Assigned<P>>>, ThreadsFault>
-    requires fresh { All (λ w. IsFresh w.session) works.items }
+    requires fresh { All (λ w. HadNone w.session) works.items }
     ensures promises { IfOk result (λ handles. map promised_by handles.items ≡ map assigned_of works.items) }
     ensures helpers { IfOk result (λ handles. All (λ h. h.promise.helpers ≡ helpers) handles.items) }
 {
@@ -155,7 +154,7 @@ fn start<
     helpers: Helpers,
     work: Work<L, P>,
 ) -> Result<PromisedHandle<Result<Finished<L>, ThreadsFault>, Assigned<P>>, ThreadsFault>
-    requires fresh { IsFresh work.session }
+    requires fresh { HadNone work.session }
     ensures promise { IfOk result (λ handle. promised_by handle ≡ assigned_of work) }
     ensures helpers { IfOk result (λ handle. handle.promise.helpers ≡ helpers) }
     ensures fault { IfErr result (λ fault. fault ≡ ThreadsFault.NoThread) }
@@ -169,7 +168,7 @@ fn start<
     let Ok(handle) = scope.spawn_with(
         assigned,
         move || -> Result<Finished<L>, ThreadsFault>
-            requires { IsFresh session }
+            requires { HadNone session }
             ensures ran { RunsTasks helpers L.start.opening.workers session.worker (map boxed_of tasks.items) result }
         { run_tasks(rt, alloc, store, turnstile, helpers, session, tasks) },
     ) else {

@@ -4,17 +4,16 @@ ghost use Rattle.std.specs.List.{count_by};
 ghost use Rattle.std.specs.Vec.{vec_len, vec_capacity};
 ghost use Rattle.tg_model.specs.declared.command.Deed.TheVariants as Deed;
 ghost use Rattle.tg_model.specs.declared.reply.Reply.{Reply as ReplyOf};
-ghost use Rattle.tg_model.specs.Graph.{IsReachable, IsSubject};
-ghost use Rattle.tg_graph.specs.Heap.{content_of};
+ghost use Rattle.tg_model.specs.Graph.{IsSubject};
 ghost use Rattle.tg_store.specs.Room.{LacksRoomToCollect};
-ghost use Rattle.tg_store.specs.Store.{IsCountOf, graph_of_store};
+ghost use Rattle.tg_store.specs.Store.{graph_of_store};
 ghost use Rattle.tg_script.specs.Refusals.{create_answer};
 ghost use Rattle.tg_script.specs.Script.{MayWant, create_of, spawn_of};
-ghost use Rattle.tg_shared.specs.Sessions.{AtSome, IsFresh};
+ghost use Rattle.tg_shared.specs.Sessions.{AtSome, LeavesAtSome};
 ghost use Rattle.tg_shared.specs.declared.receipt.Receipt.{Receipt as ReceiptOf};
 ghost use Rattle.tg_text.specs.declared.answer.Refusal.{Refusal as RefusalOf};
 ghost use Rattle.tg_threads.specs.Output.{is_retire_of};
-ghost use Rattle.tg_threads.specs.Tasks.{HasAsked, HasCollected, HasMade, HasRun, IsRunBy, IsToldOrGone, KeepsNone, RunsTasks, is_deed, may_make_subject, served_past};
+ghost use Rattle.tg_threads.specs.Tasks.{HadNone, HasAsked, HasCollected, HasMade, HasRun, IsRunBy, IsToldOrGone, KeepsSpawned, RunsTasks, is_deed, may_make_subject, served_past};
 ghost use Rattle.tg_weave.specs.Boxes.{boxed_of};
 
 use crate::threads::ThreadsFault;
@@ -48,7 +47,7 @@ pub(crate) fn run_tasks<L: Round, P: Payload, G: Turnstile, R: Threads + Wait + 
     mut session: Session<L>,
     tasks: Vec<Task<P>>,
 ) -> Result<Finished<L>, ThreadsFault>
-    requires fresh { IsFresh session }
+    requires fresh { HadNone session }
     ensures ran { RunsTasks helpers L.start.opening.workers session.worker (map boxed_of tasks.items) result }
 {
     let mut told = Vec::with_capacity(alloc, tasks.len())?;
@@ -128,7 +127,7 @@ fn run_task<L: Round, P: Payload, R: Threads + Wait + Sync>(
     requires room { may_make_subject task ≡ true → vec_len spawned.old < vec_capacity spawned.old }
     ensures run { (workers : ℕ) (before : ℕ → Bool) → before session.old.worker ≡ served → IsRunBy workers session.old.worker (boxed_of task) →
         IfOk result (λ told. HasRun helpers before (boxed_of task) told session.old session.new) }
-    ensures spawned { KeepsNone spawned.old spawned.new }
+    ensures spawned { KeepsSpawned session.old session.new spawned.old spawned.new result }
     ensures fits { vec_len spawned.new ≤ vec_len spawned.old + (if may_make_subject task then 1 else 0) }
     ensures gone { IfErr result (λ why. (why ≡ ThreadsFault.NoSuchWorker) × AtSome L.start (λ s. ¬ IsSubject (graph_of_store s) session.old.worker)) }
 {
@@ -196,7 +195,7 @@ fn spawn<L: Round, P: Payload, R: Wait>(
 ) -> Result<Told, ThreadsFault>
     requires room { vec_len spawned.old < vec_capacity spawned.old }
     ensures told { IsToldOrGone L.start session.old (λ told. HasMade (spawn_of label) draft told session.old session.new) result }
-    ensures spawned { KeepsNone spawned.old spawned.new }
+    ensures spawned { KeepsSpawned session.old session.new spawned.old spawned.new result }
     ensures fits { vec_len spawned.new ≤ vec_len spawned.old + 1 }
 {
     let Some(draft) = draft else {
@@ -243,8 +242,7 @@ fn collect<L: Round, P: Payload, R: Threads + Wait + Sync>(
     kind: Kind,
 ) -> Told
     ensures collected { HasCollected helpers kind result }
-    ensures number { (kept : ℕ) → result ≡ Told.Collected (Some kept) → AtSome L.start (λ s.
-        (kept ≡ length (content_of s.heap).names) × IsCountOf (IsReachable (graph_of_store s)) kept) }
+    ensures number { (kept : ℕ) → result ≡ Told.Collected (Some kept) → LeavesAtSome L.start Kind.Full kept }
     ensures full { result ≡ Told.Refused Refusal.Heap → AtSome L.start (λ s.
         LacksRoomToCollect kind helpers s.heap) }
 {
@@ -268,8 +266,7 @@ pub fn collect_by<L: Round, P: Payload, R: Threads + Wait + Sync, G: Gate>(
     kind: Kind,
     gate: &G,
 ) -> Result<u64, Refusal>
-    ensures number { IfOk result (λ number. AtSome L.start (λ s.
-        (number ≡ length (content_of s.heap).names) × (kind ≡ Kind.Full → IsCountOf (IsReachable (graph_of_store s)) number))) }
+    ensures number { IfOk result (LeavesAtSome L.start kind) }
     ensures refused { IfErr result (MayWant helpers) }
     ensures full { IfErr result (λ why. why ≡ Refusal.Heap → AtSome L.start (λ s.
         LacksRoomToCollect kind helpers s.heap)) }

@@ -34,7 +34,7 @@ loop-subject-preserved g c =
     let items = c.in_ok-push.ensures.items in
     let more = name_more c.args.subjects.now i _ s.worker c.loop-subject-test.true c.new.ensures.0 in
     record {
-      fresh = rw (items, more) (fresh_push (names_of (take i c.args.subjects.now)) s.worker ss s c.loop-subject.invariant.fresh refl (c.new.ensures.1, c.new.ensures.2, c.new.ensures.3));
+      fresh = rw (items, more) (fresh_push (names_of (take i c.args.subjects.now)) s.worker ss s c.loop-subject.invariant.fresh refl (c.new.ensures.1, c.new.ensures.2, c.new.ensures.3, c.new.ensures.4));
       parts = omega (arith, c.split_off-share.ensures.parts_left, c.loop-subject.invariant.parts);
       amount = omega (arith, c.split_off-share.ensures.amount_left, c.loop-subject.invariant.amount);
     }

@@ -2,9 +2,8 @@ use Rattle.std.proofs.Common.{◌≡◌, ◌++◌, ◌∷◌, [], map, sym, ap, 
 use Rattle.std.specs.List.{All}
 use Rattle.std.proofs.lemmas.Grind.{common_steps}
 use Rattle.std.proofs.lemmas.List.Elements.{All-push}
-use Rattle.tg_shared.specs.Sessions.{IsFresh}
 use Rattle.tg_weave.proofs.ShareLaws.{map_push}
-use Rattle.tg_threads.specs.Tasks.{assigned_of, promised_by}
+use Rattle.tg_threads.specs.Tasks.{HadNone, assigned_of, promised_by}
 use Rattle.tg_threads.proofs.RunLaws.{all_next}
 use Rattle.tg_threads.proofs.threads.start_all.Goals as goal
 
@@ -23,7 +22,7 @@ loop-work-preserved g c =
 pub start-requires-clause-fresh : goal.start-requires-clause-fresh
 start-requires-clause-fresh g c = λ lifetimes outlive.
     let left : (c.loop-work.yielded ++ c.in-Some.work ∷ []) ++ c.next.new.self.rest.items ≡ c.args.works.items = grind (arith, common_steps, append_assoc, c.loop-work.invariant.left, c.in-Some.ensures) in
-    all_next (λ w. IsFresh w.session) c.loop-work.yielded c.in-Some.work c.next.new.self.rest.items c.args.works.items left c.requires.fresh
+    all_next (λ w. HadNone w.session) c.loop-work.yielded c.in-Some.work c.next.new.self.rest.items c.args.works.items left c.requires.fresh
 
 pub returns-clause-promises : goal.returns-clause-promises
 returns-clause-promises g c =

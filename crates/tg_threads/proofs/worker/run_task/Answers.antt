@@ -1,4 +1,4 @@
-use Rattle.std.proofs.Common.{◌≡◌, ◌∙◌, Some, ap, sym, subst}
+use Rattle.std.proofs.Common.{◌≡◌, ◌∙◌, Some, ap, refl, sym, subst}
 use Rattle.std.proofs.lemmas.Result.{IfOk-weaker}
 use Rattle.tg_text.specs.declared.line.Line.{Line}
 use Rattle.tg_text.specs.declared.line.Line.TheVariants as line
@@ -6,7 +6,7 @@ use Rattle.tg_script.specs.Script.{create_of, spawn_of}
 use Rattle.tg_weave.specs.Boxes.{Boxed}
 use Rattle.tg_weave.specs.Shares.{runner_of}
 use Rattle.tg_threads.specs.Tasks.{HasRun, is_deed}
-use Rattle.tg_threads.proofs.RunLaws.{asked_runs, full_runs, made_runs, served_of}
+use Rattle.tg_threads.proofs.RunLaws.{asked_runs, create_each, full_runs, made_runs, plain_each, served_of}
 use Rattle.tg_threads.proofs.worker.run_task.Goals as goal
 
 pub returns-in-Full-clause-run : goal.returns-in-Full-clause-run
@@ -55,3 +55,15 @@ returns-in-Spawn-clause-run g c = λ workers before is by.
     let P : Line → Type 0 = λ l. HasRun c.args.helpers before (record { line = l; value = box }) t old new in
     subst P (sym c.in-Spawn.is) (made_runs c.args.helpers workers c.in-Spawn.worker before b (spawn_of c.in-Spawn.label) t old new (is ∙ served) (subst Q c.in-Spawn.is by) (λ e a told. told) made))
     c.spawn.ensures.told.asked
+
+pub returns-in-Plain-clause-spawned : goal.returns-in-Plain-clause-spawned
+returns-in-Plain-clause-spawned g c = record {
+  each = IfOk-weaker c.apply.result _ _ (λ t asked. plain_each c.in-Plain.command t c.args.session.now c.apply.new.session c.args.spawned.now.items asked) c.apply.ensures.told.asked;
+  kept = refl;
+}
+
+pub returns-in-Create-clause-spawned : goal.returns-in-Create-clause-spawned
+returns-in-Create-clause-spawned g c = record {
+  each = IfOk-weaker c.create.result _ _ (λ t made. create_each c.in-Create.label c.args.task.draft t c.args.session.now c.create.new.session c.args.spawned.now.items made) c.create.ensures.told.asked;
+  kept = refl;
+}

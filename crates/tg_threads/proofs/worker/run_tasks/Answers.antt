@@ -3,15 +3,13 @@ use Rattle.std.specs.List.{count_by}
 use Rattle.std.proofs.lemmas.Bool.{lt-ltb}
 use Rattle.std.proofs.lemmas.List.Sums.{sum_by-cons}
 use Rattle.std.proofs.lemmas.Grind.{common_steps}
-use Rattle.std.proofs.lemmas.List.Elements.{All-nil}
-use Rattle.tg_shared.specs.Sessions.{IsFresh}
 use Rattle.tg_weave.specs.Boxes.{Boxed, boxed_of}
 use Rattle.tg_weave.proofs.ShareLaws.{map_push}
-use Rattle.tg_threads.specs.Tasks.{HaveNone, IsRunBy, Runs, may_make_subject, served_past}
+use Rattle.tg_threads.specs.Tasks.{IsRunBy, Runs, may_make_subject, served_past}
 use Rattle.tg_weave.specs.declared.task.Task.{Task}
 use Rattle.tg_weave.specs.declared.task.Told.{Told}
 use Rattle.tg_threads.specs.Output.{has_thread}
-use Rattle.tg_threads.proofs.RunLaws.{HasRunSo, mapped_at, run_more}
+use Rattle.tg_threads.proofs.RunLaws.{HasRunSo, mapped_at, none_spawned, run_more}
 use Rattle.tg_threads.proofs.worker.run_tasks.Goals as goal
 
 -- there is room for each line that is left
@@ -35,7 +33,7 @@ run_task-requires-clause-room g c = λ lifetimes outlive is.
 pub loop-task-init : goal.loop-task-init
 loop-task-init g c = record {
   left = search rules;
-  none = subst HaveNone (sym c.in_ok-spawned.ensures.items) (All-nil IsFresh);
+  spawned = none_spawned c.args.session.receipts c.in_ok-spawned.spawned.items c.requires.fresh.0 c.in_ok-spawned.ensures.items;
   room = search rules;
   runs = λ low all. record {
     worker = refl;
@@ -51,7 +49,7 @@ loop-task-preserved g c =
     let x = c.args.session.worker in
     record {
       left = left;
-      none = c.run_task.ensures.spawned.none c.loop-task.invariant.none;
+      spawned = c.in_ok-one.ensures.spawned.each c.loop-task.invariant.spawned;
       room = room_left (may_make_subject c.in-Some.task) c.in-Some.task c.next.new.self.rest.items c.loop-task.task-iterator.rest.items _ _ _ _ refl c.in-Some.ensures.steps.0 c.loop-task.invariant.room c.run_task.ensures.fits c.run_task.ensures.spawned.kept;
       runs = λ low all.
           let workers = g.L.Round.start.opening.workers in
@@ -72,7 +70,7 @@ returns g c =
         brought = λ low by.
             let workers = g.L.Round.start.opening.workers in
             let i = c.loop-task.invariant.runs low by in
-            (i.worker, subst (λ (ts : List (Task _)). Runs c.args.helpers (has_thread workers) (map boxed_of ts) c.loop-task.told.items c.loop-task.session.receipts) all i.runs, c.loop-task.invariant.none, i.handed);
+            (i.worker, subst (λ (ts : List (Task _)). Runs c.args.helpers (has_thread workers) (map boxed_of ts) c.loop-task.told.items c.loop-task.session.receipts) all i.runs, c.loop-task.invariant.spawned, i.handed);
         fault = tt;
       };
     }

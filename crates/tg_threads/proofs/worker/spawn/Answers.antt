@@ -1,9 +1,10 @@
-use Rattle.std.proofs.Common.{Option, rules, sym, subst}
+use Rattle.std.proofs.Common.{List, Option, refl, rules, sym, subst}
 use Rattle.std.specs.Prelude.{IfOk}
 use Rattle.tg_model.specs.declared.value.Value.{Value}
 use Rattle.tg_script.specs.Script.{spawn_of}
-use Rattle.tg_threads.specs.Tasks.{HasMade}
-use Rattle.tg_threads.proofs.RunLaws.{not_made_asked}
+use Rattle.tg_shared.specs.Sessions.{AreFresh, SessionState}
+use Rattle.tg_threads.specs.Tasks.{HasMade, subjects_spawned}
+use Rattle.tg_threads.proofs.RunLaws.{not_made_asked, not_spawned, ok_where, one_spawned, still_each}
 use Rattle.tg_threads.proofs.worker.spawn.Goals as goal
 
 pub returns-in-Err-clause-told : goal.returns-in-Err-clause-told
@@ -15,4 +16,26 @@ returns-in-Err-clause-told g c =
           (not_made_asked g.L.Round.start (spawn_of c.args.label c.in-Some.draft) c.in-Err.refused.why c.not_made.result old new tt c.not_made.ensures.fault c.in-Err.ensures.refusals.full (c.in-Err.ensures.workers_full) (c.in-Err.ensures.refused)
           c.not_made.ensures.refused c.not_made.ensures.entered);
       gone = search rules;
+    }
+
+pub returns-in-Ok-clause-spawned : goal.returns-in-Ok-clause-spawned
+returns-in-Ok-clause-spawned g c =
+    let old = c.args.session.now in
+    let new = c.spawn.new.self in
+    let fresh = c.in-Ok.fresh in
+    let held = c.args.spawned.now.items in
+    record {
+      each = λ had. subst (λ (ss : List SessionState). AreFresh (subjects_spawned new.receipts) ss) (sym c.push_reserved.ensures.items)
+          (one_spawned old new fresh _ (spawn_of c.args.label c.in-Some.draft) _ held refl c.in-Ok.ensures.receipt.3.0 c.in-Ok.ensures.fresh had);
+      kept = c.push_reserved.ensures.capacity;
+    }
+
+pub returns-in-Err-clause-spawned : goal.returns-in-Err-clause-spawned
+returns-in-Err-clause-spawned g c =
+    let old = c.args.session.now in
+    let new = c.spawn.new.self in
+    let same = not_spawned g.L.Round.start (spawn_of c.args.label c.in-Some.draft) c.in-Err.refused.why old new c.in-Err.ensures.refusals.full c.in-Err.ensures.workers_full c.in-Err.ensures.refused in
+    record {
+      each = ok_where c.not_made.result _ (still_each old new c.args.spawned.now.items same);
+      kept = refl;
     }

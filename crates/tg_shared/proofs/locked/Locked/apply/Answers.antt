@@ -1,4 +1,4 @@
-use Rattle.std.proofs.Common.{◌≡◌, ◌∙◌, ◌+◌, ℕ, Ok, length, arith, sym, ap, subst, refl}
+use Rattle.std.proofs.Common.{◌≡◌, ◌∙◌, ◌+◌, Bool, ℕ, Ok, length, arith, sym, ap, subst, refl}
 use Rattle.std.proofs.lemmas.Result.{err_from_is_err_and}
 use Rattle.tg_model.specs.Graph.{IsSubject, ProtectionGraph}
 use Rattle.tg_model.specs.declared.command.Deed.{Deed}
@@ -11,6 +11,7 @@ use Rattle.tg_store.specs.Store.{IsUnchanged, StandsFor, StoreState, graph_of_st
 use Rattle.tg_shared.specs.Sessions.{LockedState}
 use Rattle.tg_shared.proofs.Balances.{balanced_entered, balanced_same, goes_on_entered, goes_on_same, grown, made_more, made_same}
 use Rattle.tg_shared.proofs.Calls.{came_as, err_here, goes_as, ok_not_err}
+use Rattle.tg_shared.proofs.Retiring.{gone_behind}
 use Rattle.tg_shared.proofs.locked.Locked.apply.Goals as goal
 
 pub invariant_of-self : goal.invariant_of-self
@@ -28,10 +29,23 @@ returns-in_err-reply-clause-refused g c =
     let given = err_from_is_err_and c.from_residual.result c.from_residual.ensures.1 in
     let kept : IsUnchanged c.self.inside.store c.apply.new.self = c.in_err-reply.ensures.refused in
     err_here c.from_residual.result given.0 _ given.1
-    (subst (λ (b : LockedState). IsUnchanged b.store c.apply.new.self) c.self.view_is kept, (refl {A = ℕ}, refl, refl {A = ℕ}, refl {A = ℕ}))
+    (subst (λ (b : LockedState). IsUnchanged b.store c.apply.new.self) c.self.view_is kept, (refl {A = ℕ}, refl, refl {A = ℕ}, refl {A = ℕ}, refl {A = Bool}))
 
 pub note-requires : goal.note-requires
-note-requires g c = record { room = c.requires.room; own = c.worker-worker.ensures }
+note-requires g c =
+    let old : StoreState = c.self.inside.store in
+    let new : StoreState = c.apply.new.self in
+    record {
+      room = c.requires.room;
+      own = c.worker-worker.ensures;
+      gone = λ is. (
+        new,
+        goes_on_entered _ _ _ _ _ _ c.self.invariant.3 c.in_ok-reply.ensures.entry c.apply.ensures.opening c.apply.ensures.limits c.apply.ensures.handed,
+        c.journal-2.ensures.faithful,
+        subst (λ (w : ℕ). ¬ IsSubject (graph_of_store new) w) c.worker-worker.ensures
+            (gone_behind (graph_of_store old) (graph_of_store new) c.worker-worker.result c.args.command (sym c.deed_of-deed.ensures ∙ is) (c.in_ok-reply.ensures.step (graph_of_store old) refl)),
+      );
+    }
 
 as_many : (sessions made next : ℕ) → sessions ≡ made → next ≡ made + 0 → sessions ≡ next
 as_many sessions made next is same = omega arith

@@ -1,6 +1,9 @@
 use Rattle.std.specs.Prelude.{IfOk}
-use Rattle.std.proofs.Common.{◌≡◌, ◌∙◌, ◌<◌, ◌+◌, ℕ, ap, arith, rules, subst, sym}
+use Rattle.std.proofs.Common.{◌≡◌, ◌∙◌, ◌<◌, ◌+◌, ℕ, List, ap, arith, rules, subst, sym}
 use Rattle.std.proofs.lemmas.Result.{IfOk-at_ok, IfErr-at_err}
+use Rattle.tg_rights.specs.RightSet.{RightSet}
+use Rattle.tg_model.specs.declared.law.Law.{Law}
+use Rattle.tg_model.specs.declared.command.Command.{Command}
 use Rattle.tg_model.specs.declared.command.Deed.{Deed}
 use Rattle.tg_model.specs.declared.reply.Reply.{Reply}
 use Rattle.tg_store.specs.Made.{IsMadeFor}
@@ -37,10 +40,14 @@ invariant_of-self-2 g c =
       )
     ]
 
+not_retire : {label : RightSet} {law : Law} {state : List ℕ} → Deed.Create label law state ≡ Deed.Plain Command.Retire → ⊥
+not_retire is = cc
+
 pub note-requires : goal.note-requires
 note-requires g c = record {
   room = subst (λ (n : ℕ). 0 < n) (sym c.take_copy-state.ensures.spare) c.requires.notable.room;
   own = c.worker-worker.ensures ∙ sym c.take_copy-state.ensures.receipts.0;
+  gone = λ is. absurd (not_retire is);
 }
 
 pub returns-clause-made : goal.returns-clause-made

@@ -1,7 +1,8 @@
-use Rattle.std.proofs.Common.{List, ℕ, ◌≡◌, ◌∙◌, ◌∷◌, [], length, length-append, refl, sym, subst, ap, arith}
+use Rattle.std.proofs.Common.{List, Bool, ℕ, ◌≡◌, ◌∙◌, ◌∷◌, [], length, length-append, refl, sym, subst, ap, arith}
 use Rattle.tg_model.specs.declared.command.Deed.TheVariants.{Plain}
 use Rattle.tg_model.specs.Graph.{IsSubject, ProtectionGraph}
 use Rattle.tg_model.specs.Rules.{Permits, answer_of}
+use Rattle.tg_store.specs.declared.fault.ApplyFault.{ApplyFault}
 use Rattle.tg_store.specs.Store.{StoreState, IsFaithful, graph_of_store}
 use Rattle.tg_shared.specs.declared.receipt.Receipt.{Receipt}
 use Rattle.tg_shared.specs.Receipts.{receipt_of}
@@ -9,9 +10,18 @@ use Rattle.std.proofs.lemmas.Result.{err_from_is_err_and}
 use Rattle.tg_graph.specs.Heap.{nursery_of}
 use Rattle.tg_rules.specs.Effect.{AddsEdge, LacksCellsToServe}
 use Rattle.tg_shared.specs.Sessions.{LockedState}
-use Rattle.tg_shared.proofs.Calls.{err_here, found, kept, refused_as, refused_here}
+use Rattle.tg_shared.proofs.Calls.{err_here, found, kept, refused_as, refused_here, still}
 use Rattle.tg_shared.proofs.Replies.{answered}
 use Rattle.tg_shared.proofs.session.Session.call.Goals as goal
+
+not_heap : ApplyFault.NoSuchWorker ≡ ApplyFault.HeapFull → ⊥
+not_heap is = cc
+
+pub returns-then-retired : goal.returns-then-retired
+returns-then-retired g c = (
+  (refl, (λ _. tt), (refl {A = ℕ}, refl, refl {A = ℕ}, refl {A = ℕ}, refl {A = Bool})),
+  record { receipt = tt; no_such_worker = λ _. c.retired.ensures.gone c.if-retired.true; full = λ is. absurd (not_heap is); retired = λ _. refl },
+)
 
 pub last_reply-requires : goal.last_reply-requires
 last_reply-requires g c =
@@ -27,7 +37,7 @@ returns g c =
     let held = found g.L.Round.start c.deref.result.now c.deref_mut.result.now (c.deref.ensures ∙ sym c.deref_mut.ensures.value) c.store.ensures.gone_on c.store.ensures.faithful in
     let after : IsFaithful c.apply.new.self.store = subst (λ (b : LockedState). IsFaithful b.store) c.deref-2.ensures c.store-2.ensures.faithful in (
       (refl, (λ _. tt), answered g.L.Round.start s c.apply.new.self.store c.args.self.now c.make_room.new.self c.apply.new.session (Plain c.args.command) _ c.last_reply.result.now held.0 held.1 c.in_ok-make_room.ensures.receipts records c.apply.ensures.opening after shown),
-      record { receipt = tt; no_such_worker = tt; full = tt },
+      record { receipt = tt; no_such_worker = tt; full = tt; retired = still c.retired.result c.args.self.now.retired c.retired.ensures.is c.if-retired.false },
     )
 
 pub returns-in_err-apply : goal.returns-in_err-apply
@@ -43,5 +53,6 @@ returns-in_err-apply g c =
         receipt = tt;
         no_such_worker = err_here answer given.0 _ given.1 (λ why. (s, held.0, held.1, subst (λ (w : ℕ). ¬ IsSubject (graph_of_store s) w) worker ((c.in_err-apply.ensures.no_such_worker (graph_of_store s) refl).0 (refused_as given.2 why))));
         full = err_here answer given.0 _ given.1 (λ why. (s, held.0, held.1, subst (λ (w : ℕ). Permits (graph_of_store s).label (graph_of_store s).value w c.args.command × AddsEdge c.args.command × LacksCellsToServe s.heap.table (nursery_of s.heap w) w c.args.command) worker (c.in_err-apply.ensures.full (graph_of_store s) refl (refused_as given.2 why))));
+        retired = still c.retired.result c.args.self.now.retired c.retired.ensures.is c.if-retired.false;
       },
     )

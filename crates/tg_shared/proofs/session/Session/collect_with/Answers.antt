@@ -1,8 +1,6 @@
 use Rattle.std.proofs.Common.{◌∙◌, sym}
 use Rattle.std.proofs.lemmas.Result.{err_from_is_err_and}
 use Rattle.tg_helpers.specs.declared.HelpersFault.{HelpersFault}
-use Rattle.tg_store.specs.Store.{StoreState, graph_of_store}
-use Rattle.tg_shared.proofs.Balances.{graph_same}
 use Rattle.tg_shared.proofs.Calls.{came_as, err_here, found_with, ok_none, ok_not_err, refused_as}
 use Rattle.tg_shared.proofs.session.Session.collect_with.Goals as goal
 
@@ -15,8 +13,10 @@ returns-in_err-left g c = let given = err_from_is_err_and c.from_residual.result
 
 pub returns : goal.returns
 returns g c =
-    let next : StoreState = c.collect_with.new.self.store in let same = graph_same c.deref_mut.result.now.store next c.collect_with.ensures.kept.history.entries c.collect_with.ensures.kept.history.opening in record {
-      number = found_with g.L.Round.start _ c.deref-2.result.now c.collect_with.new.self c.deref-2.ensures c.store-2.ensures.gone_on c.store-2.ensures.faithful (c.in_ok-left.ensures.swept.number, c.in_ok-left.ensures.swept.reachable (graph_of_store next) (sym same));
+    let kept = c.collect_with.ensures.kept.history in
+    let after = found_with g.L.Round.start _ c.deref-2.result.now c.collect_with.new.self c.deref-2.ensures c.store-2.ensures.gone_on c.store-2.ensures.faithful (kept.entries, c.in_ok-left.ensures.swept) in
+    record {
+      number = found_with g.L.Round.start _ c.deref.result.now c.deref_mut.result.now (c.deref.ensures ∙ sym c.deref_mut.ensures.value) c.store.ensures.gone_on c.store.ensures.faithful after;
       full = tt;
       alone = λ one is. ok_not_err c.in_ok-left.left HelpersFault.NoThread is;
     }

@@ -1,9 +1,9 @@
-use Rattle.std.proofs.Common.{◌≡◌, ◌∙◌, refl, sym, subst}
+use Rattle.std.proofs.Common.{◌≡◌, ◌∙◌, Bool, ℕ, refl, sym, subst}
 use Rattle.tg_store.specs.declared.fault.CreateFault.{CreateFault}
 use Rattle.tg_store.specs.Store.{IsFaithful}
 use Rattle.std.proofs.lemmas.Result.{IfErr-weaker, IfOk-weaker}
 use Rattle.tg_shared.specs.Sessions.{LockedState}
-use Rattle.tg_shared.proofs.Calls.{found, kept}
+use Rattle.tg_shared.proofs.Calls.{found, kept, still}
 use Rattle.tg_shared.proofs.Refusals.{refusals_at_some}
 use Rattle.tg_shared.proofs.Replies.{answered}
 use Rattle.tg_shared.proofs.session.Session.spawn.Goals as goal
@@ -20,6 +20,33 @@ not_worker is = cc
 not_heap : CreateFault.OutOfMemory ≡ CreateFault.HeapFull → ⊥
 not_heap is = cc
 
+not_gone_vertices : CreateFault.NoSuchWorker ≡ CreateFault.VerticesFull → ⊥
+not_gone_vertices is = cc
+
+not_gone_workers : CreateFault.NoSuchWorker ≡ CreateFault.WorkersFull → ⊥
+not_gone_workers is = cc
+
+not_gone_heap : CreateFault.NoSuchWorker ≡ CreateFault.HeapFull → ⊥
+not_gone_heap is = cc
+
+pub returns-then-retired : goal.returns-then-retired
+returns-then-retired g c = record {
+  receipt = tt;
+  fresh = tt;
+  workers_full = λ is. absurd (not_gone_workers is);
+  refused = λ _ _. (refl {A = ℕ}, refl, refl {A = ℕ}, refl {A = ℕ}, refl {A = Bool});
+  refusals = record {
+    full = λ is. absurd (not_gone_vertices is);
+    no_such_worker = λ _. c.retired.ensures.gone c.if-retired.true;
+    heap_full = λ is. absurd (not_gone_heap is);
+    handed_back = refl;
+  };
+  retired = λ _. refl;
+}
+
+pub returns-clause-retired : goal.returns-clause-retired
+returns-clause-retired g c = still c.retired.result c.args.self.now.retired c.retired.ensures.is c.if-retired.false
+
 pub returns-then-is_err : goal.returns-then-is_err
 returns-then-is_err g c = record {
   receipt = tt;
@@ -32,6 +59,7 @@ returns-then-is_err g c = record {
     heap_full = λ is. absurd (not_heap is);
     handed_back = refl;
   };
+  retired = still c.retired.result c.args.self.now.retired c.retired.ensures.is c.if-retired.false;
 }
 
 pub returns-clause-refused : goal.returns-clause-refused
