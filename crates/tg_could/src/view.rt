@@ -25,8 +25,8 @@ pub struct View {
     is_shown: bool,
 }
 
-/// What was found of a picture: who acts, the islands, the edges by their targets, and whether as many subjects as may be
-/// are active.
+/// What was found of a picture: who acts, the islands, the edges by their targets, and whether as many subjects as may
+/// be are active.
 #[derive(Drop)]
 struct Facts {
     actors: Vec<u64>,
@@ -60,8 +60,8 @@ impl View {
     }
 
     /// Whether x could ever come to hold a right over y, by any turns of the active subjects but the silent ones, as of
-    /// the moment of [`View::open`]: `Never` is proved, `Perhaps` says nothing. Takes no memory, and time in proportion to
-    /// the edges to y.
+    /// the moment of [`View::open`]: `Never` is proved, `Perhaps` says nothing. Takes no memory, and time in proportion
+    /// to the edges to y.
     pub fn could(&self, x: u64, right: Right, y: u64) -> Chance
         ensures { (silent : List ℕ) (shown : Shown) (g : ProtectionGraph) →
             IsViewOf silent shown self.now → IsPictureOf shown g → result ≡ Never → NeverHolds silent g x right y }

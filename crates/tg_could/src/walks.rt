@@ -1,6 +1,6 @@
-//! Who walks to each vertex along take edges: a bit for each of those who act. One search, depth first and back along the
-//! edges, in vertices + edges: vertices that walk to each other make a knot, which is known when all that lead to it are.
-//! Nothing is believed of it: what it finds is checked.
+//! Who walks to each vertex along take edges: a bit for each of those who act. One search, depth first and back along
+//! the edges, in vertices + edges: vertices that walk to each other make a knot, which is known when all that lead to
+//! it are. Nothing is believed of it: what it finds is checked.
 use crate::incoming::Incoming;
 use crate::separation::has;
 use crate::words::{add, word_of};
@@ -10,7 +10,8 @@ use tg_rights::Right;
 // The number of a vertex whose knot is known, greater than that of any other.
 const KNOWN: u64 = u64::MAX;
 
-/// For each vertex a word of those of `actors` who walk to it, of whom the first 64 count. Fails only when out of memory.
+/// For each vertex a word of those of `actors` who walk to it, of whom the first 64 count. Fails only when out of
+/// memory.
 pub(crate) fn walks(
     alloc: Global,
     incoming: &Incoming,
@@ -50,8 +51,8 @@ struct Visit {
     next: u64,
 }
 
-// For each vertex the word so far, and its number: 0 where it wasn't come to, else the least number of those that it was
-// seen to be in one knot with. The path leads to where the search is; open are those on it or behind whose knot isn't known.
+// For each vertex the word so far, and its number: 0 where it wasn't come to, else the least number of those that it
+// was seen to be in one knot with. The path leads to where the search is; open are those whose knot isn't known yet.
 #[derive(Drop)]
 struct Walk {
     words: Vec<u64>,
