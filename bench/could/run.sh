@@ -1,7 +1,7 @@
 #!/bin/sh
 # run.sh [SEED [GRAPHS]]: holds could_hold against a closure written apart, over random graphs of 2 to 5 vertices with silent sets
 # (200,000 of them, twelve questions each), and replays each witness by rules written apart. Then it tells how long a question
-# takes on large pictures. It proves, builds and runs the program beside it in a temporary folder.
+# takes on large pictures, in plain Rust too, and a view. It proves, builds and runs the program beside it in a temporary folder.
 set -eu
 here=$(cd "$(dirname "$0")" && pwd)
 seed=${1:-1}
@@ -13,6 +13,9 @@ rustc -O -o "$build/closure" "$here/closure.rs"
 cd "$program"
 rt run < "$build/questions" > "$build/answers"
 "$build/closure" "$seed" "$graphs" "$build/answers"
+rustc -O -o "$build/rival" "$here/rival.rs"
 for size in "100000 300000" "1000000 3000000"; do
-    echo "big $size $seed"
-done | rt run
+    echo "big $size $seed 16" | rt run
+    "$build/rival" $size "$seed" 16
+    echo "view $size $seed 1000000" | rt run
+done

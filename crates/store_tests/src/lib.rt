@@ -22,6 +22,8 @@ mod meeting;
 #[cfg(test)]
 mod payloads;
 #[cfg(test)]
+mod pictures;
+#[cfg(test)]
 mod races;
 #[cfg(test)]
 mod rows;

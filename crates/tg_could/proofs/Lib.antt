@@ -5,3 +5,5 @@ pub mod TurnLaws
 pub mod ReachedLaws
 pub mod ToldLaws
 pub mod ListedLaws
+pub mod WordLaws
+pub mod ViewLaws

@@ -5,3 +5,4 @@ pub mod Answered
 pub mod Reached
 pub mod Told
 pub mod Listed
+pub mod View

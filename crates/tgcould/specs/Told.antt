@@ -7,6 +7,8 @@ use Rattle.tg_model.specs.Picture.{Shown, IsPictureOf}
 use Rattle.tg_could.specs.declared.answer.Answer.{Answer}
 use Rattle.tg_could.specs.Answered.{IsAnswer}
 use Rattle.tg_could.specs.Turns.{NeverHolds}
+use Rattle.tg_could.specs.Told.{IsLeftOut}
+use Rattle.tg_could.specs.declared.who.Who.{Who}
 use Rattle.tgcould.specs.declared.question.Vertex.{Vertex}
 use Rattle.tgcould.specs.declared.question.Vertex.TheVariants.{Named, New}
 use Rattle.tgcould.specs.Texts.{answer_text}
@@ -31,3 +33,7 @@ IsNever p silent x right y = (g : ProtectionGraph) → IsPictureOf p g → Never
 -- of the vertices that were made, and of the next, whoever isn't among these never holds the right over y
 abbrev pub ListsWho : Shown → List ℕ → Right → ℕ → List ℕ → Type 0
 ListsWho p silent right y names = (x : ℕ) → x ≤ p.made → (¬ Contains names x) → IsNever p silent x right y
+
+-- whoever was left out where all were told of at once never holds the right over y
+abbrev pub LeavesOut : Shown → List ℕ → Right → ℕ → Who → Type 0
+LeavesOut p silent right y who = (x : ℕ) → IsLeftOut who x → IsNever p silent x right y

@@ -1,12 +1,13 @@
 //! What is asked of a picture, and told.
-ghost use Rattle.std.specs.Prelude.{◌≡◌, ℕ, IfOk, OnOk};
+ghost use Rattle.std.specs.Prelude.{◌≡◌, ℕ, IfOk, OnOk, IsTrue};
 ghost use Rattle.std.specs.List.{Contains};
-ghost use Rattle.tgcould.specs.Told.{Answers, IsNever, ListsWho, TellsHold, named_in};
+ghost use Rattle.tg_could.specs.Told.{IsLeftOut};
+ghost use Rattle.tgcould.specs.Told.{Answers, IsNever, LeavesOut, ListsWho, TellsHold, named_in};
 
 use crate::question::{Question, Vertex};
 use crate::text::{add_answer, add_rights, add_vertex, put};
 use std::alloc::{AllocError, Global};
-use tg_could::{Answer, could_hold};
+use tg_could::{Answer, Chance, What, Who, could_hold, what_could, who_could};
 use tg_model::{Deed, Picture};
 use tg_rights::{Right, Rights};
 
@@ -151,24 +152,31 @@ fn who(scene: &Scene, right: Right, y: u64) -> Result<Vec<u64>, AllocError>
 {
     let mut names = Vec::new(scene.alloc);
     let made = scene.picture.made();
+    let who = who_could(scene.alloc, scene.picture, scene.silent, right, y)?;
     for x in 0..made {
-        add_unless_never(&mut names, scene, x, right, y)?;
+        add_unless_never(&mut names, scene, &who, x, right, y)?;
     }
-    add_unless_never(&mut names, scene, made, right, y)?;
+    add_unless_never(&mut names, scene, &who, made, right, y)?;
     Ok(names)
 }
 
-// Adds x, unless it is shown that x never holds the right over y.
+// Adds x, unless it is shown that x never holds the right over y: by the search that told of all at once, else by one
+// of its own.
 fn add_unless_never(
     names: &mut Vec<u64>,
     scene: &Scene,
+    who: &Who,
     x: u64,
     right: Right,
     y: u64,
 ) -> Result<(), AllocError>
     ensures kept { OnOk result ((k : ℕ) → Contains names.old.items k → Contains names.new.items k) }
-    ensures shown { OnOk result ((¬ Contains names.new.items x) → IsNever scene.now.picture.now scene.now.silent.now x right y) }
+    ensures shown { OnOk result (LeavesOut scene.now.picture.now scene.now.silent.now right y who.now →
+        (¬ Contains names.new.items x) → IsNever scene.now.picture.now scene.now.silent.now x right y) }
 {
+    if is_left_out(who, x) {
+        return Ok(());
+    }
     if let Answer::Never(_) = ask(scene, x, right, y)? {
         return Ok(());
     }
@@ -176,13 +184,24 @@ fn add_unless_never(
     Ok(())
 }
 
+// Whether x was left out where all were told of at once.
+fn is_left_out(who: &Who, x: u64) -> bool
+    ensures { IsTrue result → IsLeftOut who.now x }
+{
+    match who.of(x) {
+        Chance::Never => true,
+        Chance::Perhaps => false,
+    }
+}
+
 // Adds which rights x could come to hold, and over whom.
 fn tell_what(text: &mut Vec<u8>, scene: &Scene, x: Vertex) -> Result<Told, AllocError> {
     let made = scene.picture.made();
     let first = text.len();
     let x = name_of(scene, x);
+    let told = what_could(scene.alloc, scene.picture, scene.silent, x)?;
     for y in 0..=made {
-        let rights = what(scene, x, y)?;
+        let rights = what(scene, &told, x, y)?;
         if !rights.is_empty() {
             if text.len() > first {
                 put(text, b" ")?;
@@ -199,11 +218,16 @@ fn tell_what(text: &mut Vec<u8>, scene: &Scene, x: Vertex) -> Result<Told, Alloc
     Ok(listed(is_never))
 }
 
-// The rights of which it isn't shown that x never holds them over y.
-fn what(scene: &Scene, x: u64, y: u64) -> Result<Rights, AllocError> {
+// The rights of which it isn't shown that x never holds them over y: by the search that told of all at once, else by
+// one of its own.
+fn what(scene: &Scene, told: &What, x: u64, y: u64) -> Result<Rights, AllocError> {
     let mut rights = Rights::empty();
     for right in RIGHTS {
-        if !matches!(ask(scene, x, right, y)?, Answer::Never(_)) {
+        let could = match told.of(right, y) {
+            Chance::Never => false,
+            Chance::Perhaps => !matches!(ask(scene, x, right, y)?, Answer::Never(_)),
+        };
+        if could {
             rights = rights.union(Rights::of(right));
         }
     }

@@ -1,0 +1,111 @@
+-- The words of a view part whoever it doesn't join to a right.
+use Rattle.std.proofs.Common.{◌≡◌, ◌≢◌, ℕ, ◌<◌, ◌≤◌, Bool, true, false, List, slice_index_or, bit_or, sym, ◌∙◌, ap, subst, arith}
+use Rattle.std.specs.List.{All, AllWithin, Contains}
+use Rattle.std.proofs.lemmas.Bool.{false≢true}
+use Rattle.std.proofs.lemmas.List.Elements.{All-contains}
+use Rattle.tg_rights.specs.RightSet.{RightSet, has}
+use Rattle.tg_rights.specs.declared.Right.{Right}
+use Rattle.tg_rights.specs.declared.Right.TheVariants.{T, G}
+use Rattle.tg_model.specs.declared.edge.Edge.{Edge}
+use Rattle.tg_model.specs.Graph.{ProtectionGraph}
+use Rattle.tg_model.specs.Opened.{label_in}
+use Rattle.tg_model.specs.Picture.{Holds, Shown, IsPictureOf}
+use Rattle.tg_could.specs.Turns.{NeverHolds}
+use Rattle.tg_could.specs.Separation.{Sides, MayAdd, Walks, IsEven}
+use Rattle.tg_could.specs.View.{word_of, is_within, meets, IsOfOne, Joins, IsIn, IsGathered, IsPlaced, IsCheckedOn, sides_by}
+use Rattle.tg_could.specs.declared.incoming.Incoming.{Incoming}
+use Rattle.tg_could.specs.declared.islands.Islands.{Islands}
+use Rattle.tg_could.specs.declared.view.Facts.{Facts}
+use Rattle.tg_could.proofs.MarkLaws.{IsNot, none_holds, Parts-edges, pictured-never, pictured-same, pictured-alone}
+use Rattle.tg_could.proofs.ToldLaws.{keeps-walks}
+use Rattle.tg_could.proofs.WordLaws.{within-trans, within-more, meets-down, meets-up, bridged-on, bridged-back, single-alike}
+
+-- what was gathered over y
+abbrev pub AreGathered : Incoming → List ℕ → ℕ → Right → ℕ → ℕ → Type 0
+AreGathered incoming words x r y word =
+    AllWithin (IsGathered words x r word) incoming.holders.items (slice_index_or incoming.firsts.items y 0) (slice_index_or incoming.ends.items y 0)
+
+module _ (islands : Islands) (incoming : Incoming) (x : ℕ) (r : Right) (y gathered : ℕ) (are : AreGathered incoming islands.reached.items x r y gathered) (edge : Edge) (is_in : IsIn incoming edge) where
+  abbrev words : List ℕ
+  words = islands.reached.items
+
+  -- who holds the right by an edge isn't x, and its word is counted
+  pub of_edge : edge.to ≡ y → has edge.label r ≡ true → (edge.from ≢ x) × (is_within (word_of words edge.from) gathered ≡ true)
+  of_edge at_y is =
+      let d : ℕ × RightSet = (edge.from, edge.label) in
+      let h = is_in.holder d in
+      subst (λ (v : ℕ). (v ≢ x) × (is_within (word_of words v) gathered ≡ true)) h.0
+      (are is_in.place d
+      (subst (λ (v : ℕ). slice_index_or incoming.firsts.items v 0 ≤ is_in.place) at_y is_in.first)
+      (subst (λ (v : ℕ). is_in.place < slice_index_or incoming.ends.items v 0) at_y is_in.end)
+      (ap (λ (m : RightSet). has m r) h.1 ∙ is))
+
+  pub gathered-not : IsNot x r y edge
+  gathered-not at_x at_y is = (of_edge at_y is).0 at_x
+
+  module _ (joins : Joins islands edge) (word : ℕ) (more : (a : ℕ) → is_within a gathered ≡ true → is_within a word ≡ true) (not_granted : meets (word_of islands.granted.items x) word ≡ false) where
+    walks : Walks (sides_by words word) edge
+    walks =
+        let from = word_of words edge.from in
+        let to = word_of words edge.to in
+        record {
+          take_on = λ is f. meets-up from to word (joins.take is) f;
+          take_back = λ is f. within-trans from to word (joins.take is) f;
+          grant_on = λ is f. bridged-on from to word (joins.grant is) f;
+          grant_back = λ is f. bridged-back from to word (joins.grant is) f;
+        }
+
+    pub joined-fits : MayAdd (sides_by words word) x r y edge.from edge.to edge.label
+    joined-fits = record {
+      keeps = keeps-walks (sides_by words word) r y edge walks (λ is at_y. more (word_of words edge.from) (of_edge at_y is).1);
+      not_held = gathered-not;
+      not_granted = λ at_x is f.
+          false≢true
+          (sym (meets-down (word_of words edge.from) (word_of islands.granted.items edge.to) word (joins.granted is)
+          (subst (λ (v : ℕ). meets (word_of islands.granted.items v) word ≡ false) (sym at_x) not_granted)) ∙ f);
+    }
+
+module _ (silent : List ℕ) (p : Shown) (g : ProtectionGraph) (picture : IsPictureOf p g) (view : Facts) (checked : IsCheckedOn silent p view) (x : ℕ) (r : Right) (y gathered : ℕ) (are : AreGathered view.incoming view.islands.reached.items x r y gathered) where
+  gathered-lacks : ¬ Holds (label_in p.edges) x r y
+  gathered-lacks =
+      none_holds x r y p.edges
+      (λ k d inside. gathered-not view.islands view.incoming x r y gathered are (slice_index_or p.edges k d) (checked.incoming k d inside))
+
+  pub viewed-same : x ≡ y → NeverHolds silent g x r y
+  viewed-same same = pictured-same silent p g picture x r y same gathered-lacks
+
+  pub viewed-alone : view.is_full ≡ true → All (λ v. v ≡ y) view.actors.items → NeverHolds silent g x r y
+  viewed-alone full alone =
+      pictured-alone silent p g picture x r y (checked.full full)
+      (λ k d inside acts.
+      All-contains (λ v. v ≡ y) view.actors.items (slice_index_or p.subjects k d) alone (checked.actors k d inside acts).is)
+      gathered-lacks
+
+  module _ (word : ℕ) (more : (a : ℕ) → is_within a gathered ≡ true → is_within a word ≡ true) (not_granted : meets (word_of view.islands.granted.items x) word ≡ false) (placed : All (IsPlaced view x y word) view.actors.items) where
+    abbrev s : Sides
+    s = sides_by view.islands.reached.items word
+
+    even : (v : ℕ) → Contains view.actors.items v → IsEven s p x y v
+    even v acts =
+        let is = All-contains (IsPlaced view x y word) view.actors.items v placed acts in
+        record {
+          alike = single-alike (word_of view.islands.reached.items v) word (All-contains (IsOfOne view.islands) view.actors.items v checked.single acts).power;
+          not_x = is.not_x;
+          y_may_come = λ comes. is.y_may_come (omega (arith, comes.0, checked.made), omega (arith, comes.1, checked.limit));
+          x_may_come = λ comes. is.x_may_come (omega (arith, comes.0, checked.made), omega (arith, comes.1, checked.limit));
+        }
+
+    pub viewed-never : NeverHolds silent g x r y
+    viewed-never =
+        pictured-never silent p g picture s x r y
+        (λ k d inside acts. even (slice_index_or p.subjects k d) (checked.actors k d inside acts).is)
+        (Parts-edges s x r y p.edges
+        (λ k d inside.
+        joined-fits view.islands view.incoming x r y gathered are (slice_index_or p.edges k d) (checked.incoming k d inside) (checked.edges k d inside) word more not_granted))
+
+-- ---- loops
+
+-- a word with more bits counts what it counted
+pub gathered-widen : (words : List ℕ) (x : ℕ) (r : Right) (hs : List (ℕ × RightSet)) (low at word more : ℕ) → AllWithin (IsGathered words x r word) hs low at → AllWithin (IsGathered words x r (bit_or word more)) hs low at
+gathered-widen words x r hs low at word more all k d from below is =
+    let h = all k d from below is in (h.0, within-more (word_of words (slice_index_or hs k d).0) word more h.1)
