@@ -103,6 +103,10 @@ static uint64_t tell_story(void) {
         stop(__LINE__, 0);
     CALL(tg_retire(&store, name));
     CALL(tg_remove(&store, 0, name, TG_GRANT, &why));
+    /* A question as if 1 had a right over the worker. The answer outlives the store. */
+    const tg_edge supposed = { 1, 0, TG_TAKE };
+    tg_answer answer = TG_ANSWER_INIT;
+    CALL(tg_could(&store, NULL, 0, &supposed, 1, 1, TG_WRITE, 2, &answer));
     /* The heap keeps the blocks that a full collection emptied. One of the nurseries that nothing outlives fills none of them. */
     CALL(tg_collect(&store, TG_FULL, &count));
     CALL(tg_create(&store, 0, TG_READ, &kinds[1], &name));
@@ -111,7 +115,9 @@ static uint64_t tell_story(void) {
     CALL(tg_entries(&store, &entries));
     read_entries(&store, entries);
     CALL(tg_audit(&store, &count));
-    if (tg_close(&store) != TG_DONE || count != entries || held != 0)
+    if (tg_close(&store) != TG_DONE || tg_answer_turns(&answer, &name) != TG_DONE || name == 0 || tg_answer_close(&answer) != TG_DONE)
+        stop(__LINE__, 0);
+    if (count != entries || held != 0)
         stop(__LINE__, 0);
     return entries;
 }

@@ -24,6 +24,10 @@ tg_status proved_tg_subjects(tg_store *store, uint64_t *names, size_t room, uint
 tg_status proved_tg_entry(tg_store *store, uint64_t at, tg_record *record, uint64_t *numbers, size_t number_room, tg_target *edges,
                           size_t edge_room);
 
+tg_status proved_tg_could(tg_store *store, const uint64_t *silent, size_t silent_count, const tg_edge *as_if, size_t as_if_count,
+                          uint64_t x, uint64_t right, uint64_t y, tg_answer *answer);
+tg_status proved_tg_answer_turn(tg_answer *answer, uint64_t at, tg_record *record, uint64_t *numbers, size_t room);
+
 /* An address for an array of no items, at which nothing is read or written. */
 static const uint64_t nothing[1];
 
@@ -111,6 +115,22 @@ tg_status tg_entry(tg_store *store, uint64_t at, tg_record *record, uint64_t *nu
     if (edges == NULL && edge_room == 0)
         edges = &no_edge;
     return proved_tg_entry(store, at, record, numbers, number_room, edges, edge_room);
+}
+
+tg_status tg_could(tg_store *store, const uint64_t *silent, size_t silent_count, const tg_edge *as_if, size_t as_if_count,
+                   uint64_t x, uint64_t right, uint64_t y, tg_answer *answer) {
+    if (silent == NULL && silent_count == 0)
+        silent = nothing;
+    if (as_if == NULL && as_if_count == 0)
+        as_if = (const tg_edge *)nothing;
+    return proved_tg_could(store, silent, silent_count, as_if, as_if_count, x, right, y, answer);
+}
+
+tg_status tg_answer_turn(tg_answer *answer, uint64_t at, tg_record *record, uint64_t *numbers, size_t room) {
+    uint64_t none;
+    if (numbers == NULL && room == 0)
+        numbers = &none;
+    return proved_tg_answer_turn(answer, at, record, numbers, room);
 }
 
 const char *tg_version(void) {

@@ -69,9 +69,9 @@ enum {
     TG_DENIED = 1,            /* the rules don't allow it; nothing changed but that the journal has it */
 
     TG_NOT_OPEN = 16,         /* exactly where the store is closed and what was asked for is no TG_BAD_.. */
-    TG_ALREADY_OPEN = 17,     /* tg_open: exactly where the store is open */
+    TG_ALREADY_OPEN = 17,     /* tg_open: exactly where the store is open; tg_could: where the answer is, and no bits are bad */
 
-    TG_OUT_OF_MEMORY = 32,    /* malloc or realloc gave none; the same call may be made again. Never in the place of a TG_BAD_.. */
+    TG_OUT_OF_MEMORY = 32,    /* malloc or realloc gave none; the same call may be made again. Never in the place of a TG_BAD_.. but a tg_could's edge */
     TG_HEAP_FULL = 33,        /* no cell or block is left, by the limits; after tg_collect there may be */
     TG_VERTICES_FULL = 34,    /* tg_create, tg_spawn: where as many vertices were made as may be; the journal has an entry of it */
     TG_WORKERS_FULL = 35,     /* tg_spawn: where 64 workers are active, and a vertex may be made; the journal has an entry of it */
@@ -84,11 +84,11 @@ enum {
 
     TG_BAD_WORKERS = 80,      /* tg_open: not from 1 to 64 workers */
     TG_BAD_LIMITS = 81,       /* tg_open: a limit is out of its range */
-    TG_BAD_EDGE = 82,         /* tg_open: an edge from a worker to itself, or with an end that is no worker */
+    TG_BAD_EDGE = 82,         /* an edge from a vertex to itself; tg_open: with an end that is no worker; tg_could: that none reaches */
     TG_BAD_VALUES = 83,       /* tg_open: kept; no value that a tg_value can say gives it */
 
     TG_BAD_ENTRY = 96,        /* tg_audit: never, while nobody but these functions wrote to the store's memory */
-    TG_BAD_PLACE = 97         /* tg_entry: exactly where the store is open, and its journal has no entry at the place */
+    TG_BAD_PLACE = 97         /* tg_entry, tg_answer_turn: exactly where the store or the answer is open, and has nothing at the place */
 };
 
 /* What a write does to the state of a vertex. */
@@ -313,6 +313,62 @@ tg_status tg_entry(tg_store *store, uint64_t at, tg_record *record, uint64_t *nu
 
 /* Replays the journal from the opening, on a plain graph that was never collected, and counts its entries. */
 tg_status tg_audit(tg_store *store, uint64_t *count);
+
+/* ---- what could ever come about
+
+   Could x ever come to hold a right over y, by any turns of those whom the host doesn't trust? Silent are the workers
+   that it trusts, itself foremost: these take no turns. All other workers act as the rules allow, and so does whoever is
+   spawned on the way. The answer speaks of rights alone: what is told by reading and writing isn't one (docs/COULD.md). */
+
+/* The answer to a question: 16 bytes, all zero while it is closed. Its caller owns it, and it outlives its store. What is
+   said above of a tg_store holds of it. */
+typedef struct tg_answer {
+    bool is_open;
+    struct {
+        void *at;
+    } handle;
+} tg_answer;
+
+#define TG_ANSWER_INIT { false, { NULL } }
+
+/* What an answer says. Numbers that aren't named are kept for later editions. */
+enum {
+    TG_NEVER = 0,             /* after no list of turns of those who act does x hold it: proved, and so whatever they do */
+    TG_NOW = 1,               /* x holds it */
+    TG_COULD = 2,             /* x holds it after the answer's turns, each of which is allowed when it comes */
+    TG_WANTS_NAMES = 3,       /* so it is where tg_answer_names more vertices may be made; fewer than 64 names are left */
+    TG_UNREACHED = 4,         /* no worker reaches x, which was made: it holds what it holds, for good */
+    TG_OPEN = 5               /* neither was shown. That it doesn't come is tested */
+};
+
+/* Answers whether x could ever come to hold the right over y, as if the edges as_if were there too: so a grant is asked
+   about before it is made. The answer goes to *answer, which is closed. It is that of the graph that was never collected,
+   the same before a collection and after it. The store is as it was, and its journal gets no entry. Time and memory are
+   in proportion to what the workers reach. A name that isn't made yet stands for a vertex that those who act may make.
+
+   It is refused in this order: where right isn't one right, or an edge's rights are none (TG_BAD_RIGHTS); where the
+   answer is open (TG_ALREADY_OPEN); where the store is closed (TG_NOT_OPEN); where a silent one is no worker
+   (TG_NO_SUCH_WORKER); and with memory, so that TG_OUT_OF_MEMORY may come first, where an edge joins a vertex to itself,
+   or has an end that no worker reaches (TG_BAD_EDGE). Refused, *answer is as it was. */
+tg_status tg_could(tg_store *store, const uint64_t *silent, size_t silent_count, const tg_edge *as_if,
+                   size_t as_if_count, uint64_t x, uint64_t right, uint64_t y, tg_answer *answer);
+
+/* What the answer says, TG_NEVER .., goes to *kind. A closed one is TG_NOT_OPEN, as by the calls below. */
+tg_status tg_answer_kind(tg_answer *answer, uint64_t *kind);
+
+/* How many names are wanting goes to *names: 0 but for TG_WANTS_NAMES. */
+tg_status tg_answer_names(tg_answer *answer, uint64_t *names);
+
+/* How many turns the answer has goes to *count: 0 but for TG_COULD and TG_WANTS_NAMES. They needn't be the fewest. */
+tg_status tg_answer_turns(tg_answer *answer, uint64_t *count);
+
+/* The turn at this place, counted from 0: who asks and for what go to *record, in which all that is of a reply is 0, and
+   the first `room` of the numbers that a vertex is to store at first to numbers. A create or a spawn makes the next name.
+   Behind the last turn it is TG_BAD_PLACE. No memory is taken. */
+tg_status tg_answer_turn(tg_answer *answer, uint64_t at, tg_record *record, uint64_t *numbers, size_t room);
+
+/* Gives back all memory of the answer. *answer is closed then, and may be used for another. */
+tg_status tg_answer_close(tg_answer *answer);
 
 #ifdef __cplusplus
 }

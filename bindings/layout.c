@@ -14,6 +14,10 @@ SAME(sizeof(tg_store), 16);
 SAME(offsetof(tg_store, is_open), 0);
 SAME(offsetof(tg_store, handle.at), 8);
 
+SAME(sizeof(tg_answer), 16);
+SAME(offsetof(tg_answer, is_open), 0);
+SAME(offsetof(tg_answer, handle.at), 8);
+
 SAME(sizeof(tg_value), 16);
 SAME(offsetof(tg_value, law), 0);
 SAME(offsetof(tg_value, most), 4);
@@ -74,3 +78,5 @@ SAME(TG_REPLY_DONE | TG_REPLY_DENIED << 8 | TG_REPLY_NAME << 16 | TG_REPLY_VALUE
 SAME(TG_REPLY_EDGES | TG_REPLY_VERTICES_FULL << 8 | TG_REPLY_WORKERS_FULL << 16, 0x111004);
 SAME(TG_FULL | TG_NURSERY << 8, 0x0100);
 SAME(TG_DONE | TG_DENIED << 8, 0x0100);
+SAME(TG_NEVER | TG_NOW << 8 | TG_COULD << 16 | TG_WANTS_NAMES << 24, 0x03020100);
+SAME(TG_UNREACHED | TG_OPEN << 8, 0x0504);

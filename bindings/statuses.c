@@ -662,6 +662,108 @@ static void longest_log(void) {
     WANT(tg_close(&store) == TG_DONE);
 }
 
+/* ---- what could come about */
+
+static const uint64_t host[1] = { 0 };
+
+/* Whether the question is refused by this status, and the answer is as it was. */
+static int is_unanswered(tg_store *store, const uint64_t *silent, size_t count, tg_edge supposed, uint64_t right, tg_status status) {
+    tg_answer answer = TG_ANSWER_INIT;
+    return tg_could(store, silent, count, &supposed, 1, 1, right, 0, &answer) == status && !answer.is_open && answer.handle.at == NULL;
+}
+
+/* Whether an answer is of this kind, with so many turns and names. */
+static int says(tg_answer *answer, uint64_t kind, uint64_t turns, uint64_t names) {
+    uint64_t told = UNTOUCHED, count = UNTOUCHED, wanting = UNTOUCHED;
+    return tg_answer_kind(answer, &told) == TG_DONE && told == kind && tg_answer_turns(answer, &count) == TG_DONE && count == turns
+        && tg_answer_names(answer, &wanting) == TG_DONE && wanting == names;
+}
+
+static void closed_answers(void) {
+    tg_store store = TG_STORE_INIT;
+    tg_answer answer = TG_ANSWER_INIT;
+    tg_record turn, before;
+    memset(&turn, UNTOUCHED, sizeof turn);
+    before = turn;
+    WANT(tg_could(&store, NULL, 0, NULL, 0, 0, TG_READ, 1, &answer) == TG_NOT_OPEN);
+    WANT(tg_answer_kind(&answer, &number) == TG_NOT_OPEN && tg_answer_names(&answer, &number) == TG_NOT_OPEN);
+    WANT(tg_answer_turns(&answer, &number) == TG_NOT_OPEN && is_untouched());
+    WANT(tg_answer_turn(&answer, 0, &turn, NULL, 0) == TG_NOT_OPEN && memcmp(&turn, &before, sizeof turn) == 0);
+    WANT(tg_answer_close(&answer) == TG_NOT_OPEN && !answer.is_open && answer.handle.at == NULL);
+}
+
+static void bad_questions(tg_store *store) {
+    static const uint64_t strangers[2] = { 0, 3 };
+    static const tg_edge fine = { 1, 0, TG_READ }, empty = { 1, 0, 0 }, loop = { 1, 1, TG_READ }, far = { 1, 9, TG_READ };
+    WANT(is_unanswered(store, strangers, 2, fine, 0, TG_BAD_RIGHTS));
+    WANT(is_unanswered(store, strangers, 2, fine, TG_READ | TG_WRITE, TG_BAD_RIGHTS));
+    WANT(is_unanswered(store, strangers, 2, fine, 256, TG_BAD_RIGHTS));
+    WANT(is_unanswered(store, strangers, 2, empty, TG_READ, TG_BAD_RIGHTS));
+    WANT(is_unanswered(store, strangers, 2, loop, TG_READ, TG_NO_SUCH_WORKER));
+    WANT(is_unanswered(store, host, 1, loop, TG_READ, TG_BAD_EDGE));
+    WANT(is_unanswered(store, host, 1, far, TG_READ, TG_BAD_EDGE));
+}
+
+/* The turn by which 1 takes w over the document from 0. */
+static void one_turn(tg_answer *answer, uint64_t document) {
+    tg_record turn, before;
+    uint64_t room[1] = { UNTOUCHED };
+    WANT(tg_answer_turn(answer, 0, &turn, room, 1) == TG_DONE && turn.worker == 1 && turn.deed == TG_DEED_TAKE);
+    WANT(turn.via == 0 && turn.target == document && turn.rights == TG_WRITE && turn.reply == TG_REPLY_DONE);
+    WANT(turn.law == 0 && turn.most == 0 && turn.value == 0 && turn.name == 0 && turn.number_count == 0 && turn.edge_count == 0);
+    before = turn;
+    WANT(tg_answer_turn(answer, 1, &turn, room, 1) == TG_BAD_PLACE && memcmp(&turn, &before, sizeof turn) == 0 && room[0] == UNTOUCHED);
+    WANT(tg_answer_turn(answer, UINT64_MAX, &turn, room, 1) == TG_BAD_PLACE);
+}
+
+/* A host asks about a grant before it makes it. The store has no entry of it. */
+static void questions(void) {
+    static const tg_edge supposed[1] = { { 1, 0, TG_TAKE } };
+    tg_store store = TG_STORE_INIT;
+    tg_answer answer = TG_ANSWER_INIT, kept;
+    uint64_t document, entries, left;
+    WANT(tg_open(&store, workers, 2, edges, 0, &limits) == TG_DONE);
+    WANT(tg_create(&store, 0, TG_WRITE, &cell, &document) == TG_DONE);
+    bad_questions(&store);
+    WANT(tg_could(&store, host, 1, NULL, 0, 1, TG_WRITE, document, &answer) == TG_DONE && says(&answer, TG_NEVER, 0, 0));
+    kept = answer;
+    WANT(tg_could(&store, host, 1, NULL, 0, 1, TG_WRITE, document, &answer) == TG_ALREADY_OPEN);
+    WANT(tg_could(&store, host, 1, NULL, 0, 1, 0, document, &answer) == TG_BAD_RIGHTS);
+    WANT(answer.is_open && answer.handle.at == kept.handle.at && says(&answer, TG_NEVER, 0, 0));
+    WANT(tg_answer_close(&answer) == TG_DONE && !answer.is_open && answer.handle.at == NULL);
+    WANT(tg_could(&store, host, 1, supposed, 1, 1, TG_WRITE, document, &answer) == TG_DONE && says(&answer, TG_COULD, 1, 0));
+    one_turn(&answer, document);
+    WANT(tg_answer_close(&answer) == TG_DONE);
+    WANT(tg_could(&store, NULL, 0, NULL, 0, 0, TG_WRITE, document, &answer) == TG_DONE && says(&answer, TG_NOW, 0, 0));
+    WANT(tg_answer_close(&answer) == TG_DONE);
+    WANT(tg_retire(&store, 1) == TG_DONE && tg_collect(&store, TG_FULL, &left) == TG_DONE && left == 2);
+    WANT(tg_could(&store, NULL, 0, NULL, 0, 1, TG_WRITE, document, &answer) == TG_DONE && says(&answer, TG_UNREACHED, 0, 0));
+    WANT(tg_entries(&store, &entries) == TG_DONE && entries == 2);
+    WANT(tg_close(&store) == TG_DONE && says(&answer, TG_UNREACHED, 0, 0) && tg_answer_close(&answer) == TG_DONE);
+    closed_answers();
+}
+
+/* No name is left: the turns make vertices, of which an entry's numbers are read. */
+static void names_wanting(void) {
+    static const tg_edge taker[1] = { { 1, 0, TG_TAKE } };
+    static const tg_limits few = { 3, 8, 4 };
+    tg_store store = TG_STORE_INIT;
+    tg_answer answer = TG_ANSWER_INIT;
+    tg_record turn;
+    uint64_t document, kind, names, count, made = 0, room[1];
+    WANT(tg_open(&store, workers, 2, taker, 1, &few) == TG_DONE && tg_create(&store, 1, TG_READ, &cell, &document) == TG_DONE);
+    WANT(tg_could(&store, NULL, 0, NULL, 0, 0, TG_READ, document, &answer) == TG_DONE);
+    WANT(tg_answer_kind(&answer, &kind) == TG_DONE && kind == TG_WANTS_NAMES);
+    WANT(tg_answer_names(&answer, &names) == TG_DONE && tg_answer_turns(&answer, &count) == TG_DONE && count > names && names > 0);
+    for (uint64_t at = 0; at < count; at++) {
+        room[0] = UNTOUCHED;
+        WANT(tg_answer_turn(&answer, at, &turn, room, 1) == TG_DONE);
+        WANT(turn.number_count == (turn.deed == TG_DEED_CREATE) && (room[0] == UNTOUCHED) == (turn.number_count == 0));
+        made += turn.deed == TG_DEED_CREATE;
+    }
+    WANT(made == names && tg_close(&store) == TG_DONE && tg_answer_close(&answer) == TG_DONE);
+}
+
 int main(void) {
     tg_store store = TG_STORE_INIT;
     WANT(tg_abi() == TG_ABI);
@@ -690,6 +792,8 @@ int main(void) {
     a_worker_comes_and_goes();
     as_many_workers_as_may_be();
     entries_read();
+    questions();
+    names_wanting();
     puts("statuses ok");
     return 0;
 }

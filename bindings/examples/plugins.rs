@@ -1,6 +1,9 @@
 //! A host of plug-ins. Each plug-in is a worker that the host spawns and grants rights to. It has no more than those: what it isn't
 //! allowed is denied. When it is unloaded it retires, and nothing is answered to its name any more.
-use kovshenul::{Error, Kind, Limits, Rights, Store, Value};
+//!
+//! Before the host hands a right on it asks whether a document that it guards would stay out of reach: not only now, but whatever
+//! the plug-ins do together while the host does nothing.
+use kovshenul::{Edge, Error, Kind, Limits, Rights, Store, Value};
 
 const HOST: u64 = 0;
 
@@ -38,6 +41,30 @@ fn meddle(store: &mut Store, worker: u64, document: u64) -> Result<String, Error
     let seen = store.read(worker, document)?;
     store.write(worker, document, 1000)?;
     Ok(format!("saw {seen:?} and overwrote it"))
+}
+
+/// Which worker, but for the host, could ever come to read the guarded document if this edge were there.
+fn who_could(store: &Store, supposed: Edge, guarded: u64) -> Result<Option<u64>, Error> {
+    for worker in store.subjects()? {
+        let never = worker == HOST || store.could(worker, Rights::READ, guarded, &[HOST], &[supposed])?.is_never();
+        if !never {
+            return Ok(Some(worker));
+        }
+    }
+    Ok(None)
+}
+
+/// Hands rights on, unless the guarded document came within reach by it.
+fn hand_on(store: &mut Store, worker: u64, target: u64, rights: Rights, guarded: u64) -> Result<(), Error> {
+    let supposed = Edge { from: worker, to: target, rights };
+    match who_could(store, supposed, guarded)? {
+        Some(reader) => println!("host: no {rights} over {target} for {worker}: {reader} could come to read {guarded}"),
+        None => {
+            store.grant(HOST, worker, target, rights)?;
+            println!("host: {rights} over {target} for {worker}");
+        }
+    }
+    Ok(())
 }
 
 /// Spawns a worker for the plug-in, and grants to it what it may do.
@@ -83,6 +110,12 @@ fn main() -> Result<(), Error> {
     let document = store.create(HOST, Rights::READ | Rights::WRITE, Value::Sum(40))?;
     let loading = plugins.iter().map(|plugin| load(&mut store, plugin, document));
     let loaded = loading.collect::<Result<Vec<Loaded<'_>>, Error>>()?;
+    // The guarded document is in a folder: who may take from the folder could read it.
+    let folder = store.create(HOST, over_plugins() | Rights::READ | Rights::TAKE, Value::Cell(0))?;
+    let guarded = store.create(HOST, Rights::READ, Value::Cell(7))?;
+    store.grant(HOST, folder, guarded, Rights::READ)?;
+    hand_on(&mut store, loaded[0].worker, folder, Rights::READ, guarded)?;
+    hand_on(&mut store, loaded[0].worker, folder, Rights::TAKE, guarded)?;
     for plugin in &loaded {
         run(&mut store, plugin, document)?;
     }

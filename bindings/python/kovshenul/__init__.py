@@ -9,12 +9,13 @@ A command that the rules don't allow raises Denied, which says by its cause whic
 a Refused. Both are an Error. A number that isn't from 0 to 2^64 - 1 raises OverflowError, and what is no number
 TypeError: nothing happened then.
 
-A store's journal is read by `entry` and `journal`. The types of what an entry says are those of `kovshenul.journal`.
+A store's journal is read by `entry` and `journal`. The types of what an entry says are those of `kovshenul.journal`,
+and those of what could come about, which `could` answers, those of `kovshenul.outlook`.
 
 Any thread may call a store: a lock in it makes the calls come one after the other. The library is the one that the
 variable KOVSHENUL_LIBRARY names, else the one beside this module, else the one that the system finds.
 """
-from . import journal
+from . import journal, outlook
 from ._library import version as _version
 from ._refusals import (
     CAUSES,
@@ -93,4 +94,5 @@ __all__ = [
     "WRITE",
     "WorkersFull",
     "journal",
+    "outlook",
 ]

@@ -11,10 +11,11 @@ NAME = f"libkovshenul.so.{ABI}"
 
 CALLS = (
     "abi open close take grant remove write append create spawn retire subjects read list inspect label collect census names entries "
-    "entry audit"
+    "entry audit could answer_kind answer_names answer_turns answer_turn answer_close"
 ).split()
 
 Number = ctypes.c_uint64
+Size = ctypes.c_size_t
 BITS = 64
 
 
@@ -83,7 +84,7 @@ class Counts(ctypes.Structure):
 
 
 class Place(ctypes.Structure):
-    """A store, or none where all of it is zero."""
+    """A store or an answer, or none where all of it is zero."""
 
     _fields_ = [("is_open", ctypes.c_bool), ("at", ctypes.c_void_p)]
 

@@ -14,6 +14,7 @@ from ._refusals import BadPlace, Denied, NotOpen, refusal, told_by
 from ._values import MOST_NUMBERS, RIGHTS, Counts, Kind, Limits, Rights, Target, Value
 from .journal import DEEDS, Entry, Inspect, entry_of
 from .journal import List as Listed
+from .outlook import Outlook, outlook_of
 
 NO_VALUE = "a value is a Cell, a Sum, a Max or a Log"
 DENIED = 1
@@ -334,6 +335,38 @@ class Store:
     def label(self, worker: int, target: int) -> Rights:
         """The rights that the worker holds over the target, which may be none. The journal gets no entry of it."""
         return RIGHTS[self._count(short.tg_label, _number(worker), _number(target))]
+
+    def could(
+        self,
+        x: int,
+        right: int,
+        y: int,
+        silent: Iterable[int] = (),
+        as_if: Iterable[Tuple[int, int, int]] = (),
+    ) -> Outlook:
+        """Whether x could ever come to hold the right over y, by any turns of the workers but the silent ones, as if these
+        edges were there too: so a grant is asked about before it is made. Whoever is spawned on the way acts too. A name
+        that isn't made yet stands for a vertex that those who act may make.
+
+        It is answered of the graph that was never collected, and the journal gets no entry. BadRights where it isn't one
+        right, NoSuchWorker where a silent one is no worker, BadEdge where an edge joins a vertex to itself, or one that no
+        worker reaches.
+        """
+        names, edges = _numbers(*silent), [_numbers(source, target, rights) for source, target, rights in as_if]
+        names_in, edges_in = (_library.Number * len(names))(*names), (_library.Edge * len(edges))(*edges)
+        asked = [_number(x), _number(right), _number(y)]
+        answer = _library.Place()
+        answer_at = byref(answer)
+        with self._lock:
+            status = library.tg_could(
+                self._at, byref(names_in), c_size_t(len(names)), byref(edges_in), c_size_t(len(edges)), *asked, answer_at
+            )
+        if status:
+            raise refusal(status)
+        try:
+            return outlook_of(answer_at)
+        finally:
+            short.tg_answer_close(answer_at)
 
     def collect(self, kind: int = Kind.FULL) -> int:
         """Collects, and answers how many vertices the heap then has."""

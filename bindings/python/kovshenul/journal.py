@@ -169,10 +169,11 @@ REPLIES = {0: Done, 1: Denied, 2: Name, 3: Values, 4: Edges, 16: VerticesFull, 1
 
 def entry_of(record: _library.Record, numbers: Array, edges: Array) -> Entry:
     """The entry that the library wrote, with its numbers, and its edges as pairs of numbers."""
-    return Entry(record.worker, _deed_of(record, numbers), _reply_of(record, numbers, edges))
+    return Entry(record.worker, deed_of(record, numbers), _reply_of(record, numbers, edges))
 
 
-def _deed_of(record: _library.Record, numbers: Array) -> Deed:
+def deed_of(record: _library.Record, numbers: Array) -> Deed:
+    """What the record says that was asked for, with the numbers that a vertex stores at first."""
     kind, rights = DEEDS[record.deed], RIGHTS[record.rights]
     if kind in (Take, Grant):
         return kind(record.via, record.target, rights)

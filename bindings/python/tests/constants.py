@@ -1,7 +1,7 @@
 """Prints the names and numbers of the module, which bindings/check compares with the header's."""
 import re
 
-from kovshenul import CAUSES, RULES, Refused, Rights, journal
+from kovshenul import CAUSES, RULES, Refused, Rights, journal, outlook
 
 
 def words_of(kind):
@@ -21,5 +21,7 @@ for number, deed in journal.DEEDS.items():
     print("deed", words_of(deed), number)
 for number, reply in journal.REPLIES.items():
     print("reply", words_of(reply), number)
+for number, answer in outlook.OUTLOOKS.items():
+    print("outlook", words_of(answer), number)
 for kind in sorted(Refused.__subclasses__(), key=words_of):
     print("status", words_of(kind), kind.status)

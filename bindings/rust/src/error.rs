@@ -145,7 +145,7 @@ pub enum Error {
     BadWorkers,
     /// A limit is out of its range.
     BadLimits,
-    /// An edge from a worker to itself, or with an end that is no worker.
+    /// An edge from a worker to itself, or with an end that is no worker; one that is supposed, and no worker reaches an end.
     BadEdge,
     /// The journal has no entry at the place.
     BadPlace,

@@ -118,7 +118,8 @@ impl Entry {
 }
 
 impl Deed {
-    fn told(record: &RawRecord, numbers: &[u64]) -> Deed {
+    // What the library told of it, with the numbers that a vertex stores at first.
+    pub(crate) fn told(record: &RawRecord, numbers: &[u64]) -> Deed {
         let rights = Rights::told(record.rights);
         let RawRecord { via, target, value, .. } = *record;
         match record.deed {

@@ -47,6 +47,14 @@ pub const REPLY_EDGES: u32 = 4;
 pub const REPLY_VERTICES_FULL: u32 = 16;
 pub const REPLY_WORKERS_FULL: u32 = 17;
 
+// What an answer to a question of what could come about says.
+pub const NEVER: u64 = 0;
+pub const NOW: u64 = 1;
+pub const COULD: u64 = 2;
+pub const WANTS_NAMES: u64 = 3;
+pub const UNREACHED: u64 = 4;
+pub const OPEN: u64 = 5;
+
 /// A store, or none where all of it is zero.
 #[repr(C)]
 pub struct RawStore {
@@ -125,6 +133,13 @@ pub struct RawRecord {
     pub edge_count: u64,
 }
 
+/// An answer, or none where all of it is zero.
+#[repr(C)]
+pub struct RawAnswer {
+    pub is_open: bool,
+    pub at: *mut c_void,
+}
+
 extern "C" {
     pub fn tg_abi() -> u32;
     pub fn tg_status_text(status: u32) -> *const c_char;
@@ -180,4 +195,26 @@ extern "C" {
         edge_room: usize,
     ) -> u32;
     pub fn tg_audit(store: *mut RawStore, count: &mut u64) -> u32;
+    pub fn tg_could(
+        store: *mut RawStore,
+        silent: *const u64,
+        silent_count: usize,
+        as_if: *const RawEdge,
+        as_if_count: usize,
+        x: u64,
+        right: u64,
+        y: u64,
+        answer: &mut RawAnswer,
+    ) -> u32;
+    pub fn tg_answer_kind(answer: &mut RawAnswer, kind: &mut u64) -> u32;
+    pub fn tg_answer_names(answer: &mut RawAnswer, names: &mut u64) -> u32;
+    pub fn tg_answer_turns(answer: &mut RawAnswer, count: &mut u64) -> u32;
+    pub fn tg_answer_turn(
+        answer: &mut RawAnswer,
+        at: u64,
+        record: &mut RawRecord,
+        numbers: *mut u64,
+        room: usize,
+    ) -> u32;
+    pub fn tg_answer_close(answer: &mut RawAnswer) -> u32;
 }

@@ -8,7 +8,7 @@ use std::panic::RefUnwindSafe;
 use std::ptr::null_mut;
 
 /// The most numbers that a vertex can store.
-const MOST_NUMBERS: usize = 64;
+pub(crate) const MOST_NUMBERS: usize = 64;
 
 /// The most workers that are active at a time.
 const MOST_WORKERS: usize = 64;
@@ -97,7 +97,7 @@ impl Store {
     }
 
     // The place, as each call of the library takes it.
-    fn at(&self) -> *mut RawStore {
+    pub(crate) fn at(&self) -> *mut RawStore {
         self.place.get()
     }
 

@@ -52,8 +52,8 @@ fn check_values(alloc: Global, workers: &[ValueIn]) -> Result<(), CallRefusal>
     Ok(())
 }
 
-// Whether the bits of each edge are rights.
-fn check_rights(edges: &[EdgeIn]) -> Result<(), CallRefusal>
+/// Whether the bits of each edge are rights.
+pub fn check_rights(edges: &[EdgeIn]) -> Result<(), CallRefusal>
     ensures { MatchResult result (λ _. HaveLabels edges.now) (λ why. (¬ HaveLabels edges.now) × (why ≡ CallRefusal.BadRights)) }
 {
     for edge in edges {

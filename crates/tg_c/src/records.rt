@@ -1,6 +1,9 @@
 //! The journal's entries for C: a struct of numbers, and beside it the lists that an entry has.
 ghost use Rattle.std.specs.Prelude.{◌≡◌};
 ghost use Rattle.tg_c.specs.Records.{answered as answered_told, asked as asked_told, command_out as command_told, deed_out as deed_told, making_out as making_told, edges_of as edges_told, law_out as law_told, numbers_of as numbers_told, record_of, reply_out as reply_told};
+ghost use Rattle.tg_model.specs.declared.reply.Reply.TheVariants.{Done};
+ghost use Rattle.tg_c.specs.Records.{numbers_in};
+ghost use Rattle.tg_c.specs.Could.{turn_out as turn_told};
 
 use crate::forms::{DenialOut, denial_out, rights_out};
 use tg_journal::Entry;
@@ -217,4 +220,37 @@ fn answered(kind: u32, name: u64) -> ReplyOut
         rights: 0,
     };
     ReplyOut { kind, name, denial }
+}
+
+/// The turn of an answer, for C: an entry that has no reply.
+pub fn turn_out(turn: &(u64, Deed)) -> RecordOut
+    ensures { result ≡ turn_told turn.now }
+{
+    let deed = deed_out(&turn.1);
+    let reply = answered(0, 0);
+    RecordOut {
+        worker: turn.0,
+        deed: deed.kind,
+        reply: reply.kind,
+        law: deed.law,
+        most: deed.most,
+        via: deed.via,
+        target: deed.target,
+        rights: deed.rights,
+        value: deed.value,
+        name: reply.name,
+        denial: reply.denial,
+        number_count: numbers_of_turn(turn).len() as u64,
+        edge_count: 0,
+    }
+}
+
+/// The numbers of a turn: of a create or a spawn those that the vertex is to store at first.
+pub fn numbers_of_turn(turn: &(u64, Deed)) -> &[u64]
+    ensures { result.now ≡ numbers_in turn.now.1 Done }
+{
+    match &turn.1 {
+        Deed::Create { state, .. } | Deed::Spawn { state, .. } => state.as_slice(),
+        Deed::Plain(_) => &[],
+    }
 }

@@ -168,8 +168,8 @@ pub fn tell_entry(
     DONE
 }
 
-// As many numbers as there is room for.
-fn put_numbers(numbers: &[u64], out: &mut [u64])
+/// As many numbers as there is room for.
+pub fn put_numbers(numbers: &[u64], out: &mut [u64])
     ensures { out.new ≡ shown_in numbers.now out.old }
 {
     let count = numbers.len().min(out.len());

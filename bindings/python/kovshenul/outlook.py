@@ -1,0 +1,101 @@
+"""What is answered to the question whether x could ever come to hold a right over y (`Store.could`).
+
+    match store.could(plugin, WRITE, document, silent=[host]):
+        case outlook.Never():
+            print("it never writes")
+        case outlook.Could(turns):
+            print(f"it could, by {turns}")
+
+They are values: they compare, print and can be kept, also when the store is closed.
+"""
+from __future__ import annotations
+
+from ctypes import byref
+from dataclasses import dataclass
+from typing import Callable, Tuple, Union
+
+from . import _library
+from ._library import Number, short
+from ._refusals import refusal
+from ._values import MOST_NUMBERS
+from .journal import Deed, deed_of
+
+
+@dataclass(frozen=True)
+class Turn:
+    """A command of one who acts. A create or a spawn makes the next name."""
+
+    worker: int
+    deed: Deed
+
+
+@dataclass(frozen=True)
+class Never:
+    """After no list of turns of those who act does x hold it. It stays so whatever they do."""
+
+
+@dataclass(frozen=True)
+class Now:
+    """x holds it."""
+
+
+@dataclass(frozen=True)
+class Could:
+    """x holds it after these turns, each of which is allowed when it comes. They needn't be the fewest."""
+
+    turns: Tuple[Turn, ...]
+
+
+@dataclass(frozen=True)
+class WantsNames:
+    """So it is where so many more vertices may be made. It comes only where fewer than 64 names are left."""
+
+    turns: Tuple[Turn, ...]
+    names: int
+
+
+@dataclass(frozen=True)
+class Unreached:
+    """No worker reaches x, which was made: it holds what it holds, for good."""
+
+
+@dataclass(frozen=True)
+class Open:
+    """Neither was shown."""
+
+
+Outlook = Union[Never, Now, Could, WantsNames, Unreached, Open]
+
+# By their numbers.
+OUTLOOKS = {0: Never, 1: Now, 2: Could, 3: WantsNames, 4: Unreached, 5: Open}
+
+
+def outlook_of(answer_at: object) -> Outlook:
+    """What an open answer of the library says."""
+    kind = OUTLOOKS[_told(short.tg_answer_kind, answer_at)]
+    if kind is Could:
+        return Could(_turns(answer_at))
+    if kind is WantsNames:
+        return WantsNames(_turns(answer_at), _told(short.tg_answer_names, answer_at))
+    return kind()
+
+
+def _told(function: Callable[..., int], answer_at: object) -> int:
+    """The number that a call answers of an open answer."""
+    number = Number()
+    status = function(answer_at, byref(number))
+    if status:
+        raise refusal(status)
+    return number.value
+
+
+def _turns(answer_at: object) -> Tuple[Turn, ...]:
+    return tuple(_turn(answer_at, at) for at in range(_told(short.tg_answer_turns, answer_at)))
+
+
+def _turn(answer_at: object, at: int) -> Turn:
+    record, numbers = _library.Record(), (Number * MOST_NUMBERS)()
+    status = short.tg_answer_turn(answer_at, Number(at), byref(record), byref(numbers), _library.Size(MOST_NUMBERS))
+    if status:
+        raise refusal(status)
+    return Turn(record.worker, deed_of(record, numbers))

@@ -1,0 +1,218 @@
+"""What could ever come about: on small random graphs what `could` answers is what a closure under take and grant says, which is
+written apart; its turns lead there; and a collection changes no answer."""
+import itertools
+import pickle
+import random
+import unittest
+
+from kovshenul import (
+    FULL,
+    GRANT,
+    READ,
+    TAKE,
+    WRITE,
+    BadEdge,
+    BadRights,
+    Cell,
+    Edge,
+    Limits,
+    NoSuchWorker,
+    NotOpen,
+    Rights,
+    Store,
+    journal,
+    outlook,
+)
+
+GRAPHS = 150
+
+
+def opened(workers=3, edges=(), most=200):
+    return Store([Cell(0)] * workers, edges, Limits(most, 64, 64))
+
+
+class Graph:
+    """A graph, as who has which rights over whom."""
+
+    def __init__(self, workers, edges):
+        self.active, self.made, self.labels = set(range(workers)), workers, {}
+        for source, target, rights in edges:
+            self.add(source, target, rights)
+
+    def label(self, source, target):
+        return self.labels.get((source, target), 0)
+
+    def add(self, source, target, rights):
+        """Whether this adds a right."""
+        before = self.label(source, target)
+        if source != target:
+            self.labels[source, target] = before | rights
+        return self.label(source, target) != before
+
+    def make(self, worker, rights):
+        self.made += 1
+        self.add(worker, self.made - 1, rights)
+        return self.made - 1
+
+    def reached(self):
+        found = set(self.active)
+        while True:
+            more = {to for (source, to), rights in self.labels.items() if rights and source in found} - found
+            if not more:
+                return found
+            found |= more
+
+    def closed(self, actors):
+        """The graph once those who act have made an object each, and taken and granted all they can."""
+        graph = Graph(0, [(*ends, rights) for ends, rights in self.labels.items()])
+        graph.made = self.made
+        for actor in actors:
+            graph.make(actor, TAKE | GRANT)
+        vertices = range(graph.made)
+        goes_on = True
+        while goes_on:
+            goes_on = False
+            for x, y, z in itertools.product(actors, vertices, vertices):
+                if graph.label(x, y) & TAKE:
+                    goes_on |= graph.add(x, z, graph.label(y, z))
+                if graph.label(x, y) & GRANT:
+                    goes_on |= graph.add(y, z, graph.label(x, z))
+        return graph
+
+
+def taken(store, turn):
+    """Takes a turn of an answer."""
+    deed = turn.deed
+    if isinstance(deed, journal.Take):
+        store.take(turn.worker, deed.via, deed.target, deed.rights)
+    elif isinstance(deed, journal.Grant):
+        store.grant(turn.worker, deed.via, deed.target, deed.rights)
+    elif isinstance(deed, journal.Retire):
+        store.retire(turn.worker)
+    else:
+        make = store.create if isinstance(deed, journal.Create) else store.spawn
+        make(turn.worker, deed.rights, deed.value)
+
+
+class Drawn:
+    """A store with a graph drawn at random, which is known."""
+
+    def __init__(self, rng):
+        workers = rng.randrange(1, 5)
+        pairs = list(itertools.permutations(range(workers), 2))
+        some = [Rights(bits) for bits in (TAKE, GRANT, READ, TAKE | GRANT, TAKE | READ, GRANT | WRITE)]
+        edges = [Edge(*pair, rng.choice(some)) for pair in pairs if rng.random() < 0.3]
+        self.store, self.graph = opened(workers, edges), Graph(workers, edges)
+        for _ in range(rng.randrange(3)):
+            worker, rights = rng.randrange(workers), rng.choice(some)
+            self.store.create(worker, rights, Cell(0))
+            self.graph.make(worker, rights)
+        for worker in range(1, workers):
+            if rng.random() < 0.25:
+                self.store.retire(worker)
+                self.graph.active.remove(worker)
+
+    def close(self):
+        self.store.close()
+
+
+class Could(unittest.TestCase):
+    def test_closure(self):
+        """Every question to small graphs, as if edges were there too now and then."""
+        kinds = set()
+        for seed in range(GRAPHS):
+            rng = random.Random(seed)
+            drawn = Drawn(rng)
+            with drawn.store as store:
+                silent = [worker for worker in sorted(drawn.graph.active) if rng.random() < 0.3]
+                as_if = self.supposed(rng, drawn.graph) if seed % 2 else []
+                kinds |= self.ask_all(store, drawn.graph, silent, as_if)
+        self.assertEqual(kinds, {outlook.Never, outlook.Now, outlook.Could, outlook.Unreached})
+
+    def supposed(self, rng, graph):
+        ends = sorted(graph.reached())
+        if len(ends) < 2:
+            return []
+        return [Edge(*rng.sample(ends, 2), Rights(rng.choice([TAKE, GRANT, READ]))) for _ in range(rng.randrange(1, 3))]
+
+    def ask_all(self, store, graph, silent, as_if):
+        entries = store.entries()
+        whole = Graph(0, [*((*ends, rights) for ends, rights in graph.labels.items()), *as_if])
+        whole.active, whole.made = graph.active, graph.made
+        closed, reached = whole.closed(sorted(graph.active - set(silent))), whole.reached()
+        asked = list(itertools.product(range(graph.made), [TAKE, GRANT, READ], range(graph.made)))
+        answers = [store.could(x, right, y, silent, as_if) for x, right, y in asked]
+        for (x, right, y), answer in zip(asked, answers):
+            if x not in reached:
+                self.assertEqual(answer, outlook.Unreached())
+            elif whole.label(x, y) & right:
+                self.assertEqual(answer, outlook.Now())
+            elif closed.label(x, y) & right:
+                self.assertIsInstance(answer, outlook.Could)
+            else:
+                self.assertEqual(answer, outlook.Never())
+        self.assertEqual(store.entries(), entries)
+        store.collect(FULL)
+        self.assertEqual([store.could(x, right, y, silent, as_if) for x, right, y in asked], answers)
+        return {type(answer) for answer in answers}
+
+    def test_turns_lead_there(self):
+        """The turns are those of workers that act, and are all served."""
+        led = 0
+        for seed in range(GRAPHS):
+            rng = random.Random(seed)
+            drawn = Drawn(rng)
+            with drawn.store as store:
+                x, right, y = rng.choice(sorted(drawn.graph.active)), rng.choice([TAKE, READ]), rng.randrange(drawn.graph.made)
+                answer = store.could(x, right, y)
+                if not isinstance(answer, outlook.Could):
+                    continue
+                for turn in answer.turns:
+                    taken(store, turn)
+                self.assertEqual(store.could(x, right, y), outlook.Now())
+                led += 1
+        self.assertGreater(led, 10)
+
+    def test_as_if(self):
+        with opened() as store:
+            document = store.create(0, READ | WRITE, Cell(7))
+            self.assertEqual(store.could(1, WRITE, document, silent=[0]), outlook.Never())
+            answer = store.could(1, WRITE, document, silent=[0], as_if=[(1, 0, TAKE)])
+            self.assertEqual(answer, outlook.Could((outlook.Turn(1, journal.Take(0, document, Rights.WRITE)),)))
+            self.assertEqual(store.could(1, WRITE, document, [0]), outlook.Never())
+            self.assertEqual(pickle.loads(pickle.dumps(answer)), answer)
+
+    def test_names_that_are_wanting(self):
+        with opened(2, [(1, 0, TAKE)], 3) as store:
+            made = store.create(1, READ, Cell(0))
+            answer = store.could(0, READ, made)
+            self.assertIsInstance(answer, outlook.WantsNames)
+            makings = [turn for turn in answer.turns if isinstance(turn.deed, journal.Create)]
+            self.assertEqual(answer.names, len(makings))
+
+    def test_one_that_is_made_later(self):
+        with opened(2, [(0, 1, GRANT)]) as store:
+            self.assertIsInstance(store.could(1, READ, 2), outlook.Could)
+            self.assertEqual(store.could(1, READ, 2, silent=[0, 1]), outlook.Never())
+            self.assertEqual(store.could(2**64 - 1, READ, 0), outlook.Never())
+
+    def test_refusals(self):
+        store = opened(2, [(0, 1, GRANT)])
+        entries = store.entries()
+        for rights in (0, READ | WRITE, 256, 2**64 - 1):
+            self.assertRaises(BadRights, store.could, 0, rights, 1)
+        self.assertRaises(BadRights, store.could, 0, READ, 1, (), [(0, 1, 0)])
+        self.assertRaises(NoSuchWorker, store.could, 0, READ, 1, [0, 2])
+        for edge in ((0, 0, READ), (0, 2, READ), (2, 0, READ)):
+            self.assertRaises(BadEdge, store.could, 0, READ, 1, [], [edge])
+        self.assertRaises(OverflowError, store.could, -1, READ, 1)
+        self.assertRaises(OverflowError, store.could, 0, READ, 1, [2**64])
+        self.assertRaises(TypeError, store.could, 0, READ, "1")
+        self.assertEqual(store.entries(), entries)
+        store.close()
+        self.assertRaises(NotOpen, store.could, 0, READ, 1)
+        self.assertRaises(BadRights, store.could, 0, 0, 1)
+
+
+if __name__ == "__main__":
+    unittest.main()

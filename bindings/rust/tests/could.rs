@@ -1,0 +1,85 @@
+//! What could ever come about: its answers hold before a collection and after it, and their turns lead there.
+use kovshenul::{Could, Deed, Edge, Error, Kind, Limits, Rights, Store, Turn, Value};
+
+fn opened(workers: usize, edges: &[Edge], max_vertices: u64) -> Store {
+    let limits = Limits {
+        max_vertices,
+        max_blocks: 64,
+        max_space_blocks: 64,
+    };
+    Store::open(&vec![Value::Cell(0); workers], edges, &limits).unwrap()
+}
+
+fn edge(from: u64, to: u64, rights: Rights) -> Edge {
+    Edge { from, to, rights }
+}
+
+// Takes a turn of an answer.
+fn take(store: &mut Store, turn: &Turn) {
+    let x = turn.worker;
+    match turn.deed {
+        Deed::Take { via, target, rights } => store.take(x, via, target, rights).unwrap(),
+        Deed::Grant { via, target, rights } => store.grant(x, via, target, rights).unwrap(),
+        Deed::Create { rights, value } => drop(store.create(x, rights, value).unwrap()),
+        Deed::Spawn { rights, value } => drop(store.spawn(x, rights, value).unwrap()),
+        Deed::Retire => store.retire(x).unwrap(),
+        other => panic!("{other:?} leads nowhere"),
+    }
+}
+
+#[test]
+fn turns_lead_there() {
+    let mut store = opened(2, &[edge(1, 0, Rights::TAKE)], 100);
+    let document = store.create(1, Rights::READ, Value::Sum(40)).unwrap();
+    let could = store.could(0, Rights::READ, document, &[], &[]).unwrap();
+    assert!(matches!(could, Could::After(_)) && could.turns().len() > 1);
+    store.collect(Kind::Full).unwrap();
+    assert_eq!(store.could(0, Rights::READ, document, &[], &[]).unwrap(), could);
+    for turn in could.turns() {
+        take(&mut store, turn);
+    }
+    assert_eq!(store.label(0, document), Ok(Rights::READ));
+    assert_eq!(store.could(0, Rights::READ, document, &[], &[]), Ok(Could::Now));
+}
+
+#[test]
+fn silent_ones_take_no_turns() {
+    let mut store = opened(3, &[edge(0, 1, Rights::GRANT)], 100);
+    let document = store.create(0, Rights::WRITE, Value::Cell(0)).unwrap();
+    let entries = store.entries().unwrap();
+    let asked = store.could(1, Rights::WRITE, document, &[0], &[]).unwrap();
+    assert!(asked.is_never() && asked.turns().len() == 0);
+    assert!(!store.could(1, Rights::WRITE, document, &[], &[]).unwrap().is_never());
+    let supposed = [edge(1, 0, Rights::TAKE)];
+    assert!(!store.could(1, Rights::WRITE, document, &[0], &supposed).unwrap().is_never());
+    assert_eq!(store.entries(), Ok(entries));
+    store.retire(2).unwrap();
+    assert_eq!(store.could(2, Rights::WRITE, document, &[], &[]), Ok(Could::Unreached));
+    store.collect(Kind::Full).unwrap();
+    assert_eq!(store.could(2, Rights::WRITE, document, &[], &[]), Ok(Could::Unreached));
+}
+
+#[test]
+fn names_are_wanting() {
+    let mut store = opened(2, &[edge(1, 0, Rights::TAKE)], 3);
+    let document = store.create(1, Rights::READ, Value::Cell(0)).unwrap();
+    match store.could(0, Rights::READ, document, &[], &[]).unwrap() {
+        Could::WantsNames { turns, names } => {
+            let made = |turn: &&Turn| matches!(turn.deed, Deed::Create { .. });
+            assert_eq!(turns.iter().filter(made).count() as u64, names);
+        }
+        other => panic!("{other:?}"),
+    }
+}
+
+#[test]
+fn what_is_refused() {
+    let store = opened(2, &[], 100);
+    let ask = |right, silent: &[u64], as_if: &[Edge]| store.could(0, right, 1, silent, as_if).unwrap_err();
+    assert_eq!(ask(Rights::NONE, &[], &[]), Error::BadRights);
+    assert_eq!(ask(Rights::READ | Rights::WRITE, &[9], &[]), Error::BadRights);
+    assert_eq!(ask(Rights::READ, &[], &[edge(0, 1, Rights::NONE)]), Error::BadRights);
+    assert_eq!(ask(Rights::READ, &[2], &[]), Error::NoSuchWorker);
+    assert_eq!(ask(Rights::READ, &[], &[edge(1, 1, Rights::READ)]), Error::BadEdge);
+    assert_eq!(ask(Rights::READ, &[], &[edge(0, 2, Rights::READ)]), Error::BadEdge);
+}

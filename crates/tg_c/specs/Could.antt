@@ -1,0 +1,164 @@
+-- What C asks of what could ever come about, and how it is told: the question of a store in its place, and the answer in another.
+use Rattle.std.specs.Prelude.{◌≡◌, ◌≢◌, ◌⊎◌, ℕ, ◌==◌, Bool, true, false, List, [], ◌∷◌, Option, Some, None, Result, Ok, Err, if◌then◌else◌, length, map, slice_get, ok_or}
+use Rattle.std.specs.Option.{IsSome}
+use Rattle.std.specs.List.{All}
+use Rattle.tg_rights.specs.RightSet.{union}
+use Rattle.tg_rights.specs.declared.Right.{Right}
+use Rattle.tg_rights.specs.declared.Right.TheVariants.{R, W, T, G, A, L, U, V}
+use Rattle.tg_model.specs.declared.edge.Edge.{Edge}
+use Rattle.tg_model.specs.declared.reply.Reply.TheVariants.{Done}
+use Rattle.tg_model.specs.Graph.{ProtectionGraph, IsSubject, IsReachable}
+use Rattle.tg_model.specs.Opened.{label_in}
+use Rattle.tg_could.specs.Turns.{Turn}
+use Rattle.tg_could.specs.Reached.{IsToldOf}
+use Rattle.tg_could.specs.declared.answer.Answer.{Answer}
+use Rattle.tg_could.specs.declared.answer.Answer.TheVariants.{Never, Could, WantsNames, Open}
+use Rattle.tg_could.specs.declared.reached.Told.{Told}
+use Rattle.tg_could.specs.declared.reached.Told.TheVariants.{Unreached, Of}
+use Rattle.tg_store.specs.Store.{StandsFor}
+use Rattle.tg_graph.specs.Shown.{shown_in}
+use Rattle.tg_c.specs.declared.answer.AnswerPlace.{AnswerPlace}
+use Rattle.tg_c.specs.declared.forms.EdgeIn.{EdgeIn}
+use Rattle.tg_c.specs.declared.place.StorePlace.{StorePlace}
+use Rattle.tg_c.specs.declared.records.RecordOut.{RecordOut}
+use Rattle.tg_c.specs.declared.refusal.CallRefusal.{CallRefusal}
+use Rattle.tg_c.specs.declared.refusal.CallRefusal.TheVariants as refusal
+use Rattle.tg_c.specs.Calls.{AreMet, Demand, IsFirstUnmet, IsMemoryOr, IsStatusWhere, demand, state_in}
+use Rattle.tg_c.specs.Forms.{HaveLabels, edge_in}
+use Rattle.tg_c.specs.Records.{answered, deed_out, numbers_in, record_with}
+use Rattle.tg_c.specs.Statuses.{status_of}
+
+-- ---- the question
+
+-- the right of this bit, where it is that of one
+abbrev pub right_at : ℕ → Option Right
+right_at bits =
+    if bits == 1 then Some R
+    else if bits == 2 then Some W
+    else if bits == 4 then Some T
+    else if bits == 8 then Some G
+    else if bits == 16 then Some A
+    else if bits == 32 then Some L
+    else if bits == 64 then Some U
+    else if bits == 128 then Some V
+    else None
+
+-- the graph where these edges are there too
+abbrev pub with_edges : ProtectionGraph → List Edge → ProtectionGraph
+with_edges g edges = record g { label = λ a b. union (g.label a b) (label_in edges a b) }
+
+-- an edge joins two different vertices, each of which an active subject reaches
+pub record JoinsReached (g : ProtectionGraph) (edge : Edge) : Type 0 where
+  pub from : IsReachable g edge.from
+  pub to : IsReachable g edge.to
+  pub differ : edge.from ≢ edge.to
+
+abbrev pub JoinReached : ProtectionGraph → List Edge → Type 0
+JoinReached g edges = All (JoinsReached g) edges
+
+-- each of these is an active subject
+abbrev pub AreActive : ProtectionGraph → List ℕ → Type 0
+AreActive g names = All (IsSubject g) names
+
+-- What is told is so of the graph with the edges that are supposed to be there. All silent ones are active subjects, and each edge
+-- joins two that are reached.
+pub record IsForeseenOn (g : ProtectionGraph) (silent : List ℕ) (as_if : List EdgeIn) (x : ℕ) (right : Right) (y : ℕ) (told : Told) : Type 0 where
+  pub active : AreActive g silent
+  pub joined : JoinReached g (map edge_in as_if)
+  pub told_of : IsToldOf silent (with_edges g (map edge_in as_if)) x right y told
+
+-- why it isn't told: a silent one that is no active subject; or there is none, and memory was wanting, or an edge that joins no two
+-- that are reached
+abbrev pub IsRefusedOn : ProtectionGraph → List ℕ → List EdgeIn → CallRefusal → Type 0
+IsRefusedOn g silent as_if why =
+    ((¬ AreActive g silent) × (why ≡ refusal.NoSuchWorker))
+    ⊎ (AreActive g silent × IsMemoryOr refusal.BadEdge (¬ JoinReached g (map edge_in as_if)) why)
+
+-- what a question asks for, in the order in which it is looked at, before the store is
+abbrev pub asked_first : StorePlace → Bool → List EdgeIn → ℕ → List Demand
+asked_first place is_open as_if right =
+    demand (IsSome (right_at right)) refusal.BadRights
+    ∷ demand (HaveLabels as_if) refusal.BadRights
+    ∷ demand (is_open ≡ false) refusal.AlreadyOpen
+    ∷ demand (place.is_open ≡ true) refusal.NotOpen
+    ∷ []
+
+-- the answer to a question to a store in its place, where the answer's place was open or not
+pub record IsForeseen (place : StorePlace) (is_open : Bool) (silent : List ℕ) (as_if : List EdgeIn) (x right y : ℕ) (told : Told) : Type 0 where
+  pub met : AreMet (asked_first place is_open as_if right)
+  pub told_of : (g : ProtectionGraph) → StandsFor (state_in place) g → (r : Right) → right_at right ≡ Some r → IsForeseenOn g silent as_if x r y told
+
+-- why a question is refused: by the first demand that isn't met; or all are met, and the store's graph is why, or memory
+abbrev pub IsRefusedQuestion : StorePlace → Bool → List ℕ → List EdgeIn → ℕ → CallRefusal → Type 0
+IsRefusedQuestion place is_open silent as_if right why =
+    IsFirstUnmet (asked_first place is_open as_if right) why
+    ⊎ (AreMet (asked_first place is_open as_if right) × ((g : ProtectionGraph) → StandsFor (state_in place) g → IsRefusedOn g silent as_if why))
+
+-- What a question of C does. The store is as it was; refused, the answer's place is too.
+pub record Foresees (old new : StorePlace) (silent : List ℕ) (as_if : List EdgeIn) (x right y : ℕ) (before after : AnswerPlace) (status : ℕ) : Type 0 where
+  pub stays : new.is_open ≡ old.is_open
+  pub same : old.is_open ≡ true → state_in new ≡ state_in old
+  pub told : status ≡ 0 → (after.is_open ≡ true) × IsForeseen old before.is_open silent as_if x right y after.handle.opened.told
+  pub refused : status ≢ 0 → IsStatusWhere (IsRefusedQuestion old before.is_open silent as_if right) status
+  pub kept : status ≢ 0 → after ≡ before
+
+-- ---- the answer
+
+-- never, now, could, could with more names, open
+abbrev pub kind_of : Answer → ℕ
+kind_of (Never separation) = 0
+kind_of (Could turns) = if length turns.items == 0 then 1 else 2
+kind_of (WantsNames turns names) = 3
+kind_of Open = 5
+
+-- that x isn't reached, or one of these
+abbrev pub kind_in : Told → ℕ
+kind_in Unreached = 4
+kind_in (Of answer) = kind_of answer
+
+-- how many names are wanting
+abbrev pub names_of : Answer → ℕ
+names_of (Never separation) = 0
+names_of (Could turns) = 0
+names_of (WantsNames turns names) = names
+names_of Open = 0
+
+abbrev pub names_in : Told → ℕ
+names_in Unreached = 0
+names_in (Of answer) = names_of answer
+
+-- the turns that lead there
+abbrev pub turns_of : Answer → List Turn
+turns_of (Never separation) = []
+turns_of (Could turns) = turns.items
+turns_of (WantsNames turns names) = turns.items
+turns_of Open = []
+
+abbrev pub turns_in : Told → List Turn
+turns_in Unreached = []
+turns_in (Of answer) = turns_of answer
+
+-- the turn at a place, counted from 0; there is none behind the last
+abbrev pub turn_at : ℕ → Told → Result Turn CallRefusal
+turn_at at told = ok_or (slice_get (turns_in told) at) refusal.BadPlace
+
+-- ---- how it is told
+
+-- A call on an answer: a closed one is refused as that, and an open one is as it was.
+pub record Consults {T : Type 0} (what : Told → Result T CallRefusal) (old new : AnswerPlace) (tells : Result T CallRefusal → Type 0) : Type 0 where
+  pub not_open : old.is_open ≡ false → tells (Err refusal.NotOpen) × (new.is_open ≡ false)
+  pub told : old.is_open ≡ true → tells (what old.handle.opened.told) × (new.is_open ≡ true) × (new.handle.opened ≡ old.handle.opened)
+
+-- the turn as an entry that has no reply
+abbrev pub turn_out : Turn → RecordOut
+turn_out turn = record_with turn.0 (deed_out turn.1) (answered 0 0) (length (numbers_in turn.1 Done)) 0
+
+-- the out parameters of a call for a turn
+pub record TurnOut : Type 0 where
+  pub record_out : RecordOut
+  pub numbers : List ℕ
+
+abbrev pub TellsTurn : ℕ → TurnOut → TurnOut → Result Turn CallRefusal → Type 0
+TellsTurn status old new (Ok turn) = (status ≡ 0)
+    × (new ≡ record { record_out = turn_out turn; numbers = shown_in (numbers_in turn.1 Done) old.numbers })
+TellsTurn status old new (Err why) = (status ≡ status_of why) × (new ≡ old)

@@ -1,0 +1,171 @@
+//! The question whether x could ever come to hold a right over y, asked of a store in its place.
+ghost use Rattle.std.specs.Prelude.{◌≡◌, ◌↔◌, ◌⊎◌, ◌++◌, ℕ, true, None, Some, IfOk, IfErr, IsTrue, MatchOption, map};
+ghost use Rattle.std.specs.List.{All};
+ghost use Rattle.tg_model.specs.Graph.{ProtectionGraph, IsSound, IsSubject};
+ghost use Rattle.tg_could.specs.Reached.{IsReachedPicture, IsToldOf};
+ghost use Rattle.tg_store.specs.Store.{graph_of_store};
+ghost use Rattle.tg_c.specs.Calls.{IsMemoryOr, state_in};
+ghost use Rattle.tg_c.specs.Forms.{HaveLabels, edge_in};
+ghost use Rattle.tg_c.specs.Could.{AreActive, IsForeseen, IsForeseenOn, IsRefusedQuestion, IsRefusedOn, JoinReached, JoinsReached, right_at, with_edges};
+
+use crate::forms::EdgeIn;
+use crate::law_store::LawStore;
+use crate::opening::{check_rights, edges_in};
+use crate::outlook::Outlook;
+use crate::place::StorePlace;
+use crate::refusal::CallRefusal;
+use std::alloc::{AllocError, Global};
+use tg_could::{Told, could_hold, is_reached};
+use tg_model::{Edge, Picture};
+use tg_rights::Right;
+
+/// What comes of the question whether x could ever come to hold the right of this bit over y, where the silent ones
+/// take no turns, as if these edges were there too. What is asked for is looked at first: the right, the edges' rights,
+/// and whether the answer's place is open; then whether the store's is, whether the silent ones are workers, and with
+/// memory whether each edge joins two different vertices that workers reach. The store is as it was.
+pub fn foresee(
+    alloc: Global,
+    place: &mut StorePlace,
+    silent: &[u64],
+    as_if: &[EdgeIn],
+    x: u64,
+    right: u64,
+    y: u64,
+    is_open: bool,
+) -> Result<Box<Outlook>, CallRefusal>
+    ensures stays { place.new.is_open ≡ place.old.is_open }
+    ensures same { place.old.is_open ≡ true → state_in place.new ≡ state_in place.old }
+    ensures told { IfOk result (λ opened. IsForeseen place.old is_open silent.now as_if.now x right y opened.value.told) }
+    ensures refused { IfErr result (IsRefusedQuestion place.old is_open silent.now as_if.now right) }
+{
+    let Some(right) = right_of(right) else {
+        return Err(CallRefusal::BadRights);
+    };
+    check_rights(as_if)?;
+    if is_open {
+        return Err(CallRefusal::AlreadyOpen);
+    }
+    let Some(opened) = place.take(alloc) else {
+        return Err(CallRefusal::NotOpen);
+    };
+    let foreseen = opened.foresee(alloc, silent, as_if, x, right, y);
+    place.put(opened);
+    foreseen
+}
+
+// The right of this bit, where it is that of one.
+fn right_of(bits: u64) -> Option<Right>
+    ensures { result ≡ right_at bits }
+{
+    match bits {
+        1 => Some(Right::R),
+        2 => Some(Right::W),
+        4 => Some(Right::T),
+        8 => Some(Right::G),
+        16 => Some(Right::A),
+        32 => Some(Right::L),
+        64 => Some(Right::U),
+        128 => Some(Right::V),
+        _ => None,
+    }
+}
+
+impl LawStore {
+    ghost use Rattle.std.specs.Prelude.{◌↔◌, IfOk, IfErr, IsTrue};
+    ghost use Rattle.tg_store.specs.Store.{graph_of_store};
+    ghost use Rattle.tg_c.specs.Forms.{HaveLabels};
+    ghost use Rattle.tg_c.specs.Could.{AreActive, IsForeseenOn, IsRefusedOn};
+
+    // The same of an open store. The edges' rights were looked at.
+    fn foresee(
+        &self,
+        alloc: Global,
+        silent: &[u64],
+        as_if: &[EdgeIn],
+        x: u64,
+        right: Right,
+        y: u64,
+    ) -> Result<Box<Outlook>, CallRefusal>
+        requires { HaveLabels as_if.now }
+        ensures told { IfOk result (λ opened. IsForeseenOn (graph_of_store self.now.store) silent.now as_if.now x right y opened.value.told) }
+        ensures refused { IfErr result (IsRefusedOn (graph_of_store self.now.store) silent.now as_if.now) }
+    {
+        if !self.are_workers(silent) {
+            return Err(CallRefusal::NoSuchWorker);
+        }
+        // It tells that the store stands for a sound graph.
+        let _ = self.store.journal();
+        let edges = edges_in(alloc, as_if)?;
+        let picture = self.store.picture(alloc)?;
+        let told = foresee_on(alloc, &picture, edges.as_slice(), silent, x, right, y)?;
+        Ok(Box::new(alloc, Outlook { told })?)
+    }
+
+    // Whether each of these is a worker.
+    fn are_workers(&self, names: &[u64]) -> bool
+        ensures { IsTrue result ↔ AreActive (graph_of_store self.now.store) names.now }
+    {
+        for name in names {
+            if !self.store.is_subject(*name) {
+                return false;
+            }
+        }
+        true
+    }
+}
+
+// What could_hold_reached answers of the graph with these edges too. Each of them has to join two different vertices
+// that active subjects reach.
+fn foresee_on(
+    alloc: Global,
+    picture: &Picture,
+    as_if: &[Edge],
+    silent: &[u64],
+    x: u64,
+    right: Right,
+    y: u64,
+) -> Result<Told, CallRefusal>
+    ensures told { IfOk result (λ told. (g : ProtectionGraph) → IsSound g → IsReachedPicture picture.now g →
+        JoinReached g as_if.now × IsToldOf silent.now (with_edges g as_if.now) x right y told) }
+    ensures refused { IfErr result (λ why. (g : ProtectionGraph) → IsReachedPicture picture.now g →
+        IsMemoryOr CallRefusal.BadEdge (¬ JoinReached g as_if.now) why) }
+{
+    if !join_reached(picture, as_if) {
+        return Err(CallRefusal::BadEdge);
+    }
+    if x < picture.made() && !is_reached(picture, x) {
+        return Ok(Told::Unreached);
+    }
+    let supposed = supposing(alloc, picture, as_if)?;
+    let answer = could_hold(alloc, &supposed, silent, x, right, y)?;
+    Ok(Told::Of(answer))
+}
+
+// Whether each edge joins two different vertices that active subjects reach.
+fn join_reached(picture: &Picture, edges: &[Edge]) -> bool
+    ensures { (g : ProtectionGraph) → IsReachedPicture picture.now g → IsTrue result ↔ JoinReached g edges.now }
+{
+    for edge in edges {
+        if !joins_reached(picture, edge) {
+            return false;
+        }
+    }
+    true
+}
+
+// The same of one edge.
+fn joins_reached(picture: &Picture, edge: &Edge) -> bool
+    ensures { (g : ProtectionGraph) → IsReachedPicture picture.now g → IsTrue result ↔ JoinsReached g edge.now }
+{
+    edge.from != edge.to && is_reached(picture, edge.from) && is_reached(picture, edge.to)
+}
+
+// The picture with more edges. Fails only when out of memory.
+fn supposing(alloc: Global, picture: &Picture, more: &[Edge]) -> Result<Picture, AllocError>
+    ensures { IfOk result (λ supposed. supposed ≡ record picture.now { edges = picture.now.edges ++ more.now }) }
+{
+    let subjects = Vec::from_slice(alloc, picture.subjects())?;
+    let mut edges = Vec::from_slice(alloc, picture.edges())?;
+    edges.extend_from_slice(more)?;
+    Ok(Picture::new(subjects, edges, picture.made(), picture.limit()))
+}

@@ -1,0 +1,81 @@
+//! What was answered to a question, in numbers.
+ghost use Rattle.std.specs.Prelude.{◌≡◌};
+ghost use Rattle.tg_c.specs.Could.{kind_in, names_in, turns_in, turns_of, kind_of, names_of};
+
+use tg_could::{Answer, Told};
+use tg_model::Deed;
+
+/// What was answered to a question.
+#[derive(Drop)]
+pub struct Outlook {
+    /// What `tg_could` told.
+    pub told: Told,
+}
+
+impl Outlook {
+    ghost use Rattle.std.specs.Prelude.{◌≡◌};
+    ghost use Rattle.tg_c.specs.Could.{kind_in, names_in, turns_in};
+
+    /// The kind of answer: 0 never, 1 now, 2 after turns, 3 after turns and with more names, 4 that x isn't reached, 5
+    /// that neither was shown.
+    pub fn kind(&self) -> u64
+        ensures { result ≡ kind_in self.now.told }
+    {
+        match &self.told {
+            Told::Unreached => 4,
+            Told::Of(answer) => kind_of_answer(answer),
+        }
+    }
+
+    /// How many names are wanting.
+    pub fn names(&self) -> u64
+        ensures { result ≡ names_in self.now.told }
+    {
+        match &self.told {
+            Told::Unreached => 0,
+            Told::Of(answer) => names_of_answer(answer),
+        }
+    }
+
+    /// The turns, in order.
+    pub fn turns(&self) -> &[(u64, Deed)]
+        ensures { result.now ≡ turns_in self.now.told }
+    {
+        match &self.told {
+            Told::Unreached => &[],
+            Told::Of(answer) => turns_of_answer(answer),
+        }
+    }
+}
+
+// The kind of an answer.
+fn kind_of_answer(answer: &Answer) -> u64
+    ensures { result ≡ kind_of answer.now }
+{
+    match answer {
+        Answer::Never(_) => 0,
+        Answer::Could(turns) => { if turns.is_empty() { 1 } else { 2 } }
+        Answer::WantsNames { .. } => 3,
+        Answer::Open => 5,
+    }
+}
+
+// How many names an answer wants.
+fn names_of_answer(answer: &Answer) -> u64
+    ensures { result ≡ names_of answer.now }
+{
+    match answer {
+        Answer::WantsNames { names, .. } => *names,
+        _ => 0,
+    }
+}
+
+// The turns of an answer.
+fn turns_of_answer(answer: &Answer) -> &[(u64, Deed)]
+    ensures { result.now ≡ turns_of answer.now }
+{
+    match answer {
+        Answer::Could(turns) | Answer::WantsNames { turns, .. } => turns.as_slice(),
+        _ => &[],
+    }
+}
