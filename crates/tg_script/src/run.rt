@@ -11,6 +11,11 @@ use tg_rights::Label;
 use tg_store::{CreateRefused, Kind, Store};
 use tg_text::{Answer, Line, Refusal};
 
+// How many entries a run holds at most when a line is answered, and how many edges a list in one of them has at most.
+const MOST_ENTRIES: usize = 32;
+
+const MOST_EDGES: usize = 64;
+
 /// The store, the payloads for the vertices that are still to be made, and how many helpers a collection has.
 #[derive(Drop)]
 pub(crate) struct Run<P: Payload> {
@@ -26,18 +31,21 @@ impl<P: Payload> Run<P> {
     ghost use Rattle.tg_script.specs.Supply.{values_left};
     ghost use Rattle.tg_store.specs.Store.{HandsOut};
 
-    /// What a line is answered. No line fails: where memory or room is wanting, that is the answer. What was entered is
-    /// given up then: a run's output is its journal.
+    /// What a line is answered. No line fails: where memory or room is wanting, that is the answer. A run's output is its
+    /// journal, so what was entered is given up: many entries at a time, and a long list at once.
     #[inline(always)]
     pub(crate) fn answer<C: Collector>(&mut self, collector: &C, line: Line) -> Answer
         requires answerable { IsAnswerable C.Ready line }
         ensures { Handles self.old line result self.new }
     {
         let answer = self.answer_line(collector, line);
-        self.give_up_entries();
+        if self.store.journal().entries().len() >= MOST_ENTRIES {
+            self.give_up_entries();
+        }
         answer
     }
 
+    #[cold]
     fn give_up_entries(&mut self)
         ensures store { HandsOut self.old.store self.new.store }
         ensures supply { self.new.supply ≡ self.old.supply }
@@ -67,7 +75,12 @@ impl<P: Payload> Run<P> {
         ensures { Handles self.old (Line.Plain worker command) result self.new }
     {
         match self.store.apply(worker, command) {
-            Ok(reply) => Answer::Reply(reply),
+            Ok(reply) => {
+                if is_long(&reply) {
+                    self.give_up_entries();
+                }
+                Answer::Reply(reply)
+            }
             Err(fault) => Answer::Refused(apply_refusal(fault)),
         }
     }
@@ -148,5 +161,14 @@ impl<P: Payload> Run<P> {
                 create_answer(why)
             }
         }
+    }
+}
+
+// Whether the reply is a long list. No other reply takes much memory.
+#[inline(always)]
+fn is_long(reply: &Reply) -> bool {
+    match reply {
+        Reply::Edges(edges) => edges.as_slice().len() > MOST_EDGES,
+        _ => false,
     }
 }

@@ -4,8 +4,8 @@ use Rattle.tg_script.specs.Supply.{values_left}
 use Rattle.tg_script.proofs.RunLaws.{stands_still}
 use Rattle.tg_script.proofs.run.Run.answer.Goals as goal
 
-pub returns : goal.returns
-returns g c = λ s shows.
+pub returns-then-entries-ge-MOST_ENTRIES : goal.returns-then-entries-ge-MOST_ENTRIES
+returns-then-entries-ge-MOST_ENTRIES g c = λ s shows.
     let told = c.answer_line-answer.ensures s shows in
     let out = c.give_up_entries.ensures.store in (
       told.0,
