@@ -31,8 +31,8 @@ impl<P: Payload> Run<P> {
     ghost use Rattle.tg_script.specs.Supply.{values_left};
     ghost use Rattle.tg_store.specs.Store.{HandsOut};
 
-    /// What a line is answered. No line fails: where memory or room is wanting, that is the answer. A run's output is its
-    /// journal, so what was entered is given up: many entries at a time, and a long list at once.
+    /// What a line is answered. No line fails: where memory or room is wanting, that is the answer. A run's output is
+    /// its journal, so what was entered is given up: many entries at a time, and a long list at once.
     #[inline(always)]
     pub(crate) fn answer<C: Collector>(&mut self, collector: &C, line: Line) -> Answer
         requires answerable { IsAnswerable C.Ready line }
