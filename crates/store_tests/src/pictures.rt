@@ -35,7 +35,7 @@ fn draw(state: &mut u64, below: u64) -> u64 {
     *state = state
         .wrapping_mul(6_364_136_223_846_793_005)
         .wrapping_add(1_442_695_040_888_963_407);
-    (*state >> 33) % below
+    (*state >> 33) % below.max(1)
 }
 
 // A command that is drawn, over the names below `made`.
@@ -67,7 +67,7 @@ fn work(alloc: Global, store: &mut Store<CellPayload>, state: &mut u64, made: u6
     }
     let draft = Draft::new(alloc, CellPayload::new(0)).ok()?;
     match store.create(worker, all_rights()?, draft) {
-        Ok(name) => Some(name + 1),
+        Ok(name) => name.checked_add(1),
         Err(_) => Some(made),
     }
 }
@@ -107,7 +107,7 @@ fn stays(
     Some((is_same, answer))
 }
 
-// Whether everything stays at each collection of a drawn run, and how often each answer came.
+// Whether everything stays at each collection of a drawn run, and at which turn each answer came last.
 fn drawn_run(alloc: Global) -> Option<(bool, [u64; 4])> {
     let mut store = open(alloc)?;
     let mut state = 69;
@@ -128,7 +128,9 @@ fn drawn_run(alloc: Global) -> Option<(bool, [u64; 4])> {
         if !is_same {
             return Some((false, answers));
         }
-        answers[answer] += 1;
+        if let Some(count) = answers.get_mut(answer) {
+            *count = turn.max(1);
+        }
     }
     Some((true, answers))
 }
