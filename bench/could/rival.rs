@@ -1,5 +1,5 @@
-// rival.rs: the same search in plain Rust, which says no more than yes or no. RIVAL VERTICES EDGES SEED QUESTIONS draws the
-// picture that the program beside it draws, asks the same questions, and tells how long the longest took.
+// rival.rs: the same search in plain Rust, which says no more than yes or no. RIVAL VERTICES EDGES SEED QUESTIONS draws
+// the picture that the program beside it draws, asks the same questions, and tells how long the longest took.
 use std::time::Instant;
 
 const NONE: u32 = u32::MAX;
@@ -24,7 +24,10 @@ fn next(state: &mut u64) -> u64 {
 fn picture(vertices: u64, edges: u64, seed: u64) -> Vec<Edge> {
     let mut state = seed;
     (0..edges)
-        .map(|i| Edge { from: next(&mut state) % vertices, to: next(&mut state) % vertices, rights: [T, G, R][(i % 3) as usize] })
+        .map(|i| {
+            let (from, to) = (next(&mut state) % vertices, next(&mut state) % vertices);
+            Edge { from, to, rights: [T, G, R][(i % 3) as usize] }
+        })
         .collect()
 }
 
@@ -36,7 +39,8 @@ struct Chains {
 impl Chains {
     fn of(vertices: usize, names: impl Iterator<Item = u64>) -> Chains {
         let mut first = vec![NONE; vertices];
-        let next = names.enumerate().map(|(at, name)| std::mem::replace(&mut first[name as usize], at as u32)).collect();
+        let replaced = |(at, name): (usize, u64)| std::mem::replace(&mut first[name as usize], at as u32);
+        let next = names.enumerate().map(replaced).collect();
         Chains { first, next }
     }
 }

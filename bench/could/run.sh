@@ -1,7 +1,8 @@
 #!/bin/sh
-# run.sh [SEED [GRAPHS]]: holds could_hold against a closure written apart, over random graphs of 2 to 5 vertices with silent sets
-# (200,000 of them, twelve questions each), and replays each witness by rules written apart. Then it tells how long a question
-# takes on large pictures, in plain Rust too, and a view. It proves, builds and runs the program beside it in a temporary folder.
+# run.sh [SEED [GRAPHS]]: holds could_hold against a closure written apart, over random graphs of 2 to 5 vertices with
+# silent sets (200,000 of them, twelve questions each), and replays each witness by rules written apart; who_could,
+# what_could, a View and needs have to answer as it does. Then it tells how long a question takes on large pictures, in
+# plain Rust too, and a view. It proves, builds and runs the program beside it in a temporary folder.
 set -eu
 here=$(cd "$(dirname "$0")" && pwd)
 seed=${1:-1}
