@@ -1,4 +1,4 @@
-"""A host asks before it hands a right on: could the plug-in come to read the guarded document then, whatever it does?"""
+"""A host asks before it hands a right on: could the plug-in come to read the guarded document then?"""
 from kovshenul import GRANT, READ, TAKE, Cell, Store, journal, outlook
 
 HOST, PLUGIN = 0, 1

@@ -1,5 +1,5 @@
-"""What could ever come about: on small random graphs what `could` answers is what a closure under take and grant says, which is
-written apart; its turns lead there; and a collection changes no answer."""
+"""What could ever come about: on small random graphs what `could` answers is what a closure under take and grant says,
+which is written apart; its turns lead there; and a collection changes no answer."""
 import itertools
 import pickle
 import random
@@ -63,7 +63,7 @@ class Graph:
             found |= more
 
     def closed(self, actors):
-        """The graph once those who act have made an object and spawned a worker each, and taken and granted all they can."""
+        """The graph once those who act have made an object and a worker each, and taken and granted all they can."""
         graph = Graph(0, [(*ends, rights) for ends, rights in self.labels.items()])
         graph.made = self.made
         for actor in actors:

@@ -53,13 +53,13 @@ impl Could {
 }
 
 impl Store {
-    /// Whether x could ever come to hold the right over y, by any turns of the workers but the silent ones, as if these edges were
-    /// there too: so a grant is asked about before it is made. Whoever is spawned on the way acts too. A name that isn't made yet
-    /// stands for a vertex that those who act may make.
+    /// Whether x could ever come to hold the right over y, by any turns of the workers but the silent ones, as if these
+    /// edges were there too: so a grant is asked about before it is made. Whoever is spawned on the way acts too. A name
+    /// that isn't made yet stands for a vertex that those who act may make.
     ///
-    /// It is answered of the graph that was never collected, and the journal gets no entry. `BadRights` where it isn't one right,
-    /// `NoSuchWorker` where a silent one is no worker, `BadEdge` where an edge joins a vertex to itself, or one that no worker
-    /// reaches.
+    /// It is answered of the graph that was never collected, and the journal gets no entry. `BadRights` where it isn't
+    /// one right, `NoSuchWorker` where a silent one is no worker, `BadEdge` where an edge joins a vertex to itself, or
+    /// one that no worker reaches.
     ///
     /// ```
     /// # use kovshenul::{Could, Deed, Edge, Error, Limits, Rights, Store, Value};
