@@ -71,7 +71,7 @@ enum {
     TG_NOT_OPEN = 16,         /* exactly where the store is closed and what was asked for is no TG_BAD_.. */
     TG_ALREADY_OPEN = 17,     /* tg_open: exactly where the store is open; tg_could: where the answer is, and no bits are bad */
 
-    TG_OUT_OF_MEMORY = 32,    /* malloc or realloc gave none; the same call may be made again. Never in the place of a TG_BAD_.. but a tg_could's edge */
+    TG_OUT_OF_MEMORY = 32,    /* malloc or realloc gave none; the same call may be made again. No TG_BAD_.. comes later, but tg_could's edge */
     TG_HEAP_FULL = 33,        /* no cell or block is left, by the limits; after tg_collect there may be */
     TG_VERTICES_FULL = 34,    /* tg_create, tg_spawn: where as many vertices were made as may be; the journal has an entry of it */
     TG_WORKERS_FULL = 35,     /* tg_spawn: where 64 workers are active, and a vertex may be made; the journal has an entry of it */

@@ -704,16 +704,28 @@ static void bad_questions(tg_store *store) {
     WANT(is_unanswered(store, host, 1, far, TG_READ, TG_BAD_EDGE));
 }
 
-/* The turn by which 1 takes w over the document from 0. */
-static void one_turn(tg_answer *answer, uint64_t document) {
+/* Whether this is the turn by which 1 takes w over the document from 0. */
+static int is_take(const tg_record *turn, uint64_t document) {
+    return turn->deed == TG_DEED_TAKE && turn->via == 0 && turn->target == document && turn->rights == TG_WRITE && turn->law == 0
+        && turn->most == 0 && turn->value == 0 && turn->number_count == 0;
+}
+
+/* All turns are those of 1, who takes w once, and the record says nothing of a reply. */
+static void turns_of_one(tg_answer *answer, uint64_t document) {
     tg_record turn, before;
-    uint64_t room[1] = { UNTOUCHED };
-    WANT(tg_answer_turn(answer, 0, &turn, room, 1) == TG_DONE && turn.worker == 1 && turn.deed == TG_DEED_TAKE);
-    WANT(turn.via == 0 && turn.target == document && turn.rights == TG_WRITE && turn.reply == TG_REPLY_DONE);
-    WANT(turn.law == 0 && turn.most == 0 && turn.value == 0 && turn.name == 0 && turn.number_count == 0 && turn.edge_count == 0);
+    uint64_t room[1] = { UNTOUCHED }, kind, count = 0, takes = 0;
+    WANT(tg_answer_kind(answer, &kind) == TG_DONE && kind == TG_COULD);
+    WANT(tg_answer_turns(answer, &count) == TG_DONE && count > 0 && says(answer, TG_COULD, count, 0));
+    for (uint64_t at = 0; at < count; at++) {
+        WANT(tg_answer_turn(answer, at, &turn, room, 1) == TG_DONE && turn.worker == 1 && turn.reply == TG_REPLY_DONE);
+        WANT(turn.name == 0 && turn.denial.rights == 0 && turn.edge_count == 0);
+        takes += (uint64_t)is_take(&turn, document);
+    }
+    WANT(takes == 1);
     before = turn;
-    WANT(tg_answer_turn(answer, 1, &turn, room, 1) == TG_BAD_PLACE && memcmp(&turn, &before, sizeof turn) == 0 && room[0] == UNTOUCHED);
-    WANT(tg_answer_turn(answer, UINT64_MAX, &turn, room, 1) == TG_BAD_PLACE);
+    room[0] = UNTOUCHED;
+    WANT(tg_answer_turn(answer, count, &turn, room, 1) == TG_BAD_PLACE && memcmp(&turn, &before, sizeof turn) == 0);
+    WANT(tg_answer_turn(answer, UINT64_MAX, &turn, room, 1) == TG_BAD_PLACE && room[0] == UNTOUCHED);
 }
 
 /* A host asks about a grant before it makes it. The store has no entry of it. */
@@ -731,8 +743,8 @@ static void questions(void) {
     WANT(tg_could(&store, host, 1, NULL, 0, 1, 0, document, &answer) == TG_BAD_RIGHTS);
     WANT(answer.is_open && answer.handle.at == kept.handle.at && says(&answer, TG_NEVER, 0, 0));
     WANT(tg_answer_close(&answer) == TG_DONE && !answer.is_open && answer.handle.at == NULL);
-    WANT(tg_could(&store, host, 1, supposed, 1, 1, TG_WRITE, document, &answer) == TG_DONE && says(&answer, TG_COULD, 1, 0));
-    one_turn(&answer, document);
+    WANT(tg_could(&store, host, 1, supposed, 1, 1, TG_WRITE, document, &answer) == TG_DONE);
+    turns_of_one(&answer, document);
     WANT(tg_answer_close(&answer) == TG_DONE);
     WANT(tg_could(&store, NULL, 0, NULL, 0, 0, TG_WRITE, document, &answer) == TG_DONE && says(&answer, TG_NOW, 0, 0));
     WANT(tg_answer_close(&answer) == TG_DONE);
@@ -740,7 +752,6 @@ static void questions(void) {
     WANT(tg_could(&store, NULL, 0, NULL, 0, 1, TG_WRITE, document, &answer) == TG_DONE && says(&answer, TG_UNREACHED, 0, 0));
     WANT(tg_entries(&store, &entries) == TG_DONE && entries == 2);
     WANT(tg_close(&store) == TG_DONE && says(&answer, TG_UNREACHED, 0, 0) && tg_answer_close(&answer) == TG_DONE);
-    closed_answers();
 }
 
 /* No name is left: the turns make vertices, of which an entry's numbers are read. */
@@ -759,7 +770,7 @@ static void names_wanting(void) {
         room[0] = UNTOUCHED;
         WANT(tg_answer_turn(&answer, at, &turn, room, 1) == TG_DONE);
         WANT(turn.number_count == (turn.deed == TG_DEED_CREATE) && (room[0] == UNTOUCHED) == (turn.number_count == 0));
-        made += turn.deed == TG_DEED_CREATE;
+        made += (uint64_t)(turn.deed == TG_DEED_CREATE);
     }
     WANT(made == names && tg_close(&store) == TG_DONE && tg_answer_close(&answer) == TG_DONE);
 }
@@ -773,6 +784,7 @@ int main(void) {
     letters_of_rights();
     unwanted_denials();
     closed();
+    closed_answers();
     openings();
     first_faults();
     WANT(tg_open(&store, workers, 2, edges, 2, &limits) == TG_DONE && store.is_open && store.handle.at != NULL);

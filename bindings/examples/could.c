@@ -1,4 +1,4 @@
-/* A host asks before it hands a right on: could the plug-in come to read the guarded document then, whatever it does? */
+/* A host asks before it hands a right on: could the plug-in come to read the guarded document then? */
 #include <kovshenul.h>
 #include <inttypes.h>
 #include <stdio.h>

@@ -1,5 +1,5 @@
-"""A host asks before it hands a right on: could the plug-in come to read the guarded document then, whatever it does?"""
-from kovshenul import GRANT, READ, TAKE, Cell, Store, outlook
+"""A host asks before it hands a right on: could the plug-in come to read the guarded document then?"""
+from kovshenul import GRANT, READ, TAKE, Cell, Store, journal, outlook
 
 HOST, PLUGIN = 0, 1
 
@@ -14,4 +14,5 @@ with Store([Cell(0), Cell(0)]) as store:
         if isinstance(answer, outlook.Could):
             print("could")
             for turn in answer.turns:
-                print(f"{turn.worker} takes {turn.deed.target} from {turn.deed.via}")
+                if isinstance(turn.deed, journal.Take):
+                    print(f"{turn.worker} takes {turn.deed.target} from {turn.deed.via}")

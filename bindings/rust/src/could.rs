@@ -53,13 +53,13 @@ impl Could {
 }
 
 impl Store {
-    /// Whether x could ever come to hold the right over y, by any turns of the workers but the silent ones, as if these edges were
-    /// there too: so a grant is asked about before it is made. Whoever is spawned on the way acts too. A name that isn't made yet
-    /// stands for a vertex that those who act may make.
+    /// Whether x could ever come to hold the right over y, by any turns of the workers but the silent ones, as if these
+    /// edges were there too: so a grant is asked about before it is made. Whoever is spawned on the way acts too. A name
+    /// that isn't made yet stands for a vertex that those who act may make.
     ///
-    /// It is answered of the graph that was never collected, and the journal gets no entry. `BadRights` where it isn't one right,
-    /// `NoSuchWorker` where a silent one is no worker, `BadEdge` where an edge joins a vertex to itself, or one that no worker
-    /// reaches.
+    /// It is answered of the graph that was never collected, and the journal gets no entry. `BadRights` where it isn't
+    /// one right, `NoSuchWorker` where a silent one is no worker, `BadEdge` where an edge joins a vertex to itself, or
+    /// one that no worker reaches.
     ///
     /// ```
     /// # use kovshenul::{Could, Deed, Edge, Error, Limits, Rights, Store, Value};
@@ -71,7 +71,7 @@ impl Store {
     /// let edge = Edge { from: plugin, to: 0, rights: Rights::TAKE };
     /// let could = store.could(plugin, Rights::WRITE, document, &[0], &[edge])?;
     /// let take = Deed::Take { via: 0, target: document, rights: Rights::WRITE };
-    /// assert_eq!(could.turns().map(|turn| turn.deed).collect::<Vec<_>>(), [take]);
+    /// assert!(could.turns().any(|turn| turn.worker == plugin && turn.deed == take));
     /// # Ok::<(), Error>(())
     /// ```
     pub fn could(&self, x: u64, right: Rights, y: u64, silent: &[u64], as_if: &[Edge]) -> Result<Could, Error> {

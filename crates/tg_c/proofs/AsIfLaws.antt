@@ -1,6 +1,5 @@
 -- What is answered on a picture with edges more is so of the whole graph with these edges, where active subjects reach their ends.
-use Rattle.std.proofs.Common.{◌≡◌, ◌≢◌, ◌⊎◌, inl, inr, ⊎_elim, ℕ, ◌<◌, ◌≤◌, ◌==◌, ◌&&◌, ◌||◌, Bool, true, false, cond, List, [], ◌∷◌, ◌++◌, refl, sym, ap, ap₂, ◌∙◌, subst, arith}
-use Rattle.std.specs.List.{All}
+use Rattle.std.proofs.Common.{◌≡◌, ◌≢◌, ◌⊎◌, inl, inr, ⊎_elim, ℕ, ◌<◌, ◌≤◌, ◌==◌, ◌&&◌, Bool, true, false, cond, List, [], ◌∷◌, ◌++◌, refl, sym, ap, ap₂, ◌∙◌, subst, arith}
 use Rattle.std.proofs.lemmas.Bool.{and_parts, cases_Bool, eqb-true}
 use Rattle.std.proofs.lemmas.List.Elements.{All-head, All-tail}
 use Rattle.tg_rights.specs.RightSet.{RightSet, has, holds_all, no_rights, union, is_none_held}
@@ -9,7 +8,7 @@ use Rattle.tg_rights.specs.declared.Right.{Right}
 use Rattle.tg_model.specs.declared.edge.Edge.{Edge}
 use Rattle.tg_model.specs.Graph.{ProtectionGraph, HasEdge, IsReachable, IsSound}
 use Rattle.tg_model.specs.Opened.{label_in}
-use Rattle.tg_model.specs.Picture.{Holds, Shown, IsPictureOf}
+use Rattle.tg_model.specs.Picture.{Shown, IsPictureOf}
 use Rattle.tg_model.specs.Walks.{begins, goes, Walk-within, Walk-map}
 use Rattle.tg_model.proofs.PictureLaws.{or_true}
 use Rattle.tg_model.proofs.ReachLaws.{lt-IsReachable}

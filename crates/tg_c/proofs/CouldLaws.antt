@@ -1,5 +1,5 @@
 -- Questions of C: what was looked at first, and what the store's graph said then.
-use Rattle.std.proofs.Common.{◌≡◌, ◌∙◌, ℕ, Bool, true, false, List, Some, inl, inr, sym, subst, ap, is_some}
+use Rattle.std.proofs.Common.{◌≡◌, ◌∙◌, ℕ, Bool, true, false, List, Some, inr, sym, subst, ap, is_some}
 use Rattle.std.proofs.lemmas.Option.{same_Some}
 use Rattle.tg_rights.specs.declared.Right.{Right}
 use Rattle.tg_could.specs.declared.reached.Told.{Told}

@@ -1,12 +1,9 @@
 //! The question whether x could ever come to hold a right over y, asked of a store in its place.
-ghost use Rattle.std.specs.Prelude.{◌≡◌, ◌↔◌, ◌⊎◌, ◌++◌, ℕ, true, None, Some, IfOk, IfErr, IsTrue, MatchOption, map};
-ghost use Rattle.std.specs.List.{All};
-ghost use Rattle.tg_model.specs.Graph.{ProtectionGraph, IsSound, IsSubject};
+ghost use Rattle.std.specs.Prelude.{◌≡◌, ◌↔◌, ◌++◌, true, IfOk, IfErr, IsTrue};
+ghost use Rattle.tg_model.specs.Graph.{ProtectionGraph, IsSound};
 ghost use Rattle.tg_could.specs.Reached.{IsReachedPicture, IsToldOf};
-ghost use Rattle.tg_store.specs.Store.{graph_of_store};
 ghost use Rattle.tg_c.specs.Calls.{IsMemoryOr, state_in};
-ghost use Rattle.tg_c.specs.Forms.{HaveLabels, edge_in};
-ghost use Rattle.tg_c.specs.Could.{AreActive, IsForeseen, IsForeseenOn, IsRefusedQuestion, IsRefusedOn, JoinReached, JoinsReached, right_at, with_edges};
+ghost use Rattle.tg_c.specs.Could.{IsForeseen, IsRefusedQuestion, JoinReached, JoinsReached, right_at, with_edges};
 
 use crate::forms::EdgeIn;
 use crate::law_store::LawStore;

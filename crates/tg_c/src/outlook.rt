@@ -1,6 +1,6 @@
 //! What was answered to a question, in numbers.
 ghost use Rattle.std.specs.Prelude.{◌≡◌};
-ghost use Rattle.tg_c.specs.Could.{kind_in, names_in, turns_in, turns_of, kind_of, names_of};
+ghost use Rattle.tg_c.specs.Could.{kind_of, names_of, turns_of};
 
 use tg_could::{Answer, Told};
 use tg_model::Deed;
