@@ -1,8 +1,8 @@
 # Writes a C file that compiles exactly where kovshenul.h fits the library's text: each struct of numbers has the same
 # fields at the same offsets, each export the same parameters, each constant the number that the contracts give it.
 #
-# It reads crates/tg_c/src/forms.rt, records.rt, handle.rt, place.rt and exports.rt, crates/tg_c/specs/Forms.antt and Records.antt, and
-# crates/tg_rights/specs/RightSet.antt.
+# It reads crates/tg_c/src/forms.rt, records.rt, handle.rt, place.rt and exports.rt, those of its auditor, crates/tg_c/specs/Forms.antt and
+# Records.antt, and crates/tg_rights/specs/RightSet.antt.
 
 function same(is, wanted) {
     printf "SAME(%s, %s);\n", is, wanted
@@ -61,6 +61,7 @@ BEGIN {
     types["DenialOut"] = "tg_denial"; types["EdgeOut"] = "tg_target"; types["CensusOut"] = "tg_counts"
     types["RecordOut"] = "tg_record"
     types["StorePlace"] = "tg_store"; types["Handle"] = "twin_Handle"
+    types["AuditorPlace"] = "tg_auditor"; types["AuditorHandle"] = "twin_AuditorHandle"
     same("sizeof(void *)", 8)
     same("sizeof(bool)", 1)
     same("sizeof(size_t)", 8)
@@ -81,8 +82,8 @@ repr && /^pub struct / {
 struct && /^}/ {
     printf "} twin_%s;\n", struct
     # the header has no name for a handle: it is looked at in its place
-    if (struct == "StorePlace") same("offsetof(twin_StorePlace, handle.at)", "offsetof(tg_store, handle.at)")
-    if (struct == "Handle") fields = 0
+    if (struct ~ /Place$/) same("offsetof(twin_" struct ", handle.at)", "offsetof(" types[struct] ", handle.at)")
+    if (struct ~ /Handle$/) fields = 0
     else same("sizeof(twin_" struct ")", "sizeof(" types[struct] ")")
     for (i = 1; i <= fields; i++) {
         same("offsetof(twin_" struct ", " field[i] ")", "offsetof(" types[struct] ", " field[i] ")")

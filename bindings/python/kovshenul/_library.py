@@ -6,12 +6,12 @@ from operator import index
 from pathlib import Path
 from typing import Type
 
-ABI = 3
+ABI = 4
 NAME = f"libkovshenul.so.{ABI}"
 
 CALLS = (
     "abi open close take grant remove write append create spawn retire subjects read list inspect label collect census names entries "
-    "entry audit"
+    "first entry forget audit auditor_open auditor_feed auditor_at auditor_forget auditor_sweep auditor_close"
 ).split()
 
 Number = ctypes.c_uint64
@@ -83,7 +83,7 @@ class Counts(ctypes.Structure):
 
 
 class Place(ctypes.Structure):
-    """A store, or none where all of it is zero."""
+    """A store, or none where all of it is zero; an auditor is held in the same way."""
 
     _fields_ = [("is_open", ctypes.c_bool), ("at", ctypes.c_void_p)]
 
