@@ -74,10 +74,12 @@ static uint64_t tell_story(void) {
     static const tg_edge edges[2] = { { 0, 1, TG_GRANT | TG_TAKE | TG_INSPECT }, { 1, 0, TG_GRANT } };
     static const tg_limits limits = { 1000, 64, 64 };
     tg_store store = TG_STORE_INIT;
+    tg_auditor auditor = TG_AUDITOR_INIT;
     tg_target row[64];
     tg_denial why;
     uint64_t name, count, entries, numbers[64];
     CALL(tg_open(&store, workers, 2, edges, 2, &limits));
+    CALL(tg_auditor_open(&auditor, workers, 2, edges, 2, &limits));
     for (uint32_t i = 0; i < 12; i++) {
         CALL(tg_create(&store, 0, TG_READ | TG_WRITE | TG_APPEND, &kinds[i % 4], &name));
         CALL(tg_grant(&store, 0, 1, name, TG_READ, &why));
@@ -115,9 +117,20 @@ static uint64_t tell_story(void) {
     CALL(tg_entries(&store, &entries));
     read_entries(&store, entries);
     CALL(tg_audit(&store, &count));
-    if (tg_close(&store) != TG_DONE || tg_answer_turns(&answer, &name) != TG_DONE || name == 0 || tg_answer_close(&answer) != TG_DONE)
+    if (count != entries)
         stop(__LINE__, 0);
-    if (count != entries || held != 0)
+    CALL(tg_auditor_feed(&auditor, &store, &count));
+    CALL(tg_auditor_sweep(&auditor));
+    /* To give entries up takes no memory. */
+    before = made;
+    CALL(tg_auditor_forget(&auditor, &store, count));
+    if (count != entries || made != before)
+        stop(__LINE__, 0);
+    CALL(tg_list(&store, 1, row, 64, &count));
+    CALL(tg_auditor_feed(&auditor, &store, &count));
+    if (count != entries + 1 || tg_auditor_close(&auditor) != TG_DONE || tg_close(&store) != TG_DONE)
+        stop(__LINE__, 0);
+    if (tg_answer_turns(&answer, &name) != TG_DONE || name == 0 || tg_answer_close(&answer) != TG_DONE || held != 0)
         stop(__LINE__, 0);
     return entries;
 }

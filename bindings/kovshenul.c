@@ -27,6 +27,9 @@ tg_status proved_tg_entry(tg_store *store, uint64_t at, tg_record *record, uint6
 tg_status proved_tg_could(tg_store *store, const uint64_t *silent, size_t silent_count, const tg_edge *as_if, size_t as_if_count,
                           uint64_t x, uint64_t right, uint64_t y, tg_answer *answer);
 tg_status proved_tg_answer_turn(tg_answer *answer, uint64_t at, tg_record *record, uint64_t *numbers, size_t room);
+tg_status proved_tg_auditor_open(tg_auditor *auditor, const tg_value *workers, size_t worker_count, const tg_edge *edges,
+                                 size_t edge_count, const tg_limits *limits);
+tg_status proved_tg_auditor_feed(tg_auditor *auditor, tg_store *store, uint64_t *count);
 
 /* An address for an array of no items, at which nothing is read or written. */
 static const uint64_t nothing[1];
@@ -133,6 +136,20 @@ tg_status tg_answer_turn(tg_answer *answer, uint64_t at, tg_record *record, uint
     return proved_tg_answer_turn(answer, at, record, numbers, room);
 }
 
+tg_status tg_auditor_open(tg_auditor *auditor, const tg_value *workers, size_t worker_count, const tg_edge *edges, size_t edge_count,
+                          const tg_limits *limits) {
+    if (workers == NULL && worker_count == 0)
+        workers = (const tg_value *)nothing;
+    if (edges == NULL && edge_count == 0)
+        edges = (const tg_edge *)nothing;
+    return proved_tg_auditor_open(auditor, workers, worker_count, edges, edge_count, limits);
+}
+
+tg_status tg_auditor_feed(tg_auditor *auditor, tg_store *store, uint64_t *count) {
+    uint64_t unwanted;
+    return proved_tg_auditor_feed(auditor, store, count == NULL ? &unwanted : count);
+}
+
 const char *tg_version(void) {
     return KOVSHENUL_VERSION;
 }
@@ -141,8 +158,8 @@ const char *tg_status_text(tg_status status) {
     switch (status) {
     case TG_DONE: return "done";
     case TG_DENIED: return "the rules don't allow it";
-    case TG_NOT_OPEN: return "the store is not open";
-    case TG_ALREADY_OPEN: return "the store is open already";
+    case TG_NOT_OPEN: return "the store or the auditor is not open";
+    case TG_ALREADY_OPEN: return "the store or the auditor is open already";
     case TG_OUT_OF_MEMORY: return "out of memory";
     case TG_HEAP_FULL: return "the heap is full, by its limits";
     case TG_VERTICES_FULL: return "as many vertices were made as may be";
@@ -156,7 +173,9 @@ const char *tg_status_text(tg_status status) {
     case TG_BAD_EDGE: return "an edge from a worker to itself, or with an end that is no worker";
     case TG_BAD_VALUES: return "values that no opening takes";
     case TG_BAD_ENTRY: return "an entry of the journal is not legal";
-    case TG_BAD_PLACE: return "the journal has no entry at the place";
+    case TG_BAD_PLACE: return "the journal holds no entry at the place";
+    case TG_NOT_WHOLE: return "entries of the journal were given up";
+    case TG_NOT_AUDITED: return "entries before the place are not audited";
     default: return "unknown status";
     }
 }

@@ -11,15 +11,15 @@
 
    What C owes:
    - Each pointer is to memory of the stated type, which no other argument of the call overlaps, and which nobody else uses
-     while the call runs. NULL stands for an array of 0 items, for a text with no room and for a denial that isn't
-     wanted, and for nothing else.
+     while the call runs. NULL stands for an array of 0 items, for a text with no room, for a denial that isn't
+     wanted and for the count of tg_auditor_feed, and for nothing else.
    - A tg_store is all zero before tg_open, and its bytes are changed by these functions alone. It may be moved, and never
-     copied: of two copies only one may be used from then on.
+     copied: of two copies only one may be used from then on. So it is of a tg_auditor.
    - A bool in it is 0 or 1.
    - Calls on one store come one after the other. It is used by one thread at a time, and handed over under a lock, by a
      thread's start or by its join. Not from a signal handler, and not in the forked child of a process with threads. Two
      stores share nothing: each may have a thread of its own.
-   - An open store that isn't closed keeps its memory.
+   - An open store that isn't closed keeps its memory, and so does an open auditor.
 
    Collections by several helpers and sessions on threads are for Rattle alone, since this library starts no thread and takes no
    lock. Where threads share a store, put a lock of your own around each call. */
@@ -36,7 +36,7 @@ extern "C" {
 
 /* The number of the interface that this header tells of. tg_abi() answers that of the library: a program compares the two
    at its start. */
-#define TG_ABI 3
+#define TG_ABI 4
 
 /* A store: 16 bytes, all zero while it is closed. */
 typedef struct tg_store {
@@ -47,6 +47,16 @@ typedef struct tg_store {
 } tg_store;
 
 #define TG_STORE_INIT { false, { NULL } }
+
+/* An auditor of a store's journal: 16 bytes, all zero while it is closed. */
+typedef struct tg_auditor {
+    bool is_open;
+    struct {
+        void *at;
+    } handle;
+} tg_auditor;
+
+#define TG_AUDITOR_INIT { false, { NULL } }
 
 /* Rights over a vertex: a set of bits. At least one, and no other bit, is what each call takes. Their letters are r, w, t, g, a, l, u
    and v. For u and v there is no command: they are taken, granted and removed like all others, and mean what the host wants. */
@@ -68,8 +78,9 @@ enum {
     TG_DONE = 0,
     TG_DENIED = 1,            /* the rules don't allow it; nothing changed but that the journal has it */
 
-    TG_NOT_OPEN = 16,         /* exactly where the store is closed and what was asked for is no TG_BAD_.. */
-    TG_ALREADY_OPEN = 17,     /* tg_open: exactly where the store is open; tg_could: where the answer is, and no bits are bad */
+    TG_NOT_OPEN = 16,         /* exactly where the store, the auditor or the answer is closed and what was asked for is no TG_BAD_.. or
+                                 TG_NOT_AUDITED */
+    TG_ALREADY_OPEN = 17,     /* tg_open, tg_auditor_open: exactly where it is open; tg_could: where the answer is, and no bits are bad */
 
     TG_OUT_OF_MEMORY = 32,    /* malloc or realloc gave none; the same call may be made again. No TG_BAD_.. comes later, but tg_could's edge */
     TG_HEAP_FULL = 33,        /* no cell or block is left, by the limits; after tg_collect there may be */
@@ -87,8 +98,12 @@ enum {
     TG_BAD_EDGE = 82,         /* an edge from a vertex to itself; tg_open: with an end that is no worker; tg_could: that none reaches */
     TG_BAD_VALUES = 83,       /* tg_open: kept; no value that a tg_value can say gives it */
 
-    TG_BAD_ENTRY = 96,        /* tg_audit: never, while nobody but these functions wrote to the store's memory */
-    TG_BAD_PLACE = 97         /* tg_entry, tg_answer_turn: exactly where the store or the answer is open, and has nothing at the place */
+    TG_BAD_ENTRY = 96,        /* tg_auditor_feed: the entry at the auditor's place isn't legal. tg_audit: never, while nobody but these
+                                 functions wrote to the store's memory */
+    TG_BAD_PLACE = 97,        /* tg_entry, tg_forget, tg_auditor_feed: the journal doesn't hold the entry: it was given up, or not made.
+                                 tg_answer_turn: exactly where the answer is open, and has no such turn */
+    TG_NOT_WHOLE = 98,        /* tg_audit: exactly where the store is open, and entries of it were given up */
+    TG_NOT_AUDITED = 99       /* tg_auditor_forget: exactly where the auditor is open, and hasn't come to the place */
 };
 
 /* What a write does to the state of a vertex. */
@@ -303,16 +318,59 @@ tg_status tg_census(tg_store *store, tg_counts *counts);
    what it keeps beside vertices that are gone (docs/EMBEDDING.md). The journal gets no entry, and no memory is taken. */
 tg_status tg_names(tg_store *store, uint64_t *names, size_t room, uint64_t *count);
 
-/* Counts the journal's entries, which tg_entry reads. Nothing trims the journal while the store is open. */
+/* Counts the entries that the journal ever had, those that were given up (tg_forget) included. The next one gets this place. */
 tg_status tg_entries(tg_store *store, uint64_t *count);
 
+/* The place of the first entry that the journal holds goes to *first: 0 until entries are given up, and where none is held
+   that of the next one. */
+tg_status tg_first(tg_store *store, uint64_t *first);
+
 /* The journal's entry at this place, counted from 0: what it says goes to *record, the first `number_room` of its numbers to numbers, the
-   first `edge_room` of its edges to edges. No memory is taken, and no entry ever changes. */
+   first `edge_room` of its edges to edges. No memory is taken, and no entry ever changes. It is TG_BAD_PLACE exactly where the store is
+   open and its journal holds no entry at the place: behind the last, or before the first (tg_first). */
 tg_status tg_entry(tg_store *store, uint64_t at, tg_record *record, uint64_t *numbers, size_t number_room, tg_target *edges,
                    size_t edge_room);
 
-/* Replays the journal from the opening, on a plain graph that was never collected, and counts its entries. */
+/* Gives up the entries before this place, which tg_entry reads no more; no reply, right or name changes by it. It is TG_BAD_PLACE
+   exactly where the store is open and the place lies before the first entry that is held (tg_first), or behind that of the next
+   (tg_entries); then nothing is given up. Where it is that of the first, nothing happens. No memory is taken, and what was taken for
+   entries is kept for the next ones: so a host that gives entries up as it goes bounds what a journal takes. */
+tg_status tg_forget(tg_store *store, uint64_t upto);
+
+/* Replays the journal from the opening, on a plain graph that was never collected, and counts its entries. It is TG_NOT_WHOLE exactly
+   where the store is open and entries of it were given up: an auditor replays those before they are. */
 tg_status tg_audit(tg_store *store, uint64_t *count);
+
+/* An auditor replays a journal part after part, so that a host may give up what was audited: it feeds the auditor, and then forgets.
+   It takes memory by what the store's workers reach, and not by how many entries there were.
+
+   An auditor is opened by the words by which the store was: the same values, edges and limits, of which it keeps none. It stands at
+   the first entry, 0. What is asked for is looked at as by tg_open, with the same statuses in the same order. */
+tg_status tg_auditor_open(tg_auditor *auditor, const tg_value *workers, size_t worker_count, const tg_edge *edges, size_t edge_count,
+                          const tg_limits *limits);
+
+/* Replays what the store holds from the auditor's place on. TG_DONE is answered only where these entries are what the rules answer on
+   the graph so far; the auditor's place is then that of the next one, and how many entries passed in all goes to *count, which may be
+   NULL. By TG_BAD_ENTRY and TG_OUT_OF_MEMORY those that passed stay so, and tg_auditor_at tells the place of the entry at which it
+   stopped. After want of memory it goes on from there. After a bad entry, which is the first that is none of this opening's history, it
+   is fed no more: each later feed is TG_BAD_ENTRY. An auditor that was opened as the store was and is fed by it alone never finds one.
+   Of an auditor that found none it is TG_BAD_PLACE exactly where entries that it hasn't seen were given up, or where the store has made
+   fewer than it has seen; it is as it was then. */
+tg_status tg_auditor_feed(tg_auditor *auditor, tg_store *store, uint64_t *count);
+
+/* How many entries passed goes to *at: the place of the next one. */
+tg_status tg_auditor_at(tg_auditor *auditor, uint64_t *at);
+
+/* Gives up the store's entries before this place, as tg_forget does, where the auditor has come as far; else it is TG_NOT_AUDITED, and
+   nothing is given up. */
+tg_status tg_auditor_forget(tg_auditor *auditor, tg_store *store, uint64_t upto);
+
+/* Gives back what the auditor keeps of vertices that no worker reaches any more. It does so by itself whenever it keeps twice as many
+   as the last time left, and 65,536 at the least. Where there is no memory for it, nothing is given back. */
+tg_status tg_auditor_sweep(tg_auditor *auditor);
+
+/* Gives back all memory of the auditor. *auditor is closed then, and may be opened again. */
+tg_status tg_auditor_close(tg_auditor *auditor);
 
 /* ---- what could ever come about
 

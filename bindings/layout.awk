@@ -1,8 +1,8 @@
 # Writes a C file that compiles exactly where kovshenul.h fits the library's text: each struct of numbers has the same
 # fields at the same offsets, each export the same parameters, each constant the number that the contracts give it.
 #
-# It reads crates/tg_c/src/forms.rt, records.rt, handle.rt, place.rt, answer.rt, exports.rt and could.rt, crates/tg_c/specs/Forms.antt,
-# Records.antt and Could.antt, and crates/tg_rights/specs/RightSet.antt.
+# It reads crates/tg_c/src/forms.rt, records.rt, handle.rt, place.rt, answer.rt, exports.rt, could.rt, those of its auditor, crates/tg_c/specs/
+# Forms.antt, Records.antt and Could.antt, and crates/tg_rights/specs/RightSet.antt.
 
 function same(is, wanted) {
     printf "SAME(%s, %s);\n", is, wanted
@@ -62,6 +62,7 @@ BEGIN {
     types["RecordOut"] = "tg_record"
     types["StorePlace"] = "tg_store"; types["Handle"] = "twin_Handle"
     types["AnswerPlace"] = "tg_answer"; types["AnswerHandle"] = "twin_AnswerHandle"
+    types["AuditorPlace"] = "tg_auditor"; types["AuditorHandle"] = "twin_AuditorHandle"
     same("sizeof(void *)", 8)
     same("sizeof(bool)", 1)
     same("sizeof(size_t)", 8)

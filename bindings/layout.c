@@ -1,10 +1,10 @@
-/* The sizes, offsets and constants of interface 3, which a program built against it has in its code. It is compiled, and not run.
+/* The sizes, offsets and constants of interface 4, which a program built against it has in its code. It is compiled, and not run.
    That the library has the same is seen by layout.awk. */
 #include "kovshenul.h"
 
 #define SAME(is, wanted) _Static_assert((is) == (wanted), #is)
 
-SAME(TG_ABI, 3);
+SAME(TG_ABI, 4);
 
 SAME(sizeof(bool), 1);
 SAME(sizeof(void *), 8);
@@ -17,6 +17,9 @@ SAME(offsetof(tg_store, handle.at), 8);
 SAME(sizeof(tg_answer), 16);
 SAME(offsetof(tg_answer, is_open), 0);
 SAME(offsetof(tg_answer, handle.at), 8);
+SAME(sizeof(tg_auditor), 16);
+SAME(offsetof(tg_auditor, is_open), 0);
+SAME(offsetof(tg_auditor, handle.at), 8);
 
 SAME(sizeof(tg_value), 16);
 SAME(offsetof(tg_value, law), 0);

@@ -4,9 +4,9 @@
    A script is one that the plain program bench/reference.rs takes, whose replies must be the same. Some stores have tight limits, and of some
    requests for memory are refused. A call that is refused for either changes nothing, so the script leaves it out. The stores move from place
    to place, and what a call may not write to is looked at. Collections of the nurseries run in between, of which the script says nothing.
-   At the end the journal is read, and written as a script with the replies that it has: FOLDER/0.journal.script and
-   FOLDER/0.journal.replies. It is audited, and each block of memory has to have been given back. It is linked with
-   --wrap=malloc,--wrap=realloc,--wrap=free. */
+   The journal is written as a script with the replies that it has, FOLDER/0.journal.script and FOLDER/0.journal.replies: at the end, but of
+   each second store part after part, as an auditor has replayed entries and they are given up. All is audited, and each block of memory has
+   to have been given back. It is linked with --wrap=malloc,--wrap=realloc,--wrap=free. */
 #include "kovshenul.h"
 #include <inttypes.h>
 #include <pthread.h>
@@ -45,8 +45,10 @@ struct worker {
 struct run {
     int number;
     tg_store places[2];    /* the store is in one of them */
+    tg_auditor auditors[2];    /* its auditor is in that of the same number */
     int place;
-    FILE *script, *replies;
+    FILE *script, *replies, *journal_script, *journal_replies;
+    uint64_t audited;      /* how many entries the auditor has come to */
     char line[128];        /* of the command */
     uint64_t state;        /* of the random numbers */
     uint64_t made;
@@ -178,8 +180,14 @@ static tg_store *store_of(struct run *run) {
         run->place = 1 - run->place;
         run->places[run->place] = *from;
         memset(from, 0xbb, sizeof *from);
+        run->auditors[run->place] = run->auditors[1 - run->place];
+        memset(&run->auditors[1 - run->place], 0xbb, sizeof *run->auditors);
     }
     return &run->places[run->place];
+}
+
+static tg_auditor *auditor_of(struct run *run) {
+    return &run->auditors[run->place];
 }
 
 /* Whether the call was answered, and its line stands in the script. One that is refused has a reason. */
@@ -230,6 +238,146 @@ static int is_done(struct run *run, tg_status status, long refused_before) {
     else
         stop(run, "command", status);
     return 0;
+}
+
+/* ---- the journal */
+
+/* Edges that were listed, or none where it was denied or refused. */
+static void put_row(struct run *run, int is, const tg_target row[ROW], uint64_t count) {
+    char text[RIGHTS + 1];
+    want(run, is ? count <= ROW : count == UNTOUCHED, "a count of what isn't listed");
+    if (is)
+        fputs("ok", run->replies);
+    for (uint64_t i = 0; is && i < count; i++)
+        fprintf(run->replies, " %" PRIu64 ":%s", row[i].to, letters(row[i].rights, text));
+    if (is)
+        fputs("\n", run->replies);
+    for (uint64_t i = is ? count : 0; i < ROW; i++)
+        want(run, row[i].to == UNTOUCHED && row[i].rights == UNTOUCHED, "an edge that isn't listed");
+}
+
+static _Thread_local tg_target listed[ROW];
+
+/* The line of an entry. */
+static void say_entry(struct run *run, const tg_record *entry) {
+    static const char *const words[] = { "take", "grant", "remove", "read", "write", "append", "inspect" };
+    char text[RIGHTS + 1];
+    uint64_t x = entry->worker, y = entry->target;
+    switch (entry->deed) {
+    case TG_DEED_TAKE:
+    case TG_DEED_GRANT:
+        say(run, "%" PRIu64 " %s %" PRIu64 " %" PRIu64 " %s", x, words[entry->deed], entry->via, y, letters(entry->rights, text));
+        break;
+    case TG_DEED_REMOVE: say(run, "%" PRIu64 " remove %" PRIu64 " %s", x, y, letters(entry->rights, text)); break;
+    case TG_DEED_WRITE:
+    case TG_DEED_APPEND: say(run, "%" PRIu64 " %s %" PRIu64 " %" PRIu64, x, words[entry->deed], y, entry->value); break;
+    case TG_DEED_READ:
+    case TG_DEED_INSPECT: say(run, "%" PRIu64 " %s %" PRIu64, x, words[entry->deed], y); break;
+    case TG_DEED_LIST: say(run, "%" PRIu64 " list", x); break;
+    case TG_DEED_RETIRE: say(run, "%" PRIu64 " retire", x); break;
+    case TG_DEED_CREATE: say(run, "%" PRIu64 " create %s", x, letters(entry->rights, text)); break;
+    case TG_DEED_SPAWN: say(run, "%" PRIu64 " spawn %s", x, letters(entry->rights, text)); break;
+    default: stop(run, "a deed", entry->deed);
+    }
+    fprintf(run->script, "%s\n", run->line);
+}
+
+/* The reply of an entry, whose numbers are these. Its edges are listed. */
+static void put_reply(struct run *run, const tg_record *entry, const uint64_t numbers[NUMBERS]) {
+    switch (entry->reply) {
+    case TG_REPLY_DENIED:
+        run->why = entry->denial;
+        put_denial(run);
+        break;
+    case TG_REPLY_VERTICES_FULL: fputs("refused vertices\n", run->replies); break;
+    case TG_REPLY_WORKERS_FULL: fputs("refused workers\n", run->replies); break;
+    case TG_REPLY_EDGES: put_row(run, 1, listed, entry->edge_count); break;
+    case TG_REPLY_NAME: fprintf(run->replies, "ok %" PRIu64 "\n", entry->name); break;
+    case TG_REPLY_VALUES:
+        fputs("ok", run->replies);
+        for (uint64_t i = 0; i < entry->number_count; i++)
+            fprintf(run->replies, " %" PRIu64, numbers[i]);
+        fputs("\n", run->replies);
+        break;
+    case TG_REPLY_DONE: fputs("ok\n", run->replies); break;
+    default: stop(run, "a reply", entry->reply);
+    }
+}
+
+/* Writes the entries from one place on up to another as a script with their replies. */
+static void write_entries(struct run *run, tg_store *store, uint64_t from, uint64_t upto) {
+    FILE *script = run->script, *replies = run->replies;
+    uint64_t numbers[NUMBERS];
+    tg_record entry;
+    run->script = run->journal_script;
+    run->replies = run->journal_replies;
+    memset(listed, 0xbb, sizeof listed);
+    for (uint64_t at = from; at < upto; at++) {
+        want(run, tg_entry(store, at, &entry, numbers, NUMBERS, listed, ROW) == TG_DONE, "an entry");
+        want(run, entry.number_count <= NUMBERS && entry.edge_count <= ROW, "an entry's counts");
+        say_entry(run, &entry);
+        put_reply(run, &entry, numbers);
+        memset(listed, 0xbb, entry.edge_count * sizeof *listed);
+    }
+    run->script = script;
+    run->replies = replies;
+}
+
+/* The place of the first entry that the store holds, and of the next one that it makes. */
+static uint64_t first_entry(struct run *run, tg_store *store) {
+    uint64_t first = UNTOUCHED;
+    want(run, tg_first(store, &first) == TG_DONE && first != UNTOUCHED, "the first entry");
+    return first;
+}
+
+static uint64_t next_entry(struct run *run, tg_store *store) {
+    uint64_t next = UNTOUCHED;
+    want(run, tg_entries(store, &next) == TG_DONE && next != UNTOUCHED, "entries");
+    return next;
+}
+
+/* The auditor is fed. Where memory is refused it goes on from the entry that it came to. */
+static void feed_auditor(struct run *run, tg_store *store) {
+    uint64_t count = UNTOUCHED, at = UNTOUCHED, next = next_entry(run, store);
+    long before = refused;
+    tg_status status = tg_auditor_feed(auditor_of(run), store, &count);
+    want(run, tg_auditor_at(auditor_of(run), &at) == TG_DONE && run->audited <= at && at <= next, "the auditor's place");
+    run->audited = at;
+    if (status == TG_OUT_OF_MEMORY && refused > before && count == UNTOUCHED)
+        return;
+    if (status != TG_DONE)
+        stop(run, "an auditor was fed", status);
+    want(run, count == next && at == next, "the auditor's count");
+}
+
+/* Some entries are given up, or none where the auditor hasn't come as far. */
+static void forget_some(struct run *run, tg_store *store) {
+    uint64_t first = first_entry(run, store), upto = first + below(run, run->audited - first + 3), numbers[NUMBERS];
+    tg_record entry;
+    if (upto > run->audited) {
+        want(run, tg_auditor_forget(auditor_of(run), store, upto) == TG_NOT_AUDITED, "entries that aren't audited");
+        want(run, first_entry(run, store) == first, "entries given up that aren't audited");
+        return;
+    }
+    write_entries(run, store, first, upto);
+    want(run, tg_auditor_forget(auditor_of(run), store, upto) == TG_DONE && first_entry(run, store) == upto, "entries given up");
+    if (upto == 0)
+        return;
+    want(run, tg_forget(store, upto - 1) == TG_BAD_PLACE, "entries given up twice");
+    want(run, tg_entry(store, upto - 1, &entry, numbers, NUMBERS, listed, ROW) == TG_BAD_PLACE, "an entry that was given up");
+}
+
+/* The auditor is fed, what it needs no more is given back, or entries are given up, by each second store. */
+static void look_back(struct run *run, uint64_t which) {
+    tg_store *store = store_of(run);
+    say(run, "looks back");
+    long before = refused;
+    if (which % 4 < 2)
+        feed_auditor(run, store);
+    else if (which % 4 == 2)
+        want(run, tg_auditor_sweep(auditor_of(run)) == TG_DONE || refused > before, "a sweep");
+    else if (run->number % 2 == 1)
+        forget_some(run, store);
 }
 
 /* ---- commands */
@@ -287,22 +435,6 @@ static void read_some(struct run *run) {
     for (uint64_t i = is ? count : 0; i < NUMBERS; i++)
         want(run, numbers[i] == UNTOUCHED, "a number that isn't read");
 }
-
-/* Edges that were listed, or none where it was denied or refused. */
-static void put_row(struct run *run, int is, const tg_target row[ROW], uint64_t count) {
-    char text[RIGHTS + 1];
-    want(run, is ? count <= ROW : count == UNTOUCHED, "a count of what isn't listed");
-    if (is)
-        fputs("ok", run->replies);
-    for (uint64_t i = 0; is && i < count; i++)
-        fprintf(run->replies, " %" PRIu64 ":%s", row[i].to, letters(row[i].rights, text));
-    if (is)
-        fputs("\n", run->replies);
-    for (uint64_t i = is ? count : 0; i < ROW; i++)
-        want(run, row[i].to == UNTOUCHED && row[i].rights == UNTOUCHED, "an edge that isn't listed");
-}
-
-static _Thread_local tg_target listed[ROW];
 
 static void list_some(struct run *run) {
     uint64_t x = one_who_asks(run), count = UNTOUCHED;
@@ -395,6 +527,8 @@ static void command(struct run *run) {
     uint64_t which = below(run, 1000);
     if (which < 2)
         collect(run, which == 0 ? TG_FULL : TG_NURSERY);
+    else if (which < 6)
+        look_back(run, which);
     else if (which < 80)
         make(run, 0);
     else if (which < 90)
@@ -429,10 +563,10 @@ static FILE *written(const struct run *run, const char *what) {
     return file;
 }
 
-/* The edges of the opening. */
-static void put_opening(struct run *run) {
+/* The edges of the opening, as a script begins. */
+static void put_opening(FILE *script) {
     for (uint64_t i = 0; i < WORKERS; i++)
-        fprintf(run->script, "edge %" PRIu64 " %" PRIu64 " tgl\n", i, (i + 1) % WORKERS);
+        fprintf(script, "edge %" PRIu64 " %" PRIu64 " tgl\n", i, (i + 1) % WORKERS);
 }
 
 static void open_store(struct run *run) {
@@ -441,7 +575,6 @@ static void open_store(struct run *run) {
     const tg_limits limits = { MAX_VERTICES, bounds[run->number].blocks, bounds[run->number].space_blocks };
     for (uint64_t i = 0; i < WORKERS; i++)
         edges[i] = (tg_edge){ i, (i + 1) % WORKERS, TG_TAKE | TG_GRANT | TG_INSPECT };
-    put_opening(run);
     tg_status status = TG_OUT_OF_MEMORY;
     while (status == TG_OUT_OF_MEMORY) {
         want(run, !run->places[0].is_open && held == 0, "a refused opening");
@@ -449,93 +582,42 @@ static void open_store(struct run *run) {
     }
     if (status != TG_DONE)
         stop(run, "opening", status);
+    do
+        status = tg_auditor_open(&run->auditors[0], workers, WORKERS, edges, WORKERS, &limits);
+    while (status == TG_OUT_OF_MEMORY);
+    if (status != TG_DONE)
+        stop(run, "an auditor", status);
     for (uint64_t i = 0; i < WORKERS; i++)
         run->workers[i] = (struct worker){ i, (i + 1) % WORKERS };
     run->active = WORKERS;
 }
 
-/* ---- the journal */
+/* ---- the end */
 
-/* The line of an entry. */
-static void say_entry(struct run *run, const tg_record *entry) {
-    static const char *const words[] = { "take", "grant", "remove", "read", "write", "append", "inspect" };
-    char text[RIGHTS + 1];
-    uint64_t x = entry->worker, y = entry->target;
-    switch (entry->deed) {
-    case TG_DEED_TAKE:
-    case TG_DEED_GRANT:
-        say(run, "%" PRIu64 " %s %" PRIu64 " %" PRIu64 " %s", x, words[entry->deed], entry->via, y, letters(entry->rights, text));
-        break;
-    case TG_DEED_REMOVE: say(run, "%" PRIu64 " remove %" PRIu64 " %s", x, y, letters(entry->rights, text)); break;
-    case TG_DEED_WRITE:
-    case TG_DEED_APPEND: say(run, "%" PRIu64 " %s %" PRIu64 " %" PRIu64, x, words[entry->deed], y, entry->value); break;
-    case TG_DEED_READ:
-    case TG_DEED_INSPECT: say(run, "%" PRIu64 " %s %" PRIu64, x, words[entry->deed], y); break;
-    case TG_DEED_LIST: say(run, "%" PRIu64 " list", x); break;
-    case TG_DEED_RETIRE: say(run, "%" PRIu64 " retire", x); break;
-    case TG_DEED_CREATE: say(run, "%" PRIu64 " create %s", x, letters(entry->rights, text)); break;
-    case TG_DEED_SPAWN: say(run, "%" PRIu64 " spawn %s", x, letters(entry->rights, text)); break;
-    default: stop(run, "a deed", entry->deed);
-    }
-    fprintf(run->script, "%s\n", run->line);
-}
-
-/* The reply of an entry, whose numbers are these. Its edges are listed. */
-static void put_reply(struct run *run, const tg_record *entry, const uint64_t numbers[NUMBERS]) {
-    switch (entry->reply) {
-    case TG_REPLY_DENIED:
-        run->why = entry->denial;
-        put_denial(run);
-        break;
-    case TG_REPLY_VERTICES_FULL: fputs("refused vertices\n", run->replies); break;
-    case TG_REPLY_WORKERS_FULL: fputs("refused workers\n", run->replies); break;
-    case TG_REPLY_EDGES: put_row(run, 1, listed, entry->edge_count); break;
-    case TG_REPLY_NAME: fprintf(run->replies, "ok %" PRIu64 "\n", entry->name); break;
-    case TG_REPLY_VALUES:
-        fputs("ok", run->replies);
-        for (uint64_t i = 0; i < entry->number_count; i++)
-            fprintf(run->replies, " %" PRIu64, numbers[i]);
-        fputs("\n", run->replies);
-        break;
-    case TG_REPLY_DONE: fputs("ok\n", run->replies); break;
-    default: stop(run, "a reply", entry->reply);
-    }
-}
-
-static void read_journal(struct run *run, tg_store *store) {
-    uint64_t entries, numbers[NUMBERS];
+/* Writes the entries that are left. There is none behind them. */
+static void end_journal(struct run *run, tg_store *store) {
+    uint64_t next = next_entry(run, store), numbers[NUMBERS];
     tg_record entry;
-    want(run, tg_entries(store, &entries) == TG_DONE, "entries");
-    memset(listed, 0xbb, sizeof listed);
-    for (uint64_t at = 0; at < entries; at++) {
-        want(run, tg_entry(store, at, &entry, numbers, NUMBERS, listed, ROW) == TG_DONE, "an entry");
-        want(run, entry.number_count <= NUMBERS && entry.edge_count <= ROW, "an entry's counts");
-        say_entry(run, &entry);
-        put_reply(run, &entry, numbers);
-        memset(listed, 0xbb, entry.edge_count * sizeof *listed);
-    }
-    want(run, tg_entry(store, entries, &entry, numbers, NUMBERS, listed, ROW) == TG_BAD_PLACE, "an entry too many");
-}
-
-/* Closes the files, and opens those of the journal. */
-static void turn_to_journal(struct run *run) {
-    want(run, fclose(run->script) == 0 && fclose(run->replies) == 0, "files");
-    run->script = written(run, "journal.script");
-    run->replies = written(run, "journal.replies");
-    put_opening(run);
+    write_entries(run, store, first_entry(run, store), next);
+    want(run, tg_entry(store, next, &entry, numbers, NUMBERS, listed, ROW) == TG_BAD_PLACE, "an entry too many");
+    want(run, tg_forget(store, next + 1) == TG_BAD_PLACE, "an entry given up before it is made");
 }
 
 static void audit_and_close(struct run *run) {
     tg_store *store = &run->places[run->place];
-    uint64_t entries, audited;
-    turn_to_journal(run);
-    read_journal(run, store);
+    uint64_t audited = UNTOUCHED;
+    say(run, "the end");
+    end_journal(run, store);
+    feed_auditor(run, store);
     tg_status status = tg_audit(store, &audited);
-    if (status != TG_DONE)
-        stop(run, "audit", status);
-    want(run, tg_entries(store, &entries) == TG_DONE && entries == audited, "entries");
+    if (first_entry(run, store) > 0)
+        want(run, status == TG_NOT_WHOLE && audited == UNTOUCHED, "an audit of what isn't whole");
+    else
+        want(run, status == TG_DONE && audited == next_entry(run, store), "an audit");
+    want(run, tg_auditor_close(auditor_of(run)) == TG_DONE && !auditor_of(run)->is_open, "an auditor's end");
     want(run, tg_close(store) == TG_DONE && !store->is_open && held == 0, "memory is held by a closed store");
     want(run, fclose(run->script) == 0 && fclose(run->replies) == 0, "files");
+    want(run, fclose(run->journal_script) == 0 && fclose(run->journal_replies) == 0, "files");
 }
 
 static void *run_all(void *at) {
@@ -546,6 +628,10 @@ static void *run_all(void *at) {
     run->made = WORKERS;
     run->script = written(run, "script");
     run->replies = written(run, "replies");
+    run->journal_script = written(run, "journal.script");
+    run->journal_replies = written(run, "journal.replies");
+    put_opening(run->script);
+    put_opening(run->journal_script);
     open_store(run);
     for (uint64_t left = commands; left > 0; left--)
         command(run);

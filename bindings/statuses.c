@@ -65,8 +65,32 @@ static void closed(void) {
     WANT(tg_names(&store, numbers, 64, &number) == TG_NOT_OPEN);
     WANT(tg_entries(&store, &number) == TG_NOT_OPEN);
     WANT(is_no_entry(&store, 0, TG_NOT_OPEN));
+    WANT(tg_first(&store, &number) == TG_NOT_OPEN);
+    WANT(tg_forget(&store, 0) == TG_NOT_OPEN);
     WANT(tg_audit(&store, &number) == TG_NOT_OPEN);
     WANT(is_untouched() && !store.is_open && store.handle.at == NULL);
+}
+
+/* A closed auditor, and an open one that is fed by a closed store: nothing happens. */
+static void closed_auditors(void) {
+    tg_store store = TG_STORE_INIT;
+    tg_auditor auditor = TG_AUDITOR_INIT;
+    uint64_t at = UNTOUCHED;
+    WANT(tg_auditor_close(&auditor) == TG_NOT_OPEN);
+    WANT(tg_auditor_feed(&auditor, &store, &number) == TG_NOT_OPEN);
+    WANT(tg_auditor_at(&auditor, &number) == TG_NOT_OPEN);
+    WANT(tg_auditor_forget(&auditor, &store, 0) == TG_NOT_OPEN);
+    WANT(tg_auditor_sweep(&auditor) == TG_NOT_OPEN);
+    WANT(!auditor.is_open && auditor.handle.at == NULL);
+    WANT(tg_auditor_open(&auditor, NULL, 0, NULL, 0, &limits) == TG_BAD_WORKERS && !auditor.is_open);
+    WANT(tg_auditor_open(&auditor, workers, 2, NULL, 0, &limits) == TG_DONE && auditor.is_open);
+    WANT(tg_auditor_open(&auditor, workers, 2, NULL, 0, &limits) == TG_ALREADY_OPEN);
+    WANT(tg_auditor_feed(&auditor, &store, &number) == TG_NOT_OPEN);
+    WANT(tg_auditor_forget(&auditor, &store, 0) == TG_NOT_OPEN);
+    WANT(tg_auditor_forget(&auditor, &store, 1) == TG_NOT_AUDITED);
+    WANT(tg_auditor_at(&auditor, &at) == TG_DONE && at == 0);
+    WANT(tg_auditor_close(&auditor) == TG_DONE && !auditor.is_open && auditor.handle.at == NULL);
+    WANT(is_untouched() && !store.is_open);
 }
 
 /* No items may be NULL: of an opening, a read, a list, an inspect, names, subjects and an entry. */
@@ -96,7 +120,7 @@ static void texts(void) {
         TG_DONE, TG_DENIED, TG_NOT_OPEN, TG_ALREADY_OPEN, TG_OUT_OF_MEMORY, TG_HEAP_FULL, TG_VERTICES_FULL, TG_WORKERS_FULL,
         TG_NO_SUCH_WORKER,
         TG_BAD_RIGHTS, TG_BAD_LAW, TG_BAD_KIND, TG_BAD_WORKERS, TG_BAD_LIMITS, TG_BAD_EDGE, TG_BAD_VALUES, TG_BAD_ENTRY,
-        TG_BAD_PLACE
+        TG_BAD_PLACE, TG_NOT_WHOLE, TG_NOT_AUDITED
     };
     const size_t count = sizeof known / sizeof *known;
     const char *unknown = tg_status_text(UINT32_MAX);
@@ -189,11 +213,14 @@ static void unwanted_denials(void) {
     WANT(tg_close(&store) == TG_DONE);
 }
 
-/* One opening that must be refused. */
+/* One opening that must be refused, of a store and of an auditor. */
 static void refused(tg_status status, const tg_value *values, size_t count, tg_edge edge, tg_limits bounds) {
     tg_store store = TG_STORE_INIT;
+    tg_auditor auditor = TG_AUDITOR_INIT;
     WANT(tg_open(&store, values, count, &edge, 1, &bounds) == status);
     WANT(!store.is_open && store.handle.at == NULL);
+    WANT(tg_auditor_open(&auditor, values, count, &edge, 1, &bounds) == status);
+    WANT(!auditor.is_open && auditor.handle.at == NULL);
 }
 
 static void openings(void) {
@@ -597,6 +624,85 @@ static void entries_read(void) {
     WANT(tg_close(&store) == TG_DONE);
 }
 
+/* Entries are given up, and what is held is read as before. Nothing else changes, and an audit of the rest says so. */
+static void entries_forgotten(void) {
+    tg_store store = TG_STORE_INIT;
+    tg_record entry;
+    uint64_t first = UNTOUCHED, count = UNTOUCHED;
+    deeds(&store);
+    WANT(tg_first(&store, &first) == TG_DONE && first == 0);
+    WANT(tg_forget(&store, 0) == TG_DONE && tg_audit(&store, &count) == TG_DONE && count == ENTRIES);
+    for (uint64_t upto = 1; upto <= ENTRIES; upto++) {
+        WANT(tg_forget(&store, ENTRIES + 1) == TG_BAD_PLACE && tg_forget(&store, UINT64_MAX) == TG_BAD_PLACE);
+        WANT(tg_forget(&store, upto) == TG_DONE);
+        WANT(tg_forget(&store, upto - 1) == TG_BAD_PLACE);
+        WANT(tg_first(&store, &first) == TG_DONE && first == upto);
+        WANT(tg_entries(&store, &count) == TG_DONE && count == ENTRIES);
+        WANT(is_no_entry(&store, upto - 1, TG_BAD_PLACE) && is_no_entry(&store, 0, TG_BAD_PLACE));
+        WANT(tg_audit(&store, &number) == TG_NOT_WHOLE && number == UNTOUCHED);
+        for (uint64_t at = upto; at < ENTRIES; at++)
+            WANT(tg_entry(&store, at, &entry, NULL, 0, NULL, 0) == TG_DONE && memcmp(&entry, &journal[at], sizeof entry) == 0);
+        WANT(is_no_entry(&store, ENTRIES, TG_BAD_PLACE));
+    }
+    WANT(tg_list(&store, 1, NULL, 0, &count) == TG_DONE);
+    WANT(tg_entry(&store, ENTRIES, &entry, NULL, 0, NULL, 0) == TG_DONE && entry.deed == TG_DEED_LIST && entry.edge_count == count);
+    WANT(tg_close(&store) == TG_DONE);
+}
+
+/* Whether the auditor stands at this place. */
+static int stands_at(tg_auditor *auditor, uint64_t place) {
+    uint64_t at = UNTOUCHED;
+    return tg_auditor_at(auditor, &at) == TG_DONE && at == place;
+}
+
+/* A journal is audited part after part, and given up behind the auditor and no further. */
+static void parts_audited(void) {
+    tg_store store = TG_STORE_INIT;
+    tg_auditor auditor = TG_AUDITOR_INIT;
+    uint64_t count = UNTOUCHED, first;
+    WANT(tg_open(&store, workers, 2, edges, 2, &limits) == TG_DONE);
+    WANT(tg_auditor_open(&auditor, workers, 2, edges, 2, &limits) == TG_DONE && stands_at(&auditor, 0));
+    WANT(tg_auditor_feed(&auditor, &store, &count) == TG_DONE && count == 0);
+    for (uint64_t round = 1; round <= 5; round++) {
+        WANT(tg_create(&store, 0, TG_READ | TG_WRITE, &sum, &count) == TG_DONE);
+        WANT(tg_grant(&store, 0, 1, count, TG_READ, &why) == TG_DONE);
+        WANT(tg_write(&store, 1, count, 2, &why) == TG_DENIED);
+        WANT(tg_auditor_forget(&auditor, &store, 3 * round) == TG_NOT_AUDITED);
+        WANT(tg_auditor_feed(&auditor, &store, round % 2 == 0 ? &count : NULL) == TG_DONE && stands_at(&auditor, 3 * round));
+        WANT(round % 2 == 1 || count == 3 * round);
+        WANT(tg_auditor_forget(&auditor, &store, 3 * round + 1) == TG_NOT_AUDITED);
+        WANT(tg_auditor_sweep(&auditor) == TG_DONE && stands_at(&auditor, 3 * round));
+        WANT(tg_auditor_forget(&auditor, &store, 3 * round) == TG_DONE);
+        WANT(tg_auditor_forget(&auditor, &store, 3 * round - 1) == TG_BAD_PLACE);
+        WANT(tg_first(&store, &first) == TG_DONE && first == 3 * round);
+    }
+    WANT(tg_auditor_close(&auditor) == TG_DONE && tg_close(&store) == TG_DONE);
+}
+
+/* What stops an auditor: entries that were given up before it was fed, a store that hasn't made as many, and one of another opening,
+   where the first entry that shows it is bad. From then on it is fed no more. */
+static void auditors_stopped(void) {
+    const tg_edge other[2] = { { 0, 1, TG_TAKE | TG_GRANT }, { 1, 0, TG_INSPECT } };
+    tg_store store = TG_STORE_INIT, fresh = TG_STORE_INIT;
+    tg_auditor auditor = TG_AUDITOR_INIT;
+    WANT(tg_open(&store, workers, 2, edges, 2, &limits) == TG_DONE && tg_open(&fresh, workers, 2, edges, 2, &limits) == TG_DONE);
+    WANT(tg_auditor_open(&auditor, workers, 2, other, 2, &limits) == TG_DONE);
+    number = UNTOUCHED;
+    WANT(tg_create(&store, 1, TG_READ, &sum, numbers) == TG_DONE);
+    WANT(tg_auditor_feed(&auditor, &store, numbers) == TG_DONE && numbers[0] == 1);
+    WANT(tg_auditor_feed(&auditor, &fresh, &number) == TG_BAD_PLACE && stands_at(&auditor, 1));
+    WANT(tg_list(&store, 0, NULL, 0, numbers) == TG_DONE);
+    WANT(tg_grant(&store, 1, 0, 2, TG_READ, &why) == TG_DONE);
+    for (int round = 0; round < 2; round++)
+        WANT(tg_auditor_feed(&auditor, &store, &number) == TG_BAD_ENTRY && stands_at(&auditor, 2) && number == UNTOUCHED);
+    WANT(tg_auditor_feed(&auditor, &fresh, &number) == TG_BAD_ENTRY && stands_at(&auditor, 2));
+    WANT(tg_auditor_close(&auditor) == TG_DONE);
+    WANT(tg_auditor_open(&auditor, workers, 2, edges, 2, &limits) == TG_DONE);
+    WANT(tg_forget(&store, 1) == TG_DONE);
+    WANT(tg_auditor_feed(&auditor, &store, &number) == TG_BAD_PLACE && stands_at(&auditor, 0) && number == UNTOUCHED);
+    WANT(tg_auditor_close(&auditor) == TG_DONE && tg_close(&store) == TG_DONE && tg_close(&fresh) == TG_DONE);
+}
+
 /* A nursery of one block is used up: 64 cells, with one for the worker. */
 static void full_heap(void) {
     const tg_limits small = { 1000, 1, 1 };
@@ -785,6 +891,7 @@ int main(void) {
     unwanted_denials();
     closed();
     closed_answers();
+    closed_auditors();
     openings();
     first_faults();
     WANT(tg_open(&store, workers, 2, edges, 2, &limits) == TG_DONE && store.is_open && store.handle.at != NULL);
@@ -806,6 +913,9 @@ int main(void) {
     entries_read();
     questions();
     names_wanting();
+    entries_forgotten();
+    parts_audited();
+    auditors_stopped();
     puts("statuses ok");
     return 0;
 }

@@ -9,13 +9,15 @@ A command that the rules don't allow raises Denied, which says by its cause whic
 a Refused. Both are an Error. A number that isn't from 0 to 2^64 - 1 raises OverflowError, and what is no number
 TypeError: nothing happened then.
 
-A store's journal is read by `entry` and `journal`. The types of what an entry says are those of `kovshenul.journal`,
-and those of what could come about, which `could` answers, those of `kovshenul.outlook`.
+A store's journal is read by `entry` and `journal`, and given up by `forget`. An Auditor replays it before that, part after part.
+The types of what an entry says are those of `kovshenul.journal`, and those of what could come about, which `could` answers,
+those of `kovshenul.outlook`.
 
 Any thread may call a store: a lock in it makes the calls come one after the other. The library is the one that the
 variable KOVSHENUL_LIBRARY names, else the one beside this module, else the one that the system finds.
 """
 from . import journal, outlook
+from ._auditor import Auditor
 from ._library import version as _version
 from ._refusals import (
     CAUSES,
@@ -34,7 +36,9 @@ from ._refusals import (
     Error,
     HeapFull,
     NoSuchWorker,
+    NotAudited,
     NotOpen,
+    NotWhole,
     OutOfMemory,
     Refused,
     VerticesFull,
@@ -51,6 +55,7 @@ __version__ = _version()
 __all__ = [
     "APPEND",
     "AlreadyOpen",
+    "Auditor",
     "BadEdge",
     "BadEntry",
     "BadKind",
@@ -79,7 +84,9 @@ __all__ = [
     "Max",
     "NURSERY",
     "NoSuchWorker",
+    "NotAudited",
     "NotOpen",
+    "NotWhole",
     "OutOfMemory",
     "READ",
     "RULES",

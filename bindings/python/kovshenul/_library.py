@@ -6,12 +6,13 @@ from operator import index
 from pathlib import Path
 from typing import Type
 
-ABI = 3
+ABI = 4
 NAME = f"libkovshenul.so.{ABI}"
 
 CALLS = (
     "abi open close take grant remove write append create spawn retire subjects read list inspect label collect census names entries "
-    "entry audit could answer_kind answer_names answer_turns answer_turn answer_close"
+    "first entry forget audit auditor_open auditor_feed auditor_at auditor_forget auditor_sweep auditor_close "
+    "could answer_kind answer_names answer_turns answer_turn answer_close"
 ).split()
 
 Number = ctypes.c_uint64
@@ -84,7 +85,7 @@ class Counts(ctypes.Structure):
 
 
 class Place(ctypes.Structure):
-    """A store or an answer, or none where all of it is zero."""
+    """A store, or none where all of it is zero; an auditor and an answer are held in the same way."""
 
     _fields_ = [("is_open", ctypes.c_bool), ("at", ctypes.c_void_p)]
 

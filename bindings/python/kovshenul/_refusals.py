@@ -68,13 +68,13 @@ class Refused(Error):
 
 
 class NotOpen(Refused, ValueError):
-    """The store is closed."""
+    """The store, or the auditor, is closed."""
 
     status = 16
 
 
 class AlreadyOpen(Refused, ValueError):
-    """The store is open already."""
+    """The store, or the auditor, is open already."""
 
     status = 17
 
@@ -152,15 +152,27 @@ class BadValues(Refused, ValueError):
 
 
 class BadEntry(Refused):
-    """Kept: an audit of the store's own journal never answers it."""
+    """An entry isn't one of a legal history of the auditor's opening. An audit of the store's own journal never answers it."""
 
     status = 96
 
 
 class BadPlace(Refused, IndexError):
-    """The journal has no entry at the place."""
+    """The journal holds no entry at the place: it wasn't made yet, or it was given up."""
 
     status = 97
+
+
+class NotWhole(Refused):
+    """Entries of the journal were given up, so that an audit of all isn't possible any more."""
+
+    status = 98
+
+
+class NotAudited(Refused):
+    """Entries before the place weren't audited."""
+
+    status = 99
 
 
 BY_STATUS = {kind.status: kind for kind in Refused.__subclasses__()}

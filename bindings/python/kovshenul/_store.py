@@ -88,6 +88,22 @@ def _targets(numbers: List[int]) -> List[Target]:
     return list_of(map(target_of, zip(each, map(rights_of, each))))
 
 
+def opening_in(
+    workers: Iterable[Value], edges: Iterable[Tuple[int, int, int]], limits: Tuple[int, int, int]
+) -> Tuple[object, ...]:
+    """What an opening asks for, as the library takes it. Each number must be in its range."""
+    values = list_of(workers)
+    try:
+        values_in = (_library.Value * len(values))(*[value._asked for value in values])
+    except AttributeError:
+        raise TypeError(NO_VALUE) from None
+    pairs = [_numbers(source, target, rights) for source, target, rights in edges]
+    max_vertices, max_blocks, max_space_blocks = limits
+    bounds = _library.Limits(*_numbers(max_vertices, max_blocks, max_space_blocks))
+    pairs_in = (_library.Edge * len(pairs))(*pairs)
+    return byref(values_in), c_size_t(len(values)), byref(pairs_in), c_size_t(len(pairs)), byref(bounds)
+
+
 def _raise(status: int, told: Told) -> NoReturn:
     """Raises what a status other than 0 says, and where it is a denial what that told."""
     if status != DENIED:
@@ -119,19 +135,9 @@ class Store:
         edges: Iterable[Tuple[int, int, int]] = (),
         limits: Tuple[int, int, int] = Limits(),
     ) -> None:
-        values = list_of(workers)
-        try:
-            values_in = (_library.Value * len(values))(*[value._asked for value in values])
-        except AttributeError:
-            raise TypeError(NO_VALUE) from None
-        pairs = [_numbers(source, target, rights) for source, target, rights in edges]
-        max_vertices, max_blocks, max_space_blocks = limits
-        bounds = _library.Limits(*_numbers(max_vertices, max_blocks, max_space_blocks))
-        pairs_in = (_library.Edge * len(pairs))(*pairs)
+        asked = opening_in(workers, edges, limits)
         with self._lock:
-            status = library.tg_open(
-                self._at, byref(values_in), c_size_t(len(values)), byref(pairs_in), c_size_t(len(pairs)), byref(bounds)
-            )
+            status = library.tg_open(self._at, *asked)
         if status:
             raise refusal(status)
 
@@ -405,8 +411,23 @@ class Store:
                 room = count + count // 8 + 1
 
     def entries(self) -> int:
-        """How many entries the journal has."""
+        """How many entries the journal ever had, those that were given up included. The next one gets this place."""
         return self._count(short.tg_entries)
+
+    def first(self) -> int:
+        """The place of the first entry that the journal holds: 0 until entries are given up."""
+        return self._count(short.tg_first)
+
+    def forget(self, upto: int) -> None:
+        """Gives up the entries before this place. No reply, right or name changes by it, and it takes no memory.
+
+        It raises BadPlace where the place lies before the first entry that is held, or behind that of the next.
+        """
+        upto_in = _number(upto)
+        with self._lock:
+            status = library.tg_forget(self._at, upto_in)
+        if status:
+            raise refusal(status)
 
     def entry(self, at: int) -> Entry:
         """The journal's entry at this place, counted from 0. It never changes, and to read it makes none."""
@@ -421,14 +442,19 @@ class Store:
         return entry
 
     def journal(self) -> Iterator[Entry]:
-        """The journal's entries, one after the other. What is called in between has its entries among them."""
-        for at in from_on():
+        """The entries that the journal holds, one after the other. What is called in between has its entries among them.
+
+        It raises BadPlace where the next one was given up in between.
+        """
+        for at in from_on(self.first()):
             try:
                 entry = self.entry(at)
             except BadPlace:
+                if at < self.first():
+                    raise
                 return
             yield entry
 
     def audit(self) -> int:
-        """Replays the journal, and answers how many entries it has."""
+        """Replays the journal, and answers how many entries it has. Where some were given up it raises NotWhole."""
         return self._count(library.tg_audit)

@@ -8,13 +8,18 @@ from kovshenul import (
     INSPECT,
     READ,
     TAKE,
+    Auditor,
+    BadEntry,
     BadPlace,
+    BadWorkers,
     Cell,
     Denied,
     Limits,
     Log,
     Max,
+    NotAudited,
     NotOpen,
+    NotWhole,
     Refused,
     Rights,
     Store,
@@ -40,9 +45,13 @@ DEEDS = [
 ]
 
 
-def opened(most=MOST):
+def opening(most=MOST):
     edges = [(i, (i + 1) % WORKERS, TAKE | GRANT | INSPECT) for i in range(WORKERS)]
-    return Store([Cell(0)] * WORKERS, edges, Limits(most, 64, 64))
+    return [Cell(0)] * WORKERS, edges, Limits(most, 64, 64)
+
+
+def opened(most=MOST):
+    return Store(*opening(most))
 
 
 def drawn(rng, kind):
@@ -102,6 +111,62 @@ class Journals(unittest.TestCase):
         self.assertEqual(causes, {"not distinct", "missing", "not log"})
         self.assertEqual(pickle.loads(pickle.dumps(told)), told)
         self.assertLess(len(set(told)), len(told))
+
+    def test_it_comes_in_parts(self):
+        rng, wanted, told = random.Random(13), [], []
+        with opened() as store, Auditor(*opening()) as auditor:
+            for _ in range(20):
+                for _ in range(100):
+                    worker, deed = rng.randrange(WORKERS), drawn(rng, rng.choice(DEEDS))
+                    wanted.append(journal.Entry(worker, deed, called(store, worker, deed)))
+                told += store.journal()
+                self.assertRaises(NotAudited, auditor.forget, store, len(told))
+                self.assertEqual((auditor.feed(store), auditor.at), (len(told), len(told)))
+                auditor.sweep()
+                auditor.forget(store, len(told))
+                self.assertEqual((store.first(), store.entries()), (len(told), len(told)))
+                self.assertRaises(BadPlace, store.entry, len(told) - 1)
+                self.assertRaises(BadPlace, store.forget, len(told) - 1)
+                self.assertRaises(BadPlace, store.forget, len(told) + 1)
+                self.assertRaises(NotWhole, store.audit)
+                store.forget(len(told))
+            self.assertEqual(list(store.journal()), [])
+        self.assertEqual(told, wanted)
+
+    def test_what_is_given_up_in_the_middle_is_missed(self):
+        with opened() as store:
+            for worker in range(WORKERS):
+                store.list(worker)
+            entries = store.journal()
+            self.assertEqual(next(entries).worker, 0)
+            store.forget(1)
+            self.assertEqual(next(entries).worker, 1)
+            store.forget(3)
+            self.assertRaises(BadPlace, next, entries)
+            self.assertRaises(StopIteration, next, store.journal())
+            for upto in (-1, 2**64):
+                self.assertRaises(OverflowError, store.forget, upto)
+
+    def test_what_stops_an_auditor(self):
+        with opened() as store, opened() as other, Auditor(*opening(WORKERS + 1)) as auditor, Auditor(*opening()) as late:
+            name = store.create(0, READ, Sum(0))
+            self.assertEqual(auditor.feed(store), 1)
+            self.assertRaises(BadPlace, auditor.feed, other)
+            store.read(0, name)
+            store.create(1, READ, Sum(0))
+            for _ in range(2):
+                self.assertRaises(BadEntry, auditor.feed, store)
+                self.assertEqual(auditor.at, 2)
+            store.forget(1)
+            self.assertRaises(BadPlace, late.feed, store)
+            self.assertRaises(TypeError, late.feed, auditor)
+            self.assertEqual((late.at, repr(late)), (0, "<kovshenul.Auditor, open>"))
+        self.assertRaises(NotOpen, late.feed, store)
+        self.assertRaises(NotOpen, lambda: late.at)
+        self.assertRaises(NotOpen, late.sweep)
+        self.assertRaises(TypeError, pickle.dumps, late)
+        self.assertRaises(BadWorkers, Auditor, [])
+        self.assertEqual((late.closed, repr(late)), (True, "<kovshenul.Auditor, closed>"))
 
     def test_what_was_read_plays_again(self):
         rng = random.Random(12)

@@ -147,14 +147,20 @@ pub enum Error {
     BadLimits,
     /// An edge from a worker to itself, or with an end that is no worker; one that is supposed, and no worker reaches an end.
     BadEdge,
-    /// The journal has no entry at the place.
+    /// An entry isn't one of a legal history of the auditor's opening.
+    BadEntry,
+    /// The journal holds no entry at the place: it wasn't made yet, or it was given up.
     BadPlace,
+    /// Entries of the journal were given up, so that an audit of all isn't possible any more.
+    NotWhole,
+    /// Entries before the place weren't audited.
+    NotAudited,
     /// Any other status of the library.
     Status(u32),
 }
 
 // The errors with a status of their own.
-const REFUSALS: [(Error, u32); 11] = [
+const REFUSALS: [(Error, u32); 14] = [
     (Error::OutOfMemory, 32),
     (Error::HeapFull, 33),
     (Error::VerticesFull, 34),
@@ -165,7 +171,10 @@ const REFUSALS: [(Error, u32); 11] = [
     (Error::BadWorkers, 80),
     (Error::BadLimits, 81),
     (Error::BadEdge, 82),
+    (Error::BadEntry, 96),
     (Error::BadPlace, 97),
+    (Error::NotWhole, 98),
+    (Error::NotAudited, 99),
 ];
 
 impl Error {

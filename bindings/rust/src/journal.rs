@@ -173,7 +173,7 @@ impl Reply {
     }
 }
 
-/// The entries of a store's journal, from the first on ([`Store::journal`]).
+/// The entries of a store's journal, from the first that it holds on ([`Store::journal`]).
 #[derive(Debug)]
 pub struct Journal<'a> {
     store: &'a Store,
@@ -182,7 +182,9 @@ pub struct Journal<'a> {
 
 impl<'a> Journal<'a> {
     pub(crate) fn new(store: &'a Store) -> Journal<'a> {
-        Journal { store, at: 0 }
+        // The store is open, so it has a first place.
+        let at = store.first().unwrap_or_default();
+        Journal { store, at }
     }
 }
 

@@ -18,6 +18,7 @@
 //!
 //! Where it is built, `KOVSHENUL_LIB_DIR` names the folder of `libkovshenul.a`, or pkg-config knows it.
 #![deny(missing_docs)]
+mod auditor;
 mod could;
 mod error;
 mod journal;
@@ -26,6 +27,7 @@ mod rights;
 mod store;
 mod value;
 
+pub use auditor::Auditor;
 pub use could::{Could, Turn};
 pub use error::{Denial, Error, Rule};
 pub use journal::{Deed, Entry, Journal, Reply};

@@ -4,7 +4,7 @@ use std::ffi::c_void;
 use std::os::raw::c_char;
 
 /// The interface that this crate was written for.
-pub const ABI: u32 = 3;
+pub const ABI: u32 = 4;
 
 pub const DONE: u32 = 0;
 
@@ -58,6 +58,13 @@ pub const OPEN: u64 = 5;
 /// A store, or none where all of it is zero.
 #[repr(C)]
 pub struct RawStore {
+    pub is_open: bool,
+    pub at: *mut c_void,
+}
+
+/// An auditor, or none where all of it is zero.
+#[repr(C)]
+pub struct RawAuditor {
     pub is_open: bool,
     pub at: *mut c_void,
 }
@@ -185,6 +192,7 @@ extern "C" {
     pub fn tg_census(store: *mut RawStore, counts: &mut Counts) -> u32;
     pub fn tg_names(store: *mut RawStore, names: *mut u64, room: usize, count: &mut u64) -> u32;
     pub fn tg_entries(store: *mut RawStore, count: &mut u64) -> u32;
+    pub fn tg_first(store: *mut RawStore, first: &mut u64) -> u32;
     pub fn tg_entry(
         store: *mut RawStore,
         at: u64,
@@ -194,6 +202,7 @@ extern "C" {
         edges: *mut RawTarget,
         edge_room: usize,
     ) -> u32;
+    pub fn tg_forget(store: *mut RawStore, upto: u64) -> u32;
     pub fn tg_audit(store: *mut RawStore, count: &mut u64) -> u32;
     pub fn tg_could(
         store: *mut RawStore,
@@ -217,4 +226,17 @@ extern "C" {
         room: usize,
     ) -> u32;
     pub fn tg_answer_close(answer: &mut RawAnswer) -> u32;
+    pub fn tg_auditor_open(
+        auditor: *mut RawAuditor,
+        workers: *const RawValue,
+        worker_count: usize,
+        edges: *const RawEdge,
+        edge_count: usize,
+        limits: &Limits,
+    ) -> u32;
+    pub fn tg_auditor_feed(auditor: *mut RawAuditor, store: *mut RawStore, count: &mut u64) -> u32;
+    pub fn tg_auditor_at(auditor: *mut RawAuditor, at: &mut u64) -> u32;
+    pub fn tg_auditor_forget(auditor: *mut RawAuditor, store: *mut RawStore, upto: u64) -> u32;
+    pub fn tg_auditor_sweep(auditor: *mut RawAuditor) -> u32;
+    pub fn tg_auditor_close(auditor: *mut RawAuditor) -> u32;
 }

@@ -265,11 +265,37 @@ impl Store {
         Ok(names)
     }
 
-    /// How many entries the journal has.
+    /// How many entries the journal ever had, those that were given up included. The next one gets this place.
     pub fn entries(&self) -> Result<u64, Error> {
         let mut count = 0;
         served(unsafe { raw::tg_entries(self.at(), &mut count) })?;
         Ok(count)
+    }
+
+    /// The place of the first entry that the journal holds: 0 until entries are given up ([`forget`](Store::forget)).
+    pub fn first(&self) -> Result<u64, Error> {
+        let mut first = 0;
+        served(unsafe { raw::tg_first(self.at(), &mut first) })?;
+        Ok(first)
+    }
+
+    /// Gives up the entries before this place. No reply, right or name changes by it, and it takes no memory. It is
+    /// [`BadPlace`](Error::BadPlace) where the place lies before the first entry that is held, or behind that of the next.
+    ///
+    /// ```
+    /// # use kovshenul::{Error, Limits, Rights, Store, Value};
+    /// # let limits = Limits { max_vertices: 10, max_blocks: 8, max_space_blocks: 4 };
+    /// let mut store = Store::open(&[Value::Cell(0)], &[], &limits)?;
+    /// let sum = store.create(0, Rights::READ | Rights::WRITE, Value::Sum(40))?;
+    /// store.write(0, sum, 2)?;
+    /// store.forget(1)?;
+    /// assert_eq!((store.first()?, store.entries()?, store.journal().count()), (1, 2, 1));
+    /// assert_eq!(store.entry(0), Err(Error::BadPlace));
+    /// assert_eq!(store.audit(), Err(Error::NotWhole));
+    /// # Ok::<(), Error>(())
+    /// ```
+    pub fn forget(&mut self, upto: u64) -> Result<(), Error> {
+        served(unsafe { raw::tg_forget(self.at(), upto) })
     }
 
     /// The journal's entry at this place, counted from 0. It never changes, and to read it makes none.
@@ -314,7 +340,7 @@ impl Store {
         served(status).map(|()| record)
     }
 
-    /// The journal's entries, one after the other.
+    /// The entries that the journal holds, one after the other.
     ///
     /// ```
     /// # use kovshenul::{Deed, Entry, Error, Limits, Reply, Rights, Store, Value};
@@ -331,7 +357,8 @@ impl Store {
         Journal::new(self)
     }
 
-    /// Replays the journal, and answers how many entries it has.
+    /// Replays the journal, and answers how many entries it has. Where entries were given up it is
+    /// [`NotWhole`](Error::NotWhole); an [`Auditor`](crate::Auditor) replays them before they are.
     pub fn audit(&self) -> Result<u64, Error> {
         let mut count = 0;
         served(unsafe { raw::tg_audit(self.at(), &mut count) })?;

@@ -1,18 +1,31 @@
 //! The journal of a store, read back: it says what was called and what was answered.
-use kovshenul::{Deed, Denial, Edge, Entry, Error, Limits, Reply, Rights, Rule, Store, Target, Value};
+use kovshenul::{Auditor, Deed, Denial, Edge, Entry, Error, Limits, Reply, Rights, Rule, Store, Target, Value};
 
-fn opened(max_vertices: u64) -> Store {
+const WORKERS: [Value; 2] = [Value::Cell(0); 2];
+
+fn edges() -> [Edge; 2] {
     let edge = |from, to| Edge {
         from,
         to,
         rights: Rights::TAKE | Rights::GRANT | Rights::INSPECT,
     };
-    let limits = Limits {
+    [edge(0, 1), edge(1, 0)]
+}
+
+fn limits(max_vertices: u64) -> Limits {
+    Limits {
         max_vertices,
         max_blocks: 64,
         max_space_blocks: 64,
-    };
-    Store::open(&[Value::Cell(0); 2], &[edge(0, 1), edge(1, 0)], &limits).unwrap()
+    }
+}
+
+fn opened(max_vertices: u64) -> Store {
+    Store::open(&WORKERS, &edges(), &limits(max_vertices)).unwrap()
+}
+
+fn auditor(max_vertices: u64) -> Auditor {
+    Auditor::open(&WORKERS, &edges(), &limits(max_vertices)).unwrap()
 }
 
 // Makes the call that a deed stands for, and answers what is to stand in the journal.
@@ -99,6 +112,46 @@ fn a_run_is_read_back() {
     assert!(is_told(|it| matches!(it, Reply::Edges(edges) if edges.len() > 1)));
 }
 
+// The parts that are given up are together what was called, and an auditor comes to the end of each.
+#[test]
+fn a_journal_in_parts() {
+    let (mut store, mut auditor, mut dice) = (opened(20), auditor(20), Dice(3));
+    let (mut wanted, mut told) = (Vec::new(), Vec::new());
+    for round in 1..=2000 {
+        let (worker, deed) = (dice.below(2), dice.deed());
+        let reply = call(&mut store, worker, deed);
+        wanted.push(Entry { worker, deed, reply });
+        if round % 100 == 0 {
+            told.extend(store.journal());
+            assert_eq!(auditor.forget(&mut store, round), Err(Error::NotAudited));
+            assert_eq!((auditor.feed(&store), auditor.at()), (Ok(round), Ok(round)));
+            assert_eq!(auditor.sweep(), Ok(()));
+            assert_eq!(auditor.forget(&mut store, round), Ok(()));
+            assert_eq!((store.first(), store.entries()), (Ok(round), Ok(round)));
+            assert_eq!(store.entry(round - 1), Err(Error::BadPlace));
+            assert_eq!((store.forget(round - 1), store.forget(round + 1)), (Err(Error::BadPlace), Err(Error::BadPlace)));
+            assert_eq!((store.forget(round), store.audit()), (Ok(()), Err(Error::NotWhole)));
+        }
+    }
+    assert_eq!(told, wanted);
+}
+
+#[test]
+fn what_stops_an_auditor() {
+    let (mut store, mut late, mut other) = (opened(20), auditor(20), auditor(3));
+    let sum = store.create(0, Rights::READ, Value::Sum(0)).unwrap();
+    assert_eq!(other.feed(&store), Ok(1));
+    assert_eq!(other.feed(&opened(20)), Err(Error::BadPlace));
+    store.read(0, sum).unwrap();
+    store.create(1, Rights::READ, Value::Sum(0)).unwrap();
+    for _ in 0..2 {
+        assert_eq!((other.feed(&store), other.at()), (Err(Error::BadEntry), Ok(2)));
+    }
+    store.forget(1).unwrap();
+    assert_eq!((late.feed(&store), late.at()), (Err(Error::BadPlace), Ok(0)));
+    assert_eq!(Auditor::open(&[], &[], &limits(20)).unwrap_err(), Error::BadWorkers);
+}
+
 #[test]
 fn what_was_read_plays_again() {
     let (mut store, mut other, mut dice) = (opened(20), opened(20), Dice(2));
@@ -129,7 +182,7 @@ fn past_the_end_is_refused() {
     for at in [1, u64::from(u32::MAX), u64::MAX] {
         let error = store.entry(at).unwrap_err();
         assert_eq!((error, error.status()), (Error::BadPlace, 97));
-        assert_eq!(error.to_string(), "the journal has no entry at the place");
+        assert_eq!(error.to_string(), "the journal holds no entry at the place");
     }
     assert_eq!(store.entries(), Ok(1));
 }

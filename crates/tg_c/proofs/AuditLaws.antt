@@ -7,7 +7,7 @@ use Rattle.tg_journal.specs.declared.replay.AuditFault.TheVariants.{OutOfMemory,
 use Rattle.tg_journal.specs.History.{IsLegal, IsAuditFault}
 use Rattle.tg_journal.proofs.HistoryLaws.{IsFirstBad-not_legal}
 
-fault_of_legal : (given own : Plan) (listed entries : List Entry) (fault : AuditFault) → given ≡ own → listed ≡ entries
+pub fault_of_legal : (given own : Plan) (listed entries : List Entry) (fault : AuditFault) → given ≡ own → listed ≡ entries
     → IsLegal (start_of own) entries → IsAuditFault (start_of given) listed fault → fault ≡ OutOfMemory
 fault_of_legal given own listed entries OutOfMemory same_plan same_list legal says = refl
 fault_of_legal given own listed entries (BadEntry at) same_plan same_list legal says =

@@ -44,6 +44,8 @@ not_done refusal.BadEdge is = omega (arith, is)
 not_done refusal.BadValues is = omega (arith, is)
 not_done refusal.BadEntry is = omega (arith, is)
 not_done refusal.BadPlace is = omega (arith, is)
+not_done refusal.NotWhole is = omega (arith, is)
+not_done refusal.NotAudited is = omega (arith, is)
 
 pub no_plan_fault : (workers : List ValueIn) (edges : List EdgeIn) (limits : LimitsIn) (values : List Value) (list : List Edge) (why : OpeningFault)
     → AreMet (demands_of workers edges limits) → values ≡ map value_in workers → list ≡ map edge_in edges

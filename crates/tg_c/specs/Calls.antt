@@ -1,6 +1,6 @@
 -- What the calls of C do to a place and its store. Each but the opening is a call on a place: a closed one is refused
 -- as that, and on an open one the store's answer is told, of which the clauses of the store's own call hold.
-use Rattle.std.specs.Prelude.{◌≡◌, ◌≢◌, ◌↔◌, ◌⊎◌, ◌≤◌, ◌<◌, ◌==◌, ℕ, true, false, List, [], ◌∷◌, Some, None, Result, Ok, Err, IfOk, IfErr, OnOk, OnErr, length}
+use Rattle.std.specs.Prelude.{◌≡◌, ◌≢◌, ◌↔◌, ◌⊎◌, ◌≤◌, ◌<◌, ◌==◌, ℕ, true, false, List, [], ◌∷◌, Some, None, Result, Ok, Err, IfOk, IfErr, OnOk, OnErr, length, map}
 use Rattle.std.specs.List.{IsDistinct}
 use Rattle.tg_rights.specs.RightSet.{RightSet, bits_of}
 use Rattle.tg_model.specs.Graph.{ProtectionGraph, IsSubject}
@@ -27,12 +27,10 @@ use Rattle.tg_rules.specs.Effect.{AddsEdge, LacksCellsToServe}
 use Rattle.tg_space.specs.declared.room_fault.RoomFault.{RoomFault}
 use Rattle.tg_space.specs.declared.room_fault.RoomFault.TheVariants as no_room
 use Rattle.tg_journal.specs.declared.entry.Entry.{Entry}
-use Rattle.tg_journal.specs.declared.replay.AuditFault.{AuditFault}
-use Rattle.tg_journal.specs.declared.replay.AuditFault.TheVariants as audit
 use Rattle.tg_store.specs.Collecting.{IsSwept, KeepsHistory}
 use Rattle.tg_store.specs.Made.{IsMadeFor}
 use Rattle.tg_store.specs.Room.{LacksRoomToCollect}
-use Rattle.tg_store.specs.Store.{StoreState, StandsFor, Enters, HasFewBlocks, OnlyEnters, IsUnchanged}
+use Rattle.tg_store.specs.Store.{StoreState, StandsFor, Enters, HasFewBlocks, HoldsFrom, OnlyEnters, IsUnchanged}
 use Rattle.tg_store.specs.declared.census.Census.{Census}
 use Rattle.tg_store.specs.declared.fault.ApplyFault.{ApplyFault}
 use Rattle.tg_store.specs.declared.fault.ApplyFault.TheVariants as apply
@@ -44,7 +42,8 @@ use Rattle.tg_c.specs.declared.refusal.CallRefusal.TheVariants as refusal
 use Rattle.tg_c.specs.declared.forms.EdgeIn.{EdgeIn}
 use Rattle.tg_c.specs.declared.forms.LimitsIn.{LimitsIn}
 use Rattle.tg_c.specs.declared.forms.ValueIn.{ValueIn}
-use Rattle.tg_c.specs.Forms.{AreValues, HaveLabels, JoinWorkers, label_at, plan_of, value_at}
+use Rattle.tg_c.specs.declared.opening.Asked.{Asked}
+use Rattle.tg_c.specs.Forms.{AreValues, HaveLabels, JoinWorkers, label_at, plan_of, value_at, value_in}
 use Rattle.tg_c.specs.Records.{entry_at}
 use Rattle.tg_c.specs.Statuses.{of_apply, of_audit, of_collect, of_create, refused_as, status_of}
 
@@ -229,6 +228,10 @@ census_of s = record { vertices = length (content_of s.heap).names; payloads = c
 abbrev pub Counts : StorePlace → StorePlace → (Result Census CallRefusal → Type 0) → Type 0
 Counts old new = IsCall (λ why. why) (Looks census_of) old new
 
+-- the place of the first entry that the store holds, or else of the next
+abbrev pub AsksFirst : StorePlace → StorePlace → (Result ℕ CallRefusal → Type 0) → Type 0
+AsksFirst old new = IsCall (λ why. why) (Looks (λ s. s.handed)) old new
+
 abbrev pub CountsEntries : StorePlace → StorePlace → (Result ℕ CallRefusal → Type 0) → Type 0
 CountsEntries old new = IsCall (λ why. why) (Looks (λ s. length s.entries)) old new
 
@@ -254,9 +257,9 @@ abbrev pub IsShown : List ℕ → List ℕ → Result ℕ CallRefusal → Result
 IsShown old new answer (Ok names) = (answer ≡ Ok (length names)) × (new ≡ shown_in names old)
 IsShown old new answer (Err why) = (answer ≡ Err why) × (new ≡ old)
 
--- the journal's entry at a place
+-- the journal's entry at a place, where the store holds it
 abbrev pub IsEntryAt : ℕ → StoreState → StoreState → Result Entry CallRefusal → Type 0
-IsEntryAt at old new answer = (new ≡ old) × (answer ≡ entry_at old.entries at)
+IsEntryAt at old new answer = (new ≡ old) × (answer ≡ entry_at old.handed old.entries at)
 
 abbrev pub AsksEntry : StorePlace → StorePlace → ℕ → (Result Entry CallRefusal → Type 0) → Type 0
 AsksEntry old new at = IsCall (λ why. why) (IsEntryAt at) old new
@@ -271,14 +274,25 @@ pub record IsHeldAt (worker target : ℕ) (old new : StoreState) (answer : Resul
 abbrev pub AsksRights : StorePlace → StorePlace → ℕ → ℕ → (Result ℕ CallRefusal → Type 0) → Type 0
 AsksRights old new worker target = IsCall (λ why. why) (IsHeldAt worker target) old new
 
--- an audit of the store's own journal can be refused for want of memory alone
-pub record IsAudited (old new : StoreState) (answer : Result ℕ AuditFault) : Type 0 where
+-- An audit of the store's own journal is refused exactly where entries were given up, and else for want of memory alone.
+pub record IsAudited (old new : StoreState) (answer : Result ℕ CallRefusal) : Type 0 where
   pub same : new ≡ old
   pub count : IfOk answer (λ n. n ≡ length old.entries)
-  pub fault : IfErr answer (λ why. why ≡ audit.OutOfMemory)
+  pub not_whole : (answer ≡ Err refusal.NotWhole) ↔ (0 < old.handed)
+  pub fault : IfErr answer (λ why. (why ≡ refusal.NotWhole) ⊎ (why ≡ refusal.OutOfMemory))
 
 abbrev pub Audits : StorePlace → StorePlace → (Result ℕ CallRefusal → Type 0) → Type 0
-Audits old new = IsCall of_audit IsAudited old new
+Audits old new = IsCall (λ why. why) IsAudited old new
+
+-- The entries before a place are given up. It is refused exactly where the place lies before the first entry that is held, or behind the
+-- last by more than one.
+pub record ForgetsUpto (upto : ℕ) (old new : StoreState) (answer : Result (Unit {0}) CallRefusal) : Type 0 where
+  pub forgotten : OnOk answer (HoldsFrom upto old new)
+  pub bad_place : (answer ≡ Err refusal.BadPlace) ↔ ((upto < old.handed) ⊎ (length old.entries < upto))
+  pub refused : IfErr answer (λ why. (why ≡ refusal.BadPlace) × (new ≡ old))
+
+abbrev pub Forgets : StorePlace → StorePlace → ℕ → (Result (Unit {0}) CallRefusal → Type 0) → Type 0
+Forgets old new upto = IsCall (λ why. why) (ForgetsUpto upto) old new
 
 -- ---- the opening
 
@@ -316,6 +330,13 @@ abbrev pub IsRefusedFor : List ValueIn → List EdgeIn → LimitsIn → CallRefu
 IsRefusedFor workers edges limits why =
     IsFirstUnmet (demands_of workers edges limits) why
     ⊎ (AreMet (demands_of workers edges limits) × (why ≡ refusal.OutOfMemory))
+
+-- what was made of what an opening asks for, all of whose demands are met
+pub record IsAskedFor (workers : List ValueIn) (edges : List EdgeIn) (limits : LimitsIn) (asked : Asked) : Type 0 where
+  pub met : AreMet (demands_of workers edges limits)
+  pub opening : asked.opening ≡ plan_of workers edges limits.max_vertices
+  pub blocks : asked.blocks ≡ limits_of limits.max_blocks limits.max_space_blocks
+  pub drafts : asked.drafts.items ≡ map value_in workers
 
 -- The store of an opening, all of whose demands are met: it has no entry, and stands for the graph of what C asked for.
 pub record IsOpenedStore (s : StoreState) (workers : List ValueIn) (edges : List EdgeIn) (limits : LimitsIn) : Type 0 where

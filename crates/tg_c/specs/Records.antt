@@ -1,5 +1,5 @@
 -- What C reads of an entry of the journal. What a deed or a reply hasn't is 0.
-use Rattle.std.specs.Prelude.{ℕ, List, [], Result, length, slice_get, ok_or}
+use Rattle.std.specs.Prelude.{ℕ, List, [], Result, Err, length, slice_get, ok_or, nat_le, if◌then◌else◌}
 use Rattle.tg_rights.specs.RightSet.{RightSet, bits_of}
 use Rattle.tg_model.specs.declared.command.Command.{Command}
 use Rattle.tg_model.specs.declared.command.Command.TheVariants as command
@@ -125,6 +125,6 @@ record_with worker d r number_count edge_count = record {
 abbrev pub record_of : Entry → RecordOut
 record_of e = record_with e.worker (deed_out e.deed) (reply_out e.reply) (length (numbers_of e)) (length (edges_of e))
 
--- the entry at a place, counted from 0; there is none behind the last
-abbrev pub entry_at : List Entry → ℕ → Result Entry CallRefusal
-entry_at entries at = ok_or (slice_get entries at) refusal.BadPlace
+-- the entry at a place, counted from 0, of a journal that holds those from `first` on; there is none behind the last
+abbrev pub entry_at : ℕ → List Entry → ℕ → Result Entry CallRefusal
+entry_at first entries at = if nat_le first at then ok_or (slice_get entries at) refusal.BadPlace else Err refusal.BadPlace

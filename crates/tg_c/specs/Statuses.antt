@@ -46,6 +46,8 @@ status_of refusal.BadEdge = 82
 status_of refusal.BadValues = 83
 status_of refusal.BadEntry = 96
 status_of refusal.BadPlace = 97
+status_of refusal.NotWhole = 98
+status_of refusal.NotAudited = 99
 
 -- ---- how the store's refusals are told
 
@@ -159,6 +161,11 @@ TellsInspect status old new (Ok (Values values)) = ⊥
 TellsInspect status old new (Ok VerticesFull) = ⊥
 TellsInspect status old new (Ok WorkersFull) = ⊥
 TellsInspect status old new (Err why) = (status ≡ status_of why) × (new ≡ old)
+
+-- of a call that answers no more than that it was done
+abbrev pub TellsOnly : ℕ → Result (Unit {0}) CallRefusal → Type 0
+TellsOnly status (Ok done) = status ≡ 0
+TellsOnly status (Err why) = status ≡ status_of why
 
 -- of a create, a collection, a count and an audit
 abbrev pub TellsNumber : ℕ → ℕ → ℕ → Result ℕ CallRefusal → Type 0

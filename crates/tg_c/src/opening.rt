@@ -1,20 +1,55 @@
 //! What C hands in for an opening: whether it is as asked, and as what the store takes.
 ghost use Rattle.std.specs.Prelude.{◌≡◌, IfOk, IfErr, MatchResult, length, map};
 ghost use Rattle.tg_space.specs.SpaceTable.{limits_of};
-ghost use Rattle.tg_c.specs.Calls.{AreMet, IsFirstUnmet, IsMemoryOr, demands_of};
+ghost use Rattle.tg_c.specs.Calls.{AreMet, IsAskedFor, IsFirstUnmet, IsMemoryOr, IsRefusedFor, demands_of};
 ghost use Rattle.tg_c.specs.Forms.{AreValues, HaveLabels, JoinWorkers, edge_in, value_in};
 
 use crate::forms::{EdgeIn, LimitsIn, ValueIn, label_of};
 use crate::payload::LawPayload;
 use crate::refusal::CallRefusal;
 use std::alloc::Global;
-use tg_model::{Edge, MAX_LASTING_VERTICES, MAX_WORKERS};
-use tg_payload::Draft;
+use tg_model::{Edge, MAX_LASTING_VERTICES, MAX_WORKERS, Opening};
+use tg_payload::{Draft, values_of};
 use tg_store::Limits;
 
-/// Looks at what an opening asks for, one demand after the other, and takes no memory. Where all are met the answer is
-/// the limits of the heap, and else what is told of the first that isn't.
-pub fn check_opening(
+/// What an opening asks for, all of which was found as it has to be.
+#[derive(Drop)]
+pub struct Asked {
+    /// The opening.
+    pub opening: Opening,
+    /// The limits of the heap.
+    pub blocks: Limits,
+    /// What the workers are to store, a draft for each.
+    pub drafts: Vec<Draft<LawPayload>>,
+}
+
+/// What C asks for, as a store takes it. It is looked at before memory is asked for, in this order: the workers'
+/// values, the edges' rights, the number of workers, `max_vertices`, the edges' ends, the limits of blocks, and the
+/// blocks for the workers. The first fault is told. Where there is none, only memory can be refused.
+pub fn asked_for(
+    alloc: Global,
+    workers: &[ValueIn],
+    edges: &[EdgeIn],
+    limits: &LimitsIn,
+) -> Result<Asked, CallRefusal>
+    ensures asked { IfOk result (IsAskedFor workers.now edges.now limits.now) }
+    ensures refused { IfErr result (IsRefusedFor workers.now edges.now limits.now) }
+{
+    let blocks = check_opening(alloc, workers, edges, limits)?;
+    let drafts = drafts_in(alloc, workers)?;
+    let values = values_of(alloc, drafts.as_slice())?;
+    let edges = edges_in(alloc, edges)?;
+    let opening = Opening::lasting(workers.len() as u64, edges, values, limits.max_vertices)?;
+    Ok(Asked {
+        opening,
+        blocks,
+        drafts,
+    })
+}
+
+// Looks at what an opening asks for, one demand after the other, and takes no memory. Where all are met the answer is
+// the limits of the heap, and else what is told of the first that isn't.
+fn check_opening(
     alloc: Global,
     workers: &[ValueIn],
     edges: &[EdgeIn],
@@ -74,8 +109,8 @@ fn check_ends(workers: u64, edges: &[EdgeIn]) -> Result<(), CallRefusal>
     Ok(())
 }
 
-/// A draft for each worker, of what it is to store.
-pub fn drafts_in(alloc: Global, workers: &[ValueIn]) -> Result<Vec<Draft<LawPayload>>, CallRefusal>
+// A draft for each worker, of what it is to store.
+fn drafts_in(alloc: Global, workers: &[ValueIn]) -> Result<Vec<Draft<LawPayload>>, CallRefusal>
     ensures drafts { IfOk result (λ drafts. AreValues workers.now × (drafts.items ≡ map value_in workers.now)) }
     ensures refused { IfErr result (IsMemoryOr CallRefusal.BadLaw (¬ AreValues workers.now)) }
 {
@@ -86,8 +121,8 @@ pub fn drafts_in(alloc: Global, workers: &[ValueIn]) -> Result<Vec<Draft<LawPayl
     Ok(drafts)
 }
 
-/// The edges, with the labels of their rights.
-pub fn edges_in(alloc: Global, edges: &[EdgeIn]) -> Result<Vec<Edge>, CallRefusal>
+// The edges, with the labels of their rights.
+fn edges_in(alloc: Global, edges: &[EdgeIn]) -> Result<Vec<Edge>, CallRefusal>
     ensures edges { IfOk result (λ list. HaveLabels edges.now × (list.items ≡ map edge_in edges.now)) }
     ensures refused { IfErr result (IsMemoryOr CallRefusal.BadRights (¬ HaveLabels edges.now)) }
 {

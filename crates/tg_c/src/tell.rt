@@ -3,7 +3,7 @@ ghost use Rattle.std.specs.Prelude.{◌≡◌, IfOk};
 ghost use Rattle.tg_c.specs.Calls.{IsDone, IsDoneOrDenied, IsListed, IsListedOrDenied, IsReadOrDenied};
 ghost use Rattle.tg_graph.specs.Shown.{shown_in};
 ghost use Rattle.tg_c.specs.Forms.{edges_shown_in};
-ghost use Rattle.tg_c.specs.Statuses.{TellsCensus, TellsDone, TellsEntry, TellsInspect, TellsList, TellsNumber, TellsRead, TellsRetired};
+ghost use Rattle.tg_c.specs.Statuses.{TellsCensus, TellsDone, TellsEntry, TellsInspect, TellsList, TellsNumber, TellsOnly, TellsRead, TellsRetired};
 ghost use Rattle.tg_c.specs.Records.{entry_at};
 ghost use Rattle.tg_subjects.specs.Subjects.{names_of};
 
@@ -145,8 +145,18 @@ pub fn tell_census(answer: Result<Census, CallRefusal>, out: &mut CensusOut) -> 
     }
 }
 
-/// Tells the journal's entry at a place: what it says, and of its numbers and edges as many as there is room for. No
-/// entry was handed out.
+/// Tells that something was done.
+pub fn tell_only(answer: Result<(), CallRefusal>) -> u32
+    ensures { TellsOnly result answer }
+{
+    match answer {
+        Ok(()) => DONE,
+        Err(refusal) => refusal.status(),
+    }
+}
+
+/// Tells the journal's entry at a place, where the journal holds it: what it says, and of its numbers and edges as many
+/// as there is room for.
 pub fn tell_entry(
     journal: &Journal,
     at: u64,
@@ -154,11 +164,10 @@ pub fn tell_entry(
     numbers: &mut [u64],
     edges: &mut [EdgeOut],
 ) -> u32
-    requires { journal.now.start ≡ 0 }
     ensures { TellsEntry result (record { record_out = record.old; numbers = numbers.old; edges = edges.old })
-        (record { record_out = record.new; numbers = numbers.new; edges = edges.new }) (entry_at journal.now.entries at) }
+        (record { record_out = record.new; numbers = numbers.new; edges = edges.new }) (entry_at journal.now.start journal.now.entries at) }
 {
-    if journal.len() <= at {
+    if at < journal.start() || journal.len() <= at {
         return CallRefusal::BadPlace.status();
     }
     let entry = journal.entry(at);

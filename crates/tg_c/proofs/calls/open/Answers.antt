@@ -1,36 +1,17 @@
-use Rattle.std.proofs.Common.{◌∙◌, ◌≤◌, ap, arith}
+use Rattle.std.proofs.Common.{◌≡◌, ◌∙◌, ◌≤◌, ap, arith}
 use Rattle.std.proofs.lemmas.Result.{err_from_is_err_and}
-use Rattle.tg_c.specs.Forms.{AreValues, HaveLabels}
-use Rattle.tg_c.specs.declared.refusal.CallRefusal.TheVariants as refusal
-use Rattle.tg_c.proofs.OpenLaws.{no_plan_fault, store_wants, want_else, wants}
+use Rattle.tg_c.proofs.OpenLaws.{store_wants, wants}
 use Rattle.tg_c.proofs.calls.open.Goals as goal
-
-pub returns-in_err-drafts-clause-refused : goal.returns-in_err-drafts-clause-refused
-returns-in_err-drafts-clause-refused c =
-    let given = err_from_is_err_and c.from_residual-in_err-drafts.result c.from_residual-in_err-drafts.ensures.1 in
-    wants c.args.workers.now c.args.edges.now c.args.limits.now c.from_residual-in_err-drafts.result _ c.in_ok-blocks.ensures.met.0 given.1
-    (given.2 ∙ want_else refusal.BadLaw c.in_err-drafts.field-0.0 (¬ AreValues c.args.workers.now) (λ none. none c.in_ok-blocks.ensures.met.0.0) c.in_err-drafts.ensures.refused)
-
-pub returns-in_err-edges-clause-refused : goal.returns-in_err-edges-clause-refused
-returns-in_err-edges-clause-refused c =
-    let given = err_from_is_err_and c.from_residual-in_err-edges.result c.from_residual-in_err-edges.ensures.1 in
-    wants c.args.workers.now c.args.edges.now c.args.limits.now c.from_residual-in_err-edges.result _ c.in_ok-blocks.ensures.met.0 given.1
-    (given.2 ∙ want_else refusal.BadRights c.in_err-edges.field-0.0 (¬ HaveLabels c.args.edges.now) (λ none. none c.in_ok-blocks.ensures.met.0.1.0) c.in_err-edges.ensures.refused)
-
-pub returns-in_err-opening-clause-refused : goal.returns-in_err-opening-clause-refused
-returns-in_err-opening-clause-refused c =
-    let met = c.in_ok-blocks.ensures.met.0 in
-    absurd (no_plan_fault c.args.workers.now c.args.edges.now c.args.limits.now c.in_ok-values.values.items c.in_ok-edges.edges.items c.in_err-opening.field-0.0
-    met (c.in_ok-values.ensures.values ∙ c.as_slice.ensures.value ∙ c.in_ok-drafts.ensures.drafts.1) c.in_ok-edges.ensures.edges.1 c.in_err-opening.ensures.refused)
 
 pub returns-in_err-store-clause-refused : goal.returns-in_err-store-clause-refused
 returns-in_err-store-clause-refused c =
     let given = err_from_is_err_and c.from_residual-in_err-store.result c.from_residual-in_err-store.ensures.1 in
-    let met = c.in_ok-blocks.ensures.met.0 in
-    let plan = c.in_ok-opening.ensures.kept.0 in
-    let room : c.in_ok-opening.opening.workers ≤ c.in_ok-blocks.blocks.max_blocks =
-    omega (arith, met.1.1.1.1.1.1.0, ap (λ l. l.max_blocks) c.in_ok-blocks.ensures.met.1, ap (λ p. p.workers) plan) in
-    wants c.args.workers.now c.args.edges.now c.args.limits.now c.from_residual-in_err-store.result _ met given.1
-    (given.2 ∙ store_wants c.in_ok-opening.opening.values c.in_ok-drafts.drafts.items c.in_ok-blocks.blocks.max_blocks c.in_ok-opening.opening.workers
-    c.in_err-store.field-0.0.why (ap (λ p. p.values) plan ∙ c.in_ok-values.ensures.values ∙ c.as_slice.ensures.value) room
+    let asked = c.in_ok-opening.ensures.asked in
+    let room : c.in_ok-opening.opening.workers ≤ c.in_ok-opening.blocks.max_blocks =
+    omega (arith, asked.met.1.1.1.1.1.1.0, ap (λ l. l.max_blocks) asked.blocks, ap (λ p. p.workers) asked.opening, ap (λ l. l.max_blocks) c.in_ok-opening.blocks-is, ap (λ p. p.workers) c.in_ok-opening.opening-is) in
+    let same : c.in_ok-opening.opening.values ≡ c.in_ok-opening.drafts.items =
+    cc (ap (λ p. p.values) asked.opening, asked.drafts, ap (λ p. p.values) c.in_ok-opening.opening-is, ap (λ d. d.items) c.in_ok-opening.drafts-is) in
+    wants c.args.workers.now c.args.edges.now c.args.limits.now c.from_residual-in_err-store.result _ asked.met given.1
+    (given.2 ∙ store_wants c.in_ok-opening.opening.values c.in_ok-opening.drafts.items c.in_ok-opening.blocks.max_blocks c.in_ok-opening.opening.workers
+    c.in_err-store.field-0.0.why same room
     (λ at is. (c.in_err-store.ensures.mismatch at).0 is) (λ is. (c.in_err-store.ensures.full.0 is).1))

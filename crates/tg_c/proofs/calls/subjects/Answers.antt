@@ -1,6 +1,5 @@
-use Rattle.std.proofs.Common.{◌∙◌, ◌≡◌, List, ℕ, Ok, refl, sym, ap, length}
+use Rattle.std.proofs.Common.{◌∙◌, List, ℕ, Ok, refl, sym, ap, length}
 use Rattle.std.proofs.lemmas.List.{length-map}
-use Rattle.tg_graph.specs.Shown.{shown_in}
 use Rattle.tg_subjects.specs.Subjects.{names_of}
 use Rattle.tg_subjects.specs.declared.subject.Subject.{Subject}
 use Rattle.tg_c.specs.Calls.{AreSubjectNames, IsShown}

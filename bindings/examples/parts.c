@@ -1,0 +1,81 @@
+/* A host that keeps its journal short: every few commands it writes the new entries out, has an auditor replay them, and gives them
+   up. Build it with: cc parts.c -lkovshenul */
+#include "kovshenul.h"
+#include <inttypes.h>
+#include <stdio.h>
+
+enum { HOST, GUEST, EVERY = 4, COMMANDS = 10 };
+
+/* Writes an entry out, as the line of a script that asks for the same, and whether it was done. */
+static void put_entry(const tg_record *entry) {
+    char rights[9];
+    tg_rights_text(entry->rights, rights, sizeof rights);
+    printf("%" PRIu64, entry->worker);
+    switch (entry->deed) {
+    case TG_DEED_CREATE: printf(" create %s", rights); break;
+    case TG_DEED_GRANT: printf(" grant %" PRIu64 " %" PRIu64 " %s", entry->via, entry->target, rights); break;
+    case TG_DEED_WRITE: printf(" write %" PRIu64 " %" PRIu64, entry->target, entry->value); break;
+    default: printf(" deed %" PRIu32, entry->deed);
+    }
+    puts(entry->reply == TG_REPLY_DENIED ? " = denied" : " = ok");
+}
+
+/* Writes out the entries that the store holds. */
+static tg_status put_entries(tg_store *store) {
+    uint64_t at, next;
+    tg_record entry;
+    tg_status status = tg_first(store, &at);
+    if (status == TG_DONE)
+        status = tg_entries(store, &next);
+    while (status == TG_DONE && at < next) {
+        status = tg_entry(store, at++, &entry, NULL, 0, NULL, 0);
+        if (status == TG_DONE)
+            put_entry(&entry);
+    }
+    return status;
+}
+
+/* Writes out what the store holds, audits it, and gives it up. Where it can't be audited the store keeps it. */
+static tg_status hand_over(tg_store *store, tg_auditor *auditor) {
+    uint64_t audited;
+    tg_status status = put_entries(store);
+    if (status == TG_DONE)
+        status = tg_auditor_feed(auditor, store, &audited);
+    if (status == TG_DONE)
+        status = tg_auditor_forget(auditor, store, audited);
+    if (status == TG_DONE)
+        printf("%" PRIu64 " entries audited and given up\n", audited);
+    return status;
+}
+
+/* The host makes a sum and lets the guest add to it; the guest adds, and once writes to what isn't its own. */
+static tg_status command(tg_store *store, uint64_t number) {
+    static const tg_value sum = { TG_SUM, 0, 0 };
+    static uint64_t name;
+    if (number == 1)
+        return tg_create(store, HOST, TG_READ | TG_WRITE, &sum, &name);
+    if (number == 2)
+        return tg_grant(store, HOST, GUEST, name, TG_WRITE, NULL);
+    return tg_write(store, GUEST, number == 6 ? HOST : name, number, NULL);
+}
+
+int main(void) {
+    static const tg_value cells[2] = { { TG_CELL, 0, 0 }, { TG_CELL, 0, 0 } };
+    static const tg_edge edge = { HOST, GUEST, TG_GRANT };
+    static const tg_limits limits = TG_LIMITS_INIT;
+    tg_store store = TG_STORE_INIT;
+    tg_auditor auditor = TG_AUDITOR_INIT;
+    tg_status status = tg_open(&store, cells, 2, &edge, 1, &limits);
+    if (status == TG_DONE)
+        status = tg_auditor_open(&auditor, cells, 2, &edge, 1, &limits);
+    for (uint64_t number = 1; status <= TG_DENIED && number <= COMMANDS; number++) {
+        status = command(&store, number);
+        if (status <= TG_DENIED && (number % EVERY == 0 || number == COMMANDS))
+            status = hand_over(&store, &auditor);
+    }
+    if (status > TG_DENIED)
+        puts(tg_status_text(status));
+    tg_auditor_close(&auditor);
+    tg_close(&store);
+    return status > TG_DENIED;
+}

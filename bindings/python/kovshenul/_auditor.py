@@ -1,0 +1,123 @@
+"""An auditor: it replays a store's journal part after part."""
+from __future__ import annotations
+
+from ctypes import byref
+from threading import RLock
+from typing import Callable, Iterable, NoReturn, Tuple
+
+from . import _library
+from ._library import BITS, library, number_in, short
+from ._refusals import NotOpen, refusal
+from ._store import Store, opening_in
+from ._values import Limits, Value
+
+
+def _store_at(store: Store) -> object:
+    """Where the store stands, as a call takes it."""
+    if not isinstance(store, Store):
+        raise TypeError("an auditor is fed by a Store")
+    return store._at
+
+
+class Auditor:
+    """An auditor of a store's journal, by which the store may give up what was audited. `close`, or leaving its `with`, gives its
+    memory back, which is as much as the store's workers reach.
+
+    It is opened by the words by which the store was, and stands at the first entry. Any thread may call.
+    """
+
+    __slots__ = ("_lock", "_place", "_place_at", "__weakref__")
+
+    def __new__(cls, *_arguments: object, **_words: object) -> Auditor:
+        """A closed auditor."""
+        auditor = super().__new__(cls)
+        auditor._lock = RLock()
+        auditor._place = _library.Place()
+        auditor._place_at = byref(auditor._place)
+        return auditor
+
+    def __init__(
+        self,
+        workers: Iterable[Value],
+        edges: Iterable[Tuple[int, int, int]] = (),
+        limits: Tuple[int, int, int] = Limits(),
+    ) -> None:
+        asked = opening_in(workers, edges, limits)
+        with self._lock:
+            status = library.tg_auditor_open(self._place_at, *asked)
+        if status:
+            raise refusal(status)
+
+    def feed(self, store: Store) -> int:
+        """Replays what the store holds from the auditor's place on, and answers how many entries passed in all.
+
+        It raises BadPlace where entries that it hasn't seen were given up, or the store has made fewer than it has seen. By OutOfMemory
+        and BadEntry those that passed stay so, and `at` is the place of the entry at which it stopped. It goes on from there when memory
+        is back; after a bad entry each later feed raises that again.
+        """
+        passed, store_at = _library.Number(), _store_at(store)
+        with self._lock, store._lock:
+            status = library.tg_auditor_feed(self._place_at, store_at, byref(passed))
+        if status:
+            raise refusal(status)
+        return passed.value
+
+    @property
+    def at(self) -> int:
+        """How many entries passed: the place of the next one."""
+        at = _library.Number()
+        with self._lock:
+            status = short.tg_auditor_at(self._place_at, byref(at))
+        if status:
+            raise refusal(status)
+        return at.value
+
+    def forget(self, store: Store, upto: int) -> None:
+        """Gives up the store's entries before this place, as `Store.forget` does. It raises NotAudited where the auditor hasn't come as
+        far, and nothing is given up then."""
+        upto_in, store_at = _library.Number(number_in(BITS, upto)), _store_at(store)
+        with self._lock, store._lock:
+            status = library.tg_auditor_forget(self._place_at, store_at, upto_in)
+        if status:
+            raise refusal(status)
+
+    def sweep(self) -> None:
+        """Gives back what it keeps of vertices that no worker reaches any more. It does so by itself as they double."""
+        with self._lock:
+            status = library.tg_auditor_sweep(self._place_at)
+        if status:
+            raise refusal(status)
+
+    def close(self) -> None:
+        """Gives all memory back. A closed auditor may be closed again."""
+        with self._lock:
+            library.tg_auditor_close(self._place_at)
+
+    @property
+    def closed(self) -> bool:
+        """Whether the auditor is closed."""
+        return not self._place.is_open
+
+    def __enter__(self) -> Auditor:
+        if self.closed:
+            raise NotOpen
+        return self
+
+    def __exit__(self, *_exception: object) -> None:
+        self.close()
+
+    def __del__(self, close: Callable[[object], int] = library.tg_auditor_close) -> None:
+        # Nobody has the auditor any more, so the lock isn't needed. The thread may be any.
+        close(self._place_at)
+
+    def __reduce__(self) -> NoReturn:
+        raise TypeError("an auditor can't be copied or pickled")
+
+    def __copy__(self) -> NoReturn:
+        self.__reduce__()
+
+    def __deepcopy__(self, _memo: object) -> NoReturn:
+        self.__reduce__()
+
+    def __repr__(self) -> str:
+        return f"<kovshenul.Auditor, {'closed' if self.closed else 'open'}>"

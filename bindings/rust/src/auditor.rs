@@ -1,0 +1,110 @@
+//! An audit that comes in parts.
+use crate::error::served;
+use crate::raw::{self, RawAuditor, RawEdge, RawValue};
+use crate::{Edge, Error, Limits, Store, Value};
+use std::cell::UnsafeCell;
+use std::fmt;
+use std::panic::RefUnwindSafe;
+use std::ptr::null_mut;
+
+/// An auditor of a store's journal, which it replays part after part, so that the store may give up what was audited. It
+/// takes memory by what the store's workers reach. Dropping it closes it.
+///
+/// Any thread may have an auditor, and one at a time, as a [`Store`].
+///
+/// ```
+/// # use kovshenul::{Auditor, Error, Limits, Rights, Store, Value};
+/// let (workers, limits) = ([Value::Cell(0)], Limits { max_vertices: 10, max_blocks: 8, max_space_blocks: 4 });
+/// let mut store = Store::open(&workers, &[], &limits)?;
+/// let mut auditor = Auditor::open(&workers, &[], &limits)?;
+/// let sum = store.create(0, Rights::READ | Rights::WRITE, Value::Sum(40))?;
+/// for round in 1..=3 {
+///     store.write(0, sum, 1)?;
+///     let audited = auditor.feed(&store)?;
+///     assert_eq!(audited, round + 1);
+///     auditor.forget(&mut store, audited)?;
+/// }
+/// assert_eq!(store.journal().count(), 0);
+/// assert_eq!(auditor.forget(&mut store, 5), Err(Error::NotAudited));
+/// # Ok::<(), Error>(())
+/// ```
+pub struct Auditor {
+    // As of a store: while a call runs, one that only looks too, the library takes the auditor out of its place.
+    place: UnsafeCell<RawAuditor>,
+}
+
+// What the pointer leads to may go to another thread: the library has a function whose bound asks for it (crates/tg_c/src/place.rt).
+unsafe impl Send for Auditor {}
+
+// No call of the library unwinds, so none is left half done.
+impl RefUnwindSafe for Auditor {}
+
+impl Auditor {
+    /// Opens an auditor by the words by which the store was opened. It stands at the first entry.
+    pub fn open(workers: &[Value], edges: &[Edge], limits: &Limits) -> Result<Auditor, Error> {
+        let abi = unsafe { raw::tg_abi() };
+        assert_eq!(abi, raw::ABI, "the library has another interface");
+        let workers: Vec<RawValue> = workers.iter().map(RawValue::from).collect();
+        let edges: Vec<RawEdge> = edges.iter().map(RawEdge::from).collect();
+        let mut place = RawAuditor {
+            is_open: false,
+            at: null_mut(),
+        };
+        let status = unsafe {
+            raw::tg_auditor_open(
+                &mut place,
+                workers.as_ptr(),
+                workers.len(),
+                edges.as_ptr(),
+                edges.len(),
+                limits,
+            )
+        };
+        served(status)?;
+        Ok(Auditor {
+            place: UnsafeCell::new(place),
+        })
+    }
+
+    /// Replays what the store holds from the auditor's place on, and answers how many entries passed in all.
+    ///
+    /// It is [`BadPlace`](Error::BadPlace) where entries that it hasn't seen were given up, or the store has made fewer than it has
+    /// seen. By [`OutOfMemory`](Error::OutOfMemory) and [`BadEntry`](Error::BadEntry) those that passed stay so, and
+    /// [`at`](Auditor::at) tells the place of the entry at which it stopped. It goes on from there when memory is back; after a bad
+    /// entry each later feed tells that again.
+    pub fn feed(&mut self, store: &Store) -> Result<u64, Error> {
+        let mut passed = 0;
+        served(unsafe { raw::tg_auditor_feed(self.place.get(), store.at(), &mut passed) })?;
+        Ok(passed)
+    }
+
+    /// How many entries passed: the place of the next one.
+    pub fn at(&self) -> Result<u64, Error> {
+        let mut at = 0;
+        served(unsafe { raw::tg_auditor_at(self.place.get(), &mut at) })?;
+        Ok(at)
+    }
+
+    /// Gives up the store's entries before this place, as [`Store::forget`] does. It is [`NotAudited`](Error::NotAudited) where the
+    /// auditor hasn't come as far, and nothing is given up then.
+    pub fn forget(&self, store: &mut Store, upto: u64) -> Result<(), Error> {
+        served(unsafe { raw::tg_auditor_forget(self.place.get(), store.at(), upto) })
+    }
+
+    /// Gives back what it keeps of vertices that no worker reaches any more. It does so by itself as they double.
+    pub fn sweep(&mut self) -> Result<(), Error> {
+        served(unsafe { raw::tg_auditor_sweep(self.place.get()) })
+    }
+}
+
+impl Drop for Auditor {
+    fn drop(&mut self) {
+        unsafe { raw::tg_auditor_close(self.place.get()) };
+    }
+}
+
+impl fmt::Debug for Auditor {
+    fn fmt(&self, out: &mut fmt::Formatter<'_>) -> fmt::Result {
+        out.debug_struct("Auditor").finish_non_exhaustive()
+    }
+}

@@ -1,0 +1,63 @@
+-- What a feed of an audit came to.
+use Rattle.std.proofs.Common.{◌≡◌, ◌∙◌, ◌≤◌, ◌<◌, ◌+◌, ◌-◌, ℕ, true, false, List, refl, sym, ap, subst, length, take, drop, take_all, length-drop, arith}
+use Rattle.std.proofs.lemmas.List.{drop-drop, take-append-drop}
+use Rattle.tg_model.specs.Graph.{ProtectionGraph}
+use Rattle.tg_journal.specs.declared.auditor.AuditStopped.{AuditStopped}
+use Rattle.tg_journal.specs.declared.entry.Entry.{Entry}
+use Rattle.tg_journal.specs.declared.replay.AuditFault.TheVariants.{OutOfMemory, BadEntry}
+use Rattle.tg_journal.specs.Auditing.{IsStopped, Passes}
+use Rattle.tg_journal.specs.History.{IsFirstBad, IsLegal, graph_after}
+use Rattle.tg_journal.specs.Live.{graph_kept}
+use Rattle.tg_journal.proofs.HistoryLaws.{IsFirstBad-not_legal, IsLegal-cut}
+use Rattle.tg_c.specs.declared.auditor.audit.Audit.{Audit}
+use Rattle.tg_c.specs.Audits.{GoesOn, IsEnded, part_of}
+
+-- what is held behind a place is all behind it
+pub held_behind : (entries : List Entry) (first at : ℕ) → first ≤ at → drop (at - first) (drop first entries) ≡ drop at entries
+held_behind entries first at before =
+    let sum : first + (at - first) ≡ at = omega (arith, before) in
+    drop-drop (at - first) first entries ∙ ap (λ n. drop n entries) sum
+
+module _ (g : ProtectionGraph) (old new : Audit) (entries fed : List Entry) (is : fed ≡ drop old.at entries) (inside : old.at ≤ length entries) where
+  -- all of it passed
+  pub came_to_end : new.at ≡ length entries → new.found_bad ≡ false → Passes g fed (graph_kept new.auditor) → GoesOn g old new entries
+  came_to_end at none passed =
+      let whole : fed ≡ part_of entries old.at new.at =
+      is ∙ sym (take_all (new.at - old.at) (drop old.at entries) (omega (arith, at, length-drop old.at entries))) in
+      record {
+        forth = omega (arith, at, inside);
+        within = omega (arith, at);
+        passed = subst (λ es. Passes g es (graph_kept new.auditor)) whole passed;
+        none_bad = none;
+      }
+
+  module _ (stopped : AuditStopped) (at : new.at ≡ old.at + stopped.at) (was : IsStopped g fed (graph_kept new.auditor) stopped) where
+    front : stopped.at ≡ new.at - old.at
+    front = omega (arith, at)
+
+    -- memory was wanting
+    pub came_to_want : stopped.why ≡ OutOfMemory → new.found_bad ≡ false → GoesOn g old new entries
+    came_to_want want none =
+        let passed : Passes g (take stopped.at fed) (graph_kept new.auditor) = record { legal = was.before; next = was.resumes want } in
+        record {
+          forth = omega (arith, at);
+          within = omega (arith, at, inside, was.inside, ap length is, length-drop old.at entries);
+          passed = subst (λ es. Passes g es (graph_kept new.auditor)) (λ i. take (front i) (is i)) passed;
+          none_bad = none;
+        }
+
+    -- an entry was bad
+    pub came_to_bad : (place : ℕ) → stopped.why ≡ BadEntry place → new.found_bad ≡ true → IsEnded g old new entries
+    came_to_bad place why ended =
+        let told = was.bad place why in
+        record {
+          forth = omega (arith, at);
+          bad = subst (λ es. IsFirstBad g es (new.at - old.at)) is (subst (λ n. IsFirstBad g fed n) (told.0 ∙ front) told.1);
+          ended = ended;
+        }
+
+-- in a legal history no audit that stands where it stood ends
+pub finds_none : (s : ProtectionGraph) (old new : Audit) (entries : List Entry) → IsLegal s entries → IsEnded (graph_after s (take old.at entries)) old new entries → ⊥
+finds_none s old new entries legal ended =
+    IsFirstBad-not_legal (graph_after s (take old.at entries)) (drop old.at entries) (new.at - old.at) ended.bad
+    (IsLegal-cut s (take old.at entries) (drop old.at entries) (subst (IsLegal s) (sym (take-append-drop old.at entries)) legal)).1
