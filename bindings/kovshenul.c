@@ -21,6 +21,7 @@ tg_status proved_tg_inspect(tg_store *store, uint64_t worker, uint64_t target, t
                             tg_denial *denial);
 tg_status proved_tg_names(tg_store *store, uint64_t *names, size_t room, uint64_t *count);
 tg_status proved_tg_subjects(tg_store *store, uint64_t *names, size_t room, uint64_t *count);
+tg_status proved_tg_who_holds(tg_store *store, uint64_t right, uint64_t name, uint64_t *names, size_t room, uint64_t *count);
 tg_status proved_tg_entry(tg_store *store, uint64_t at, tg_record *record, uint64_t *numbers, size_t number_room, tg_target *edges,
                           size_t edge_room);
 
@@ -107,6 +108,13 @@ tg_status tg_subjects(tg_store *store, uint64_t *names, size_t room, uint64_t *c
     if (names == NULL && room == 0)
         names = &none;
     return proved_tg_subjects(store, names, room, count);
+}
+
+tg_status tg_who_holds(tg_store *store, uint64_t right, uint64_t name, uint64_t *names, size_t room, uint64_t *count) {
+    uint64_t none;
+    if (names == NULL && room == 0)
+        names = &none;
+    return proved_tg_who_holds(store, right, name, names, room, count);
 }
 
 tg_status tg_entry(tg_store *store, uint64_t at, tg_record *record, uint64_t *numbers, size_t number_room, tg_target *edges,

@@ -278,9 +278,22 @@ tg_status tg_spawn(tg_store *store, uint64_t worker, uint64_t rights, const tg_v
 /* The worker retires: it asks for nothing more, and each later call in its name is TG_NO_SUCH_WORKER. Its vertex, what
    that stores and its edges stay as they are, for as long as a worker reaches them. So whoever has an edge to it, as
    its spawner has, keeps all that it held: give that edge up, or remove the edges of the one who goes before it
-   retires, since nobody can afterwards. What no worker reaches goes with the next full collection. A retire is never
-   denied, hands nothing back, and the last worker may retire too. No name is used again; another may be spawned. */
+   retires, since nobody can afterwards; tg_leave does both. What no worker reaches goes with the next full collection. A
+   retire is never denied, hands nothing back, and the last worker may retire too. No name is used again; another may be
+   spawned. */
 tg_status tg_retire(tg_store *store, uint64_t worker);
+
+/* The worker leaves: it gives up each edge that it has, by rising name, and retires. How many edges these were goes to
+   *count. Each remove and the retire is an entry, as if it had asked for it; what it alone reached goes with the next full
+   collection. It is done whole or not at all: room for all entries is asked for first, which for a row of 100,000 edges is
+   10 MB. Only TG_NO_SUCH_WORKER and TG_OUT_OF_MEMORY refuse it. What it parked in an object is there still (tg_who_holds). */
+tg_status tg_leave(tg_store *store, uint64_t worker, uint64_t *count);
+
+/* Who holds a right, TG_READ or another one, over the vertex with a name: workers, objects and those who retired, of all
+   that a worker reaches. The first `room` of their names go to names, by rising name, and how many there are to *count. The
+   answer is the same before a collection and after it. The journal gets no entry. Time and memory are in proportion to what
+   the workers reach. TG_BAD_RIGHTS where it isn't one right. */
+tg_status tg_who_holds(tg_store *store, uint64_t right, uint64_t name, uint64_t *names, size_t room, uint64_t *count);
 
 /* The names of the workers, by rising name: the first `room` of them go to names, and how many there are, at most 64, to *count. The
    journal gets no entry, and no memory is taken. */

@@ -10,7 +10,7 @@ ABI = 4
 NAME = f"libkovshenul.so.{ABI}"
 
 CALLS = (
-    "abi open close take grant remove write append create spawn retire subjects read list inspect label collect census names entries "
+    "abi open close take grant remove write append create spawn retire leave who_holds subjects read list inspect label collect census names entries "
     "first entry forget audit auditor_open auditor_feed auditor_at auditor_forget auditor_sweep auditor_close "
     "could answer_kind answer_names answer_turns answer_turn answer_close"
 ).split()

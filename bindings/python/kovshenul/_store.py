@@ -257,12 +257,29 @@ class Store:
     def retire(self, worker: int) -> None:
         """The worker retires, and asks for nothing more. Its vertex and its edges stay for as long as a worker reaches
         them: whoever has an edge to it, as its spawner has, keeps all that it held. Give that edge up, or remove the
-        edges of the one who goes before it retires."""
+        edges of the one who goes before it retires: `leave` does both."""
         worker_in = _number(worker)
         with self._lock:
             status = short.tg_retire(self._at, worker_in)
         if status:
             raise refusal(status)
+
+    def leave(self, worker: int) -> int:
+        """The worker leaves: it gives up each edge that it has, by rising name, and retires. Answers how many edges these
+        were. Each is an entry, and so is the retire. It is done whole, or refused for want of memory."""
+        return self._count(library.tg_leave, _number(worker))
+
+    def who_holds(self, right: int, name: int) -> List[int]:
+        """Who holds the right over the vertex with a name, by rising name: workers, objects and those who retired, of all
+        that a worker reaches. The journal gets no entry of it. BadRights where it isn't one right."""
+        right_in, name_in, room = _number(right), _number(name), 0
+        with self._lock:
+            while True:
+                names = (_library.Number * room)()
+                count = self._count(library.tg_who_holds, right_in, name_in, byref(names), c_size_t(room))
+                if count <= room:
+                    return names[:count]
+                room = count
 
     def subjects(self) -> List[int]:
         """The names of the active workers, rising. The journal gets no entry of it."""

@@ -168,9 +168,43 @@ impl Store {
 
     /// The worker retires, and asks for nothing more. Its vertex and its edges stay for as long as a worker reaches them:
     /// whoever has an edge to it, as its spawner has, keeps all that it held. Give that edge up, or remove the edges of
-    /// the one who goes before it retires. It is never denied.
+    /// the one who goes before it retires ([`Store::leave`] does both). It is never denied.
     pub fn retire(&mut self, worker: u64) -> Result<(), Error> {
         served(unsafe { raw::tg_retire(self.at(), worker) })
+    }
+
+    /// The worker leaves: it gives up each edge that it has, by rising name, and retires. Answers how many edges these
+    /// were. Each is an entry, and so is the retire. It is done whole, or refused for want of memory.
+    ///
+    /// ```
+    /// # use kovshenul::{Error, Kind, Limits, Rights, Store, Value};
+    /// # let mut store = Store::open(&[Value::Cell(0)], &[], &Limits::default())?;
+    /// let client = store.spawn(0, Rights::GRANT, Value::Cell(0))?;
+    /// let document = store.create(client, Rights::READ, Value::Cell(7))?;
+    /// assert_eq!(store.who_holds(Rights::READ, document)?, [client]);
+    /// assert_eq!(store.leave(client)?, 1);
+    /// assert_eq!(store.who_holds(Rights::READ, document)?, []);
+    /// assert_eq!(store.collect(Kind::Full)?, 2);
+    /// # Ok::<(), Error>(())
+    /// ```
+    pub fn leave(&mut self, worker: u64) -> Result<u64, Error> {
+        let mut count = 0;
+        served(unsafe { raw::tg_leave(self.at(), worker, &mut count) })?;
+        Ok(count)
+    }
+
+    /// Who holds the right over the vertex with a name, by rising name: workers, objects and those who retired, of all
+    /// that a worker reaches. The journal gets no entry of it. `BadRights` where it isn't one right.
+    pub fn who_holds(&self, right: Rights, name: u64) -> Result<Vec<u64>, Error> {
+        let (mut names, mut count) = (Vec::new(), 0);
+        loop {
+            let room = names.len();
+            served(unsafe { raw::tg_who_holds(self.at(), right.bits(), name, names.as_mut_ptr(), room, &mut count) })?;
+            if count as usize == room {
+                return Ok(names);
+            }
+            names = vec![0; count as usize];
+        }
     }
 
     /// The names of the active workers, rising. The journal gets no entry of it.

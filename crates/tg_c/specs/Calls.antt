@@ -45,7 +45,7 @@ use Rattle.tg_c.specs.declared.forms.ValueIn.{ValueIn}
 use Rattle.tg_c.specs.declared.opening.Asked.{Asked}
 use Rattle.tg_c.specs.Forms.{AreValues, HaveLabels, JoinWorkers, label_at, plan_of, value_at, value_in}
 use Rattle.tg_c.specs.Records.{entry_at}
-use Rattle.tg_c.specs.Statuses.{of_apply, of_audit, of_collect, of_create, refused_as, status_of}
+use Rattle.tg_c.specs.Statuses.{of_apply, of_collect, of_create, refused_as, status_of}
 
 -- what the store in an open place holds
 abbrev pub state_in : StorePlace → StoreState

@@ -51,7 +51,7 @@ pub fn foresee(
 }
 
 // The right of this bit, where it is that of one.
-fn right_of(bits: u64) -> Option<Right>
+pub fn right_of(bits: u64) -> Option<Right>
     ensures { result ≡ right_at bits }
 {
     match bits {

@@ -122,7 +122,7 @@ fn drafts_in(alloc: Global, workers: &[ValueIn]) -> Result<Vec<Draft<LawPayload>
 }
 
 // The edges, with the labels of their rights.
-fn edges_in(alloc: Global, edges: &[EdgeIn]) -> Result<Vec<Edge>, CallRefusal>
+pub fn edges_in(alloc: Global, edges: &[EdgeIn]) -> Result<Vec<Edge>, CallRefusal>
     ensures edges { IfOk result (λ list. HaveLabels edges.now × (list.items ≡ map edge_in edges.now)) }
     ensures refused { IfErr result (IsMemoryOr CallRefusal.BadRights (¬ HaveLabels edges.now)) }
 {

@@ -1,0 +1,37 @@
+-- What C is told of a worker that leaves, and of who holds a right.
+use Rattle.std.specs.Prelude.{◌≡◌, ◌≢◌, ◌↔◌, ℕ, List, Some, None, Result, Err, IfOk, IfErr, OnErr, OnOk, length}
+use Rattle.tg_rights.specs.declared.Right.{Right}
+use Rattle.tg_model.specs.Graph.{ProtectionGraph, IsSubject, listing_of}
+use Rattle.tg_store.specs.Holding.{AreHolders}
+use Rattle.tg_store.specs.Leaving.{HasLeft}
+use Rattle.tg_store.specs.Store.{StoreState, IsUnchanged, StandsFor}
+use Rattle.tg_store.specs.declared.fault.ApplyFault.{ApplyFault}
+use Rattle.tg_store.specs.declared.fault.ApplyFault.TheVariants as apply
+use Rattle.tg_c.specs.declared.place.StorePlace.{StorePlace}
+use Rattle.tg_c.specs.declared.refusal.CallRefusal.{CallRefusal}
+use Rattle.tg_c.specs.declared.refusal.CallRefusal.TheVariants as refusal
+use Rattle.tg_c.specs.Calls.{IsCall, Refuses}
+use Rattle.tg_c.specs.Could.{right_at}
+use Rattle.tg_c.specs.Statuses.{of_apply}
+
+-- the answer to a worker that leaves: the clauses of the store's `leave`
+pub record Departs (worker : ℕ) (old new : StoreState) (answer : Result ℕ ApplyFault) : Type 0 where
+  pub left : OnOk answer (HasLeft worker old new)
+  pub count : (g : ProtectionGraph) → StandsFor old g → IfOk answer (λ n. n ≡ length (listing_of g.label g.made worker))
+  pub no_such_worker : (g : ProtectionGraph) → StandsFor old g → (answer ≡ Err apply.NoSuchWorker) ↔ (¬ IsSubject g worker)
+  pub never_full : answer ≢ Err apply.HeapFull
+  pub refused : OnErr answer (IsUnchanged old new)
+
+abbrev pub Leaves : StorePlace → StorePlace → ℕ → (Result ℕ CallRefusal → Type 0) → Type 0
+Leaves old new worker = IsCall of_apply (Departs worker) old new
+
+-- the answer to who holds a right: the clause of the store's `who_holds`, which is refused for want of memory alone
+pub record AreToldHolders (right : Right) (name : ℕ) (old new : StoreState) (answer : Result (List ℕ) CallRefusal) : Type 0 where
+  pub same : new ≡ old
+  pub holders : (g : ProtectionGraph) → StandsFor old g → IfOk answer (AreHolders g right name)
+  pub wanting : IfErr answer (λ why. why ≡ refusal.OutOfMemory)
+
+-- where the bits aren't those of one right it is refused, and else the store is asked
+pub record AsksHolders (old new : StorePlace) (bits name : ℕ) (tells : Result (List ℕ) CallRefusal → Type 0) : Type 0 where
+  pub asked : (right : Right) → right_at bits ≡ Some right → IsCall (λ why. why) (AreToldHolders right name) old new tells
+  pub bad_rights : right_at bits ≡ None → Refuses old new tells refusal.BadRights
