@@ -22,8 +22,6 @@ mod meeting;
 #[cfg(test)]
 mod payloads;
 #[cfg(test)]
-mod pictures;
-#[cfg(test)]
 mod races;
 #[cfg(test)]
 mod rows;
