@@ -10,8 +10,8 @@ use crate::refusal::CallRefusal;
 use crate::tell::{put_numbers, tell_number};
 use std::alloc::Global;
 
-/// The worker gives up each of its edges, by rising name, and retires; the journal has an entry for each. How many edges
-/// these were goes to `count`.
+/// The worker gives up each of its edges, by rising name, and retires; the journal has an entry for each. How many
+/// edges these were goes to `count`.
 #[unsafe(no_mangle)]
 pub extern "C" fn tg_leave(
     alloc: Global,
