@@ -11,10 +11,9 @@ use tg_rights::Label;
 use tg_store::{CreateRefused, Kind, Store};
 use tg_text::{Answer, Line, Refusal};
 
-// How many entries a run holds at most.
+// How many entries a run holds at most when a line is answered, and how many edges a list in one of them has at most.
 const MOST_ENTRIES: usize = 32;
 
-// How many edges a list that it holds has at most.
 const MOST_EDGES: usize = 64;
 
 /// The store, the payloads for the vertices that are still to be made, and how many helpers a collection has.
