@@ -491,6 +491,36 @@ static void a_worker_comes_and_goes(void) {
 }
 
 /* With 64 workers none is spawned until one retires; the refusal has its entry. No worker is needed to count, collect or audit. */
+/* Who leaves holds nothing any more, and each edge that it gave up is an entry. Who holds a right is told without one. */
+static void a_worker_leaves(void) {
+    tg_store store = TG_STORE_INIT;
+    tg_record entry;
+    uint64_t client, document, names[4] = { UNTOUCHED, UNTOUCHED, UNTOUCHED, UNTOUCHED }, count = UNTOUCHED, entries;
+    WANT(tg_leave(&store, 0, &count) == TG_NOT_OPEN && tg_who_holds(&store, TG_READ, 0, names, 4, &count) == TG_NOT_OPEN);
+    WANT(tg_open(&store, workers, 2, edges, 2, &limits) == TG_DONE);
+    WANT(tg_spawn(&store, 0, TG_GRANT | TG_TAKE, &sum, &client) == TG_DONE);
+    WANT(tg_create(&store, client, TG_READ | TG_WRITE, &sum, &document) == TG_DONE);
+    WANT(tg_take(&store, 0, client, document, TG_READ, &why) == TG_DONE);
+    WANT(tg_who_holds(&store, TG_READ, document, names, 4, &count) == TG_DONE && count == 2);
+    WANT(names[0] == 0 && names[1] == client && names[2] == UNTOUCHED);
+    WANT(tg_who_holds(&store, TG_WRITE, document, NULL, 0, &count) == TG_DONE && count == 1);
+    WANT(tg_who_holds(&store, TG_WRITE, document + 1, names, 4, &count) == TG_DONE && count == 0);
+    count = UNTOUCHED;
+    WANT(tg_who_holds(&store, 0, document, names, 4, &count) == TG_BAD_RIGHTS);
+    WANT(tg_who_holds(&store, TG_READ | TG_WRITE, document, names, 4, &count) == TG_BAD_RIGHTS && count == UNTOUCHED);
+    WANT(tg_entries(&store, &entries) == TG_DONE && entries == 3);
+    WANT(tg_leave(&store, document, &count) == TG_NO_SUCH_WORKER && count == UNTOUCHED);
+    WANT(tg_leave(&store, client, &count) == TG_DONE && count == 1);
+    WANT(tg_leave(&store, client, &count) == TG_NO_SUCH_WORKER && count == 1);
+    WANT(tg_entries(&store, &entries) == TG_DONE && entries == 5);
+    WANT(tg_entry(&store, 3, &entry, NULL, 0, NULL, 0) == TG_DONE && entry.deed == TG_DEED_REMOVE && entry.worker == client);
+    WANT(tg_entry(&store, 4, &entry, NULL, 0, NULL, 0) == TG_DONE && entry.deed == TG_DEED_RETIRE && entry.worker == client);
+    WANT(tg_who_holds(&store, TG_READ, document, names, 4, &count) == TG_DONE && count == 1 && names[0] == 0);
+    WANT(tg_who_holds(&store, TG_WRITE, document, names, 4, &count) == TG_DONE && count == 0);
+    WANT(tg_audit(&store, &count) == TG_DONE && count == 5);
+    WANT(tg_close(&store) == TG_DONE);
+}
+
 static void as_many_workers_as_may_be(void) {
     const tg_limits many = { 200, 200, 100 };
     tg_store store = TG_STORE_INIT;
@@ -913,6 +943,7 @@ int main(void) {
     entries_read();
     questions();
     names_wanting();
+    a_worker_leaves();
     entries_forgotten();
     parts_audited();
     auditors_stopped();

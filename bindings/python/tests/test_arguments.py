@@ -57,6 +57,8 @@ TAKES = {
     "create": (2, True),
     "spawn": (2, True),
     "retire": (1, False),
+    "leave": (1, False),
+    "who_holds": (2, False),
     "read": (2, False),
     "list": (1, False),
     "inspect": (2, False),

@@ -312,6 +312,19 @@ class Stores(unittest.TestCase):
             self.assertRaises(TypeError, store.spawn, 0, READ, None)
             self.assertEqual(store.audit(), store.entries())
 
+    def test_who_leaves_holds_nothing(self):
+        with opened() as store:
+            client = store.spawn(0, GRANT | TAKE, Cell(0))
+            documents = [store.create(client, READ, Sum(at)) for at in range(3)]
+            store.take(0, client, documents[1], READ)
+            self.assertEqual((store.who_holds(READ, documents[1]), store.who_holds(READ, client)), ([0, client], []))
+            self.assertRaises(kovshenul.BadRights, store.who_holds, READ | TAKE, client)
+            self.assertEqual(store.leave(client), 3)
+            self.assertRaises(NoSuchWorker, store.leave, client)
+            self.assertEqual([store.who_holds(READ, document) for document in documents], [[], [0], []])
+            self.assertEqual(store.collect(), 4)
+            self.assertEqual(store.audit(), store.entries())
+
     def test_a_worker_too_many_is_refused(self):
         with Store([Cell(0)] * 64, limits=(1000, 100, 64)) as store:
             self.assertRaises(kovshenul.WorkersFull, store.spawn, 0, READ, Cell(0))

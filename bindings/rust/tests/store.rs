@@ -143,6 +143,21 @@ fn rights_without_a_command_are_handed_on() {
 }
 
 #[test]
+fn who_leaves_holds_nothing() {
+    let mut store = opened(1);
+    let client = store.spawn(0, Rights::TAKE, Value::Cell(0)).unwrap();
+    let documents: Vec<u64> = (0..3).map(|_| store.create(client, Rights::READ, Value::Cell(0)).unwrap()).collect();
+    store.take(0, client, documents[1], Rights::READ).unwrap();
+    assert_eq!(store.who_holds(Rights::READ, documents[1]), Ok(vec![0, client]));
+    assert_eq!(store.who_holds(Rights::READ | Rights::TAKE, client), Err(Error::BadRights));
+    assert_eq!(store.leave(client), Ok(3));
+    assert_eq!(store.leave(client), Err(Error::NoSuchWorker));
+    assert_eq!((store.who_holds(Rights::READ, documents[1]), store.who_holds(Rights::READ, documents[0])), (Ok(vec![0]), Ok(vec![])));
+    assert_eq!(store.collect(Kind::Full), Ok(3));
+    assert_eq!(store.entries(), store.audit());
+}
+
+#[test]
 fn a_retired_worker_asks_no_more() {
     let mut store = opened(1);
     let grant = Rights::GRANT | Rights::INSPECT;
