@@ -11,9 +11,8 @@ use tg_rights::Label;
 use tg_store::{CreateRefused, Kind, Store};
 use tg_text::{Answer, Line, Refusal};
 
-// How many entries a run holds at most when a line is answered, and how many edges a list in one of them has at most.
+// How many entries a run holds at most, and how many edges a list that it holds.
 const MOST_ENTRIES: usize = 32;
-
 const MOST_EDGES: usize = 64;
 
 /// The store, the payloads for the vertices that are still to be made, and how many helpers a collection has.
@@ -38,11 +37,10 @@ impl<P: Payload> Run<P> {
         requires answerable { IsAnswerable C.Ready line }
         ensures { Handles self.old line result self.new }
     {
-        let answer = self.answer_line(collector, line);
         if self.store.journal().entries().len() >= MOST_ENTRIES {
             self.give_up_entries();
         }
-        answer
+        self.answer_line(collector, line)
     }
 
     #[cold]
