@@ -13,6 +13,7 @@ use tg_text::{Answer, Line, Refusal};
 
 // How many entries a run holds at most, and how many edges a list that it holds.
 const MOST_ENTRIES: usize = 32;
+
 const MOST_EDGES: usize = 64;
 
 /// The store, the payloads for the vertices that are still to be made, and how many helpers a collection has.
