@@ -137,8 +137,8 @@ class Refusals(unittest.TestCase):
             self.assertIs(type(again), kind)
             self.assertEqual((again.status, str(again)), (kind.status, str(kind())))
             self.assertNotEqual(str(again), "unknown status")
-        again = pickle.loads(pickle.dumps(Refused(99)))
-        self.assertEqual((again.status, str(again)), (99, "unknown status"))
+        again = pickle.loads(pickle.dumps(Refused(999)))
+        self.assertEqual((again.status, str(again)), (999, "unknown status"))
         with opened() as store:
             with self.assertRaises(Denied) as caught:
                 store.write(1, 0, 5)
