@@ -50,7 +50,7 @@ pub fn foresee(
     foreseen
 }
 
-// The right of this bit, where it is that of one.
+/// The right of this bit, where it is that of one: 1 r, 2 w, 4 t, 8 g, 16 a, 32 l, 64 u, 128 v.
 pub fn right_of(bits: u64) -> Option<Right>
     ensures { result ≡ right_at bits }
 {

@@ -121,7 +121,7 @@ fn drafts_in(alloc: Global, workers: &[ValueIn]) -> Result<Vec<Draft<LawPayload>
     Ok(drafts)
 }
 
-// The edges, with the labels of their rights.
+/// The edges, with the labels of their rights.
 pub fn edges_in(alloc: Global, edges: &[EdgeIn]) -> Result<Vec<Edge>, CallRefusal>
     ensures edges { IfOk result (λ list. HaveLabels edges.now × (list.items ≡ map edge_in edges.now)) }
     ensures refused { IfErr result (IsMemoryOr CallRefusal.BadRights (¬ HaveLabels edges.now)) }
