@@ -78,8 +78,7 @@ enum {
     TG_DONE = 0,
     TG_DENIED = 1,            /* the rules don't allow it; nothing changed but that the journal has it */
 
-    TG_NOT_OPEN = 16,         /* exactly where the store, the auditor or the answer is closed and what was asked for is no TG_BAD_.. or
-                                 TG_NOT_AUDITED */
+    TG_NOT_OPEN = 16,         /* exactly where what was asked is closed, and what was asked for is no TG_BAD_.. or TG_NOT_AUDITED */
     TG_ALREADY_OPEN = 17,     /* tg_open, tg_auditor_open: exactly where it is open; tg_could: where the answer is, and no bits are bad */
 
     TG_OUT_OF_MEMORY = 32,    /* malloc or realloc gave none; the same call may be made again. No TG_BAD_.. comes later, but tg_could's edge */
@@ -98,10 +97,8 @@ enum {
     TG_BAD_EDGE = 82,         /* an edge from a vertex to itself; tg_open: with an end that is no worker; tg_could: that none reaches */
     TG_BAD_VALUES = 83,       /* tg_open: kept; no value that a tg_value can say gives it */
 
-    TG_BAD_ENTRY = 96,        /* tg_auditor_feed: the entry at the auditor's place isn't legal. tg_audit: never, while nobody but these
-                                 functions wrote to the store's memory */
-    TG_BAD_PLACE = 97,        /* tg_entry, tg_forget, tg_auditor_feed: the journal doesn't hold the entry: it was given up, or not made.
-                                 tg_answer_turn: exactly where the answer is open, and has no such turn */
+    TG_BAD_ENTRY = 96,        /* tg_auditor_feed: the entry at its place isn't legal; tg_audit: never, if no other wrote to its memory */
+    TG_BAD_PLACE = 97,        /* tg_entry, tg_forget, tg_auditor_feed: no such entry is held; tg_answer_turn: it has no such turn */
     TG_NOT_WHOLE = 98,        /* tg_audit: exactly where the store is open, and entries of it were given up */
     TG_NOT_AUDITED = 99       /* tg_auditor_forget: exactly where the auditor is open, and hasn't come to the place */
 };
