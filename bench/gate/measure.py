@@ -33,7 +33,7 @@ TICKS = os.sysconf("SC_CLK_TCK")
 STAGES = ("proofs", "tests", "edits")
 SLOW = 15
 SEEN_FROM = "tg_store"
-CHANGED = (("tg_model", "src/graph/denial.rt", "denial"), ("tg_graph", "src/heap.rt", "find_edge"), ("tg_store", "src/store.rt", "census"))
+CHANGED = (("tg_model", "src/denial.rt", "denial_on"), ("tg_graph", "src/heap.rt", "find_edge"), ("tg_store", "src/store.rt", "census"))
 
 
 def crates():
