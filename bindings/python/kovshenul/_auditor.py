@@ -2,12 +2,12 @@
 from __future__ import annotations
 
 from ctypes import byref
-from threading import RLock
-from typing import Callable, Iterable, NoReturn, Tuple
+from typing import Iterable, Tuple
 
 from . import _library
 from ._library import BITS, library, number_in, short
-from ._refusals import NotOpen, refusal
+from ._held import Held
+from ._refusals import refusal
 from ._store import Store, opening_in
 from ._values import Limits, Value
 
@@ -19,22 +19,16 @@ def _store_at(store: Store) -> object:
     return store._at
 
 
-class Auditor:
+class Auditor(Held):
     """An auditor of a store's journal, by which the store may give up what was audited. `close`, or leaving its `with`, gives its
     memory back, which is as much as the store's workers reach.
 
     It is opened by the words by which the store was, and stands at the first entry. Any thread may call.
     """
 
-    __slots__ = ("_lock", "_place", "_place_at", "__weakref__")
-
-    def __new__(cls, *_arguments: object, **_words: object) -> Auditor:
-        """A closed auditor."""
-        auditor = super().__new__(cls)
-        auditor._lock = RLock()
-        auditor._place = _library.Place()
-        auditor._place_at = byref(auditor._place)
-        return auditor
+    __slots__ = ()
+    _named = "an auditor"
+    _give_back = staticmethod(library.tg_auditor_close)
 
     def __init__(
         self,
@@ -44,7 +38,7 @@ class Auditor:
     ) -> None:
         asked = opening_in(workers, edges, limits)
         with self._lock:
-            status = library.tg_auditor_open(self._place_at, *asked)
+            status = library.tg_auditor_open(self._at, *asked)
         if status:
             raise refusal(status)
 
@@ -57,7 +51,7 @@ class Auditor:
         """
         passed, store_at = _library.Number(), _store_at(store)
         with self._lock, store._lock:
-            status = library.tg_auditor_feed(self._place_at, store_at, byref(passed))
+            status = library.tg_auditor_feed(self._at, store_at, byref(passed))
         if status:
             raise refusal(status)
         return passed.value
@@ -67,7 +61,7 @@ class Auditor:
         """How many entries passed: the place of the next one."""
         at = _library.Number()
         with self._lock:
-            status = short.tg_auditor_at(self._place_at, byref(at))
+            status = short.tg_auditor_at(self._at, byref(at))
         if status:
             raise refusal(status)
         return at.value
@@ -77,47 +71,13 @@ class Auditor:
         far, and nothing is given up then."""
         upto_in, store_at = _library.Number(number_in(BITS, upto)), _store_at(store)
         with self._lock, store._lock:
-            status = library.tg_auditor_forget(self._place_at, store_at, upto_in)
+            status = library.tg_auditor_forget(self._at, store_at, upto_in)
         if status:
             raise refusal(status)
 
     def sweep(self) -> None:
         """Gives back what it keeps of vertices that no worker reaches any more. It does so by itself as they double."""
         with self._lock:
-            status = library.tg_auditor_sweep(self._place_at)
+            status = library.tg_auditor_sweep(self._at)
         if status:
             raise refusal(status)
-
-    def close(self) -> None:
-        """Gives all memory back. A closed auditor may be closed again."""
-        with self._lock:
-            library.tg_auditor_close(self._place_at)
-
-    @property
-    def closed(self) -> bool:
-        """Whether the auditor is closed."""
-        return not self._place.is_open
-
-    def __enter__(self) -> Auditor:
-        if self.closed:
-            raise NotOpen
-        return self
-
-    def __exit__(self, *_exception: object) -> None:
-        self.close()
-
-    def __del__(self, close: Callable[[object], int] = library.tg_auditor_close) -> None:
-        # Nobody has the auditor any more, so the lock isn't needed. The thread may be any.
-        close(self._place_at)
-
-    def __reduce__(self) -> NoReturn:
-        raise TypeError("an auditor can't be copied or pickled")
-
-    def __copy__(self) -> NoReturn:
-        self.__reduce__()
-
-    def __deepcopy__(self, _memo: object) -> NoReturn:
-        self.__reduce__()
-
-    def __repr__(self) -> str:
-        return f"<kovshenul.Auditor, {'closed' if self.closed else 'open'}>"

@@ -5,11 +5,11 @@ from array import array
 from ctypes import Array, byref, c_size_t, c_uint32, c_uint64
 from functools import partial
 from itertools import count as from_on
-from threading import RLock
 from typing import Callable, Iterable, Iterator, List, NoReturn, Optional, Set, Tuple
 
 from . import _library
 from ._library import BITS, library, number_in, short
+from ._held import Held
 from ._refusals import BadPlace, Denied, NotOpen, refusal, told_by
 from ._values import MOST_NUMBERS, RIGHTS, Counts, Kind, Limits, Rights, Target, Value
 from .journal import DEEDS, Entry, Inspect, entry_of
@@ -111,21 +111,20 @@ def _raise(status: int, told: Told) -> NoReturn:
     raise Denied(*told)
 
 
-class Store:
+class Store(Held):
     """An open store. `close`, or leaving its `with`, gives its memory back.
 
     Any thread may call: the store's lock makes the calls come one after the other. A call whose number is out of its range
     raises OverflowError, and nothing happened; what isn't served raises Denied or a Refused.
     """
 
-    __slots__ = ("_lock", "_place", "_at", "_room", "__weakref__")
+    __slots__ = ("_room",)
+    _named = "a store"
+    _give_back = staticmethod(library.tg_close)
 
     def __new__(cls, *_arguments: object, **_words: object) -> Store:
         """A closed store."""
         store = super().__new__(cls)
-        store._lock = RLock()
-        store._place = _library.Place()
-        store._at = byref(store._place)
         store._room = _Room()
         return store
 
@@ -140,40 +139,6 @@ class Store:
             status = library.tg_open(self._at, *asked)
         if status:
             raise refusal(status)
-
-    def close(self) -> None:
-        """Gives all memory back. A closed store may be closed again."""
-        with self._lock:
-            library.tg_close(self._at)
-
-    @property
-    def closed(self) -> bool:
-        """Whether the store is closed."""
-        return not self._place.is_open
-
-    def __enter__(self) -> Store:
-        if self.closed:
-            raise NotOpen
-        return self
-
-    def __exit__(self, *_exception: object) -> None:
-        self.close()
-
-    def __del__(self, close: Callable[[object], int] = library.tg_close) -> None:
-        # Nobody has the store any more, so the lock isn't needed. The thread may be any.
-        close(self._at)
-
-    def __reduce__(self) -> NoReturn:
-        raise TypeError("a store can't be copied or pickled")
-
-    def __copy__(self) -> NoReturn:
-        self.__reduce__()
-
-    def __deepcopy__(self, _memo: object) -> NoReturn:
-        self.__reduce__()
-
-    def __repr__(self) -> str:
-        return f"<kovshenul.Store, {'closed' if self.closed else 'open'}>"
 
     # The lock may be taken again by the thread that has it, since a signal's handler or a finalizer may call in
     # between. So a call takes the room out, and puts it back when all that the library wrote there has been read.
