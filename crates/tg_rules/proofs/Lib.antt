@@ -1,4 +1,5 @@
 pub mod DecisionLaws
 mod FaultLaws
 mod IndexLaws
+pub mod LookingLaws
 pub mod SubjectNames

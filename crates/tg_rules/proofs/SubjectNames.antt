@@ -1,7 +1,6 @@
 -- The names of the subjects when one has gone.
-use Rattle.std.proofs.Common.{◌≡◌, ℕ, Bool, true, false, List, [], ◌∷◌, ◌==◌, cond, map, refl, ap, ◌∙◌}
+use Rattle.std.proofs.Common.{◌≡◌, ℕ, Bool, true, false, List, [], ◌∷◌, ◌==◌, cond, refl, ap}
 use Rattle.std.specs.Prelude.{not}
-use Rattle.std.specs.List.{filter}
 use Rattle.tg_model.specs.Graph.{without_subject}
 use Rattle.tg_subjects.specs.Subjects.{names_of, without}
 use Rattle.tg_subjects.specs.declared.subject.Subject.{Subject}

@@ -37,9 +37,10 @@ pub fn decide<P: Payload>(heap: &Heap<P>, worker: u64, command: &Command) -> Ver
 }
 
 /// Makes each check of a command of a subject that was looked up, as [`decide`] does, and answers the vertices that the
-/// command is about, so that [`perform_between`] needn't look them up again. Takes no memory.
+/// command is about, so that [`look_between`] and [`change_between`] needn't look them up again. Takes no memory.
 ///
-/// [`perform_between`]: crate::perform_between
+/// [`look_between`]: crate::look_between
+/// [`change_between`]: crate::change_between
 #[inline(always)]
 pub fn find_parties<P: Payload>(
     heap: &Heap<P>,

@@ -1,5 +1,5 @@
 //! What a command does that is served.
-ghost use Rattle.std.specs.Prelude.{◌≡◌, ◌≢◌, ◌<◌, ◌↔◌, ℕ, None, Some, Err, IfOk, IfSome, IsSome, OnOk};
+ghost use Rattle.std.specs.Prelude.{◌≡◌, ◌≢◌, ◌<◌, ◌↔◌, ℕ, None, Some, Err, IfOk, IfSome, IsSome, OnOk, IsTrue};
 ghost use Rattle.std.specs.List.{All};
 ghost use Rattle.tg_model.specs.Graph.{with_rights, without_rights, without_subject, listing_of};
 ghost use Rattle.tg_model.specs.Rules.{denial_of, state_of, subjects_after, written_at};
@@ -7,7 +7,7 @@ ghost use Rattle.tg_word.specs.Word.{nursery_space};
 ghost use Rattle.tg_graph.specs.Heap.{content_of, IsActive, KeepsIndexes, KeepsPlaces, nursery_of, subject_names};
 ghost use Rattle.tg_graph.specs.Content.{IsContent, IsNamed};
 ghost use Rattle.tg_graph.specs.Spots.{LacksCellsFor};
-ghost use Rattle.tg_rules.specs.Effect.{IndexesAfter, IsReplyOn, IsContentAfter, IsDoneInPlace, KeepsVertices, LeavesHeap, AddsEdge, LacksCellsToServe, SameIndexes};
+ghost use Rattle.tg_rules.specs.Effect.{IndexesAfter, IsReplyOn, IsContentAfter, IsDoneInPlace, KeepsVertices, LeavesHeap, AddsEdge, LacksCellsToServe, OnlyLooks, SameIndexes};
 ghost use Rattle.tg_rules.specs.Parties.{AreParties};
 ghost use Rattle.tg_rules.specs.Verdict.{HasSubject, HasVertex};
 
@@ -42,20 +42,54 @@ pub fn perform<P: Payload>(
 {
     let subject = subject_of(heap, worker);
     match find_parties(heap, subject, command) {
-        Ok(parties) => perform_between(heap, subject, command, parties),
+        Ok(parties) if only_looks(command) => look_between(heap, subject, command, parties),
+        Ok(parties) => change_between(heap, subject, command, parties),
         Err(_) => unreachable!(),
     }
 }
 
-/// Performs a command of a subject between the vertices that its checks met: what [`perform`] does, without looking
-/// anything up again.
+/// Whether a command changes nothing where it is served.
 #[inline(always)]
-pub fn perform_between<P: Payload>(
+pub fn only_looks(command: &Command) -> bool
+    ensures { IsTrue result ↔ OnlyLooks command.now }
+{
+    matches!(
+        command,
+        Command::Read { .. } | Command::Inspect { .. } | Command::List
+    )
+}
+
+/// Answers a command of a subject that only looks, from the vertices that its checks met: what [`perform`] does, without
+/// looking anything up again. It is refused where memory was.
+#[inline(always)]
+pub fn look_between<P: Payload>(
+    heap: &Heap<P>,
+    subject: Subject,
+    command: &Command,
+    parties: Parties,
+) -> Result<Reply, RoomFault>
+    requires looks { OnlyLooks command.now }
+    requires parties { AreParties heap.now subject.name command.now parties }
+    ensures reply { IfOk result (λ reply. IsReplyOn (content_of heap.now) subject.name command.now reply) }
+    ensures room { result ≢ Err RoomFault.HeapFull }
+{
+    match *command {
+        Command::Read { .. } => read(heap, parties.target),
+        Command::List | Command::Inspect { .. } => list(heap, parties.from),
+        _ => unreachable!(),
+    }
+}
+
+/// Performs a command of a subject that changes something, between the vertices that its checks met: what [`perform`]
+/// does, without looking anything up again.
+#[inline(always)]
+pub fn change_between<P: Payload>(
     heap: &mut Heap<P>,
     subject: Subject,
     command: &Command,
     parties: Parties,
 ) -> Result<Reply, RoomFault>
+    requires changes { ¬ OnlyLooks command.now }
     requires subject { HasSubject heap.old subject }
     requires parties { AreParties heap.old subject.name command.now parties }
     ensures reply { IfOk result (λ reply. IsReplyOn (content_of heap.old) subject.name command.now reply) }
@@ -74,10 +108,9 @@ pub fn perform_between<P: Payload>(
             target: name,
             rights,
         } => Ok(remove(heap, from, name, rights)),
-        Command::Read { .. } => read(heap, target),
         Command::Write { value, .. } | Command::Append { value, .. } => write(heap, target, value),
-        Command::List | Command::Inspect { .. } => list(heap, from),
         Command::Retire => Ok(retire(heap, subject.name)),
+        _ => unreachable!(),
     }
 }
 

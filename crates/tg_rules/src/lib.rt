@@ -5,7 +5,7 @@
 //! answers and changes the content as the rules say, or is refused for want of memory or room and changes nothing.
 //!
 //! A store does both with one look-up for each edge: [`find_parties`] makes the checks and answers the vertices that it
-//! met, and [`perform_between`] performs the command between these.
+//! met; between these [`look_between`] answers a command that only looks, and [`change_between`] performs any other.
 //!
 //! [`readable`] lends what a vertex stores to a worker that may read it.
 //!
@@ -37,5 +37,5 @@ pub mod laws;
 mod vertex;
 
 pub use decision::{Verdict, decide, find_parties};
-pub use effect::{perform, perform_between, readable};
+pub use effect::{change_between, look_between, only_looks, perform, readable};
 pub use vertex::Parties;

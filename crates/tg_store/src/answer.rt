@@ -11,7 +11,7 @@ use std::alloc::Global;
 use tg_graph::Heap;
 use tg_model::{Command, Denial, Reply};
 use tg_payload::Payload;
-use tg_rules::{Parties, find_parties, perform_between};
+use tg_rules::{Parties, change_between, find_parties, look_between, only_looks};
 use tg_subjects::Subject;
 
 // A reply twice: for the one who asked, and for the journal.
@@ -38,13 +38,8 @@ pub(crate) fn answer_command<P: Payload>(
         × AddsEdge command.now × LacksCellsToServe heap.old.table subject.nursery subject.name command.now }
 {
     match find_parties(heap, subject, command) {
-        Ok(parties) => {
-            if only_looks(command) {
-                look(alloc, heap, subject, command, parties)
-            } else {
-                change(heap, subject, command, parties)
-            }
-        }
+        Ok(parties) if only_looks(command) => look(alloc, heap, subject, command, parties),
+        Ok(parties) => change(heap, subject, command, parties),
         Err(denial) => Ok(denied(&denial)),
     }
 }
@@ -65,17 +60,17 @@ fn denied(denial: &Denial) -> Replies
 #[inline(always)]
 fn look<P: Payload>(
     alloc: Global,
-    heap: &mut Heap<P>,
+    heap: &Heap<P>,
     subject: Subject,
     command: &Command,
     parties: Parties,
 ) -> Result<Replies, ApplyFault>
-    requires to_serve { IsToServe subject command.now parties heap.old }
+    requires to_serve { IsToServe subject command.now parties heap.now }
     requires looks { OnlyLooks command.now }
-    ensures answered { AnswersCommand subject command.now heap.old heap.new result }
+    ensures answered { AnswersCommand subject command.now heap.now heap.now result }
     ensures full { result ≢ Err ApplyFault.HeapFull }
 {
-    let reply = perform_between(heap, subject, command, parties)?;
+    let reply = look_between(heap, subject, command, parties)?;
     let copy = reply.copy(alloc)?;
     Ok(Replies { reply, copy })
 }
@@ -93,20 +88,9 @@ fn change<P: Payload>(
     ensures answered { AnswersCommand subject command.now heap.old heap.new result }
     ensures full { result ≡ Err ApplyFault.HeapFull → AddsEdge command.now × LacksCellsToServe heap.old.table subject.nursery subject.name command.now }
 {
-    let _done = perform_between(heap, subject, command, parties)?;
+    let _done = change_between(heap, subject, command, parties)?;
     Ok(Replies {
         reply: Reply::Done,
         copy: Reply::Done,
     })
-}
-
-// Whether the command changes nothing where it is served.
-#[inline(always)]
-fn only_looks(command: &Command) -> bool
-    ensures { IsTrue result ↔ OnlyLooks command.now }
-{
-    matches!(
-        command,
-        Command::Read { .. } | Command::Inspect { .. } | Command::List
-    )
 }

@@ -14,7 +14,7 @@ returns-clause-answered g c =
         reply = (λ graph stands subject.
             done-served (content_of c.args.heap.now) graph stands c.args.subject.name c.args.command.now subject c.requires.to_serve.served c.requires.changes);
         step = (λ graph stands subject.
-            StandsFor-served (content_of c.args.heap.now) (content_of c.perform_between.new.heap) graph stands c.args.subject.name subject c.args.command.now c.requires.to_serve.served c.in_ok-_done.ensures.content);
+            StandsFor-served (content_of c.args.heap.now) (content_of c.change_between.new.heap) graph stands c.args.subject.name subject c.args.command.now c.requires.to_serve.served c.in_ok-_done.ensures.content);
         subjects = (λ graph stands subject names.
             c.in_ok-_done.ensures.subjects ∙ ap (λ (names : List ℕ). subjects_after names c.args.subject.name c.args.command.now) names
             ∙ sym (subjects-served (content_of c.args.heap.now) graph stands c.args.subject.name c.args.command.now subject c.requires.to_serve.served));

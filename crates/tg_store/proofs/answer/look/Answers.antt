@@ -1,8 +1,9 @@
--- The reply is the graph's.
-use Rattle.std.proofs.Common.{ℕ, List, ap, sym, ◌∙◌}
+-- The reply is the graph's, and the heap stays, which stands for the next one.
+use Rattle.std.proofs.Common.{ℕ, List, ap, sym, ◌∙◌, refl}
 use Rattle.tg_model.specs.Rules.{subjects_after}
-use Rattle.tg_graph.specs.Heap.{content_of}
+use Rattle.tg_graph.specs.Heap.{content_of, subject_names}
 use Rattle.tg_graph.proofs.StandingLaws.{StandsFor-served}
+use Rattle.tg_rules.proofs.LookingLaws.{content-looked, subjects-looked}
 use Rattle.tg_store.proofs.AnswerLaws.{reply-served, subjects-served}
 use Rattle.tg_store.proofs.answer.look.Goals as goal
 
@@ -14,13 +15,15 @@ returns-clause-answered g c =
         reply = (λ graph stands subject.
             reply-served (content_of c.args.heap.now) graph stands c.args.subject.name c.args.command.now subject c.requires.to_serve.served c.in_ok-reply.reply c.in_ok-reply.ensures.reply);
         step = (λ graph stands subject.
-            StandsFor-served (content_of c.args.heap.now) (content_of c.perform_between.new.heap) graph stands c.args.subject.name subject c.args.command.now c.requires.to_serve.served c.in_ok-reply.ensures.content);
+            StandsFor-served (content_of c.args.heap.now) (content_of c.args.heap.now) graph stands c.args.subject.name subject c.args.command.now c.requires.to_serve.served
+            (content-looked (content_of c.args.heap.now) c.args.subject.name c.args.command.now c.requires.looks));
         subjects = (λ graph stands subject names.
-            c.in_ok-reply.ensures.subjects ∙ ap (λ (names : List ℕ). subjects_after names c.args.subject.name c.args.command.now) names
+            subjects-looked (subject_names c.args.heap.now) c.args.subject.name c.args.command.now c.requires.looks
+            ∙ ap (λ (names : List ℕ). subjects_after names c.args.subject.name c.args.command.now) names
             ∙ sym (subjects-served (content_of c.args.heap.now) graph stands c.args.subject.name c.args.command.now subject c.requires.to_serve.served));
       };
       kept = record {
-        limits = c.in_ok-reply.ensures.left.kept.limits;
+        limits = refl;
         refused = tt;
         worker = (λ e. let f : ⊥ = cc e in absurd f);
       };

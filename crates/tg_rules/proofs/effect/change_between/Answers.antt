@@ -7,8 +7,8 @@ use Rattle.tg_graph.specs.Heap.{content_of}
 use Rattle.tg_graph.proofs.StandingLaws.{IsSameContent-self}
 use Rattle.tg_rules.specs.Effect.{AddsEdge, IsContentAfter}
 use Rattle.tg_rules.proofs.IndexLaws.{adds_edge, indexes_added}
-use Rattle.tg_rules.proofs.effect.perform_between.Goals as goal
-use Rattle.tg_rules.proofs.effect.perform_between.Goals.{in-Take, in-Take-2}
+use Rattle.tg_rules.proofs.effect.change_between.Goals as goal
+use Rattle.tg_rules.proofs.effect.change_between.Goals.{in-Take, in-Take-2}
 
 pub returns-in-Retire-clause-content : goal.returns-in-Retire-clause-content
 returns-in-Retire-clause-content g c =
