@@ -1,11 +1,8 @@
-//! Helpers of a store's collections and of a script's: how many are asked for, and that each has a thread of its own.
-ghost use Rattle.std.specs.Prelude.{◌≤◌};
+//! Helpers of a script's collections: how many are asked for.
 ghost use Rattle.tg_script.specs.Counting.{MayCountInMemory};
 
-use crate::meeting::{MANY_TURNS, Meet};
 use crate::rows::{Row, settings_of};
 use crate::scripts::run_with;
-use crate::sessions::opened::store_with;
 use std::alloc::Global;
 use std::marker::Brand;
 use std::sync::Wait;
@@ -13,7 +10,6 @@ use std::sync::atomic::{AtomicU64, Ordering};
 use std::sync::ledger::{Blank, Ledger};
 use std::test::Fail;
 use std::thread::Threads;
-use tg_helpers::collect_with;
 use tg_payload::{CellPayload, Payload};
 use tg_program::{RunPayloads, Start, serve};
 use tg_script::{Bytes, Collector, Count, Helpers, OneThread, Refusal, Settings, Written};
@@ -28,46 +24,6 @@ const BOTH_KINDS: Row<'static> = Row {
     script: b"minor\nfull\n",
     written: b"ok\nok 2\n",
 };
-
-// Collects the store with so many helpers, the nurseries and then all. How often they passed the gate, where none
-// missed another.
-fn passes_of_both<R: Threads + Wait + Sync>(
-    rt: &R,
-    alloc: Global,
-    store: &mut Store<CellPayload>,
-    helpers: u32,
-    gate: &Meet,
-) -> Option<u64>
-    requires { (1 ≤ helpers) × (helpers ≤ 8) }
-{
-    for kind in [Kind::Nursery, Kind::Full] {
-        let _left = collect_with(rt, alloc, store, kind, helpers, gate).ok()?;
-    }
-    (!gate.is_missed()).then_some(gate.passes())
-}
-
-// Collects a store of two workers in the same way. How often the helpers passed a gate at which they met, where none
-// missed another.
-fn passes_of_a_store<R: Threads + Wait + Sync>(rt: &R, alloc: Global, helpers: u32) -> Option<u64>
-    requires { (1 ≤ helpers) × (helpers ≤ 8) }
-{
-    let gate = Meet::of(alloc, helpers, MANY_TURNS).ok()?;
-    let mut store = store_with(alloc, "rw")?;
-    let passes = passes_of_both(rt, alloc, &mut store, helpers, &gate);
-    drop(store);
-    passes
-}
-
-// In each collection the gate is passed for the workers' rows, which are one chunk of roots, and once more by each
-// helper.
-#[test]
-fn helpers_of_a_store_at_one_gate(rt: HostRuntime) -> Result<(), Fail> {
-    for (helpers, passes) in [(1, 4), (2, 6), (3, 8), (8, 18)] {
-        let seen = passes_of_a_store(&rt, rt.alloc(), helpers);
-        assert_eq!(rt; seen, Some(passes), "with {helpers}");
-    }
-    Ok(())
-}
 
 // Runs the script of collections of both kinds with so many helpers.
 fn run_both_kinds<C: Collector>(alloc: Global, collector: &C, helpers: u32) -> Result<Vec<u8>, Fail>

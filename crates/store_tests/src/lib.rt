@@ -1,4 +1,5 @@
-//! Tests of the store and of all that is above it, and of the payloads that both name.
+//! Tests of the store, of scripts and races, and of the payloads that these name. Those of sessions stand in
+//! `session_tests`.
 //!
 //! They stand here and not beside what they test, since a crate with tests is proved twice. A test is named for what it
 //! shows; each file has one topic. Nothing here is called by any crate. What a whole script is answered is no test
@@ -10,15 +11,11 @@ mod cell_with;
 #[cfg(test)]
 mod counting_payload;
 #[cfg(test)]
-mod cut;
-#[cfg(test)]
 mod help;
 #[cfg(test)]
 mod helpers;
 #[cfg(test)]
 mod lent;
-#[cfg(test)]
-mod meeting;
 #[cfg(test)]
 mod payloads;
 #[cfg(test)]
@@ -27,8 +24,6 @@ mod races;
 mod rows;
 #[cfg(test)]
 mod scripts;
-#[cfg(test)]
-mod sessions;
 #[cfg(test)]
 mod shown;
 #[cfg(test)]

@@ -1,7 +1,7 @@
 //! Turnstiles that show that workers have threads of their own.
-use crate::meeting::{MANY_TURNS, Meet};
 use crate::races::raced::race_row;
 use crate::rows::Row;
+use meeting::{MANY_TURNS, Meet};
 use std::alloc::Global;
 use std::sync::Wait;
 use std::test::Fail;

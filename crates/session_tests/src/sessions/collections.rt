@@ -1,8 +1,8 @@
 //! Collections that sessions ask for, and a race for one of its sessions.
 
-use crate::meeting::{MANY_TURNS, Meet};
 use crate::sessions::opened::{make, opening_with};
 use crate::sessions::story::{Seen, Story, seen_of};
+use meeting::{MANY_TURNS, Meet};
 use std::alloc::Global;
 use std::sync::Wait;
 use std::test::Fail;

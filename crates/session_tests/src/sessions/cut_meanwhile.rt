@@ -2,8 +2,8 @@
 ghost use Rattle.std.specs.Prelude.{◌≡◌, true};
 ghost use Rattle.tg_shared.specs.Sessions.{MayShare};
 
-use crate::meeting::MANY_TURNS;
 use crate::sessions::opened::{closed, store_with};
+use meeting::MANY_TURNS;
 use std::alloc::Global;
 use std::marker::Brand;
 use std::sync::Wait;

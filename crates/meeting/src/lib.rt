@@ -1,4 +1,6 @@
-//! A gate and a turnstile at which threads meet.
+//! A gate and a turnstile at which the threads of a test meet.
+#![tactic(auto)]
+
 use std::alloc::{AllocError, Global};
 use std::sync::atomic::{AtomicU64, Ordering};
 use std::thread;
@@ -6,11 +8,11 @@ use tg_helpers::Gate;
 use tg_threads::Turnstile;
 
 /// How many turns a thread waits for others that are to come.
-pub(crate) const MANY_TURNS: u64 = 100_000_000;
+pub const MANY_TURNS: u64 = 100_000_000;
 
 /// Where each of so many threads waits at its first pass for all others, for so many turns, until one was missed.
 #[derive(Drop)]
-pub(crate) struct Meet {
+pub struct Meet {
     turns: u64,
     // How often each thread has passed.
     passes: Vec<AtomicU64>,
@@ -18,7 +20,8 @@ pub(crate) struct Meet {
 }
 
 impl Meet {
-    pub(crate) fn of(alloc: Global, threads: u32, turns: u64) -> Result<Meet, AllocError> {
+    /// A meeting of so many threads, of whom each waits so many turns.
+    pub fn of(alloc: Global, threads: u32, turns: u64) -> Result<Meet, AllocError> {
         let mut passes = Vec::new(alloc);
         for _ in 0..threads {
             passes.push(AtomicU64::new(0))?;
@@ -31,12 +34,12 @@ impl Meet {
     }
 
     /// Whether a thread missed another.
-    pub(crate) fn is_missed(&self) -> bool {
+    pub fn is_missed(&self) -> bool {
         self.missed.load(Ordering::SeqCst) > 0
     }
 
     /// How often all threads have passed.
-    pub(crate) fn passes(&self) -> u64 {
+    pub fn passes(&self) -> u64 {
         let mut all = 0u64;
         for passes in &self.passes {
             all = all.wrapping_add(passes.load(Ordering::SeqCst));
