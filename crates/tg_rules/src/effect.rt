@@ -59,8 +59,8 @@ pub fn only_looks(command: &Command) -> bool
     )
 }
 
-/// Answers a command of a subject that only looks, from the vertices that its checks met: what [`perform`] does, without
-/// looking anything up again. It is refused where memory was.
+/// Answers a command of a subject that only looks, from the vertices that its checks met: what [`perform`] does,
+/// without looking anything up again. It is refused where memory was.
 #[inline(always)]
 pub fn look_between<P: Payload>(
     heap: &Heap<P>,
