@@ -57,8 +57,8 @@ impl Edges {
         ensures ok { OnOk result (label_between self.new ≡ with_rights (label_between self.old) from to label) }
         ensures err { OnErr result (self.new ≡ self.old) }
     {
-        let both = Label::new(self.label(from, to).union(label.rights())).unwrap_or(label);
-        self.labels.insert((from, to), both)?;
+        let held = self.labels.entry((from, to))?.or_insert(label);
+        *held = Label::new(held.rights().union(label.rights())).unwrap_or(label);
         Ok(())
     }
 
