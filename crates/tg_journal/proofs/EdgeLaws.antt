@@ -16,7 +16,7 @@ use Rattle.std.specs.declared.ops.Bound.TheVariants.{Included}
 use Rattle.std.proofs.lemmas.Bool.{eqb-true, eq-eqb, ltb-true, and_parts}
 use Rattle.std.proofs.lemmas.Bool.Decides.{nat_tests}
 use Rattle.std.proofs.lemmas.Cmp.{ranked}
-use Rattle.tg_rights.specs.RightSet.{RightSet, no_rights, is_none_held}
+use Rattle.tg_rights.specs.RightSet.{RightSet, has, set_where, union, no_rights, is_none_held}
 use Rattle.tg_rights.specs.RightLaws.{none_held-same}
 use Rattle.tg_model.specs.Graph.{HasEdge, listing_of}
 use Rattle.tg_model.specs.Plain.{Edges, rights_in_row, RisesFrom}
@@ -64,6 +64,15 @@ absent old x y f none zero a b = stays ((a == x) && (b == y)) refl
         ap₂ (λ a b. label_between old a b) (eqb-true a x at.0) (eqb-true b y at.1) ∙ ap (λ o. unwrap_or o no_rights) none in
         nothing ∙ sym zero ∙ ap f (sym nothing)
     stays false here = refl
+
+or_same : (x : Bool) → (x || x) ≡ x
+or_same true = refl
+or_same false = refl
+
+-- rights that come to those that are there, or stand alone where there are none
+pub widened : (o : Option RightSet) (l : RightSet) → union (unwrap_or o l) l ≡ union (unwrap_or o no_rights) l
+widened (Some s) l = refl
+widened None l = λ i. set_where (λ x. or_same (has l x) i)
 
 -- ---- no label is empty
 

@@ -57,8 +57,8 @@ impl Edges {
         ensures ok { OnOk result (label_between self.new ≡ with_rights (label_between self.old) from to label) }
         ensures err { OnErr result (self.new ≡ self.old) }
     {
-        let both = Label::new(self.label(from, to).union(label.rights())).unwrap_or(label);
-        self.labels.insert((from, to), both)?;
+        let held = self.labels.entry((from, to))?.or_insert(label);
+        *held = Label::new(held.rights().union(label.rights())).unwrap_or(label);
         Ok(())
     }
 
@@ -78,14 +78,15 @@ impl Edges {
         }
     }
 
-    /// The edges of a vertex, by rising name of the target. Fails only when out of memory.
-    pub(crate) fn row(&self, alloc: Global, from: u64) -> Result<EdgeList, AllocError>
+    /// The edges of a vertex, by rising name of the target. There is room for so many at first, so that a row of that
+    /// length takes memory once. Fails only when out of memory.
+    pub(crate) fn row(&self, alloc: Global, from: u64, room: usize) -> Result<EdgeList, AllocError>
         ensures targets { IfOk result (λ row. (n : ℕ) → ((y : ℕ) → HasEdge (label_between self.now) from y → y < n) →
             (y : ℕ) → IsTrue (is_member nat_eq (map (λ e. e.0) row) y) ↔ HasEdge (label_between self.now) from y) }
         ensures listing { IfOk result (λ row. (n : ℕ) → ((y : ℕ) → HasEdge (label_between self.now) from y → y < n) →
             row ≡ listing_of (label_between self.now) n from) }
     {
-        let row = row_in(alloc, &self.labels, from)?;
+        let row = row_in(alloc, &self.labels, from, room)?;
         Ok(EdgeList::from_vec(row))
     }
 
@@ -102,12 +103,15 @@ fn row_in(
     alloc: Global,
     labels: &BTreeMap<(u64, u64), Label>,
     from: u64,
+    room: usize,
 ) -> Result<Vec<(u64, Label)>, AllocError>
     ensures row { IfOk result (λ row. row.items ≡ map (λ e. (e.0.1, e.1)) (entries_between by_ends (Included (from, 0)) (Included (from, 2 ^ 64 - 1)) labels.now.entries)) }
     ensures ordered { IsOrdered by_ends labels.now }
 {
-    labels
-        .range((from, 0)..=(from, u64::MAX))
-        .map(|(ends, label)| (ends.1, *label))
-        .collect(alloc)
+    let edges = labels.range((from, 0)..=(from, u64::MAX));
+    let mut row = Vec::with_capacity(alloc, room)?;
+    for (ends, label) in edges {
+        row.push((ends.1, *label))?;
+    }
+    Ok(row)
 }

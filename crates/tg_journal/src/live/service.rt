@@ -11,9 +11,15 @@ impl LiveGraph {
     ghost use Rattle.tg_model.specs.Rules.{HoldsOver, denial_of, step, answer_of, effect, reply_of, state_of};
     ghost use Rattle.tg_journal.specs.Live.{IsAsBefore, graph_kept};
 
-    /// Takes a deed of a subject. The answer is that of the rules, and the graph becomes the next one. Fails only when
-    /// out of memory, and the graph is then as before but for what names store that weren't made yet.
-    pub(crate) fn apply(&mut self, worker: u64, deed: &Deed) -> Result<Reply, AllocError>
+    /// Takes a deed of a subject. The answer is that of the rules, and the graph becomes the next one. `room`: for how
+    /// many edges a list has room at first. Fails only when out of memory, and the graph is then as before but for what
+    /// names store that weren't made yet.
+    pub(crate) fn apply(
+        &mut self,
+        worker: u64,
+        deed: &Deed,
+        room: usize,
+    ) -> Result<Reply, AllocError>
         ensures reply { IfOk result (λ reply. reply ≡ answer_of (graph_kept self.old) worker deed.now) }
         ensures step { OnOk result (graph_kept self.new ≡ step (graph_kept self.old) worker deed.now) }
         ensures refused { OnErr result (IsAsBefore (graph_kept self.old) (graph_kept self.new)) }
@@ -23,7 +29,7 @@ impl LiveGraph {
             Deed::Spawn { label, law, state } => self.spawn(worker, *label, *law, state),
             Deed::Plain(command) => match denial_on(self, worker, command) {
                 Some(denial) => Ok(Reply::Denied(denial)),
-                None => self.serve(worker, command),
+                None => self.serve(worker, command, room),
             },
         }
     }
@@ -79,7 +85,7 @@ impl LiveGraph {
     }
 
     // Does what a command asks for that is served.
-    fn serve(&mut self, worker: u64, command: &Command) -> Result<Reply, AllocError>
+    fn serve(&mut self, worker: u64, command: &Command, room: usize) -> Result<Reply, AllocError>
         requires { denial_of (graph_kept self.old).label (graph_kept self.old).value worker command.now ≡ None }
         ensures reply { IfOk result (λ r. r ≡ reply_of (graph_kept self.old).label (graph_kept self.old).value (graph_kept self.old).made worker command.now) }
         ensures step { OnOk result (graph_kept self.new ≡ effect (graph_kept self.old) worker command.now) }
@@ -100,8 +106,10 @@ impl LiveGraph {
             Command::Write { target, value } | Command::Append { target, value } => {
                 self.write(target, value)
             }
-            Command::Inspect { target } => Ok(Reply::Edges(self.edges.row(self.alloc, target)?)),
-            Command::List => Ok(Reply::Edges(self.edges.row(self.alloc, worker)?)),
+            Command::Inspect { target } => Ok(Reply::Edges(
+                self.edges.row(self.alloc, target, room)?,
+            )),
+            Command::List => Ok(Reply::Edges(self.edges.row(self.alloc, worker, room)?)),
             Command::Retire => {
                 self.retire(worker);
                 Ok(Reply::Done)

@@ -31,7 +31,7 @@ impl LiveGraph {
         add_names(&mut names, &self.subjects)?;
         let mut next = 0;
         while next < names.len() {
-            let row = self.edges.row(self.alloc, names.as_slice()[next])?;
+            let row = self.edges.row(self.alloc, names.as_slice()[next], 0)?;
             add_targets(&mut names, row.as_slice())?;
             next += 1;
         }
