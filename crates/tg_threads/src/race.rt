@@ -37,7 +37,7 @@ use tg_weave::{Told, in_script_order, sessions_of, share_out, tell_all};
 /// line made, whose session runs no line. Once all have ended the store is closed and audited, and only then anything
 /// is written: the reply to each line in script order, and the line with the number of entries. In what order lines of
 /// different workers are run is open, and who waits for whom. A line is refused for room in the heap only where a store
-/// that may have been behind the lock lacked it, and of the other refusals only memory may be wanting at any line.
+/// that may have been behind the lock lacked it.
 ///
 /// After a fault nothing was written but after `WriteFailed`, which leaves a front of the text. A thread that can't be
 /// started is `NoThread`; those that were started have ended. `ReceiptMismatch` is answered too where a session finds
