@@ -77,7 +77,7 @@ def finder(body):
     """What finds the body: a test, a script, or clauses of a function."""
     if body.is_found_by_run:
         kind, name = body.words["found"].split(" ", 1)
-        return f"the test {name}" if kind == "test" else f"rows/held/run: {name}"
+        return {"test": "the test ", "held": "rows/held/run: ", "row": "rows/run: "}[kind] + name
     function, clauses = body.refused
     return f"`{function}`: {', '.join('(no name)' if it == 'ensures' else it for it in clauses)}"
 

@@ -37,8 +37,8 @@ def below(named, crate):
 class Checker:
     """The kit's own check, over the libraries that 'rt ci' or 'rt all check' left."""
 
-    def __init__(self, top, libraries):
-        self.top, self.libraries = top, libraries
+    def __init__(self, top, libraries, is_keeping=False):
+        self.top, self.libraries, self.is_keeping = top, libraries, is_keeping
         self.named = crates(top)
         self.known = {}
         page = subprocess.run(["rt", "doc"], capture_output=True, text=True, check=True).stdout.strip()
@@ -69,7 +69,7 @@ class Checker:
         take_by_contract(folder, crate, functions, compiled)
         take_by_statement(f"{folder}/proofs")
         root = "src/main.rt" if os.path.exists(f"{folder}/src/main.rt") else "src/lib.rt"
-        words = [f"{self.kit}/bin/rattle", "check", *self.words(crate, root), "--allow-holes", "--progress"]
+        words = [f"{self.kit}/bin/rattle", "check", *self.words(crate, root), "--allow-holes", "--progress", *self.kept(crate)]
         for name in functions or [""]:
             words += ["--only", name]
         with subprocess.Popen(words, cwd=folder, stdin=subprocess.DEVNULL, stdout=subprocess.PIPE, stderr=subprocess.STDOUT, text=True, errors="replace") as ran:
@@ -80,6 +80,13 @@ class Checker:
                 output.append(f"{line[:-1]}, {now - last:.1f} s\n" if re.match(r"checked \S+, (?!1 of)", line) else line)
                 last = now
         return "".join(output), last
+
+    def kept(self, crate):
+        """The words by which the checker goes on from what it kept of the crate, where it is to."""
+        folder = f"{self.top}/crates/{crate}/out/wrong"
+        if self.is_keeping:
+            os.makedirs(folder, exist_ok=True)
+        return ["--incremental", folder] if self.is_keeping else []
 
     def text_of(self, crate):
         """A reader of the crate's files."""

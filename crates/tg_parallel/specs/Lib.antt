@@ -5,3 +5,4 @@ pub mod Merged
 pub mod Whole
 pub mod Faults
 pub mod Lending
+pub mod Shares

@@ -18,6 +18,7 @@ ghost use Rattle.tg_parallel.specs.Faults.{IsNotStarted};
 ghost use Rattle.tg_parallel.specs.Helping.{AllHelped, IsHelped, IsNew};
 ghost use Rattle.tg_parallel.specs.Merged.{AreMerged};
 ghost use Rattle.tg_parallel.specs.Parts.{AreCountsOf, IsOpenedFor};
+ghost use Rattle.tg_parallel.specs.Shares.{IsMostFilled, MayFill};
 ghost use Rattle.tg_parallel.specs.Whole.{IsWholePart, MayFinish};
 
 use crate::fault::HelpersFault;
@@ -234,7 +235,7 @@ fn start_all<'s, E, G: Gate>(
 {
     let mut children = Vec::with_capacity(alloc, others.len())?;
     let like = spare.blocks.len() / (others.len() + 1);
-    let blocks = like.min(most_filled(promise.table));
+    let blocks = like.min(most_filled(promise.spaces, promise.kind));
     let mut number: u32 = 0;
     for other in others {
         number = number.wrapping_add(1);
@@ -249,11 +250,16 @@ fn start_all<'s, E, G: Gate>(
 }
 
 // How many blocks a helper may fill: what may move, and the open block of each space.
-fn most_filled(table: &RaceTable) -> usize {
-    table.len() / CELLS as usize + 2
+#[tactic(auto, using(tg_evac::proofs::Behind::kept_within))]
+fn most_filled(spaces: &Spaces, kind: Kind) -> usize
+    ensures { IsMostFilled kind spaces.now.spaces result }
+{
+    let cells = spaces.cells();
+    let plan = Plan::of(kind, spaces);
+    ((cells - CELLS * plan.kept) / CELLS) as usize + 2
 }
 
-// Starts a thread of the scope for a helper.
+// Starts a thread of the scope for a helper. It is handed no more blocks than it may fill.
 fn start<'s, E, G: Gate>(
     alloc: Global,
     scope: &Scope<'s, E>,
@@ -265,6 +271,7 @@ fn start<'s, E, G: Gate>(
 ) -> Result<PromisedHandle<Helped, Helps<'s>>, HelpersFault>
     requires table { IsOpenedFor promise.kind promise.spaces.now.spaces promise.roots.now promise.table.now.counts }
     requires new { IsNew promise.table.now other }
+    requires share { MayFill promise.kind promise.spaces.now.spaces (length spare.blocks.items) }
     ensures promise { IfOk result (λ child. child.promise ≡ promise.entry) }
     ensures refused { IfErr result (λ fault. fault ≡ HelpersFault.NoThread) }
 {
@@ -291,7 +298,9 @@ fn start<'s, E, G: Gate>(
 }
 
 // Takes as many blocks from the end as there are, at most.
-fn take_last(blocks: &mut Vec<Block>, most: usize) -> Result<Vec<Block>, AllocError> {
+fn take_last(blocks: &mut Vec<Block>, most: usize) -> Result<Vec<Block>, AllocError>
+    ensures { IfOk result (λ taken. length taken.items ≤ most) }
+{
     blocks.split_off(blocks.len() - most.min(blocks.len()))
 }
 

@@ -18,7 +18,7 @@ use Rattle.tg_weave.specs.Boxes.{Boxed}
 use Rattle.tg_weave.specs.Shares.{runner_of, is_run_by, lines_of, told_of}
 use Rattle.tg_weave.specs.Telling.{entry_answer, told_answer, IsThere, text_of_told}
 use Rattle.tg_weave.proofs.ShareLaws.{run_same, run_past, runner_below}
-use Rattle.tg_threads.specs.Output.{Tells, AreTold, is_retire_of, served_behind}
+use Rattle.tg_threads.specs.Output.{Arena, Tells, AreTold, is_retire_of, served_behind}
 use Rattle.tg_threads.specs.Tasks.{RunsOne, Runs, served_past}
 use Rattle.tg_threads.proofs.TellLaws.{Within, made_by, nobodys_told, others_retire, told_same}
 
@@ -33,41 +33,41 @@ abbrev pub made_of : List Entry → List Told → List Entry
 made_of entries ts = flat_map (λ t. option_to_list (entry_at entries t)) ts
 
 -- with this journal, what the line came to is what may be told of it
-abbrev pub Fits : ℕ → (ℕ → Bool) → List Entry → Boxed → Told → Type 0
-Fits helpers served entries b t = Tells helpers served b.line b.value (entry_at entries t) (told_answer entries t) × IsThere entries t
+abbrev pub Fits : Arena → (ℕ → Bool) → List Entry → Boxed → Told → Type 0
+Fits arena served entries b t = Tells arena served b.line b.value (entry_at entries t) (told_answer entries t) × IsThere entries t
 
 -- the same of all lines, where the lines of these workers are run
-abbrev pub FitAll : ℕ → (ℕ → Bool) → List Entry → List Boxed → List Told → Type 0
-FitAll helpers served entries [] [] = Unit {0}
-FitAll helpers served entries [] (t ∷ ts) = ⊥
-FitAll helpers served entries (b ∷ bs) [] = ⊥
-FitAll helpers served entries (b ∷ bs) (t ∷ ts) = Fits helpers served entries b t × FitAll helpers (served_past served b.line t) entries bs ts
+abbrev pub FitAll : Arena → (ℕ → Bool) → List Entry → List Boxed → List Told → Type 0
+FitAll arena served entries [] [] = Unit {0}
+FitAll arena served entries [] (t ∷ ts) = ⊥
+FitAll arena served entries (b ∷ bs) [] = ⊥
+FitAll arena served entries (b ∷ bs) (t ∷ ts) = Fits arena served entries b t × FitAll arena (served_past served b.line t) entries bs ts
 
 -- ---- one worker's lines
 
 -- what the line came to, its entry, and the receipts behind its own
-one_fits : (helpers x : ℕ) (served : ℕ → Bool) (entries : List Entry) (b : Boxed) (t : Told) (more rs : List Receipt) → RunsOne helpers served b t more → All (Stands entries x) (more ++ rs) →
-    Fits helpers served entries b t × (option_to_list (entry_at entries t) ≡ map (λ r. r.entry) more) × All (Stands entries x) rs
-one_fits helpers x served entries b (came.Entered at) more rs h stands =
+one_fits : (arena : Arena) (x : ℕ) (served : ℕ → Bool) (entries : List Entry) (b : Boxed) (t : Told) (more rs : List Receipt) → RunsOne arena served b t more → All (Stands entries x) (more ++ rs) →
+    Fits arena served entries b t × (option_to_list (entry_at entries t) ≡ map (λ r. r.entry) more) × All (Stands entries x) rs
+one_fits arena x served entries b (came.Entered at) more rs h stands =
     let both : All (Stands entries x) (record { at = at; entry = h.0 } ∷ rs) = subst (λ m. All (Stands entries x) (m ++ rs)) h.1 stands in
     let here : slice_get entries at ≡ Some h.0 = (All-head (Stands entries x) (record { at = at; entry = h.0 }) rs both).0 in (
-      (subst (λ o. Tells helpers served b.line b.value o (entry_answer o)) (sym here) h.2, slice_get_within entries at h.0 here),
+      (subst (λ o. Tells arena served b.line b.value o (entry_answer o)) (sym here) h.2, slice_get_within entries at h.0 here),
       ap option_to_list here ∙ ap (map (λ (r : Receipt). r.entry)) (sym h.1),
       All-tail (Stands entries x) (record { at = at; entry = h.0 }) rs both,
     )
-one_fits helpers x served entries b (came.Collected kept) more rs h stands =
+one_fits arena x served entries b (came.Collected kept) more rs h stands =
     ((h.1, tt), ap (map (λ (r : Receipt). r.entry)) (sym h.0), subst (λ m. All (Stands entries x) (m ++ rs)) h.0 stands)
-one_fits helpers x served entries b (came.Refused r) more rs h stands =
+one_fits arena x served entries b (came.Refused r) more rs h stands =
     ((h.1, tt), ap (map (λ (r : Receipt). r.entry)) (sym h.0), subst (λ m. All (Stands entries x) (m ++ rs)) h.0 stands)
 
-pub all_fit : (helpers x : ℕ) (served : ℕ → Bool) (entries : List Entry) (bs : List Boxed) (ts : List Told) (rs : List Receipt) → Runs helpers served bs ts rs → All (Stands entries x) rs →
-    FitAll helpers served entries bs ts × (made_of entries ts ≡ map (λ r. r.entry) rs)
-all_fit helpers x served entries [] ts rs h stands =
-    (subst (FitAll helpers served entries []) (sym h.0) tt, ap (made_of entries) h.0 ∙ ap (map (λ (r : Receipt). r.entry)) (sym h.1))
-all_fit helpers x served entries (b ∷ bs) ts rs h stands =
-    let one = one_fits helpers x served entries b h.0 h.2 h.3 h.6 (subst (All (Stands entries x)) h.5 stands) in
-    let rest = all_fit helpers x (served_past served b.line h.0) entries bs h.1 h.3 h.7 one.2 in (
-      subst (FitAll helpers served entries (b ∷ bs)) (sym h.4) (one.0, rest.0),
+pub all_fit : (arena : Arena) (x : ℕ) (served : ℕ → Bool) (entries : List Entry) (bs : List Boxed) (ts : List Told) (rs : List Receipt) → Runs arena served bs ts rs → All (Stands entries x) rs →
+    FitAll arena served entries bs ts × (made_of entries ts ≡ map (λ r. r.entry) rs)
+all_fit arena x served entries [] ts rs h stands =
+    (subst (FitAll arena served entries []) (sym h.0) tt, ap (made_of entries) h.0 ∙ ap (map (λ (r : Receipt). r.entry)) (sym h.1))
+all_fit arena x served entries (b ∷ bs) ts rs h stands =
+    let one = one_fits arena x served entries b h.0 h.2 h.3 h.6 (subst (All (Stands entries x)) h.5 stands) in
+    let rest = all_fit arena x (served_past served b.line h.0) entries bs h.1 h.3 h.7 one.2 in (
+      subst (FitAll arena served entries (b ∷ bs)) (sym h.4) (one.0, rest.0),
       ap (made_of entries) h.4 ∙ (λ i. one.1 i ++ rest.1 i) ∙ sym (map-append (λ (r : Receipt). r.entry) h.2 h.3) ∙ ap (map (λ (r : Receipt). r.entry)) (sym h.5),
     )
 
@@ -117,50 +117,50 @@ seen_same workers x seen served l t low same = by_run (is_run_by workers x l) re
   by_run false is = same ∙ past_others x served l t (others_retire workers x l low is)
 
 -- the lines of all workers, one by one
-abbrev Own : ℕ → ℕ → Seen → List Entry → List Boxed → List Told → Type 0
-Own helpers workers seen entries bs ts = (x : ℕ) → x < workers → FitAll helpers (seen x) entries (lines_of workers x bs) (told_of workers x (map (λ b. b.line) bs) ts)
+abbrev Own : Arena → ℕ → Seen → List Entry → List Boxed → List Told → Type 0
+Own arena workers seen entries bs ts = (x : ℕ) → x < workers → FitAll arena (seen x) entries (lines_of workers x bs) (told_of workers x (map (λ b. b.line) bs) ts)
 
-tail_fits : (helpers : ℕ) (served : ℕ → Bool) (entries : List Entry) (c : Bool) (b : Boxed) (t : Told) (bs : List Boxed) (ps : List (Line × Told)) →
-    FitAll helpers served entries (cond c (b ∷ bs) bs) (map (λ (q : Line × Told). q.1) (cond c ((b.line, t) ∷ ps) ps)) → FitAll helpers (cond c (served_past served b.line t) served) entries bs (map (λ (q : Line × Told). q.1) ps)
-tail_fits helpers served entries true b t bs ps h = h.1
-tail_fits helpers served entries false b t bs ps h = h
+tail_fits : (arena : Arena) (served : ℕ → Bool) (entries : List Entry) (c : Bool) (b : Boxed) (t : Told) (bs : List Boxed) (ps : List (Line × Told)) →
+    FitAll arena served entries (cond c (b ∷ bs) bs) (map (λ (q : Line × Told). q.1) (cond c ((b.line, t) ∷ ps) ps)) → FitAll arena (cond c (served_past served b.line t) served) entries bs (map (λ (q : Line × Told). q.1) ps)
+tail_fits arena served entries true b t bs ps h = h.1
+tail_fits arena served entries false b t bs ps h = h
 
-head_fits : (helpers : ℕ) (served : ℕ → Bool) (entries : List Entry) (c : Bool) (b : Boxed) (t : Told) (bs : List Boxed) (ps : List (Line × Told)) → c ≡ true →
-    FitAll helpers served entries (cond c (b ∷ bs) bs) (map (λ (q : Line × Told). q.1) (cond c ((b.line, t) ∷ ps) ps)) → Fits helpers served entries b t
-head_fits helpers served entries true b t bs ps is h = h.0
-head_fits helpers served entries false b t bs ps is h = absurd (false≢true is)
+head_fits : (arena : Arena) (served : ℕ → Bool) (entries : List Entry) (c : Bool) (b : Boxed) (t : Told) (bs : List Boxed) (ps : List (Line × Told)) → c ≡ true →
+    FitAll arena served entries (cond c (b ∷ bs) bs) (map (λ (q : Line × Told). q.1) (cond c ((b.line, t) ∷ ps) ps)) → Fits arena served entries b t
+head_fits arena served entries true b t bs ps is h = h.0
+head_fits arena served entries false b t bs ps is h = absurd (false≢true is)
 
 -- what came of the lines of all workers and of nobody's fits each line
-pub woven : (helpers workers : ℕ) (served : ℕ → Bool) (seen : Seen) (entries : List Entry) (bs : List Boxed) (ts : List Told) → 0 < workers → Within workers served → ((x : ℕ) → x < workers → seen x x ≡ served x) →
-    All IsCommand (map (λ b. b.line) bs) → AllZip (λ l t. runner_of workers l ≡ None → t ≡ came.Refused refusal.Worker) (map (λ b. b.line) bs) ts → Own helpers workers seen entries bs ts → FitAll helpers served entries bs ts
-woven helpers workers served seen entries [] [] low within same commands nobodys own = tt
-woven helpers workers served seen entries [] (t ∷ ts) low within same commands nobodys own = absurd nobodys
-woven helpers workers served seen entries (b ∷ bs) [] low within same commands nobodys own = absurd nobodys
-woven helpers workers served seen entries (b ∷ bs) (t ∷ ts) low within same commands nobodys own = (
+pub woven : (arena : Arena) (workers : ℕ) (served : ℕ → Bool) (seen : Seen) (entries : List Entry) (bs : List Boxed) (ts : List Told) → 0 < workers → Within workers served → ((x : ℕ) → x < workers → seen x x ≡ served x) →
+    All IsCommand (map (λ b. b.line) bs) → AllZip (λ l t. runner_of workers l ≡ None → t ≡ came.Refused refusal.Worker) (map (λ b. b.line) bs) ts → Own arena workers seen entries bs ts → FitAll arena served entries bs ts
+woven arena workers served seen entries [] [] low within same commands nobodys own = tt
+woven arena workers served seen entries [] (t ∷ ts) low within same commands nobodys own = absurd nobodys
+woven arena workers served seen entries (b ∷ bs) [] low within same commands nobodys own = absurd nobodys
+woven arena workers served seen entries (b ∷ bs) (t ∷ ts) low within same commands nobodys own = (
   by_runner (runner_of workers b.line) refl,
-  woven helpers workers (served_past served b.line t) (seen_past workers seen b.line t) entries bs ts low (past_within workers served b.line t within)
+  woven arena workers (served_past served b.line t) (seen_past workers seen b.line t) entries bs ts low (past_within workers served b.line t within)
       (λ x below. seen_same workers x seen served b.line t below (same x below)) (All-tail IsCommand b.line (map (λ (c : Boxed). c.line) bs) commands) nobodys.1 rest,
 ) where
   told_by : ℕ → List (Line × Told)
   told_by x = filter (λ (q : Line × Told). is_run_by workers x q.0) (zip (map (λ (c : Boxed). c.line) bs) ts)
 
-  rest : Own helpers workers (seen_past workers seen b.line t) entries bs ts
-  rest x below = tail_fits helpers (seen x) entries (is_run_by workers x b.line) b t (lines_of workers x bs) (told_by x) (own x below)
+  rest : Own arena workers (seen_past workers seen b.line t) entries bs ts
+  rest x below = tail_fits arena (seen x) entries (is_run_by workers x b.line) b t (lines_of workers x bs) (told_by x) (own x below)
 
-  by_runner : (o : Option ℕ) → runner_of workers b.line ≡ o → Fits helpers served entries b t
+  by_runner : (o : Option ℕ) → runner_of workers b.line ≡ o → Fits arena served entries b t
   by_runner None by =
-      subst (Fits helpers served entries b) (sym (nobodys.0 by)) (nobodys_told helpers workers served b.line b.value within (All-head IsCommand b.line (map (λ (c : Boxed). c.line) bs) commands) by, tt)
+      subst (Fits arena served entries b) (sym (nobodys.0 by)) (nobodys_told arena workers served b.line b.value within (All-head IsCommand b.line (map (λ (c : Boxed). c.line) bs) commands) by, tt)
   by_runner (Some y) by =
       let below = runner_below workers y b.line low by in
-      let fits = head_fits helpers (seen y) entries (is_run_by workers y b.line) b t (lines_of workers y bs) (told_by y) (run_same workers y y b.line by refl) (own y below) in
-      (told_same helpers workers y (seen y) served b.line b.value (entry_at entries t) (told_answer entries t) by (same y below) fits.0, fits.1)
+      let fits = head_fits arena (seen y) entries (is_run_by workers y b.line) b t (lines_of workers y bs) (told_by y) (run_same workers y y b.line by refl) (own y below) in
+      (told_same arena workers y (seen y) served b.line b.value (entry_at entries t) (told_answer entries t) by (same y below) fits.0, fits.1)
 
 -- the lines and their entries are told, in order
-pub fit_told : (helpers : ℕ) (served : ℕ → Bool) (entries : List Entry) (bs : List Boxed) (ts : List Told) → FitAll helpers served entries bs ts → AreTold helpers served bs (made_of entries ts) (text_of_told entries ts)
-fit_told helpers served entries [] [] h = (refl, refl)
-fit_told helpers served entries [] (t ∷ ts) h = absurd h
-fit_told helpers served entries (b ∷ bs) [] h = absurd h
-fit_told helpers served entries (b ∷ bs) (t ∷ ts) h = (
+pub fit_told : (arena : Arena) (served : ℕ → Bool) (entries : List Entry) (bs : List Boxed) (ts : List Told) → FitAll arena served entries bs ts → AreTold arena served bs (made_of entries ts) (text_of_told entries ts)
+fit_told arena served entries [] [] h = (refl, refl)
+fit_told arena served entries [] (t ∷ ts) h = absurd h
+fit_told arena served entries (b ∷ bs) [] h = absurd h
+fit_told arena served entries (b ∷ bs) (t ∷ ts) h = (
   entry_at entries t,
   told_answer entries t,
   made_of entries ts,
@@ -168,15 +168,15 @@ fit_told helpers served entries (b ∷ bs) (t ∷ ts) h = (
   h.0.0,
   refl,
   refl,
-  subst (λ after. AreTold helpers after bs (made_of entries ts) (text_of_told entries ts)) (behind_past entries served b.line t h.0.1) (fit_told helpers (served_past served b.line t) entries bs ts h.1),
+  subst (λ after. AreTold arena after bs (made_of entries ts) (text_of_told entries ts)) (behind_past entries served b.line t h.0.1) (fit_told arena (served_past served b.line t) entries bs ts h.1),
 )
 
 -- each entry is where it is told to be
-pub fit_there : (helpers : ℕ) (served : ℕ → Bool) (entries : List Entry) (bs : List Boxed) (ts : List Told) → FitAll helpers served entries bs ts → All (IsThere entries) ts
-fit_there helpers served entries [] [] h = All-nil (IsThere entries)
-fit_there helpers served entries [] (t ∷ ts) h = absurd h
-fit_there helpers served entries (b ∷ bs) [] h = absurd h
-fit_there helpers served entries (b ∷ bs) (t ∷ ts) h = All-cons (IsThere entries) t ts h.0.1 (fit_there helpers (served_past served b.line t) entries bs ts h.1)
+pub fit_there : (arena : Arena) (served : ℕ → Bool) (entries : List Entry) (bs : List Boxed) (ts : List Told) → FitAll arena served entries bs ts → All (IsThere entries) ts
+fit_there arena served entries [] [] h = All-nil (IsThere entries)
+fit_there arena served entries [] (t ∷ ts) h = absurd h
+fit_there arena served entries (b ∷ bs) [] h = absurd h
+fit_there arena served entries (b ∷ bs) (t ∷ ts) h = All-cons (IsThere entries) t ts h.0.1 (fit_there arena (served_past served b.line t) entries bs ts h.1)
 
 -- ---- the entries of one worker
 
@@ -200,16 +200,16 @@ run_of : (workers x y : ℕ) (l : Line) → runner_of workers l ≡ Some y → i
 run_of workers x y l by = ap (λ o. option_map_or (λ z. z == x) o false) by
 
 -- the entries of a worker are those of the lines that its thread ran
-pub own_made : (helpers workers : ℕ) (served : ℕ → Bool) (entries : List Entry) (x : ℕ) (bs : List Boxed) (ts : List Told) → Within workers served → FitAll helpers served entries bs ts →
+pub own_made : (arena : Arena) (workers : ℕ) (served : ℕ → Bool) (entries : List Entry) (x : ℕ) (bs : List Boxed) (ts : List Told) → Within workers served → FitAll arena served entries bs ts →
     filter (λ e. e.worker == x) (made_of entries ts) ≡ made_of entries (told_of workers x (map (λ b. b.line) bs) ts)
-own_made helpers workers served entries x [] [] within h = refl
-own_made helpers workers served entries x [] (t ∷ ts) within h = absurd h
-own_made helpers workers served entries x (b ∷ bs) [] within h = absurd h
-own_made helpers workers served entries x (b ∷ bs) (t ∷ ts) within h =
+own_made arena workers served entries x [] [] within h = refl
+own_made arena workers served entries x [] (t ∷ ts) within h = absurd h
+own_made arena workers served entries x (b ∷ bs) [] within h = absurd h
+own_made arena workers served entries x (b ∷ bs) (t ∷ ts) within h =
     entry_step entries (made_of entries ts) x (entry_at entries t) (is_run_by workers x b.line) b.line t
     (filter (λ (q : Line × Told). is_run_by workers x q.0) (zip (map (λ (c : Boxed). c.line) bs) ts)) refl
-    (λ e is. run_of workers x e.worker b.line (made_by helpers workers served b.line b.value e (told_answer entries t) within (subst (λ o. Tells helpers served b.line b.value o (told_answer entries t)) is h.0.0)))
-    (own_made helpers workers (served_past served b.line t) entries x bs ts (past_within workers served b.line t within) h.1)
+    (λ e is. run_of workers x e.worker b.line (made_by arena workers served b.line b.value e (told_answer entries t) within (subst (λ o. Tells arena served b.line b.value o (told_answer entries t)) is h.0.0)))
+    (own_made arena workers (served_past served b.line t) entries x bs ts (past_within workers served b.line t within) h.1)
 
 -- no worker's thread ran a line of a worker that there isn't
 pub told_past : (workers x : ℕ) (lines : List Line) (ts : List Told) → 0 < workers → workers ≤ x → told_of workers x lines ts ≡ []

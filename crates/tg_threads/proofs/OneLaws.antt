@@ -21,7 +21,7 @@ use Rattle.tg_text.specs.declared.answer.Answer.TheVariants as told
 use Rattle.tg_text.specs.Texts.{answer_text}
 use Rattle.tg_script.specs.Script.{Scene, Answers, AnswersMaking, IsOutput, create_of, spawn_of, stock_left}
 use Rattle.tg_weave.specs.Boxes.{first_of, behind_first, box_of, stock_behind, boxed}
-use Rattle.tg_threads.specs.Output.{EntersOrRefuses, IsMade, IsServed, Tells, AreTold, HasEach, IsOfFirst, IsOfOne, served_behind}
+use Rattle.tg_threads.specs.Output.{Arena, EntersOrRefuses, IsMade, IsServed, Tells, AreTold, HasEach, IsOfFirst, IsOfOne, served_behind}
 use Rattle.tg_threads.proofs.TellLaws.{asked_of, made_of_box, none_is_some}
 
 -- ---- the history is that of the lines
@@ -64,27 +64,27 @@ first_none (e ∷ es) h x other =
     ap (λ b. cond b (e ∷ rest) rest) (ne_eqb e.worker x (λ same. other (sym same ∙ h.0))) ∙ first_none es h.1 x other
 
 -- what a making line told of its entry
-making_first : (x : ℕ) (making : Value → Deed) (b : Bool) (box : Option Value) (en : Entry) (a : Answer) → IsServed b (IsMade x making box (Some en) a) (Some en) a → en.worker ≡ x
-making_first x making b box en a h = let asked = asked_of b (IsMade x making box (Some en) a) en a h in (made_of_box x making box en a asked.1).2.0
+making_first : (arena : Arena) (x : ℕ) (making : Value → Deed) (b : Bool) (box : Option Value) (en : Entry) (a : Answer) → IsServed b (IsMade arena.shared x making box (Some en) a) (Some en) a → en.worker ≡ x
+making_first arena x making b box en a h = let asked = asked_of b (IsMade arena.shared x making box (Some en) a) en a h in (made_of_box arena x making box en a asked.1).2.0
 
-tells_first : (helpers : ℕ) (served : ℕ → Bool) (l : Line) (box : Option Value) (en : Entry) (a : Answer) → Tells helpers served l box (Some en) a → IsOfFirst l → en.worker ≡ 0
-tells_first helpers served (line.Edge edge) box en a h first = absurd first
-tells_first helpers served (line.Create x label) box en a h first = making_first x (create_of label) (served x) box en a h ∙ first
-tells_first helpers served (line.Spawn x label) box en a h first = making_first x (spawn_of label) (served x) box en a h ∙ first
-tells_first helpers served (line.Plain x command) box en a h first = (asked_of (served x) (EntersOrRefuses x (deed.Plain command) (Some en) a) en a h).1.0 ∙ first
-tells_first helpers served line.Full box en a h first = absurd first
-tells_first helpers served line.Minor box en a h first = absurd first
+tells_first : (arena : Arena) (served : ℕ → Bool) (l : Line) (box : Option Value) (en : Entry) (a : Answer) → Tells arena served l box (Some en) a → IsOfFirst l → en.worker ≡ 0
+tells_first arena served (line.Edge edge) box en a h first = absurd first
+tells_first arena served (line.Create x label) box en a h first = making_first arena x (create_of label) (served x) box en a h ∙ first
+tells_first arena served (line.Spawn x label) box en a h first = making_first arena x (spawn_of label) (served x) box en a h ∙ first
+tells_first arena served (line.Plain x command) box en a h first = (asked_of (served x) (EntersOrRefuses arena.shared x (deed.Plain command) (Some en) a) en a h).1.0 ∙ first
+tells_first arena served line.Full box en a h first = absurd first
+tells_first arena served line.Minor box en a h first = absurd first
 
-one_first : (helpers : ℕ) (served : ℕ → Bool) (l : Line) (box : Option Value) (e : Option Entry) (a : Answer) (more : List Entry) → Tells helpers served l box e a → IsOfFirst l → AreFirst more → AreFirst (option_to_list e ++ more)
-one_first helpers served l box None a more h first rest = rest
-one_first helpers served l box (Some en) a more h first rest = (tells_first helpers served l box en a h first, rest)
+one_first : (arena : Arena) (served : ℕ → Bool) (l : Line) (box : Option Value) (e : Option Entry) (a : Answer) (more : List Entry) → Tells arena served l box e a → IsOfFirst l → AreFirst more → AreFirst (option_to_list e ++ more)
+one_first arena served l box None a more h first rest = rest
+one_first arena served l box (Some en) a more h first rest = (tells_first arena served l box en a h first, rest)
 
-made_first : (lines : List Line) (stock : List Value) (helpers : ℕ) (served : ℕ → Bool) (made : List Entry) (text : List ℕ) → AreTold helpers served (boxed stock lines) made text → All IsOfFirst lines → AreFirst made
-made_first [] stock helpers served made text h all = subst AreFirst (sym h.0) tt
-made_first (l ∷ lines) stock helpers served made text h all =
+made_first : (lines : List Line) (stock : List Value) (arena : Arena) (served : ℕ → Bool) (made : List Entry) (text : List ℕ) → AreTold arena served (boxed stock lines) made text → All IsOfFirst lines → AreFirst made
+made_first [] stock arena served made text h all = subst AreFirst (sym h.0) tt
+made_first (l ∷ lines) stock arena served made text h all =
     subst AreFirst (sym h.5)
-    (one_first helpers served l (box_of stock l) h.0 h.1 h.2 h.4 (All-head IsOfFirst l lines all)
-    (made_first lines (stock_behind stock l) helpers (served_behind served l h.0) h.2 h.3 h.7 (All-tail IsOfFirst l lines all)))
+    (one_first arena served l (box_of stock l) h.0 h.1 h.2 h.4 (All-head IsOfFirst l lines all)
+    (made_first lines (stock_behind stock l) arena (served_behind served l h.0) h.2 h.3 h.7 (All-tail IsOfFirst l lines all)))
 
 -- ---- line by line
 
@@ -92,10 +92,10 @@ one_length : (e : Option Entry) (more : List Entry) (n : ℕ) → length more �
 one_length None more n h = omega (arith, h)
 one_length (Some en) more n h = omega (arith, h)
 
-made_length : (lines : List Line) (stock : List Value) (helpers : ℕ) (served : ℕ → Bool) (made : List Entry) (text : List ℕ) → AreTold helpers served (boxed stock lines) made text → length made ≤ length lines
-made_length [] stock helpers served made text h = omega (arith, ap (λ (l : List Entry). length l) h.0)
-made_length (l ∷ lines) stock helpers served made text h =
-    omega (arith, ap (λ (l : List Entry). length l) h.5, one_length h.0 h.2 (length lines) (made_length lines (stock_behind stock l) helpers (served_behind served l h.0) h.2 h.3 h.7))
+made_length : (lines : List Line) (stock : List Value) (arena : Arena) (served : ℕ → Bool) (made : List Entry) (text : List ℕ) → AreTold arena served (boxed stock lines) made text → length made ≤ length lines
+made_length [] stock arena served made text h = omega (arith, ap (λ (l : List Entry). length l) h.0)
+made_length (l ∷ lines) stock arena served made text h =
+    omega (arith, ap (λ (l : List Entry). length l) h.5, one_length h.0 h.2 (length lines) (made_length lines (stock_behind stock l) arena (served_behind served l h.0) h.2 h.3 h.7))
 
 -- the reply says neither that there may be no more vertices nor that no more subjects may be active
 abbrev HasRoom : Entry → Type 0
@@ -113,41 +113,41 @@ spawned_left true false made rest stock room more = absurd (more refl)
 spawned_left false c made rest stock room more = absurd (room refl)
 
 -- a line that makes a vertex, which took the first box
-making_one : (s : Scene) (x : ℕ) (making : Value → Deed) (stock : List Value) (b : Bool) (en : Entry) (a : Answer) → IsServed b (IsMade x making (first_of stock) (Some en) a) (Some en) a → IsLegalEntry s.graph en → HasRoom en →
+making_one : (arena : Arena) (s : Scene) (x : ℕ) (making : Value → Deed) (stock : List Value) (b : Bool) (en : Entry) (a : Answer) → IsServed b (IsMade arena.shared x making (first_of stock) (Some en) a) (Some en) a → IsLegalEntry s.graph en → HasRoom en →
     ((value : Value) (rest : List Value) → answer_of s.graph x (making value) ≢ reply.VerticesFull → answer_of s.graph x (making value) ≢ reply.WorkersFull → stock_left (answer_of s.graph x (making value)) rest s.stock ≡ rest) →
     AnswersMaking s x making stock a (record s { graph = step s.graph en.worker en.deed; stock = behind_first stock })
-making_one s x making [] b en a h legal room left = absurd (none_is_some en (sym (asked_of b (IsMade x making None (Some en) a) en a h).1.0))
-making_one s x making (value ∷ rest) b en a h legal room left =
-    let entered : EntersOrRefuses x (making value) (Some en) a = (asked_of b (EntersOrRefuses x (making value) (Some en) a) en a h).1 in
+making_one arena s x making [] b en a h legal room left = absurd (none_is_some en (sym (asked_of b (IsMade arena.shared x making None (Some en) a) en a h).1.0))
+making_one arena s x making (value ∷ rest) b en a h legal room left =
+    let entered : EntersOrRefuses arena.shared x (making value) (Some en) a = (asked_of b (EntersOrRefuses arena.shared x (making value) (Some en) a) en a h).1 in
     let is : en.reply ≡ answer_of s.graph x (making value) = legal.reply ∙ (λ i. answer_of s.graph (entered.0 i) (entered.1 i)) in
     let all : stock_left (answer_of s.graph x (making value)) rest s.stock ≡ rest = left value rest (λ full. room.0 (is ∙ full)) (λ full. room.1 (is ∙ full)) in
     inl (subst (IsSubject s.graph) entered.0 legal.subject, entered.2 ∙ ap told.Reply is, λ i. record s { graph = step s.graph (entered.0 i) (entered.1 i); stock = sym all i })
 
-answers_one : (l : Line) (s : Scene) (helpers : ℕ) (served : ℕ → Bool) (en : Entry) (a : Answer) → Tells helpers served l (box_of s.stock l) (Some en) a → IsLegalEntry s.graph en → HasRoom en → IsOfFirst l →
+answers_one : (l : Line) (s : Scene) (arena : Arena) (served : ℕ → Bool) (en : Entry) (a : Answer) → Tells arena served l (box_of s.stock l) (Some en) a → IsLegalEntry s.graph en → HasRoom en → IsOfFirst l →
     Answers s l a (record s { graph = step s.graph en.worker en.deed; stock = stock_behind s.stock l })
-answers_one (line.Edge edge) s helpers served en a h legal room first = absurd first
-answers_one (line.Create x label) s helpers served en a h legal room first =
-    making_one s x (create_of label) s.stock (served x) en a h legal room (λ value rest full crowded. created_left (nat_lt s.graph.made s.graph.limit) s.graph.made rest s.stock full)
-answers_one (line.Spawn x label) s helpers served en a h legal room first =
-    making_one s x (spawn_of label) s.stock (served x) en a h legal room
+answers_one (line.Edge edge) s arena served en a h legal room first = absurd first
+answers_one (line.Create x label) s arena served en a h legal room first =
+    making_one arena s x (create_of label) s.stock (served x) en a h legal room (λ value rest full crowded. created_left (nat_lt s.graph.made s.graph.limit) s.graph.made rest s.stock full)
+answers_one (line.Spawn x label) s arena served en a h legal room first =
+    making_one arena s x (spawn_of label) s.stock (served x) en a h legal room
     (λ value rest full crowded. spawned_left (nat_lt s.graph.made s.graph.limit) (nat_lt (length s.graph.subjects) MAX_WORKERS) s.graph.made rest s.stock full crowded)
-answers_one (line.Plain x command) s helpers served en a h legal room first =
-    let entered = (asked_of (served x) (EntersOrRefuses x (deed.Plain command) (Some en) a) en a h).1 in
+answers_one (line.Plain x command) s arena served en a h legal room first =
+    let entered = (asked_of (served x) (EntersOrRefuses arena.shared x (deed.Plain command) (Some en) a) en a h).1 in
     inl (
       subst (IsSubject s.graph) entered.0 legal.subject,
       entered.2 ∙ ap told.Reply (legal.reply ∙ (λ i. answer_of s.graph (entered.0 i) (entered.1 i))),
       λ i. record s { graph = step s.graph (entered.0 i) (entered.1 i); stock = s.stock },
     )
-answers_one line.Full s helpers served en a h legal room first = absurd first
-answers_one line.Minor s helpers served en a h legal room first = absurd first
+answers_one line.Full s arena served en a h legal room first = absurd first
+answers_one line.Minor s arena served en a h legal room first = absurd first
 
-runs_plain : (lines : List Line) (s : Scene) (helpers : ℕ) (served : ℕ → Bool) (made : List Entry) (text : List ℕ) → IsLegal s.graph made → AreTold helpers served (boxed s.stock lines) made text → All IsOfFirst lines → length made ≡ length lines → All HasRoom made → IsOutput s lines text
-runs_plain [] s helpers served made text legal h first entered room = h.1
-runs_plain (l ∷ lines) s helpers served made text legal h first entered room = by_entry (λ t. runs_plain lines t helpers) h.0 h.1 h.2 h.3 h.4 h.5 h.6 h.7 where
-  by_entry : ((t : Scene) (ws : ℕ → Bool) (es : List Entry) (rest : List ℕ) → IsLegal t.graph es → AreTold helpers ws (boxed t.stock lines) es rest → All IsOfFirst lines → length es ≡ length lines → All HasRoom es → IsOutput t lines rest) →
-      (e : Option Entry) (a : Answer) (more : List Entry) (rest : List ℕ) → Tells helpers served l (box_of s.stock l) e a → made ≡ option_to_list e ++ more → text ≡ answer_text a ++ rest → AreTold helpers (served_behind served l e) (boxed (stock_behind s.stock l) lines) more rest → IsOutput s (l ∷ lines) text
+runs_plain : (lines : List Line) (s : Scene) (arena : Arena) (served : ℕ → Bool) (made : List Entry) (text : List ℕ) → IsLegal s.graph made → AreTold arena served (boxed s.stock lines) made text → All IsOfFirst lines → length made ≡ length lines → All HasRoom made → IsOutput s lines text
+runs_plain [] s arena served made text legal h first entered room = h.1
+runs_plain (l ∷ lines) s arena served made text legal h first entered room = by_entry (λ t. runs_plain lines t arena) h.0 h.1 h.2 h.3 h.4 h.5 h.6 h.7 where
+  by_entry : ((t : Scene) (ws : ℕ → Bool) (es : List Entry) (rest : List ℕ) → IsLegal t.graph es → AreTold arena ws (boxed t.stock lines) es rest → All IsOfFirst lines → length es ≡ length lines → All HasRoom es → IsOutput t lines rest) →
+      (e : Option Entry) (a : Answer) (more : List Entry) (rest : List ℕ) → Tells arena served l (box_of s.stock l) e a → made ≡ option_to_list e ++ more → text ≡ answer_text a ++ rest → AreTold arena (served_behind served l e) (boxed (stock_behind s.stock l) lines) more rest → IsOutput s (l ∷ lines) text
   by_entry later None a more rest tells made_is text_is told_rest =
-      absurd (omega (arith, entered, ap (λ (l : List Entry). length l) made_is, made_length lines (stock_behind s.stock l) helpers (served_behind served l None) more rest told_rest))
+      absurd (omega (arith, entered, ap (λ (l : List Entry). length l) made_is, made_length lines (stock_behind s.stock l) arena (served_behind served l None) more rest told_rest))
   by_entry later (Some en) a more rest tells made_is text_is told_rest =
       let lawful : IsLegal s.graph (en ∷ more) = subst (IsLegal s.graph) made_is legal in
       let rooms : All HasRoom (en ∷ more) = subst (λ es. All HasRoom es) made_is room in
@@ -155,13 +155,13 @@ runs_plain (l ∷ lines) s helpers served made text legal h first entered room =
         a,
         t,
         rest,
-        answers_one l s helpers served en a tells lawful.0 (All-head HasRoom en more rooms) (All-head IsOfFirst l lines first),
+        answers_one l s arena served en a tells lawful.0 (All-head HasRoom en more rooms) (All-head IsOfFirst l lines first),
         text_is,
         later t (served_behind served l (Some en)) more rest lawful.1 told_rest (All-tail IsOfFirst l lines first) (omega (arith, entered, ap (λ (l : List Entry). length l) made_is)) (All-tail HasRoom en more rooms),
       )
 
-pub plain_run : (lines : List Line) (s : Scene) (helpers : ℕ) (served : ℕ → Bool) (entries made : List Entry) (text : List ℕ) → IsLegal s.graph entries → AreTold helpers served (boxed s.stock lines) made text → HasEach entries made → IsOfOne lines made → IsOutput s lines text
-plain_run lines s helpers served entries made text legal told each one =
-    let first = made_first lines s.stock helpers served made text told one.first in
+pub plain_run : (lines : List Line) (s : Scene) (arena : Arena) (served : ℕ → Bool) (entries made : List Entry) (text : List ℕ) → IsLegal s.graph entries → AreTold arena served (boxed s.stock lines) made text → HasEach entries made → IsOfOne lines made → IsOutput s lines text
+plain_run lines s arena served entries made text legal told each one =
+    let first = made_first lines s.stock arena served made text told one.first in
     let same : entries ≡ made = sym (only_first entries (λ x other. each x ∙ first_none made first x other)) ∙ each 0 ∙ first_keep made first in
-    runs_plain lines s helpers served made text (subst (IsLegal s.graph) same legal) told one.first one.entered one.room
+    runs_plain lines s arena served made text (subst (IsLegal s.graph) same legal) told one.first one.entered one.room

@@ -23,7 +23,7 @@ use Rattle.tg_script.specs.Script.{Start, commands_of, edges_of}
 use Rattle.tg_script.proofs.LinesLaws.{keeps_known}
 use Rattle.tg_shared.specs.declared.closing.CloseFault.{CloseFault}
 use Rattle.tg_shared.specs.declared.closing.CloseFault.TheVariants as closing
-use Rattle.tg_shared.specs.Sessions.{SessionState, AreFresh}
+use Rattle.tg_shared.specs.Sessions.{SessionState, SharedStart, AreFresh}
 use Rattle.tg_threads.specs.declared.fault.RaceFault.{RaceFault}
 use Rattle.tg_threads.specs.declared.fault.RaceFault.TheVariants as fault
 use Rattle.tg_weave.specs.declared.task.Told.{Told}
@@ -32,9 +32,9 @@ use Rattle.tg_weave.specs.declared.work.Finished.{Finished}
 use Rattle.tg_weave.specs.Boxes.{Boxed, boxed}
 use Rattle.tg_weave.specs.Shares.{IsInScriptOrder, all_lines, is_run_by, lines_in, lines_of}
 use Rattle.tg_weave.specs.Telling.{end_text, text_of_told}
-use Rattle.tg_threads.specs.Output.{IsRaceOutput}
+use Rattle.tg_threads.specs.Output.{Arena, IsNewStore, IsRaceOutput, arena_of, plan_of_script}
 use Rattle.tg_threads.specs.Tasks.{AllBring, AreRaced, all_assigned, assigned_of}
-use Rattle.tg_threads.specs.Race.{EndsRace, HasRaced, IsOfTelling, IsRaceDue, IsWhole, TellsRace, plan_of_script, race_fault_of_audit, race_read_failures, race_write_failures}
+use Rattle.tg_threads.specs.Race.{EndsRace, HasRaced, IsOfTelling, IsRaceDue, IsWhole, TellsRace, race_fault_of_audit, race_read_failures, race_write_failures}
 use Rattle.tg_threads.proofs.ShareLaws.{each_assigned}
 use Rattle.tg_threads.proofs.WeaveLaws.{bring_as_many, each_told}
 
@@ -69,22 +69,22 @@ commands_behind (e ∷ edges) lines h = commands_behind edges lines h
 
 -- ---- what the threads brought back
 
-pub all_brought : {P : Type 0} (helpers workers : ℕ) (bs : List Boxed) (works : List (Work SessionState P)) (sessions : List SessionState) (all : List (Finished SessionState)) → AreFresh (range_with_len 0 workers) sessions →
-    map (λ w. w.session) works ≡ sessions → map lines_in works ≡ all_lines (length sessions) bs → AllBring helpers workers (map assigned_of works) all → AllBring helpers workers (all_assigned workers bs) all
-all_brought helpers workers bs works sessions all fresh is lines h =
-    let P : List (ℕ × List Boxed) → Type 0 = λ g. AllBring helpers workers g all in
+pub all_brought : {P : Type 0} (arena : Arena) (workers : ℕ) (bs : List Boxed) (works : List (Work SessionState P)) (sessions : List SessionState) (all : List (Finished SessionState)) → AreFresh (range_with_len 0 workers) sessions →
+    map (λ w. w.session) works ≡ sessions → map lines_in works ≡ all_lines (length sessions) bs → AllBring arena workers (map assigned_of works) all → AllBring arena workers (all_assigned workers bs) all
+all_brought arena workers bs works sessions all fresh is lines h =
+    let P : List (ℕ × List Boxed) → Type 0 = λ g. AllBring arena workers g all in
     subst P (each_assigned workers bs works sessions fresh is (lines ∙ ap (λ (n : ℕ). all_lines n bs) (fresh_length workers sessions fresh))) h
 
 -- one from each worker
-pub brought_by_each : (helpers workers : ℕ) (bs : List Boxed) (all : List (Finished SessionState)) → AllBring helpers workers (all_assigned workers bs) all → length all ≡ workers
-brought_by_each helpers workers bs all h = bring_as_many helpers workers (all_assigned workers bs) all h ∙ length-map-range_with_len (λ x. (x, lines_of workers x bs)) 0 workers
+pub brought_by_each : (arena : Arena) (workers : ℕ) (bs : List Boxed) (all : List (Finished SessionState)) → AllBring arena workers (all_assigned workers bs) all → length all ≡ workers
+brought_by_each arena workers bs all h = bring_as_many arena workers (all_assigned workers bs) all h ∙ length-map-range_with_len (λ x. (x, lines_of workers x bs)) 0 workers
 
 -- as many as each worker has lines
-pub brought_whole : (helpers workers : ℕ) (stock : List Value) (lines : List Line) (all lent : List (Finished SessionState)) → lent ≡ all → AllBring helpers workers (all_assigned workers (boxed stock lines)) all →
+pub brought_whole : (arena : Arena) (workers : ℕ) (stock : List Value) (lines : List Line) (all lent : List (Finished SessionState)) → lent ≡ all → AllBring arena workers (all_assigned workers (boxed stock lines)) all →
     map (λ f. length f.told.items) lent ≡ map (λ x. length (filter (is_run_by (length lent) x) lines)) (range_with_len 0 (length lent))
-brought_whole helpers workers stock lines all lent same h =
+brought_whole arena workers stock lines all lent same h =
     let P : List (Finished SessionState) → ℕ → Type 0 = λ fs n. map (λ f. length f.told.items) fs ≡ map (λ x. length (filter (is_run_by n x) lines)) (range_with_len 0 n) in
-    subst (λ fs. P fs (length fs)) (sym same) (subst (P all) (sym (brought_by_each helpers workers (boxed stock lines) all h)) (each_told helpers workers stock lines all h))
+    subst (λ fs. P fs (length fs)) (sym same) (subst (P all) (sym (brought_by_each arena workers (boxed stock lines) all h)) (each_told arena workers stock lines all h))
 
 pub brought_in_order : (workers : ℕ) (lines : List Line) (all lent : List (Finished SessionState)) (ts : List Told) → lent ≡ all → length all ≡ workers → IsInScriptOrder (length lent) lines (map (λ f. f.told.items) lent) ts → IsInScriptOrder workers lines (map (λ f. f.told.items) all) ts
 brought_in_order workers lines all lent ts same many h =
@@ -99,9 +99,11 @@ unclosed closing.ReceiptMismatch missing mismatch = inr (mismatch refl)
 -- ---- the whole
 
 -- what the lines came to, with a legal history, is an output
-raced_output : (start : Start) (lines : List Line) (s : StoreState) (ts : List Told) → s.opening ≡ plan_of_script start lines → AreRaced start.helpers start.workers (boxed start.stock (commands_of lines)) s.entries ts → IsLegal (start_of s.opening) s.entries →
+raced_output : (start : Start) (shared : SharedStart) (lines : List Line) (s : StoreState) (ts : List Told) → IsNewStore (plan_of_script start lines) start.blocks shared → s.opening ≡ plan_of_script start lines → AreRaced (arena_of shared start.helpers) start.workers (boxed start.stock (commands_of lines)) s.entries ts → IsLegal (start_of s.opening) s.entries →
     IsRaceOutput start lines (text_of_told s.entries ts ++ end_text (length s.entries))
-raced_output start lines s ts opening raced legal = record {
+raced_output start shared lines s ts new opening raced legal = record {
+  shared = shared;
+  new = new;
   entries = s.entries;
   made = raced.made;
   replies = text_of_told s.entries ts;
@@ -111,22 +113,22 @@ raced_output start lines s ts opening raced legal = record {
   text_is = refl;
 }
 
-pub raced_same : (helpers n workers : ℕ) (stock : List Value) (lent lines : List Line) (entries : List Entry) (ts : List Told) → n ≡ workers → lent ≡ lines → AreRaced helpers n (boxed stock lent) entries ts → AreRaced helpers workers (boxed stock lines) entries ts
-raced_same helpers n workers stock lent lines entries ts same is h =
-    let P : ℕ → List Line → Type 0 = λ k ls. AreRaced helpers k (boxed stock ls) entries ts in
+pub raced_same : (arena : Arena) (n workers : ℕ) (stock : List Value) (lent lines : List Line) (entries : List Entry) (ts : List Told) → n ≡ workers → lent ≡ lines → AreRaced arena n (boxed stock lent) entries ts → AreRaced arena workers (boxed stock lines) entries ts
+raced_same arena n workers stock lent lines entries ts same is h =
+    let P : ℕ → List Line → Type 0 = λ k ls. AreRaced arena k (boxed stock ls) entries ts in
     subst (P workers) is (subst (λ k. P k lent) same h)
 
-pub race_told : {T : Type 0} (r : Result T RaceFault) (start : Start) (bytes before left : List ℕ) (lines : List Line) (s : StoreState) (ts : List Told) (after : Option (List ℕ)) → IsWhole start bytes lines left → s.opening ≡ plan_of_script start lines →
-    AreRaced start.helpers start.workers (boxed start.stock (commands_of lines)) s.entries ts → TellsRace s ts before r after → HasRaced start bytes before r left after
-race_told (Ok done) start bytes before left lines s ts after whole opening raced h =
-    (lines, text_of_told s.entries ts ++ end_text (length s.entries), whole, raced_output start lines s ts opening raced h.0, h.1)
-race_told (Err (fault.Script f)) start bytes before left lines s ts after whole opening raced h = absurd h
-race_told (Err fault.OutOfMemory) start bytes before left lines s ts after whole opening raced h = (lines, whole, h)
-race_told (Err fault.NoThread) start bytes before left lines s ts after whole opening raced h = (lines, whole, h)
-race_told (Err fault.ReceiptMismatch) start bytes before left lines s ts after whole opening raced h = (lines, whole, h)
-race_told (Err fault.AuditFailed) start bytes before left lines s ts after whole opening raced h = absurd h
-race_told (Err fault.WriteFailed) start bytes before left lines s ts after whole opening raced h =
-    (lines, h.1, h.2, whole, subst (λ text. IsRaceOutput start lines text) h.3 (raced_output start lines s ts opening raced h.0), h.4)
+pub race_told : {T : Type 0} (r : Result T RaceFault) (start : Start) (shared : SharedStart) (bytes before left : List ℕ) (lines : List Line) (s : StoreState) (ts : List Told) (after : Option (List ℕ)) → IsWhole start bytes lines left → IsNewStore (plan_of_script start lines) start.blocks shared → s.opening ≡ plan_of_script start lines →
+    AreRaced (arena_of shared start.helpers) start.workers (boxed start.stock (commands_of lines)) s.entries ts → TellsRace s ts before r after → HasRaced start bytes before r left after
+race_told (Ok done) start shared bytes before left lines s ts after whole new opening raced h =
+    (lines, text_of_told s.entries ts ++ end_text (length s.entries), whole, raced_output start shared lines s ts new opening raced h.0, h.1)
+race_told (Err (fault.Script f)) start shared bytes before left lines s ts after whole new opening raced h = absurd h
+race_told (Err fault.OutOfMemory) start shared bytes before left lines s ts after whole new opening raced h = (lines, whole, h)
+race_told (Err fault.NoThread) start shared bytes before left lines s ts after whole new opening raced h = (lines, whole, h)
+race_told (Err fault.ReceiptMismatch) start shared bytes before left lines s ts after whole new opening raced h = (lines, whole, h)
+race_told (Err fault.AuditFailed) start shared bytes before left lines s ts after whole new opening raced h = absurd h
+race_told (Err fault.WriteFailed) start shared bytes before left lines s ts after whole new opening raced h =
+    (lines, h.1, h.2, whole, subst (λ text. IsRaceOutput start lines text) h.3 (raced_output start shared lines s ts new opening raced h.0), h.4)
 
 -- the audit of a store's own journal, which is legal, is refused for want of memory alone
 pub unaudited : {T : Type 0} (s : StoreState) (ts : List Told) (given : Plan) (listed : List Entry) (f : AuditFault) (r : Result T RaceFault) (before : List ℕ) (after : Option (List ℕ)) → given ≡ s.opening → listed ≡ s.entries →

@@ -14,6 +14,7 @@ use Rattle.tg_model.specs.declared.command.Deed.TheVariants as deed
 use Rattle.tg_model.specs.declared.reply.Reply.{Reply}
 use Rattle.tg_model.specs.declared.reply.Reply.TheVariants as reply
 use Rattle.tg_journal.specs.declared.entry.Entry.{Entry}
+use Rattle.tg_space.specs.declared.kind.Kind.{Kind}
 use Rattle.tg_space.specs.declared.kind.Kind.TheVariants as kind
 use Rattle.tg_text.specs.declared.line.Line.{Line}
 use Rattle.tg_text.specs.declared.line.Line.TheVariants as line
@@ -35,7 +36,7 @@ use Rattle.tg_weave.specs.declared.task.Told.{Told}
 use Rattle.tg_weave.specs.declared.task.Told.TheVariants as came
 use Rattle.tg_weave.specs.Boxes.{Boxed}
 use Rattle.tg_weave.proofs.ShareLaws.{named}
-use Rattle.tg_threads.specs.Output.{EntersOrRefuses, IsMade, IsOfStore, IsServed, Tells, has_thread}
+use Rattle.tg_threads.specs.Output.{Arena, EntersOrRefuses, IsCollected, IsMade, IsOfStore, IsServed, Tells, has_thread}
 use Rattle.tg_threads.specs.Tasks.{IsRunBy, HasAsked, HasMade, HasCollected, HasRun, RunsOne, Runs, is_deed, served_past, subject_spawned, subjects_spawned}
 
 -- ---- why a session refuses
@@ -56,33 +57,29 @@ never_collected create.OutOfMemory kept is = cc
 never_collected create.HeapFull kept is = cc
 
 -- what is told of an answer, with its place
-told_of_answer : (start : SharedStart) (old new : SessionState) (d : Deed) (r : Reply) (t : Told) → IsAnswered start old new d r → ((front : List Receipt) (last : Receipt) → new.receipts ≡ front ++ last ∷ [] → t ≡ came.Entered last.at) → HasAsked d t old new
+told_of_answer : (start : SharedStart) (old new : SessionState) (d : Deed) (r : Reply) (t : Told) → IsAnswered start old new d r → ((front : List Receipt) (last : Receipt) → new.receipts ≡ front ++ last ∷ [] → t ≡ came.Entered last.at) → HasAsked start d t old new
 told_of_answer start old new d r t h entered =
     let e : Entry = record { worker = old.worker; deed = d; reply = r } in
-    subst (λ (a : Told). HasAsked d a old new) (sym (entered old.receipts (receipt_of (length h.0.entries) e) h.3.0.1)) (r, h.3.0)
+    subst (λ (a : Told). HasAsked start d a old new) (sym (entered old.receipts (receipt_of (length h.0.entries) e) h.3.0.1)) (r, h.3.0)
 
 -- What a deed comes to that made no vertex, of a worker that is a subject: what a script is told, and no receipt, or the entry.
-pub vertex_not_made : (start : SharedStart) (d : Deed) (why : CreateFault) (t : Told) (old new : SessionState) → IsOfStore d refusal.Heap → why ≢ create.NoSuchWorker →
+pub vertex_not_made : (start : SharedStart) (d : Deed) (why : CreateFault) (t : Told) (old new : SessionState) → (why ≡ create.HeapFull → IsOfStore start old.worker d refusal.Heap) → why ≢ create.NoSuchWorker →
     (why ≡ create.VerticesFull → IsAnswered start old new d reply.VerticesFull) → (why ≡ create.WorkersFull → IsAnswered start old new d reply.WorkersFull) → (why ≢ create.VerticesFull → why ≢ create.WorkersFull → KeepsReceipts old new) →
     ((r : Refusal) → create_answer why ≡ answer.Refused r → t ≡ came.Refused r) →
-    ((r : Reply) → create_answer why ≡ answer.Reply r → (front : List Receipt) (last : Receipt) → new.receipts ≡ front ++ last ∷ [] → t ≡ came.Entered last.at) → HasAsked d t old new
+    ((r : Reply) → create_answer why ≡ answer.Reply r → (front : List Receipt) (last : Receipt) → new.receipts ≡ front ++ last ∷ [] → t ≡ came.Entered last.at) → HasAsked start d t old new
 vertex_not_made start d create.NoSuchWorker t old new makes there full crowded kept refused entered = absurd (there refl)
 vertex_not_made start d create.VerticesFull t old new makes there full crowded kept refused entered = told_of_answer start old new d reply.VerticesFull t (full refl) (entered reply.VerticesFull refl)
 vertex_not_made start d create.WorkersFull t old new makes there full crowded kept refused entered = told_of_answer start old new d reply.WorkersFull t (crowded refl) (entered reply.WorkersFull refl)
 vertex_not_made start d create.OutOfMemory t old new makes there full crowded kept refused entered =
-    subst (λ (a : Told). HasAsked d a old new) (sym (refused refusal.Memory refl)) (memory d, kept (λ e. let no : ⊥ = cc in no) (λ e. let no : ⊥ = cc in no)) where
-      memory : (d : Deed) → IsOfStore d refusal.Memory
-      memory (deed.Create label law state) = tt
-      memory (deed.Spawn label law state) = tt
-      memory (deed.Plain command) = tt
+    subst (λ (a : Told). HasAsked start d a old new) (sym (refused refusal.Memory refl)) (tt, kept (λ e. let no : ⊥ = cc in no) (λ e. let no : ⊥ = cc in no))
 vertex_not_made start d create.HeapFull t old new makes there full crowded kept refused entered =
-    subst (λ (a : Told). HasAsked d a old new) (sym (refused refusal.Heap refl)) (makes, kept (λ e. let no : ⊥ = cc in no) (λ e. let no : ⊥ = cc in no))
+    subst (λ (a : Told). HasAsked start d a old new) (sym (refused refusal.Heap refl)) (makes refl, kept (λ e. let no : ⊥ = cc in no) (λ e. let no : ⊥ = cc in no))
 
 -- the same of what a session that made no vertex is told, where it is told anything
-pub not_made_asked : (start : SharedStart) (d : Deed) (why : CreateFault) (r : Result Told ThreadsFault) (old new : SessionState) → IsOfStore d refusal.Heap → ((r ≡ Err threads.NoSuchWorker) ↔ (why ≡ create.NoSuchWorker)) →
+pub not_made_asked : (start : SharedStart) (d : Deed) (why : CreateFault) (r : Result Told ThreadsFault) (old new : SessionState) → (why ≡ create.HeapFull → IsOfStore start old.worker d refusal.Heap) → ((r ≡ Err threads.NoSuchWorker) ↔ (why ≡ create.NoSuchWorker)) →
     (why ≡ create.VerticesFull → IsAnswered start old new d reply.VerticesFull) → (why ≡ create.WorkersFull → IsAnswered start old new d reply.WorkersFull) → (why ≢ create.VerticesFull → why ≢ create.WorkersFull → KeepsReceipts old new) →
     ((x : Refusal) → create_answer why ≡ answer.Refused x → IfOk r (λ t. t ≡ came.Refused x)) →
-    ((x : Reply) → create_answer why ≡ answer.Reply x → (front : List Receipt) (last : Receipt) → new.receipts ≡ front ++ last ∷ [] → IfOk r (λ t. t ≡ came.Entered last.at)) → IfOk r (λ t. HasAsked d t old new)
+    ((x : Reply) → create_answer why ≡ answer.Reply x → (front : List Receipt) (last : Receipt) → new.receipts ≡ front ++ last ∷ [] → IfOk r (λ t. t ≡ came.Entered last.at)) → IfOk r (λ t. HasAsked start d t old new)
 not_made_asked start d why (Err f) old new makes fault full crowded kept refused entered = tt
 not_made_asked start d why (Ok t) old new makes fault full crowded kept refused entered =
     vertex_not_made start d why t old new makes (λ is. let same : ◌≡◌ {A = Result Told ThreadsFault} (Ok t) (Err threads.NoSuchWorker) = fault.1 is in let no : ⊥ = cc in no) full crowded kept refused entered
@@ -116,14 +113,14 @@ crowded_none (deed.Create label law state) = refl
 crowded_none (deed.Spawn label law state) = refl
 crowded_none (deed.Plain command) = refl
 
-asked_none : (d : Deed) → ((r : Reply) → subject_spawned d r ≡ []) → (t : Told) (old new : SessionState) → HasAsked d t old new → subjects_spawned new.receipts ≡ subjects_spawned old.receipts
-asked_none d none (came.Entered at) old new h = no_subject old new at d h.0 (none h.0) h.1
-asked_none d none (came.Collected kept) old new h = absurd h
-asked_none d none (came.Refused r) old new h = ap subjects_spawned h.1.1
+asked_none : (start : SharedStart) (d : Deed) → ((r : Reply) → subject_spawned d r ≡ []) → (t : Told) (old new : SessionState) → HasAsked start d t old new → subjects_spawned new.receipts ≡ subjects_spawned old.receipts
+asked_none start d none (came.Entered at) old new h = no_subject old new at d h.0 (none h.0) h.1
+asked_none start d none (came.Collected kept) old new h = absurd h
+asked_none start d none (came.Refused r) old new h = ap subjects_spawned h.1.1
 
-made_none : (making : Value → Deed) → ((value : Value) (r : Reply) → subject_spawned (making value) r ≡ []) → (box : Option Value) (t : Told) (old new : SessionState) → HasMade making box t old new → subjects_spawned new.receipts ≡ subjects_spawned old.receipts
-made_none making none None t old new h = ap subjects_spawned h.1.1
-made_none making none (Some value) t old new h = asked_none (making value) (none value) t old new h
+made_none : (start : SharedStart) (making : Value → Deed) → ((value : Value) (r : Reply) → subject_spawned (making value) r ≡ []) → (box : Option Value) (t : Told) (old new : SessionState) → HasMade start making box t old new → subjects_spawned new.receipts ≡ subjects_spawned old.receipts
+made_none start making none None t old new h = ap subjects_spawned h.1.1
+made_none start making none (Some value) t old new h = asked_none start (making value) (none value) t old new h
 
 -- a spawn that made no subject leaves them
 pub not_spawned : (start : SharedStart) (d : Deed) (why : CreateFault) (old new : SessionState) → (why ≡ create.VerticesFull → IsAnswered start old new d reply.VerticesFull) → (why ≡ create.WorkersFull → IsAnswered start old new d reply.WorkersFull) →
@@ -142,11 +139,11 @@ ok_where (Err e) Q held = tt
 pub still_each : (old new : SessionState) (sessions : List SessionState) → subjects_spawned new.receipts ≡ subjects_spawned old.receipts → AreFresh (subjects_spawned old.receipts) sessions → AreFresh (subjects_spawned new.receipts) sessions
 still_each old new sessions same fresh = subst (λ (names : List ℕ). AreFresh names sessions) (sym same) fresh
 
-pub plain_each : (command : Command) (t : Told) (old new : SessionState) (sessions : List SessionState) → HasAsked (deed.Plain command) t old new → AreFresh (subjects_spawned old.receipts) sessions → AreFresh (subjects_spawned new.receipts) sessions
-plain_each command t old new sessions h = still_each old new sessions (asked_none (deed.Plain command) (plain_none command) t old new h)
+pub plain_each : (start : SharedStart) (command : Command) (t : Told) (old new : SessionState) (sessions : List SessionState) → HasAsked start (deed.Plain command) t old new → AreFresh (subjects_spawned old.receipts) sessions → AreFresh (subjects_spawned new.receipts) sessions
+plain_each start command t old new sessions h = still_each old new sessions (asked_none start (deed.Plain command) (plain_none command) t old new h)
 
-pub create_each : (label : RightSet) (box : Option Value) (t : Told) (old new : SessionState) (sessions : List SessionState) → HasMade (create_of label) box t old new → AreFresh (subjects_spawned old.receipts) sessions → AreFresh (subjects_spawned new.receipts) sessions
-create_each label box t old new sessions h = still_each old new sessions (made_none (create_of label) (create_none label) box t old new h)
+pub create_each : (start : SharedStart) (label : RightSet) (box : Option Value) (t : Told) (old new : SessionState) (sessions : List SessionState) → HasMade start (create_of label) box t old new → AreFresh (subjects_spawned old.receipts) sessions → AreFresh (subjects_spawned new.receipts) sessions
+create_each start label box t old new sessions h = still_each old new sessions (made_none start (create_of label) (create_none label) box t old new h)
 
 -- one more of a subject that was made
 pub one_spawned : (old new fresh : SessionState) (at : ℕ) (d : Deed) (r : Reply) (sessions : List SessionState) → subject_spawned d r ≡ fresh.worker ∷ [] → AddsReceipt old new at d r → IsFresh fresh → AreFresh (subjects_spawned old.receipts) sessions →
@@ -179,43 +176,43 @@ as_served true asked e a is h = h
 as_served false asked e a is h = absurd (false≢true is)
 
 -- the entry of a deed, and a refusal of the store, as a line of x is told of them
-asked_told : (workers x : ℕ) (served : ℕ → Bool) (d : Deed) (e : Option Entry) (a : Answer) (old : SessionState) → runner_named workers x ≡ Some old.worker → served old.worker ≡ true → EntersOrRefuses old.worker d e a → IsServed (served x) (EntersOrRefuses x d e a) e a
-asked_told workers x served d e a old by is h =
-    as_served (served x) (EntersOrRefuses x d e a) e a (served_by workers x served old by is) (subst (λ n. EntersOrRefuses n d e a) (sym (named x workers old.worker by).1) h)
+asked_told : (arena : Arena) (workers x : ℕ) (served : ℕ → Bool) (d : Deed) (e : Option Entry) (a : Answer) (old : SessionState) → runner_named workers x ≡ Some old.worker → served old.worker ≡ true → EntersOrRefuses arena.shared old.worker d e a → IsServed (served x) (EntersOrRefuses arena.shared x d e a) e a
+asked_told arena workers x served d e a old by is h =
+    as_served (served x) (EntersOrRefuses arena.shared x d e a) e a (served_by workers x served old by is) (subst (λ n. EntersOrRefuses arena.shared n d e a) (sym (named x workers old.worker by).1) h)
 
-pub asked_runs : (helpers workers x : ℕ) (served : ℕ → Bool) (command : Command) (box : Option Value) (t : Told) (old new : SessionState) → served old.worker ≡ true → IsRunBy workers old.worker (record { line = line.Plain x command; value = box }) →
-    HasAsked (deed.Plain command) t old new → HasRun helpers served (record { line = line.Plain x command; value = box }) t old new
-asked_runs helpers workers x served command box (came.Entered at) old new is by h =
+pub asked_runs : (arena : Arena) (workers x : ℕ) (served : ℕ → Bool) (command : Command) (box : Option Value) (t : Told) (old new : SessionState) → served old.worker ≡ true → IsRunBy workers old.worker (record { line = line.Plain x command; value = box }) →
+    HasAsked arena.shared (deed.Plain command) t old new → HasRun arena served (record { line = line.Plain x command; value = box }) t old new
+asked_runs arena workers x served command box (came.Entered at) old new is by h =
     let e : Entry = record { worker = old.worker; deed = deed.Plain command; reply = h.0 } in
-    (receipt_of at e ∷ [], h.1.0, h.1.1, h.1.2, (e, refl, asked_told workers x served (deed.Plain command) (Some e) (answer.Reply h.0) old by is (refl, refl, refl)))
-asked_runs helpers workers x served command box (came.Collected kept) old new is by h = absurd h
-asked_runs helpers workers x served command box (came.Refused r) old new is by h =
+    (receipt_of at e ∷ [], h.1.0, h.1.1, h.1.2, (e, refl, asked_told arena workers x served (deed.Plain command) (Some e) (answer.Reply h.0) old by is (refl, refl, refl)))
+asked_runs arena workers x served command box (came.Collected kept) old new is by h = absurd h
+asked_runs arena workers x served command box (came.Refused r) old new is by h =
     let k = none_more old new h.1 in
-    ([], k.0, k.1, k.2, (refl, asked_told workers x served (deed.Plain command) None (answer.Refused r) old by is (r, h.0, refl)))
+    ([], k.0, k.1, k.2, (refl, asked_told arena workers x served (deed.Plain command) None (answer.Refused r) old by is (r, h.0, refl)))
 
 -- the same of a deed that makes a vertex
-pub made_runs : (helpers workers x : ℕ) (served : ℕ → Bool) (b : Boxed) (making : Value → Deed) (t : Told) (old new : SessionState) → served old.worker ≡ true → runner_named workers x ≡ Some old.worker →
-    ((e : Option Entry) (a : Answer) → IsServed (served x) (IsMade x making b.value e a) e a → Tells helpers served b.line b.value e a) → HasMade making b.value t old new → HasRun helpers served b t old new
-made_runs helpers workers x served b making t old new is by tells h = by_box b.value refl h where
+pub made_runs : (arena : Arena) (workers x : ℕ) (served : ℕ → Bool) (b : Boxed) (making : Value → Deed) (t : Told) (old new : SessionState) → served old.worker ≡ true → runner_named workers x ≡ Some old.worker →
+    ((e : Option Entry) (a : Answer) → IsServed (served x) (IsMade arena.shared x making b.value e a) e a → Tells arena served b.line b.value e a) → HasMade arena.shared making b.value t old new → HasRun arena served b t old new
+made_runs arena workers x served b making t old new is by tells h = by_box b.value refl h where
   on : served x ≡ true
   on = served_by workers x served old by is
 
   same : x ≡ old.worker
   same = (named x workers old.worker by).1
 
-  by_box : (box : Option Value) → b.value ≡ box → HasMade making box t old new → HasRun helpers served b t old new
+  by_box : (box : Option Value) → b.value ≡ box → HasMade arena.shared making box t old new → HasRun arena served b t old new
   by_box None none h =
       let k = none_more old new h.1 in
-      let told : Tells helpers served b.line b.value None (answer.Refused refusal.Stock) = tells None (answer.Refused refusal.Stock)
-      (as_served (served x) (IsMade x making b.value None (answer.Refused refusal.Stock)) None (answer.Refused refusal.Stock) on (subst (λ box. IsMade x making box None (answer.Refused refusal.Stock)) (sym none) (refl, refl))) in
-      ([], k.0, k.1, k.2, subst (λ a. RunsOne helpers served b a []) (sym h.0) (refl, told))
+      let told : Tells arena served b.line b.value None (answer.Refused refusal.Stock) = tells None (answer.Refused refusal.Stock)
+      (as_served (served x) (IsMade arena.shared x making b.value None (answer.Refused refusal.Stock)) None (answer.Refused refusal.Stock) on (subst (λ box. IsMade arena.shared x making box None (answer.Refused refusal.Stock)) (sym none) (refl, refl))) in
+      ([], k.0, k.1, k.2, subst (λ a. RunsOne arena served b a []) (sym h.0) (refl, told))
   by_box (Some value) some h = by_told t h where
-    as_told : (e : Option Entry) (a : Answer) → EntersOrRefuses old.worker (making value) e a → Tells helpers served b.line b.value e a
+    as_told : (e : Option Entry) (a : Answer) → EntersOrRefuses arena.shared old.worker (making value) e a → Tells arena served b.line b.value e a
     as_told e a h =
-        tells e a (as_served (served x) (IsMade x making b.value e a) e a on
-        (subst (λ box. IsMade x making box e a) (sym some) (subst (λ n. EntersOrRefuses n (making value) e a) (sym same) h)))
+        tells e a (as_served (served x) (IsMade arena.shared x making b.value e a) e a on
+        (subst (λ box. IsMade arena.shared x making box e a) (sym some) (subst (λ n. EntersOrRefuses arena.shared n (making value) e a) (sym same) h)))
 
-    by_told : (t : Told) → HasAsked (making value) t old new → HasRun helpers served b t old new
+    by_told : (t : Told) → HasAsked arena.shared (making value) t old new → HasRun arena served b t old new
     by_told (came.Entered at) h =
         let e : Entry = record { worker = old.worker; deed = making value; reply = h.0 } in
         (receipt_of at e ∷ [], h.1.0, h.1.1, h.1.2, (e, refl, as_told (Some e) (answer.Reply h.0) (refl, refl, refl)))
@@ -229,10 +226,17 @@ pub served_of : (served : Bool) (l : Line) (refused : Bool) → refused ≡ (if 
 served_of true l refused is not_refused asks = refl
 served_of false l refused is not_refused asks = absurd (false≢true (sym not_refused ∙ is ∙ asks))
 
-pub full_runs : (helpers : ℕ) (served : ℕ → Bool) (box : Option Value) (t : Told) (s : SessionState) → HasCollected helpers kind.Full t → HasRun helpers served (record { line = line.Full; value = box }) t s s
-full_runs helpers served box (came.Entered at) s h = absurd h
-full_runs helpers served box (came.Collected kept) s h = ([], refl, sym (append-nil s.receipts), refl, (refl, (h.0, (refl, inl (ap answer.Collected h.1)))))
-full_runs helpers served box (came.Refused r) s h = ([], refl, sym (append-nil s.receipts), refl, (refl, (0, (refl, inr (r, h, refl)))))
+-- a collection
+collected_runs : (arena : Arena) (served : ℕ → Bool) (b : Boxed) (k : Kind) (t : Told) (s : SessionState) → ((e : Option Entry) (a : Answer) → IsCollected arena k e a → Tells arena served b.line b.value e a) → HasCollected arena k t → HasRun arena served b t s s
+collected_runs arena served b k (came.Entered at) s tells h = absurd h
+collected_runs arena served b k (came.Collected kept) s tells h = ([], refl, sym (append-nil s.receipts), refl, (refl, tells None (answer.Collected kept) (refl, inl (kept, h, refl))))
+collected_runs arena served b k (came.Refused r) s tells h = ([], refl, sym (append-nil s.receipts), refl, (refl, tells None (answer.Refused r) (refl, inr (r, h, refl))))
+
+pub full_runs : (arena : Arena) (served : ℕ → Bool) (box : Option Value) (t : Told) (s : SessionState) → HasCollected arena kind.Full t → HasRun arena served (record { line = line.Full; value = box }) t s s
+full_runs arena served box t s = collected_runs arena served (record { line = line.Full; value = box }) kind.Full t s (λ e a told. told)
+
+pub minor_runs : (arena : Arena) (served : ℕ → Bool) (box : Option Value) (t : Told) (s : SessionState) → HasCollected arena kind.Nursery t → HasRun arena served (record { line = line.Minor; value = box }) t s s
+minor_runs arena served box t s = collected_runs arena served (record { line = line.Minor; value = box }) kind.Nursery t s (λ e a told. told)
 
 -- ---- many lines
 
@@ -243,15 +247,15 @@ served_after served (b ∷ bs) [] = served
 served_after served (b ∷ bs) (t ∷ ts) = served_after (served_past served b.line t) bs ts
 
 -- one line more
-pub runs_more : (helpers : ℕ) (served : ℕ → Bool) (bs : List Boxed) (ts : List Told) (rs : List Receipt) (b : Boxed) (t : Told) (more : List Receipt) → Runs helpers served bs ts rs → RunsOne helpers (served_after served bs ts) b t more →
-    Runs helpers served (bs ++ b ∷ []) (ts ++ t ∷ []) (rs ++ more) × (served_after served (bs ++ b ∷ []) (ts ++ t ∷ []) ≡ served_past (served_after served bs ts) b.line t)
-runs_more helpers served [] ts rs b t more h one = (
+pub runs_more : (arena : Arena) (served : ℕ → Bool) (bs : List Boxed) (ts : List Told) (rs : List Receipt) (b : Boxed) (t : Told) (more : List Receipt) → Runs arena served bs ts rs → RunsOne arena (served_after served bs ts) b t more →
+    Runs arena served (bs ++ b ∷ []) (ts ++ t ∷ []) (rs ++ more) × (served_after served (bs ++ b ∷ []) (ts ++ t ∷ []) ≡ served_past (served_after served bs ts) b.line t)
+runs_more arena served [] ts rs b t more h one = (
   (t, [], more, [], ap (λ x. x ++ t ∷ []) h.0, ap (λ x. x ++ more) h.1 ∙ sym (append-nil more), one, (refl, refl)),
   ap (λ us. served_after served (b ∷ []) (us ++ t ∷ [])) h.0,
 )
-runs_more helpers served (b' ∷ bs) ts rs b t more h one =
-    let one' : RunsOne helpers (served_after (served_past served b'.line h.0) bs h.1) b t more = subst (λ us. RunsOne helpers (served_after served (b' ∷ bs) us) b t more) h.4 one in
-    let rest = runs_more helpers (served_past served b'.line h.0) bs h.1 h.3 b t more h.7 one' in (
+runs_more arena served (b' ∷ bs) ts rs b t more h one =
+    let one' : RunsOne arena (served_after (served_past served b'.line h.0) bs h.1) b t more = subst (λ us. RunsOne arena (served_after served (b' ∷ bs) us) b t more) h.4 one in
+    let rest = runs_more arena (served_past served b'.line h.0) bs h.1 h.3 b t more h.7 one' in (
       (h.0, h.1 ++ t ∷ [], h.2, h.3 ++ more, ap (λ x. x ++ t ∷ []) h.4, ap (λ x. x ++ more) h.5 ∙ append_assoc h.2 h.3 more, h.6, rest.0),
       ap (λ us. served_after served (b' ∷ (bs ++ b ∷ [])) (us ++ t ∷ [])) h.4 ∙ rest.1 ∙ ap (λ us. served_past (served_after served (b' ∷ bs) us) b.line t) (sym h.4),
     )
@@ -271,24 +275,24 @@ all_next {X = X} P xs x ys all is h = go xs (subst (All P) (sym is) h) where
   go (y ∷ xs) all = go xs (All-tail P y ((xs ++ x ∷ []) ++ ys) all)
 
 -- Lines of worker x were run, came to this, and its lines are run behind them or not.
-pub record HasRunSo (helpers workers x : ℕ) (served : Bool) (bs : List Boxed) (ts : List Told) (s : SessionState) : Type 0 where
+pub record HasRunSo (arena : Arena) (workers x : ℕ) (served : Bool) (bs : List Boxed) (ts : List Told) (s : SessionState) : Type 0 where
   pub worker : s.worker ≡ x
   pub handed : s.handed ≡ 0
-  pub runs : Runs helpers (has_thread workers) bs ts s.receipts
+  pub runs : Runs arena (has_thread workers) bs ts s.receipts
   pub behind : served_after (has_thread workers) bs ts x ≡ served
 
 -- a session ran one line more
-pub run_more : (helpers workers x : ℕ) (served next : Bool) (bs : List Boxed) (ts : List Told) (old new : SessionState) (b : Boxed) (t : Told) → HasRunSo helpers workers x served bs ts old → IsRunBy workers x b →
-    ((before : ℕ → Bool) → before old.worker ≡ served → IsRunBy workers old.worker b → HasRun helpers before b t old new) →
-    ((before : ℕ → Bool) → before new.worker ≡ served → next ≡ served_past before b.line t new.worker) → HasRunSo helpers workers x next (bs ++ b ∷ []) (ts ++ t ∷ []) new
-run_more helpers workers x served next bs ts old new b t held by step past =
+pub run_more : (arena : Arena) (workers x : ℕ) (served next : Bool) (bs : List Boxed) (ts : List Told) (old new : SessionState) (b : Boxed) (t : Told) → HasRunSo arena workers x served bs ts old → IsRunBy workers x b →
+    ((before : ℕ → Bool) → before old.worker ≡ served → IsRunBy workers old.worker b → HasRun arena before b t old new) →
+    ((before : ℕ → Bool) → before new.worker ≡ served → next ≡ served_past before b.line t new.worker) → HasRunSo arena workers x next (bs ++ b ∷ []) (ts ++ t ∷ []) new
+run_more arena workers x served next bs ts old new b t held by step past =
     let before : ℕ → Bool = served_after (has_thread workers) bs ts in
     let h = step before (ap before held.worker ∙ held.behind) (subst (λ n. IsRunBy workers n b) (sym held.worker) by) in
     let worker : new.worker ≡ x = h.1 ∙ held.worker in
-    let more = runs_more helpers (has_thread workers) bs ts old.receipts b t h.0 held.runs h.4 in
+    let more = runs_more arena (has_thread workers) bs ts old.receipts b t h.0 held.runs h.4 in
     record {
       worker = worker;
       handed = h.3 ∙ held.handed;
-      runs = subst (λ r. Runs helpers (has_thread workers) (bs ++ b ∷ []) (ts ++ t ∷ []) r) (sym h.2) more.0;
+      runs = subst (λ r. Runs arena (has_thread workers) (bs ++ b ∷ []) (ts ++ t ∷ []) r) (sym h.2) more.0;
       behind = (λ i. more.1 i x) ∙ ap (λ n. served_past before b.line t n) (sym worker) ∙ sym (past before (ap before worker ∙ held.behind));
     }

@@ -17,7 +17,7 @@ use Rattle.tg_script.specs.Opening.{IsCommand}
 use Rattle.tg_script.specs.Script.{create_of, spawn_of}
 use Rattle.tg_weave.specs.Shares.{runner_of, is_run_by}
 use Rattle.tg_weave.proofs.ShareLaws.{named}
-use Rattle.tg_threads.specs.Output.{EntersOrRefuses, IsMade, IsServed, Tells, has_thread, is_retire_of}
+use Rattle.tg_threads.specs.Output.{Arena, EntersOrRefuses, IsMade, IsServed, Tells, has_thread, is_retire_of}
 
 pub none_is_some : {X : Type 0} (x : X) → None ≡ Some x → ⊥
 none_is_some x h = cc
@@ -47,29 +47,29 @@ asked_of true asked e a h = (refl, h)
 asked_of false asked e a h = absurd (none_is_some e (sym h.0))
 
 -- and there was a box
-pub made_of_box : (x : ℕ) (making : Value → Deed) (box : Option Value) (e : Entry) (a : Answer) → IsMade x making box (Some e) a → (value : Value) × (box ≡ Some value) × EntersOrRefuses x (making value) (Some e) a
-made_of_box x making (Some value) e a h = (value, refl, h)
-made_of_box x making None e a h = absurd (none_is_some e (sym h.0))
+pub made_of_box : (arena : Arena) (x : ℕ) (making : Value → Deed) (box : Option Value) (e : Entry) (a : Answer) → IsMade arena.shared x making box (Some e) a → (value : Value) × (box ≡ Some value) × EntersOrRefuses arena.shared x (making value) (Some e) a
+made_of_box arena x making (Some value) e a h = (value, refl, h)
+made_of_box arena x making None e a h = absurd (none_is_some e (sym h.0))
 
 named_by : (workers x y : ℕ) → x < workers → y ≡ x → cond (nat_lt x workers) (Some x) None ≡ Some y
 named_by workers x y low same = ap (λ b. cond b (Some x) None) (lt-ltb x workers low) ∙ ap (λ z. Some z) (sym same)
 
 -- an entry that a line made is of the worker whose thread ran the line
-pub made_by : (helpers workers : ℕ) (served : ℕ → Bool) (l : Line) (box : Option Value) (e : Entry) (a : Answer) → Within workers served → Tells helpers served l box (Some e) a → runner_of workers l ≡ Some e.worker
-made_by helpers workers served (line.Edge edge) box e a within h = absurd h
-made_by helpers workers served (line.Create x label) box e a within h =
-    let asked = asked_of (served x) (IsMade x (create_of label) box (Some e) a) e a h in
-    let made = made_of_box x (create_of label) box e a asked.1 in
+pub made_by : (arena : Arena) (workers : ℕ) (served : ℕ → Bool) (l : Line) (box : Option Value) (e : Entry) (a : Answer) → Within workers served → Tells arena served l box (Some e) a → runner_of workers l ≡ Some e.worker
+made_by arena workers served (line.Edge edge) box e a within h = absurd h
+made_by arena workers served (line.Create x label) box e a within h =
+    let asked = asked_of (served x) (IsMade arena.shared x (create_of label) box (Some e) a) e a h in
+    let made = made_of_box arena x (create_of label) box e a asked.1 in
     named_by workers x e.worker (within x asked.0) made.2.0
-made_by helpers workers served (line.Spawn x label) box e a within h =
-    let asked = asked_of (served x) (IsMade x (spawn_of label) box (Some e) a) e a h in
-    let made = made_of_box x (spawn_of label) box e a asked.1 in
+made_by arena workers served (line.Spawn x label) box e a within h =
+    let asked = asked_of (served x) (IsMade arena.shared x (spawn_of label) box (Some e) a) e a h in
+    let made = made_of_box arena x (spawn_of label) box e a asked.1 in
     named_by workers x e.worker (within x asked.0) made.2.0
-made_by helpers workers served (line.Plain x command) box e a within h =
-    let asked = asked_of (served x) (EntersOrRefuses x (deed.Plain command) (Some e) a) e a h in
+made_by arena workers served (line.Plain x command) box e a within h =
+    let asked = asked_of (served x) (EntersOrRefuses arena.shared x (deed.Plain command) (Some e) a) e a h in
     named_by workers x e.worker (within x asked.0) asked.1.0
-made_by helpers workers served line.Full box e a within h = absurd (none_is_some e (sym h.1.0))
-made_by helpers workers served line.Minor box e a within h = absurd (none_is_some e (sym h.0))
+made_by arena workers served line.Full box e a within h = absurd (none_is_some e (sym h.0))
+made_by arena workers served line.Minor box e a within h = absurd (none_is_some e (sym h.0))
 
 -- ---- what is told where a worker's lines aren't run
 
@@ -78,8 +78,8 @@ refused_of true asked is = absurd (false≢true (sym is))
 refused_of false asked is = (refl, refl)
 
 -- a line that no thread runs is refused
-pub nobodys_told : (helpers workers : ℕ) (served : ℕ → Bool) (l : Line) (box : Option Value) → Within workers served → IsCommand l → runner_of workers l ≡ None → Tells helpers served l box None (answer.Refused refusal.Worker)
-nobodys_told helpers workers served l box within command by = refused l command by where
+pub nobodys_told : (arena : Arena) (workers : ℕ) (served : ℕ → Bool) (l : Line) (box : Option Value) → Within workers served → IsCommand l → runner_of workers l ≡ None → Tells arena served l box None (answer.Refused refusal.Worker)
+nobodys_told arena workers served l box within command by = refused l command by where
   past : (b : Bool) (x : ℕ) → nat_lt x workers ≡ b → cond b (Some x) None ≡ None → x < workers → ⊥
   past true x is none low = none_is_some x (sym none)
   past false x is none low = let le = ltb-false x workers is in let no : ⊥ = omega (arith, le, low) in no
@@ -87,25 +87,25 @@ nobodys_told helpers workers served l box within command by = refused l command 
   unserved : (x : ℕ) → cond (nat_lt x workers) (Some x) None ≡ None → served x ≡ false
   unserved x none = unserved_past served workers x within (past (nat_lt x workers) x refl none)
 
-  refused : (l : Line) → IsCommand l → runner_of workers l ≡ None → Tells helpers served l box None (answer.Refused refusal.Worker)
+  refused : (l : Line) → IsCommand l → runner_of workers l ≡ None → Tells arena served l box None (answer.Refused refusal.Worker)
   refused (line.Edge edge) command by = absurd (false≢true command.0)
-  refused (line.Create x label) command by = refused_of (served x) (IsMade x (create_of label) box None (answer.Refused refusal.Worker)) (unserved x by)
-  refused (line.Spawn x label) command by = refused_of (served x) (IsMade x (spawn_of label) box None (answer.Refused refusal.Worker)) (unserved x by)
-  refused (line.Plain x c) command by = refused_of (served x) (EntersOrRefuses x (deed.Plain c) None (answer.Refused refusal.Worker)) (unserved x by)
+  refused (line.Create x label) command by = refused_of (served x) (IsMade arena.shared x (create_of label) box None (answer.Refused refusal.Worker)) (unserved x by)
+  refused (line.Spawn x label) command by = refused_of (served x) (IsMade arena.shared x (spawn_of label) box None (answer.Refused refusal.Worker)) (unserved x by)
+  refused (line.Plain x c) command by = refused_of (served x) (EntersOrRefuses arena.shared x (deed.Plain c) None (answer.Refused refusal.Worker)) (unserved x by)
   refused line.Full command by = absurd (none_is_some 0 (sym by))
   refused line.Minor command by = absurd (none_is_some 0 (sym by))
 
 -- what is told of a line of y rests on whether the lines of y are run
-pub told_same : (helpers workers y : ℕ) (served other : ℕ → Bool) (l : Line) (box : Option Value) (e : Option Entry) (a : Answer) → runner_of workers l ≡ Some y → served y ≡ other y → Tells helpers served l box e a → Tells helpers other l box e a
-told_same helpers workers y served other l box e a by same h = told l by h where
+pub told_same : (arena : Arena) (workers y : ℕ) (served other : ℕ → Bool) (l : Line) (box : Option Value) (e : Option Entry) (a : Answer) → runner_of workers l ≡ Some y → served y ≡ other y → Tells arena served l box e a → Tells arena other l box e a
+told_same arena workers y served other l box e a by same h = told l by h where
   as_own : (x : ℕ) → cond (nat_lt x workers) (Some x) None ≡ Some y → served x ≡ other x
   as_own x by = let n = named x workers y by in subst (λ z. served z ≡ other z) (sym n.1) same
 
-  told : (l : Line) → runner_of workers l ≡ Some y → Tells helpers served l box e a → Tells helpers other l box e a
+  told : (l : Line) → runner_of workers l ≡ Some y → Tells arena served l box e a → Tells arena other l box e a
   told (line.Edge edge) by h = absurd h
-  told (line.Create x label) by h = subst (λ b. IsServed b (IsMade x (create_of label) box e a) e a) (as_own x by) h
-  told (line.Spawn x label) by h = subst (λ b. IsServed b (IsMade x (spawn_of label) box e a) e a) (as_own x by) h
-  told (line.Plain x c) by h = subst (λ b. IsServed b (EntersOrRefuses x (deed.Plain c) e a) e a) (as_own x by) h
+  told (line.Create x label) by h = subst (λ b. IsServed b (IsMade arena.shared x (create_of label) box e a) e a) (as_own x by) h
+  told (line.Spawn x label) by h = subst (λ b. IsServed b (IsMade arena.shared x (spawn_of label) box e a) e a) (as_own x by) h
+  told (line.Plain x c) by h = subst (λ b. IsServed b (EntersOrRefuses arena.shared x (deed.Plain c) e a) e a) (as_own x by) h
   told line.Full by h = h
   told line.Minor by h = h
 

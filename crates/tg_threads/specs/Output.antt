@@ -1,5 +1,5 @@
--- What is written for a script whose workers run their lines side by side. Nothing here knows of threads, of locks, or of how
--- replies are kept and put out.
+-- What is written for a script whose workers run their lines side by side. Nothing here knows of threads, or of how replies are
+-- kept and put out; of the lock only that some store may have been behind it.
 use Rattle.std.specs.Prelude.{◌≡◌, ◌≢◌, ◌⊎◌, ℕ, ◌==◌, Bool, true, false, if◌then◌else◌, nat_lt, List, [], ◌∷◌, ◌++◌, length, Option, Some, None}
 use Rattle.std.specs.List.{All, filter}
 use Rattle.std.specs.Option.{option_to_list}
@@ -8,7 +8,17 @@ use Rattle.tg_model.specs.declared.command.Command.TheVariants.{Retire}
 use Rattle.tg_model.specs.declared.command.Deed.{Deed}
 use Rattle.tg_model.specs.declared.command.Deed.TheVariants as deed
 use Rattle.tg_model.specs.declared.reply.Reply.TheVariants as reply
-use Rattle.tg_rules.specs.Effect.{AddsEdge}
+use Rattle.tg_model.specs.Opened.{Plan}
+use Rattle.tg_model.specs.Rules.{IsAllowed}
+use Rattle.tg_word.specs.Word.{nursery_space}
+use Rattle.tg_space.specs.declared.kind.Kind.{Kind}
+use Rattle.tg_space.specs.declared.kind.Kind.TheVariants as kind
+use Rattle.tg_graph.specs.Heap.{nursery_of}
+use Rattle.tg_graph.specs.Spots.{LacksCellsFor}
+use Rattle.tg_rules.specs.Effect.{AddsEdge, LacksCellsToServe}
+use Rattle.tg_store.specs.Room.{LacksRoomToCollect}
+use Rattle.tg_store.specs.Store.{StoreState, graph_of_store}
+use Rattle.tg_shared.specs.Sessions.{AtSome, LeavesAtSome, SharedStart}
 use Rattle.tg_journal.specs.declared.entry.Entry.{Entry}
 use Rattle.tg_journal.specs.History.{IsLegal}
 use Rattle.tg_text.specs.declared.line.Line.{Line}
@@ -18,9 +28,29 @@ use Rattle.tg_text.specs.declared.answer.Answer.TheVariants as told
 use Rattle.tg_text.specs.declared.answer.Refusal.{Refusal}
 use Rattle.tg_text.specs.declared.answer.Refusal.TheVariants as refusal
 use Rattle.tg_text.specs.Texts.{answer_text}
-use Rattle.tg_script.specs.Script.{MayWant, Start, commands_of, create_of, scene_of, spawn_of}
+use Rattle.tg_script.specs.Script.{MayWant, Start, commands_of, create_of, edges_of, scene_of, spawn_of}
 use Rattle.tg_weave.specs.Boxes.{Boxed, boxed}
 use Rattle.tg_weave.specs.Telling.{end_text}
+
+-- ---- what the lines are run in
+
+-- a store that was shared, of which each collection is made by so many helpers
+pub record Arena : Type 0 where
+  pub shared : SharedStart
+  pub helpers : ℕ
+
+abbrev pub arena_of : SharedStart → ℕ → Arena
+arena_of shared helpers = record { shared = shared; helpers = helpers }
+
+-- the store had this opening, so many blocks at most, and no entry when it was shared
+pub record IsNewStore (opening : Plan) (blocks : ℕ) (shared : SharedStart) : Type 0 where
+  pub opened : shared.opening ≡ opening
+  pub limits : shared.limits.max_blocks ≡ blocks
+  pub none : shared.entries ≡ []
+
+-- the opening that a script asks for
+abbrev pub plan_of_script : Start → List Line → Plan
+plan_of_script start lines = record { workers = start.workers; edges = edges_of lines; values = start.values; limit = start.limit }
 
 -- ---- whose lines are run
 
@@ -44,55 +74,70 @@ served_behind served l (Some e) = λ x. if is_retire_of x l then false else serv
 abbrev pub IsRefused : Refusal → Option Entry → Answer → Type 0
 IsRefused r e a = (e ≡ None) × (a ≡ told.Refused r)
 
--- A refusal of the store, to this deed of a worker that is a subject: memory was wanting or, only for a vertex or an edge, room in
--- the heap.
-abbrev pub IsOfStore : Deed → Refusal → Type 0
-IsOfStore d refusal.Memory = Unit {0}
-IsOfStore (deed.Create label law state) refusal.Heap = Unit {0}
-IsOfStore (deed.Spawn label law state) refusal.Heap = Unit {0}
-IsOfStore (deed.Plain command) refusal.Heap = AddsEdge command
-IsOfStore d refusal.Worker = ⊥
-IsOfStore d refusal.Vertices = ⊥
-IsOfStore d refusal.Workers = ⊥
-IsOfStore d refusal.Threads = ⊥
-IsOfStore d refusal.Stock = ⊥
+-- the nursery of x has not and gets not the cells that the deed asks for: of those that add an edge or make a vertex alone
+abbrev pub LacksCellsOf : StoreState → ℕ → Deed → Type 0
+LacksCellsOf s x (deed.Create label law state) = LacksCellsFor s.heap.table (nursery_space (nursery_of s.heap x)) 1 x (graph_of_store s).made
+LacksCellsOf s x (deed.Spawn label law state) = LacksCellsFor s.heap.table (nursery_space (nursery_of s.heap x)) 1 x (graph_of_store s).made
+LacksCellsOf s x (deed.Plain command) = AddsEdge command × LacksCellsToServe s.heap.table (nursery_of s.heap x) x command
+
+-- A refusal of the store, to this deed of a worker that is a subject: memory was wanting; or room in the heap, and then of a store
+-- that may have been there the deed was allowed, and lacked cells.
+abbrev pub IsOfStore : SharedStart → ℕ → Deed → Refusal → Type 0
+IsOfStore shared x d refusal.Memory = Unit {0}
+IsOfStore shared x d refusal.Heap = AtSome shared (λ s. IsAllowed (graph_of_store s) x d × LacksCellsOf s x d)
+IsOfStore shared x d refusal.Worker = ⊥
+IsOfStore shared x d refusal.Vertices = ⊥
+IsOfStore shared x d refusal.Workers = ⊥
+IsOfStore shared x d refusal.Threads = ⊥
+IsOfStore shared x d refusal.Stock = ⊥
 
 -- x asked for the deed: its entry has both, and the answer is the entry's reply; or else the store refused
-abbrev pub EntersOrRefuses : ℕ → Deed → Option Entry → Answer → Type 0
-EntersOrRefuses x d (Some e) a = (e.worker ≡ x) × (e.deed ≡ d) × (a ≡ told.Reply e.reply)
-EntersOrRefuses x d None a = (r : Refusal) × IsOfStore d r × (a ≡ told.Refused r)
+abbrev pub EntersOrRefuses : SharedStart → ℕ → Deed → Option Entry → Answer → Type 0
+EntersOrRefuses shared x d (Some e) a = (e.worker ≡ x) × (e.deed ≡ d) × (a ≡ told.Reply e.reply)
+EntersOrRefuses shared x d None a = (r : Refusal) × IsOfStore shared x d r × (a ≡ told.Refused r)
 
 -- x asked for a vertex, an object or a subject, with this box or with none
-abbrev pub IsMade : ℕ → (Value → Deed) → Option Value → Option Entry → Answer → Type 0
-IsMade x making (Some value) e a = EntersOrRefuses x (making value) e a
-IsMade x making None e a = IsRefused refusal.Stock e a
+abbrev pub IsMade : SharedStart → ℕ → (Value → Deed) → Option Value → Option Entry → Answer → Type 0
+IsMade shared x making (Some value) e a = EntersOrRefuses shared x (making value) e a
+IsMade shared x making None e a = IsRefused refusal.Stock e a
 
 -- this is told where the worker's lines are run, and else that there is no such worker
 abbrev pub IsServed : Bool → Type 0 → Option Entry → Answer → Type 0
 IsServed true asked e a = asked
 IsServed false asked e a = IsRefused refusal.Worker e a
 
--- a collection, by so many helpers, has no entry
-abbrev pub IsCollected : ℕ → Answer → Option Entry → Answer → Type 0
-IsCollected helpers collected e a = (e ≡ None) × ((a ≡ collected) ⊎ ((r : Refusal) × MayWant helpers r × (a ≡ told.Refused r)))
+-- what a collection tells of the vertices that it left: of a full one the number, which it left of a store that may have been there
+abbrev pub IsCountTold : SharedStart → Kind → Option ℕ → Type 0
+IsCountTold shared kind.Full kept = (n : ℕ) × LeavesAtSome shared kind.Full n × (kept ≡ Some n)
+IsCountTold shared kind.Nursery kept = kept ≡ None
 
--- What is told of a line, where a collection has so many helpers, and where the lines of these workers are run.
-abbrev pub Tells : ℕ → (ℕ → Bool) → Line → Option Value → Option Entry → Answer → Type 0
-Tells helpers served (line.Edge edge) box e a = ⊥
-Tells helpers served (line.Create x label) box e a = IsServed (served x) (IsMade x (create_of label) box e a) e a
-Tells helpers served (line.Spawn x label) box e a = IsServed (served x) (IsMade x (spawn_of label) box e a) e a
-Tells helpers served (line.Plain x command) box e a = IsServed (served x) (EntersOrRefuses x (deed.Plain command) e a) e a
-Tells helpers served line.Full box e a = (n : ℕ) × IsCollected helpers (told.Collected (Some n)) e a
-Tells helpers served line.Minor box e a = IsCollected helpers (told.Collected None) e a
+-- A collection was refused: room in the heap was wanting of a store that may have been there, or else memory or threads were.
+pub record IsUncollected (arena : Arena) (k : Kind) (r : Refusal) : Type 0 where
+  pub want : MayWant arena.helpers r
+  pub full : r ≡ refusal.Heap → AtSome arena.shared (λ s. LacksRoomToCollect k arena.helpers s.heap)
+
+-- a collection has no entry
+abbrev pub IsCollected : Arena → Kind → Option Entry → Answer → Type 0
+IsCollected arena k e a =
+    (e ≡ None) × (((kept : Option ℕ) × IsCountTold arena.shared k kept × (a ≡ told.Collected kept)) ⊎ ((r : Refusal) × IsUncollected arena k r × (a ≡ told.Refused r)))
+
+-- What is told of a line, where the lines of these workers are run.
+abbrev pub Tells : Arena → (ℕ → Bool) → Line → Option Value → Option Entry → Answer → Type 0
+Tells arena served (line.Edge edge) box e a = ⊥
+Tells arena served (line.Create x label) box e a = IsServed (served x) (IsMade arena.shared x (create_of label) box e a) e a
+Tells arena served (line.Spawn x label) box e a = IsServed (served x) (IsMade arena.shared x (spawn_of label) box e a) e a
+Tells arena served (line.Plain x command) box e a = IsServed (served x) (EntersOrRefuses arena.shared x (deed.Plain command) e a) e a
+Tells arena served line.Full box e a = IsCollected arena kind.Full e a
+Tells arena served line.Minor box e a = IsCollected arena kind.Nursery e a
 
 -- ---- what is written for all of them
 
 -- these are the entries that the lines made, in script order, and this is the text, where the lines of these workers are run
-abbrev pub AreTold : ℕ → (ℕ → Bool) → List Boxed → List Entry → List ℕ → Type 0
-AreTold helpers served [] made text = (made ≡ []) × (text ≡ [])
-AreTold helpers served (b ∷ bs) made text =
-    (e : Option Entry) × (a : Answer) × (more : List Entry) × (rest : List ℕ) × Tells helpers served b.line b.value e a
-    × (made ≡ option_to_list e ++ more) × (text ≡ answer_text a ++ rest) × AreTold helpers (served_behind served b.line e) bs more rest
+abbrev pub AreTold : Arena → (ℕ → Bool) → List Boxed → List Entry → List ℕ → Type 0
+AreTold arena served [] made text = (made ≡ []) × (text ≡ [])
+AreTold arena served (b ∷ bs) made text =
+    (e : Option Entry) × (a : Answer) × (more : List Entry) × (rest : List ℕ) × Tells arena served b.line b.value e a
+    × (made ≡ option_to_list e ++ more) × (text ≡ answer_text a ++ rest) × AreTold arena (served_behind served b.line e) bs more rest
 
 -- the history has exactly these entries, and those of each worker in this order; entries of different workers may stand in any
 abbrev pub HasEach : List Entry → List Entry → Type 0
@@ -100,14 +145,16 @@ HasEach entries made = (x : ℕ) → filter (λ e. e.worker == x) entries ≡ fi
 
 -- The text may be written for these lines: there is a legal history of their opening whose entries are those of the command lines,
 -- one for each that has one and no other, each worker's in script order; and the text tells in script order the reply of each
--- entry where its line stands, a refusal for each command line without an entry, and one line for each collection. Behind them
--- stands the history's length.
+-- entry where its line stands, a refusal for each command line without an entry, and one line for each collection, where the store
+-- was one of that opening when it was shared. Behind them stands the history's length.
 pub record IsRaceOutput (start : Start) (lines : List Line) (text : List ℕ) : Type 0 where
+  pub shared : SharedStart
   pub entries : List Entry
   pub made : List Entry
   pub replies : List ℕ
+  pub new : IsNewStore (plan_of_script start lines) start.blocks shared
   pub legal : IsLegal (scene_of start lines).graph entries
-  pub told : AreTold start.helpers (has_thread start.workers) (boxed start.stock (commands_of lines)) made replies
+  pub told : AreTold (arena_of shared start.helpers) (has_thread start.workers) (boxed start.stock (commands_of lines)) made replies
   pub each : HasEach entries made
   pub text_is : text ≡ replies ++ end_text (length entries)
 

@@ -14,7 +14,7 @@ use Rattle.tg_text.specs.Reading.{ReadsScript}
 use Rattle.tg_text.specs.Sinks.{KeepsBytes}
 use Rattle.tg_script.specs.Lines.{IsOfKeeping}
 use Rattle.tg_script.specs.Opening.{IsCommand}
-use Rattle.tg_script.specs.Script.{Start, CanOpen, HasRoomForWorkers, commands_of, edges_of}
+use Rattle.tg_script.specs.Script.{Start, CanOpen, HasRoomForWorkers, commands_of}
 use Rattle.tg_script.specs.Running.{IsDue}
 use Rattle.tg_store.specs.Store.{StoreState}
 use Rattle.tg_threads.specs.declared.fault.RaceFault.{RaceFault}
@@ -26,14 +26,11 @@ use Rattle.tg_threads.specs.declared.race.Raced.{Raced}
 use Rattle.tg_weave.specs.declared.task.Told.{Told}
 use Rattle.tg_weave.specs.Boxes.{boxed}
 use Rattle.tg_weave.specs.Telling.{end_text, text_of_told}
-use Rattle.tg_threads.specs.Output.{IsRaceOutput}
+use Rattle.tg_shared.specs.Sessions.{SharedStart}
+use Rattle.tg_threads.specs.Output.{IsNewStore, IsRaceOutput, arena_of, plan_of_script}
 use Rattle.tg_threads.specs.Tasks.{AreRaced}
 
 -- ---- the script and its store
-
--- the opening that a script asks for
-abbrev pub plan_of_script : Start → List Line → Plan
-plan_of_script start lines = record { workers = start.workers; edges = edges_of lines; values = start.values; limit = start.limit }
 
 -- the bytes are a whole script of these lines, and its store can be opened
 abbrev pub IsWhole : Start → List ℕ → List Line → List ℕ → Type 0
@@ -142,12 +139,12 @@ pub record MayRace (opening : Plan) (entries : List Entry) (lines : List Line) :
   pub new : (1 ≤ opening.workers) × (entries ≡ [])
   pub commands : All IsCommand lines
 
--- The lines were run in a store of this opening, each collection with so many helpers, and it has them all in its journal, of which
--- nothing was handed out; or else a fault came before anything was written.
-pub record RunsRace {P : Type 0} (helpers : ℕ) (opening : Plan) (stock : List Value) (lines : List Line)
+-- The lines were run in a store of this opening, within so many blocks, each collection with so many helpers, and it has them all in
+-- its journal, of which nothing was handed out; or else a fault came before anything was written.
+pub record RunsRace {P : Type 0} (helpers blocks : ℕ) (opening : Plan) (stock : List Value) (lines : List Line)
     (result : Result (Raced P) RaceFault) : Type 0 where
-  pub raced : IfOk result (λ raced. (raced.store.opening ≡ opening)
-      × AreRaced helpers opening.workers (boxed stock lines) raced.store.entries raced.told.items
+  pub raced : IfOk result (λ raced. (shared : SharedStart) × IsNewStore opening blocks shared × (raced.store.opening ≡ opening)
+      × AreRaced (arena_of shared helpers) opening.workers (boxed stock lines) raced.store.entries raced.told.items
       × (raced.store.handed ≡ 0))
   pub fault : IfErr result IsBeforeWriting
 

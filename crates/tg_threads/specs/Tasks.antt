@@ -10,7 +10,6 @@ use Rattle.tg_model.specs.declared.reply.Reply.{Reply}
 use Rattle.tg_model.specs.declared.reply.Reply.TheVariants as reply
 use Rattle.tg_model.specs.Graph.{IsSubject}
 use Rattle.tg_space.specs.declared.kind.Kind.{Kind}
-use Rattle.tg_space.specs.declared.kind.Kind.TheVariants as kind
 use Rattle.tg_journal.specs.declared.entry.Entry.{Entry}
 use Rattle.tg_store.specs.Store.{graph_of_store}
 use Rattle.tg_text.specs.declared.line.Line.{Line}
@@ -24,7 +23,6 @@ use Rattle.std.specs.declared.thread.PromisedHandle.{PromisedHandle}
 use Rattle.tg_threads.specs.declared.threads.Assigned.{Assigned}
 use Rattle.tg_threads.specs.declared.threads.ThreadsFault.{ThreadsFault}
 use Rattle.tg_threads.specs.declared.threads.ThreadsFault.TheVariants as threads
-use Rattle.tg_script.specs.Script.{MayWant}
 use Rattle.tg_weave.specs.declared.task.Task.{Task}
 use Rattle.tg_weave.specs.declared.task.Told.{Told}
 use Rattle.tg_weave.specs.declared.task.Told.TheVariants as came
@@ -33,7 +31,7 @@ use Rattle.tg_weave.specs.declared.work.Finished.{Finished}
 use Rattle.tg_weave.specs.Boxes.{Boxed, boxed_of}
 use Rattle.tg_weave.specs.Shares.{runner_of, lines_of, lines_in}
 use Rattle.tg_weave.specs.Telling.{IsThere, text_of_told}
-use Rattle.tg_threads.specs.Output.{Tells, IsOfStore, AreTold, HasEach, has_thread, is_retire_of}
+use Rattle.tg_threads.specs.Output.{Arena, Tells, IsCountTold, IsOfStore, IsUncollected, AreTold, HasEach, has_thread, is_retire_of}
 
 -- ---- what a line comes to
 
@@ -61,39 +59,38 @@ abbrev pub may_make_subject : {P : Type 0} → Task P → Bool
 may_make_subject t = is_spawn_line t.line
 
 -- the receipt that its session got of it, and what is told of it then
-abbrev pub RunsOne : ℕ → (ℕ → Bool) → Boxed → Told → List Receipt → Type 0
-RunsOne helpers served b (came.Entered at) more = (e : Entry) × (more ≡ receipt_of at e ∷ []) × Tells helpers served b.line b.value (Some e) (answer.Reply e.reply)
-RunsOne helpers served b (came.Collected kept) more = (more ≡ []) × Tells helpers served b.line b.value None (answer.Collected kept)
-RunsOne helpers served b (came.Refused r) more = (more ≡ []) × Tells helpers served b.line b.value None (answer.Refused r)
+abbrev pub RunsOne : Arena → (ℕ → Bool) → Boxed → Told → List Receipt → Type 0
+RunsOne arena served b (came.Entered at) more = (e : Entry) × (more ≡ receipt_of at e ∷ []) × Tells arena served b.line b.value (Some e) (answer.Reply e.reply)
+RunsOne arena served b (came.Collected kept) more = (more ≡ []) × Tells arena served b.line b.value None (answer.Collected kept)
+RunsOne arena served b (came.Refused r) more = (more ≡ []) × Tells arena served b.line b.value None (answer.Refused r)
 
 -- a session asked for the deed: exactly one receipt more, with it and the reply, or a refusal of the store
-abbrev pub HasAsked : Deed → Told → SessionState → SessionState → Type 0
-HasAsked d (came.Entered at) old new = (reply : Reply) × AddsReceipt old new at d reply
-HasAsked d (came.Collected kept) old new = ⊥
-HasAsked d (came.Refused r) old new = IsOfStore d r × KeepsReceipts old new
+abbrev pub HasAsked : SharedStart → Deed → Told → SessionState → SessionState → Type 0
+HasAsked shared d (came.Entered at) old new = (reply : Reply) × AddsReceipt old new at d reply
+HasAsked shared d (came.Collected kept) old new = ⊥
+HasAsked shared d (came.Refused r) old new = IsOfStore shared old.worker d r × KeepsReceipts old new
 
 -- a session asked for a vertex, an object or a subject, with this box; without one it asked for nothing
-abbrev pub HasMade : (Value → Deed) → Option Value → Told → SessionState → SessionState → Type 0
-HasMade making (Some value) t old new = HasAsked (making value) t old new
-HasMade making None t old new = (t ≡ came.Refused refusal.Stock) × KeepsReceipts old new
+abbrev pub HasMade : SharedStart → (Value → Deed) → Option Value → Told → SessionState → SessionState → Type 0
+HasMade shared making (Some value) t old new = HasAsked shared (making value) t old new
+HasMade shared making None t old new = (t ≡ came.Refused refusal.Stock) × KeepsReceipts old new
 
--- the heap was collected by so many helpers, or memory, room or threads were wanting
-abbrev pub HasCollected : ℕ → Kind → Told → Type 0
-HasCollected helpers k (came.Entered at) = ⊥
-HasCollected helpers kind.Full (came.Collected kept) = (n : ℕ) × (kept ≡ Some n)
-HasCollected helpers kind.Nursery (came.Collected kept) = kept ≡ None
-HasCollected helpers k (came.Refused r) = MayWant helpers r
+-- the heap was collected, or memory, room or threads were wanting
+abbrev pub HasCollected : Arena → Kind → Told → Type 0
+HasCollected arena k (came.Entered at) = ⊥
+HasCollected arena k (came.Collected kept) = IsCountTold arena.shared k kept
+HasCollected arena k (came.Refused r) = IsUncollected arena k r
 
 -- a session ran the line, where the lines of these workers are run
-abbrev pub HasRun : ℕ → (ℕ → Bool) → Boxed → Told → SessionState → SessionState → Type 0
-HasRun helpers served b t old new = (more : List Receipt) × (new.worker ≡ old.worker) × (new.receipts ≡ old.receipts ++ more) × (new.handed ≡ old.handed) × RunsOne helpers served b t more
+abbrev pub HasRun : Arena → (ℕ → Bool) → Boxed → Told → SessionState → SessionState → Type 0
+HasRun arena served b t old new = (more : List Receipt) × (new.worker ≡ old.worker) × (new.receipts ≡ old.receipts ++ more) × (new.handed ≡ old.handed) × RunsOne arena served b t more
 
 -- these lines were run one after the other, came to this, and these are the receipts
-abbrev pub Runs : ℕ → (ℕ → Bool) → List Boxed → List Told → List Receipt → Type 0
-Runs helpers served [] ts rs = (ts ≡ []) × (rs ≡ [])
-Runs helpers served (b ∷ bs) ts rs =
-    (t : Told) × (ts' : List Told) × (more : List Receipt) × (rs' : List Receipt) × (ts ≡ t ∷ ts') × (rs ≡ more ++ rs') × RunsOne helpers served b t more
-    × Runs helpers (served_past served b.line t) bs ts' rs'
+abbrev pub Runs : Arena → (ℕ → Bool) → List Boxed → List Told → List Receipt → Type 0
+Runs arena served [] ts rs = (ts ≡ []) × (rs ≡ [])
+Runs arena served (b ∷ bs) ts rs =
+    (t : Told) × (ts' : List Told) × (more : List Receipt) × (rs' : List Receipt) × (ts ≡ t ∷ ts') × (rs ≡ more ++ rs') × RunsOne arena served b t more
+    × Runs arena (served_past served b.line t) bs ts' rs'
 
 abbrev pub IsRunBy : ℕ → ℕ → Boxed → Type 0
 IsRunBy workers x b = runner_of workers b.line ≡ Some x
@@ -125,13 +122,13 @@ pub record KeepsSpawned {A E : Type 0} (before after : SessionState) (sessions s
 
 -- The session of one of so many workers ran its lines, all that its thread was given, and they came to this; there is a session for
 -- each subject that they made, which ran none, and none of them handed out a receipt.
-abbrev pub Brings : ℕ → ℕ → ℕ → List Boxed → Finished SessionState → Type 0
-Brings helpers workers x bs f =
-    x < workers → All (IsRunBy workers x) bs → (f.session.worker ≡ x) × Runs helpers (has_thread workers) bs f.told.items f.session.receipts × AreFresh (subjects_spawned f.session.receipts) f.spawned.items × (f.session.handed ≡ 0)
+abbrev pub Brings : Arena → ℕ → ℕ → List Boxed → Finished SessionState → Type 0
+Brings arena workers x bs f =
+    x < workers → All (IsRunBy workers x) bs → (f.session.worker ≡ x) × Runs arena (has_thread workers) bs f.told.items f.session.receipts × AreFresh (subjects_spawned f.session.receipts) f.spawned.items × (f.session.handed ≡ 0)
 
 -- it ran these lines, or else there is a fault, but for want of a thread there is none
-pub record RunsTasks (helpers workers x : ℕ) (bs : List Boxed) (result : Result (Finished SessionState) ThreadsFault) : Type 0 where
-  pub brought : IfOk result (λ finished. Brings helpers workers x bs finished)
+pub record RunsTasks (arena : Arena) (workers x : ℕ) (bs : List Boxed) (result : Result (Finished SessionState) ThreadsFault) : Type 0 where
+  pub brought : IfOk result (λ finished. Brings arena workers x bs finished)
   pub fault : IfErr result (λ fault. fault ≢ threads.NoThread)
 
 -- the worker, and the lines that its thread is given
@@ -147,17 +144,17 @@ abbrev pub promised_by : {T P : Type 0} → PromisedHandle T (Assigned P) → �
 promised_by h = (h.promise.worker, map boxed_of h.promise.tasks.value.items)
 
 -- each of them ran its lines
-abbrev pub AllBring : ℕ → ℕ → List (ℕ × List Boxed) → List (Finished SessionState) → Type 0
-AllBring helpers workers [] all = all ≡ []
-AllBring helpers workers (a ∷ given) all =
-    (f : Finished SessionState) × (more : List (Finished SessionState)) × (all ≡ f ∷ more) × Brings helpers workers a.0 a.1 f × AllBring helpers workers given more
+abbrev pub AllBring : Arena → ℕ → List (ℕ × List Boxed) → List (Finished SessionState) → Type 0
+AllBring arena workers [] all = all ≡ []
+AllBring arena workers (a ∷ given) all =
+    (f : Finished SessionState) × (more : List (Finished SessionState)) × (all ≡ f ∷ more) × Brings arena workers a.0 a.1 f × AllBring arena workers given more
 
 -- ---- what it is with the journal at hand
 
--- The lines came to this, where a collection has so many helpers, with these entries in the journal: each entry is where it is
+-- The lines came to this, with these entries in the journal: each entry is where it is
 -- told to be, the lines made these of them in script order, and the journal has no others.
-pub record AreRaced (helpers workers : ℕ) (bs : List Boxed) (entries : List Entry) (ts : List Told) : Type 0 where
+pub record AreRaced (arena : Arena) (workers : ℕ) (bs : List Boxed) (entries : List Entry) (ts : List Told) : Type 0 where
   pub made : List Entry
-  pub told : AreTold helpers (has_thread workers) bs made (text_of_told entries ts)
+  pub told : AreTold arena (has_thread workers) bs made (text_of_told entries ts)
   pub each : HasEach entries made
   pub there : All (IsThere entries) ts

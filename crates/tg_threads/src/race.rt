@@ -36,7 +36,8 @@ use tg_weave::{Told, in_script_order, sessions_of, share_out, tell_all};
 /// there is no such worker; so is each line of anybody who is no worker of the opening, also of a subject that a spawn
 /// line made, whose session runs no line. Once all have ended the store is closed and audited, and only then anything
 /// is written: the reply to each line in script order, and the line with the number of entries. In what order lines of
-/// different workers are run is open, and who waits for whom.
+/// different workers are run is open, and who waits for whom. A line is refused for room in the heap only where a store
+/// that may have been behind the lock lacked it.
 ///
 /// After a fault nothing was written but after `WriteFailed`, which leaves a front of the text. A thread that can't be
 /// started is `NoThread`; those that were started have ended. `ReceiptMismatch` is answered too where a session finds
@@ -130,6 +131,7 @@ fn open_race<P: Payload, S: Source, K: Sink>(
     workers: Vec<Draft<P>>,
 ) -> Result<Opened<P>, RaceFault>
     requires startable { MayStart settings workers.items }
+    ensures limits { IfOk result (λ opened. opened.store.heap.table.limits ≡ settings.limits) }
     ensures new { IfOk result (λ opened. (opened.store.opening.workers ≡ settings.workers) × (opened.store.entries ≡ [])) }
     ensures commands { IfOk result (λ opened. All IsCommand opened.lines.items) }
     ensures output { (bytes : List ℕ) → S.left source.old ≡ Some bytes →
@@ -202,7 +204,7 @@ fn run_lines<P: Payload + Send, G: Turnstile + Sync, R: Threads + Wait + Sync>(
     lines: &[Line],
 ) -> Result<Raced<P>, RaceFault>
     requires raceable { MayRace store.opening store.entries lines.now }
-    ensures run { RunsRace helpers store.opening stock.items lines.now result }
+    ensures run { RunsRace helpers store.heap.table.limits.max_blocks store.opening stock.items lines.now result }
 {
     let blank = Blank::new(store.opening().max_vertices() + 1);
     share::<Brand, P, G, R>(rt, alloc, turnstile, helpers, blank, store, stock, lines)
@@ -221,7 +223,7 @@ fn share<L: Round + Send + Sync, P: Payload + Send, G: Turnstile + Sync, R: Thre
 ) -> Result<Raced<P>, RaceFault>
     requires shareable { MayShare L.name L.parts L.start blank store }
     requires raceable { MayRace store.opening store.entries lines.now }
-    ensures run { RunsRace helpers store.opening stock.items lines.now result }
+    ensures run { RunsRace helpers store.heap.table.limits.max_blocks store.opening stock.items lines.now result }
 {
     let shared = SharedStore::<L, P>::new(alloc, blank, store)?;
     run_shared(rt, alloc, turnstile, helpers, shared, stock, lines)
@@ -244,7 +246,7 @@ fn run_shared<
 ) -> Result<Raced<P>, RaceFault>
     requires raceable { MayRace L.start.opening L.start.entries lines.now }
     requires fresh { AreFresh (range_with_len 0 L.start.opening.workers) shared.sessions.items }
-    ensures run { RunsRace helpers L.start.opening stock.items lines.now result }
+    ensures run { RunsRace helpers L.start.limits.max_blocks L.start.opening stock.items lines.now result }
 {
     let Shared {
         store,

@@ -12,7 +12,7 @@ ghost use Rattle.tg_script.specs.Script.{MayWant, create_of, spawn_of};
 ghost use Rattle.tg_shared.specs.Sessions.{AtSome, LeavesAtSome};
 ghost use Rattle.tg_shared.specs.declared.receipt.Receipt.{Receipt as ReceiptOf};
 ghost use Rattle.tg_text.specs.declared.answer.Refusal.{Refusal as RefusalOf};
-ghost use Rattle.tg_threads.specs.Output.{is_retire_of};
+ghost use Rattle.tg_threads.specs.Output.{arena_of, is_retire_of};
 ghost use Rattle.tg_threads.specs.Tasks.{HadNone, HasAsked, HasCollected, HasMade, HasRun, IsRunBy, IsToldOrGone, KeepsSpawned, RunsTasks, is_deed, may_make_subject, served_past};
 ghost use Rattle.tg_weave.specs.Boxes.{boxed_of};
 
@@ -48,7 +48,7 @@ pub(crate) fn run_tasks<L: Round, P: Payload, G: Turnstile, R: Threads + Wait + 
     tasks: Vec<Task<P>>,
 ) -> Result<Finished<L>, ThreadsFault>
     requires fresh { HadNone session }
-    ensures ran { RunsTasks helpers L.start.opening.workers session.worker (map boxed_of tasks.items) result }
+    ensures ran { RunsTasks (arena_of L.start helpers) L.start.opening.workers session.worker (map boxed_of tasks.items) result }
 {
     let mut told = Vec::with_capacity(alloc, tasks.len())?;
     let mut spawned = Vec::with_capacity(alloc, spawn_lines(tasks.as_slice()))?;
@@ -126,7 +126,7 @@ fn run_task<L: Round, P: Payload, R: Threads + Wait + Sync>(
 ) -> Result<Told, ThreadsFault>
     requires room { may_make_subject task ≡ true → vec_len spawned.old < vec_capacity spawned.old }
     ensures run { (workers : ℕ) (before : ℕ → Bool) → before session.old.worker ≡ served → IsRunBy workers session.old.worker (boxed_of task) →
-        IfOk result (λ told. HasRun helpers before (boxed_of task) told session.old session.new) }
+        IfOk result (λ told. HasRun (arena_of L.start helpers) before (boxed_of task) told session.old session.new) }
     ensures spawned { KeepsSpawned session.old session.new spawned.old spawned.new result }
     ensures fits { vec_len spawned.new ≤ vec_len spawned.old + (if may_make_subject task then 1 else 0) }
     ensures gone { IfErr result (λ why. (why ≡ ThreadsFault.NoSuchWorker) × AtSome L.start (λ s. ¬ IsSubject (graph_of_store s) session.old.worker)) }
@@ -152,7 +152,7 @@ fn apply<L: Round, P: Payload, R: Wait>(
     session: &mut Session<L>,
     command: Command,
 ) -> Result<Told, ThreadsFault>
-    ensures told { IsToldOrGone L.start session.old (λ told. HasAsked (Deed.Plain command) told session.old session.new) result }
+    ensures told { IsToldOrGone L.start session.old (λ told. HasAsked L.start (Deed.Plain command) told session.old session.new) result }
 {
     match session.call(rt, store, command) {
         Ok(_) => Ok(last_told(session)),
@@ -169,7 +169,7 @@ fn create<L: Round, P: Payload, R: Wait>(
     label: Label,
     draft: Option<Draft<P>>,
 ) -> Result<Told, ThreadsFault>
-    ensures told { IsToldOrGone L.start session.old (λ told. HasMade (create_of label) draft told session.old session.new) result }
+    ensures told { IsToldOrGone L.start session.old (λ told. HasMade L.start (create_of label) draft told session.old session.new) result }
 {
     let Some(draft) = draft else {
         return Ok(Told::Refused(Refusal::Stock));
@@ -194,7 +194,7 @@ fn spawn<L: Round, P: Payload, R: Wait>(
     draft: Option<Draft<P>>,
 ) -> Result<Told, ThreadsFault>
     requires room { vec_len spawned.old < vec_capacity spawned.old }
-    ensures told { IsToldOrGone L.start session.old (λ told. HasMade (spawn_of label) draft told session.old session.new) result }
+    ensures told { IsToldOrGone L.start session.old (λ told. HasMade L.start (spawn_of label) draft told session.old session.new) result }
     ensures spawned { KeepsSpawned session.old session.new spawned.old spawned.new result }
     ensures fits { vec_len spawned.new ≤ vec_len spawned.old + 1 }
 {
@@ -241,10 +241,7 @@ fn collect<L: Round, P: Payload, R: Threads + Wait + Sync>(
     session: &Session<L>,
     kind: Kind,
 ) -> Told
-    ensures collected { HasCollected helpers kind result }
-    ensures number { (kept : ℕ) → result ≡ Told.Collected (Some kept) → LeavesAtSome L.start Kind.Full kept }
-    ensures full { result ≡ Told.Refused Refusal.Heap → AtSome L.start (λ s.
-        LacksRoomToCollect kind helpers s.heap) }
+    ensures { HasCollected (arena_of L.start helpers) kind result }
 {
     match (collect_by(rt, store, helpers, session, kind, &NoGate), kind) {
         (Ok(kept), Kind::Full) => Told::Collected(Some(kept)),

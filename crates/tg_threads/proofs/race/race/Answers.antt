@@ -1,10 +1,12 @@
-use Rattle.std.proofs.Common.{◌∙◌, List, subst, sym, arith}
+use Rattle.std.proofs.Common.{◌∙◌, List, ap, subst, sym, arith}
 use Rattle.std.proofs.lemmas.Result.{err_from_is_err_and}
 use Rattle.std.specs.List.{All}
 use Rattle.tg_text.specs.declared.line.Line.{Line}
 use Rattle.tg_script.specs.Opening.{IsCommand}
 use Rattle.tg_script.specs.Script.{commands_of, start_with}
 use Rattle.tg_script.proofs.LinesLaws.{keeps_known}
+use Rattle.tg_space.specs.SpaceTable.{BlockLimits}
+use Rattle.tg_threads.specs.Output.{IsNewStore, arena_of, plan_of_script}
 use Rattle.tg_threads.proofs.RaceLaws.{race_told, raced_same, telling_due}
 use Rattle.tg_threads.proofs.race.race.Goals as goal
 
@@ -18,11 +20,17 @@ returns-clause-output g c = λ bytes before known taken.
     let store = c.in_ok-raced.raced.store in
     let ts = c.in_ok-raced.raced.told.items in
     let came = c.in_ok-raced.ensures.run.raced in
-    let same = raced_same start.helpers c.in_ok-opened.opened.store.opening.workers start.workers start.stock c.as_slice.result.now (commands_of lines) store.entries ts
-    c.in_ok-opened.ensures.new.0 (c.as_slice.ensures.value ∙ whole.2) came.1 in (
+    let shared = came.0 in
+    let new : IsNewStore (plan_of_script start lines) start.blocks shared = record {
+      opened = came.1.opened ∙ whole.3;
+      limits = came.1.limits ∙ ap (λ (l : BlockLimits). l.max_blocks) c.in_ok-opened.ensures.limits;
+      none = came.1.none;
+    } in
+    let same = raced_same (arena_of shared start.helpers) c.in_ok-opened.opened.store.opening.workers start.workers start.stock c.as_slice.result.now (commands_of lines) store.entries ts
+    c.in_ok-opened.ensures.new.0 (c.as_slice.ensures.value ∙ whole.2) came.3 in (
       opens.0,
       opens.1,
-      race_told c.tell-told.result start bytes before opens.0 lines store ts (s.taken c.tell-told.new.sink) whole.1 (came.0 ∙ whole.3) same
+      race_told c.tell-told.result start shared bytes before opens.0 lines store ts (s.taken c.tell-told.new.sink) whole.1 new (came.2 ∙ whole.3) same
           (c.tell-told.ensures.told before (keeps_known (s.taken c.args.sink.now) (s.taken c.open_race.new.sink) before taken c.in_ok-opened.ensures.taken)),
     )
 

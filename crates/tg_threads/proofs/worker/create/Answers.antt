@@ -12,8 +12,8 @@ returns-in-Err g c =
     let new = c.create.new.self in
     record {
       told = record {
-        asked = subst (λ (box : Option Value). IfOk c.not_made.result (λ t. HasMade (create_of c.args.label) box t old new)) (sym c.in-Some.is)
-            (not_made_asked g.L.Round.start (create_of c.args.label c.in-Some.draft) c.in-Err.refused.why c.not_made.result old new tt c.not_made.ensures.fault c.in-Err.ensures.refusals.full (λ w. absurd (c.in-Err.ensures.no_workers_full w)) (λ other more. c.in-Err.ensures.refused other)
+        asked = subst (λ (box : Option Value). IfOk c.not_made.result (λ t. HasMade g.L.Round.start (create_of c.args.label) box t old new)) (sym c.in-Some.is)
+            (not_made_asked g.L.Round.start (create_of c.args.label c.in-Some.draft) c.in-Err.refused.why c.not_made.result old new c.in-Err.ensures.refusals.heap_full c.not_made.ensures.fault c.in-Err.ensures.refusals.full (λ w. absurd (c.in-Err.ensures.no_workers_full w)) (λ other more. c.in-Err.ensures.refused other)
             c.not_made.ensures.refused c.not_made.ensures.entered);
         gone = search rules;
       };

@@ -5,15 +5,22 @@ use Rattle.tg_text.specs.declared.line.Line.TheVariants as line
 use Rattle.tg_script.specs.Script.{create_of, spawn_of}
 use Rattle.tg_weave.specs.Boxes.{Boxed}
 use Rattle.tg_weave.specs.Shares.{runner_of}
+use Rattle.tg_threads.specs.Output.{arena_of}
 use Rattle.tg_threads.specs.Tasks.{HasRun, is_deed}
-use Rattle.tg_threads.proofs.RunLaws.{asked_runs, create_each, full_runs, made_runs, plain_each, served_of}
+use Rattle.tg_threads.proofs.RunLaws.{asked_runs, create_each, full_runs, made_runs, minor_runs, plain_each, served_of}
 use Rattle.tg_threads.proofs.worker.run_task.Goals as goal
 
 pub returns-in-Full-clause-run : goal.returns-in-Full-clause-run
 returns-in-Full-clause-run g c = λ workers before is by.
     let s = c.args.session.now in
-    let P : Line → Type 0 = λ l. HasRun c.args.helpers before (record { line = l; value = c.args.task.draft }) c.collect.result s s in
-    subst P (sym c.in-Full.is) (full_runs c.args.helpers before c.args.task.draft c.collect.result s c.collect.ensures.collected)
+    let P : Line → Type 0 = λ l. HasRun (arena_of g.L.Round.start c.args.helpers) before (record { line = l; value = c.args.task.draft }) c.collect.result s s in
+    subst P (sym c.in-Full.is) (full_runs (arena_of g.L.Round.start c.args.helpers) before c.args.task.draft c.collect.result s c.collect.ensures)
+
+pub returns-in-Minor-clause-run : goal.returns-in-Minor-clause-run
+returns-in-Minor-clause-run g c = λ workers before is by.
+    let s = c.args.session.now in
+    let P : Line → Type 0 = λ l. HasRun (arena_of g.L.Round.start c.args.helpers) before (record { line = l; value = c.args.task.draft }) c.collect-in-Minor.result s s in
+    subst P (sym c.in-Minor.is) (minor_runs (arena_of g.L.Round.start c.args.helpers) before c.args.task.draft c.collect-in-Minor.result s c.collect-in-Minor.ensures)
 
 pub returns-in-Plain-clause-run : goal.returns-in-Plain-clause-run
 returns-in-Plain-clause-run g c = λ workers before is by.
@@ -24,8 +31,8 @@ returns-in-Plain-clause-run g c = λ workers before is by.
     let served = served_of c.args.served c.args.task.line c.is_refused.result c.is_refused.ensures c.if-is_refused.false (ap is_deed c.in-Plain.is) in
     IfOk-weaker c.apply.result _ _
     (λ t asked.
-    let P : Line → Type 0 = λ l. HasRun c.args.helpers before (record { line = l; value = box }) t old new in
-    subst P (sym c.in-Plain.is) (asked_runs c.args.helpers workers c.in-Plain.worker before c.in-Plain.command box t old new (is ∙ served) (subst Q c.in-Plain.is by) asked))
+    let P : Line → Type 0 = λ l. HasRun (arena_of g.L.Round.start c.args.helpers) before (record { line = l; value = box }) t old new in
+    subst P (sym c.in-Plain.is) (asked_runs (arena_of g.L.Round.start c.args.helpers) workers c.in-Plain.worker before c.in-Plain.command box t old new (is ∙ served) (subst Q c.in-Plain.is by) asked))
     c.apply.ensures.told.asked
 
 pub returns-in-Create-clause-run : goal.returns-in-Create-clause-run
@@ -38,8 +45,8 @@ returns-in-Create-clause-run g c = λ workers before is by.
     let b : Boxed = record { line = line.Create c.in-Create.worker c.in-Create.label; value = box } in
     IfOk-weaker c.create.result _ _
     (λ t made.
-    let P : Line → Type 0 = λ l. HasRun c.args.helpers before (record { line = l; value = box }) t old new in
-    subst P (sym c.in-Create.is) (made_runs c.args.helpers workers c.in-Create.worker before b (create_of c.in-Create.label) t old new (is ∙ served) (subst Q c.in-Create.is by) (λ e a told. told) made))
+    let P : Line → Type 0 = λ l. HasRun (arena_of g.L.Round.start c.args.helpers) before (record { line = l; value = box }) t old new in
+    subst P (sym c.in-Create.is) (made_runs (arena_of g.L.Round.start c.args.helpers) workers c.in-Create.worker before b (create_of c.in-Create.label) t old new (is ∙ served) (subst Q c.in-Create.is by) (λ e a told. told) made))
     c.create.ensures.told.asked
 
 pub returns-in-Spawn-clause-run : goal.returns-in-Spawn-clause-run
@@ -52,18 +59,18 @@ returns-in-Spawn-clause-run g c = λ workers before is by.
     let b : Boxed = record { line = line.Spawn c.in-Spawn.worker c.in-Spawn.label; value = box } in
     IfOk-weaker c.spawn.result _ _
     (λ t made.
-    let P : Line → Type 0 = λ l. HasRun c.args.helpers before (record { line = l; value = box }) t old new in
-    subst P (sym c.in-Spawn.is) (made_runs c.args.helpers workers c.in-Spawn.worker before b (spawn_of c.in-Spawn.label) t old new (is ∙ served) (subst Q c.in-Spawn.is by) (λ e a told. told) made))
+    let P : Line → Type 0 = λ l. HasRun (arena_of g.L.Round.start c.args.helpers) before (record { line = l; value = box }) t old new in
+    subst P (sym c.in-Spawn.is) (made_runs (arena_of g.L.Round.start c.args.helpers) workers c.in-Spawn.worker before b (spawn_of c.in-Spawn.label) t old new (is ∙ served) (subst Q c.in-Spawn.is by) (λ e a told. told) made))
     c.spawn.ensures.told.asked
 
 pub returns-in-Plain-clause-spawned : goal.returns-in-Plain-clause-spawned
 returns-in-Plain-clause-spawned g c = record {
-  each = IfOk-weaker c.apply.result _ _ (λ t asked. plain_each c.in-Plain.command t c.args.session.now c.apply.new.session c.args.spawned.now.items asked) c.apply.ensures.told.asked;
+  each = IfOk-weaker c.apply.result _ _ (λ t asked. plain_each g.L.Round.start c.in-Plain.command t c.args.session.now c.apply.new.session c.args.spawned.now.items asked) c.apply.ensures.told.asked;
   kept = refl;
 }
 
 pub returns-in-Create-clause-spawned : goal.returns-in-Create-clause-spawned
 returns-in-Create-clause-spawned g c = record {
-  each = IfOk-weaker c.create.result _ _ (λ t made. create_each c.in-Create.label c.args.task.draft t c.args.session.now c.create.new.session c.args.spawned.now.items made) c.create.ensures.told.asked;
+  each = IfOk-weaker c.create.result _ _ (λ t made. create_each g.L.Round.start c.in-Create.label c.args.task.draft t c.args.session.now c.create.new.session c.args.spawned.now.items made) c.create.ensures.told.asked;
   kept = refl;
 }
