@@ -13,7 +13,7 @@ use Rattle.tg_model.specs.Opened.{label_in}
 use Rattle.tg_model.specs.Picture.{Holds, Shown, IsPictureOf}
 use Rattle.tg_model.proofs.PictureLaws.{or_true}
 use Rattle.tg_could.specs.Turns.{Acts, IsSilent, NeverHolds, MayCome}
-use Rattle.tg_could.specs.Separation.{Sides, MayAdd, Parts, ComesLater, IsEven}
+use Rattle.tg_could.specs.Separation.{Sides, MayAdd, Parts, ComesLater, IsEven, IsIdle, AreApart, Suits, place_in}
 use Rattle.tg_could.proofs.SeparationLaws.{parted-never}
 use Rattle.tg_could.proofs.StillLaws.{same-never, alone-never}
 use Rattle.tg_model.specs.declared.opening.TheConstants.{MAX_WORKERS}
@@ -46,6 +46,47 @@ none_holds x r y (edge ∷ edges) all h =
 module _ (s : Sides) (x : ℕ) (r : Right) (y : ℕ) where
   abbrev pub Fits : Edge → Type 0
   Fits edge = MayAdd s x r y edge.from edge.to edge.label
+
+  -- an edge that carries nothing fits
+  pub idle-fits : (edge : Edge) → IsIdle r y edge → Fits edge
+  idle-fits edge idle = record {
+    keeps = record {
+      take_on = λ h. absurd (idle.no_take h);
+      take_back = λ h. absurd (idle.no_take h);
+      grant_on = λ h. absurd (idle.no_grant h);
+      grant_back = λ h. absurd (idle.no_grant h);
+      source = λ h at_y. absurd (idle.no_right at_y h);
+    };
+    not_held = λ at_x at_y. idle.no_right at_y;
+    not_granted = λ at_x is. absurd (idle.no_grant is);
+  }
+
+  -- so does one that leads to another than y, between vertices in neither set
+  pub apart-fits : (edge : Edge) → AreApart (place_in s edge.from) (place_in s edge.to) → ¬ (edge.to ≡ y) → Fits edge
+  apart-fits edge apart other = record {
+    keeps = record {
+      take_on = λ h f. absurd (apart.from_forward f);
+      take_back = λ h f. absurd (apart.to_back f);
+      grant_on = λ h f. absurd (apart.from_forward f);
+      grant_back = λ h f. absurd (apart.to_forward f);
+      source = λ h at_y. absurd (other at_y);
+    };
+    not_held = λ at_x at_y. absurd (other at_y);
+    not_granted = λ at_x is. apart.from_forward;
+  }
+
+  pub suits-fits : (edge : Edge) → Suits (place_in s edge.from) (place_in s edge.to) x r y edge → Fits edge
+  suits-fits edge suits = record {
+    keeps = record {
+      take_on = suits.stays.take_on;
+      take_back = suits.stays.take_back;
+      grant_on = suits.stays.grant_on;
+      grant_back = suits.stays.grant_back;
+      source = suits.source;
+    };
+    not_held = suits.not_held;
+    not_granted = suits.not_granted;
+  }
 
   pub Parts-edges : (edges : List Edge) → All Fits edges → Parts s x r y (label_in edges)
   Parts-edges [] all = record {

@@ -17,7 +17,7 @@ use Rattle.tg_model.specs.Graph.{ProtectionGraph, IsSubject, HasEdge, IsReachabl
 use Rattle.tg_model.specs.Near.{SameNear}
 use Rattle.tg_model.specs.Opened.{label_in}
 use Rattle.tg_model.specs.Picture.{Holds, Shown, IsPictureOf}
-use Rattle.tg_model.specs.Rules.{denial_of, effect, labels_after, unless_denied, with_vertex, with_subject, step}
+use Rattle.tg_model.specs.Rules.{denial_of, effect, unless_denied, with_vertex, with_subject, step}
 use Rattle.tg_model.specs.Walks.{begins, goes, Walk-within}
 use Rattle.tg_model.proofs.AllowedLaws.{permits-no_denial}
 use Rattle.tg_model.proofs.PictureLaws.{or_true}

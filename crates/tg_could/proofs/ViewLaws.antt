@@ -1,18 +1,17 @@
 -- The words of a view part whoever it doesn't join to a right.
-use Rattle.std.proofs.Common.{◌≡◌, ◌≢◌, ℕ, ◌<◌, ◌≤◌, Bool, true, false, List, slice_index_or, bit_or, sym, ◌∙◌, ap, subst, arith}
+use Rattle.std.proofs.Common.{◌≡◌, ◌≢◌, ℕ, ◌<◌, ◌≤◌, true, false, List, slice_index_or, bit_or, sym, ◌∙◌, ap, subst, arith}
 use Rattle.std.specs.List.{All, AllWithin, Contains}
 use Rattle.std.proofs.lemmas.Bool.{false≢true}
 use Rattle.std.proofs.lemmas.List.Elements.{All-contains}
 use Rattle.tg_rights.specs.RightSet.{RightSet, has}
 use Rattle.tg_rights.specs.declared.Right.{Right}
-use Rattle.tg_rights.specs.declared.Right.TheVariants.{T, G}
 use Rattle.tg_model.specs.declared.edge.Edge.{Edge}
 use Rattle.tg_model.specs.Graph.{ProtectionGraph}
 use Rattle.tg_model.specs.Opened.{label_in}
 use Rattle.tg_model.specs.Picture.{Holds, Shown, IsPictureOf}
 use Rattle.tg_could.specs.Turns.{NeverHolds}
 use Rattle.tg_could.specs.Separation.{Sides, MayAdd, Walks, IsEven}
-use Rattle.tg_could.specs.View.{word_of, is_within, meets, IsOfOne, Joins, IsIn, IsGathered, IsPlaced, IsCheckedOn, sides_by}
+use Rattle.tg_could.specs.View.{word_of, is_within, meets, IsOfOne, Joins, IsIn, IsGathered, IsPlaced, IsCheckedOn, sides_by, bound_of}
 use Rattle.tg_could.specs.declared.incoming.Incoming.{Incoming}
 use Rattle.tg_could.specs.declared.islands.Islands.{Islands}
 use Rattle.tg_could.specs.declared.view.Facts.{Facts}
@@ -23,7 +22,7 @@ use Rattle.tg_could.proofs.WordLaws.{within-trans, within-more, meets-down, meet
 -- what was gathered over y
 abbrev pub AreGathered : Incoming → List ℕ → ℕ → Right → ℕ → ℕ → Type 0
 AreGathered incoming words x r y word =
-    AllWithin (IsGathered words x r word) incoming.holders.items (slice_index_or incoming.firsts.items y 0) (slice_index_or incoming.ends.items y 0)
+    AllWithin (IsGathered words x r word) incoming.holders.items (bound_of incoming y).0 (bound_of incoming y).1
 
 module _ (islands : Islands) (incoming : Incoming) (x : ℕ) (r : Right) (y gathered : ℕ) (are : AreGathered incoming islands.reached.items x r y gathered) (edge : Edge) (is_in : IsIn incoming edge) where
   abbrev words : List ℕ
@@ -36,8 +35,8 @@ module _ (islands : Islands) (incoming : Incoming) (x : ℕ) (r : Right) (y gath
       let h = is_in.holder d in
       subst (λ (v : ℕ). (v ≢ x) × (is_within (word_of words v) gathered ≡ true)) h.0
       (are is_in.place d
-      (subst (λ (v : ℕ). slice_index_or incoming.firsts.items v 0 ≤ is_in.place) at_y is_in.first)
-      (subst (λ (v : ℕ). is_in.place < slice_index_or incoming.ends.items v 0) at_y is_in.end)
+      (subst (λ (v : ℕ). (bound_of incoming v).0 ≤ is_in.place) at_y is_in.first)
+      (subst (λ (v : ℕ). is_in.place < (bound_of incoming v).1) at_y is_in.end)
       (ap (λ (m : RightSet). has m r) h.1 ∙ is))
 
   pub gathered-not : IsNot x r y edge

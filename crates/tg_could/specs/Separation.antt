@@ -1,7 +1,7 @@
 -- Why x never holds a right over y: a separation. This is the theorem of Lipton and Snyder ("A linear time algorithm for
 -- deciding subject security", Journal of the ACM, 1977) seen from outside: islands, bridges and spans join what no
 -- separation can part.
-use Rattle.std.specs.Prelude.{◌≡◌, ℕ, ◌<◌, ◌≤◌, ◌==◌, ◌/◌, ◌%◌, ◌^◌, Bool, true, not, List, bit_and, slice_index_or}
+use Rattle.std.specs.Prelude.{◌≡◌, ℕ, ◌*◌, ◌<◌, ◌≤◌, ◌==◌, ◌/◌, ◌%◌, ◌^◌, Bool, true, not, List, bit_and, slice_index_or}
 use Rattle.tg_rights.specs.RightSet.{RightSet, has}
 use Rattle.tg_rights.specs.declared.Right.{Right}
 use Rattle.tg_rights.specs.declared.Right.TheVariants.{T, G}
@@ -32,6 +32,12 @@ pub record MayAdd (s : Sides) (x : ℕ) (right : Right) (y : ℕ) (p q : ℕ) (r
   pub not_held : p ≡ x → q ≡ y → ¬ (has rights right ≡ true)
   pub not_granted : q ≡ x → has rights G ≡ true → ¬ (s.forward p ≡ true)
 
+-- the edge has neither take nor grant, nor the right over y
+pub record IsIdle (right : Right) (y : ℕ) (edge : Edge) : Type 0 where
+  pub no_take : ¬ (has edge.label T ≡ true)
+  pub no_grant : ¬ (has edge.label G ≡ true)
+  pub no_right : edge.to ≡ y → ¬ (has edge.label right ≡ true)
+
 -- no edge leads out of the two sets, x doesn't hold the right, and nobody who may hold it can grant to x
 pub record Parts (s : Sides) (x : ℕ) (right : Right) (y : ℕ) (label : ℕ → ℕ → RightSet) : Type 0 where
   pub edges : (a b : ℕ) → Keeps s right y label a b
@@ -53,18 +59,30 @@ pub record Separates (silent : ℕ → Type 0) (s : Sides) (x : ℕ) (right : Ri
 unfoldable pub is_marked : List ℕ → ℕ → Bool
 is_marked words name = bit_and (slice_index_or words (name / 64) 0 / 2 ^ (name % 64)) 1 == 1
 
--- the sides that marks stand for
+-- the two bits of a name, with those of the names behind it above them
+unfoldable pub pair_in : List ℕ → ℕ → ℕ
+pair_in words name = slice_index_or words (name / 32) 0 / 2 ^ (name % 32 * 2)
+
+-- the upper of the two is set
+unfoldable pub is_first : ℕ → Bool
+is_first pair = bit_and (pair / 2) 1 == 1
+
+-- the lower one is
+unfoldable pub is_second : ℕ → Bool
+is_second pair = bit_and pair 1 == 1
+
+-- the sides that the two bits of each name stand for
 abbrev pub sides_of : Separation → Sides
 sides_of m = record {
-  forward = λ v. is_marked m.forward.words.items v;
-  back = λ v. is_marked m.back.words.items v;
+  forward = λ v. is_first (pair_in m.pairs.words.items v);
+  back = λ v. is_second (pair_in m.pairs.words.items v);
 }
 
 -- the sides that they stand for where a search went back from x: whom it didn't reach
 abbrev pub sides_against : Separation → Sides
 sides_against m = record {
-  forward = λ v. not (is_marked m.back.words.items v);
-  back = λ v. not (is_marked m.forward.words.items v);
+  forward = λ v. not (is_second (pair_in m.pairs.words.items v));
+  back = λ v. not (is_first (pair_in m.pairs.words.items v));
 }
 
 -- take and grant lead out of neither set, between vertices in these
@@ -73,6 +91,20 @@ pub record Stays (label : RightSet) (from to : Place) : Type 0 where
   pub take_back : has label T ≡ true → to.back ≡ true → from.back ≡ true
   pub grant_on : has label G ≡ true → from.forward ≡ true → to.back ≡ true
   pub grant_back : has label G ≡ true → to.forward ≡ true → from.back ≡ true
+
+-- neither of two vertices is in a set
+pub record AreApart (from to : Place) : Type 0 where
+  pub from_forward : ¬ (from.forward ≡ true)
+  pub from_back : ¬ (from.back ≡ true)
+  pub to_forward : ¬ (to.forward ≡ true)
+  pub to_back : ¬ (to.back ≡ true)
+
+-- the edge leads out of neither set, between vertices in these, and x is neither its holder nor its gift
+pub record Suits (from to : Place) (x : ℕ) (right : Right) (y : ℕ) (edge : Edge) : Type 0 where
+  pub stays : Stays edge.label from to
+  pub source : has edge.label right ≡ true → edge.to ≡ y → from.back ≡ true
+  pub not_held : edge.from ≡ x → edge.to ≡ y → ¬ (has edge.label right ≡ true)
+  pub not_granted : edge.to ≡ x → has edge.label G ≡ true → ¬ (from.forward ≡ true)
 
 -- where a vertex is
 abbrev pub place_in : Sides → ℕ → Place

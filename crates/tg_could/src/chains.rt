@@ -25,34 +25,17 @@ impl Chains {
         made: usize,
         edges: &[Edge],
     ) -> Result<Chains, AllocError> {
-        let mut chains = Chains::with_room(alloc, made, edges.len())?;
-        for edge in edges {
-            chains.add(edge.from)?;
+        let mut first = vec![in alloc; NONE; made]?;
+        let mut next = vec![in alloc; NONE; edges.len()]?;
+        for (at, edge) in edges.iter().enumerate() {
+            if let Some(next) = next.get_mut(at)
+                && let Some(first) = first.get_mut(edge.from as usize)
+            {
+                *next = *first;
+                *first = place(at);
+            }
         }
-        Ok(chains)
-    }
-
-    /// The edges to each vertex. Fails only when out of memory.
-    pub(crate) fn of_targets(
-        alloc: Global,
-        made: usize,
-        edges: &[Edge],
-    ) -> Result<Chains, AllocError> {
-        let mut chains = Chains::with_room(alloc, made, edges.len())?;
-        for edge in edges {
-            chains.add(edge.to)?;
-        }
-        Ok(chains)
-    }
-
-    // No chain has an edge.
-    fn with_room(alloc: Global, made: usize, edges: usize) -> Result<Chains, AllocError> {
-        let mut next = Vec::new(alloc);
-        next.try_reserve(edges)?;
-        Ok(Chains {
-            first: vec![in alloc; NONE; made]?,
-            next,
-        })
+        Ok(Chains { first, next })
     }
 
     /// Puts the next edge of the list in front of a vertex's others. Fails only when out of memory.

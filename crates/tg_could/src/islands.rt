@@ -3,7 +3,6 @@ ghost use Rattle.std.specs.Prelude.{◌≡◌, IsTrue};
 ghost use Rattle.std.specs.List.{All};
 ghost use Rattle.tg_could.specs.View.{Joins, IsOfOne};
 
-use crate::incoming::Incoming;
 use crate::separation::{has, leads};
 use crate::walks::{bit_of, walks};
 use crate::words::{add, are_bridged, is_single, is_within, meets, word_of};
@@ -24,24 +23,25 @@ impl Islands {
     pub(crate) fn of(
         alloc: Global,
         picture: &Picture,
-        incoming: &Incoming,
         actors: &[u64],
     ) -> Result<Islands, AllocError> {
         let edges = picture.edges();
         let made = picture.made() as usize;
-        let mut reached = walks(alloc, incoming, made, actors)?;
+        let mut reached = walks(alloc, edges, made, actors)?;
         let joined = joined(alloc, edges, actors, reached.as_slice())?;
         for word in reached.iter_mut() {
-            *word = island_word(joined.as_slice(), *word);
+            if *word != 0 {
+                *word = island_word(joined.as_slice(), *word);
+            }
         }
         let mut granted = vec![in alloc; 0; made]?;
         for edge in edges {
-            if has(edge.label, Right::G) {
-                add(
-                    &mut granted,
-                    edge.to,
-                    word_of(reached.as_slice(), edge.from),
-                );
+            if !has(edge.label, Right::G) {
+                continue;
+            }
+            let word = word_of(reached.as_slice(), edge.from);
+            if word != 0 {
+                add(&mut granted, edge.to, word);
             }
         }
         Ok(Islands { reached, granted })
@@ -82,11 +82,17 @@ impl Islands {
     fn is_joined(&self, edge: &Edge) -> bool
         ensures { IsTrue result → Joins self.now edge.now }
     {
-        let from = word_of(self.reached.as_slice(), edge.from);
-        let to = word_of(self.reached.as_slice(), edge.to);
-        let granted = word_of(self.granted.as_slice(), edge.to);
         let take = has(edge.label, Right::T);
         let grant = has(edge.label, Right::G);
+        if !take && !grant {
+            return true;
+        }
+        let from = word_of(self.reached.as_slice(), edge.from);
+        if from == 0 {
+            return true;
+        }
+        let to = word_of(self.reached.as_slice(), edge.to);
+        let granted = word_of(self.granted.as_slice(), edge.to);
         if !leads(take, true, is_within(from, to)) {
             return false;
         }
@@ -112,8 +118,15 @@ fn joined(
         join(&mut joined, word_of(reached, *actor));
     }
     for edge in edges {
-        let (from, to) = (word_of(reached, edge.from), word_of(reached, edge.to));
-        if has(edge.label, Right::G) && from != 0 && to != 0 {
+        if !has(edge.label, Right::G) {
+            continue;
+        }
+        let from = word_of(reached, edge.from);
+        if from == 0 {
+            continue;
+        }
+        let to = word_of(reached, edge.to);
+        if to != 0 {
             join(&mut joined, from | to);
         }
     }

@@ -37,6 +37,7 @@ mod enough;
 mod incoming;
 mod islands;
 pub mod laws;
+mod links;
 mod marks;
 mod plan;
 mod reached;

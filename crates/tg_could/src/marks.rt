@@ -1,6 +1,6 @@
-//! Sets of names, a bit for each.
+//! Sets of names, a bit for each, and two sets of names, two bits for each.
 ghost use Rattle.std.specs.Prelude.{◌≡◌};
-ghost use Rattle.tg_could.specs.Separation.{is_marked};
+ghost use Rattle.tg_could.specs.Separation.{is_marked, pair_in, is_first, is_second};
 
 use std::alloc::{AllocError, Global};
 
@@ -45,4 +45,64 @@ impl Marks {
             None => false,
         }
     }
+}
+
+// How many names have their two bits in one word.
+const PAIRS: u64 = 32;
+
+/// Two sets of names: of each name a bit for the second set, and above it one for the first. Names past the last word
+/// are in none.
+#[derive(Drop)]
+pub(crate) struct Pairs {
+    words: Vec<u64>,
+}
+
+impl Pairs {
+    /// Sets for so many names, which none is in. Fails only when out of memory.
+    pub(crate) fn none(alloc: Global, made: usize) -> Result<Pairs, AllocError> {
+        let words = made.div_ceil(PAIRS as usize);
+        Ok(Pairs {
+            words: vec![in alloc; 0; words]?,
+        })
+    }
+
+    /// The two bits of a name, with those of the names behind it above them.
+    #[tactic(auto, unfolding(crate::specs::Separation::pair_in))]
+    pub(crate) fn pair(&self, name: u64) -> u64
+        ensures { result ≡ pair_in self.now.words.items name }
+    {
+        match self.words.get((name / PAIRS) as usize) {
+            Some(word) => *word >> (name % PAIRS * 2),
+            None => 0,
+        }
+    }
+
+    /// Puts a name into one of the sets. Whether it wasn't there.
+    pub(crate) fn put(&mut self, name: u64, first: bool) -> bool {
+        match self.words.get_mut((name / PAIRS) as usize) {
+            Some(word) => {
+                let bit = 1 << (name % PAIRS * 2 + u64::from(first));
+                let new = *word & bit == 0;
+                *word |= bit;
+                new
+            }
+            None => false,
+        }
+    }
+}
+
+/// Whether the two bits of a name are those of one in the first set.
+#[tactic(auto, unfolding(crate::specs::Separation::is_first))]
+pub(crate) fn is_in_first(pair: u64) -> bool
+    ensures { result ≡ is_first pair }
+{
+    pair >> 1 & 1 == 1
+}
+
+/// Whether the two bits of a name are those of one in the second set.
+#[tactic(auto, unfolding(crate::specs::Separation::is_second))]
+pub(crate) fn is_in_second(pair: u64) -> bool
+    ensures { result ≡ is_second pair }
+{
+    pair & 1 == 1
 }

@@ -1,6 +1,6 @@
 //! The search: who may come to hold a right, and on which way. What it finds is checked (`Separation::parts`,
-//! `leads_there`), so that nothing has to be believed of it. Each edge is looked at four times at most.
-use crate::chains::{Chains, NONE, place};
+//! `lead_there`), so that nothing has to be believed of it. Each edge is looked at four times at most.
+use crate::chains::{NONE, place};
 use crate::marks::Marks;
 use crate::separation::{Separation, comes_later, has, is_silent};
 use std::alloc::{AllocError, Global};
@@ -48,6 +48,72 @@ impl Kept {
     }
 }
 
+// The places of two edges, `NONE` where there is none: one from a vertex, and one to a vertex.
+#[derive(Clone, Copy, Debug, Drop)]
+struct Pair {
+    on: u32,
+    back: u32,
+}
+
+// For each vertex an edge from it and one to it, and for each edge the next ones at the same vertices. Edges with
+// neither take nor grant are left out.
+#[derive(Drop)]
+struct Ways {
+    firsts: Vec<Pair>,
+    nexts: Vec<Pair>,
+}
+
+impl Pair {
+    // No edge.
+    fn none() -> Pair {
+        Pair {
+            on: NONE,
+            back: NONE,
+        }
+    }
+}
+
+impl Ways {
+    // No edge is there yet, of so many. Fails only when out of memory.
+    fn none(alloc: Global, made: usize, edges: usize) -> Result<Ways, AllocError> {
+        Ok(Ways {
+            firsts: vec![in alloc; Pair::none(); made]?,
+            nexts: vec![in alloc; Pair::none(); edges]?,
+        })
+    }
+
+    // Puts the edge at a place in front of the others of its vertices, where it has take or grant.
+    fn add(&mut self, at: usize, edge: &Edge) {
+        if !has(edge.label, Right::T) && !has(edge.label, Right::G) {
+            return;
+        }
+        let Some(next) = self.nexts.get_mut(at) else {
+            return;
+        };
+        if let Some(first) = self.firsts.get_mut(edge.from as usize) {
+            next.on = first.on;
+            first.on = place(at);
+        }
+        if let Some(first) = self.firsts.get_mut(edge.to as usize) {
+            next.back = first.back;
+            first.back = place(at);
+        }
+    }
+
+    // The first edges at a vertex.
+    fn first(&self, vertex: u64) -> Pair {
+        self.firsts
+            .get(vertex as usize)
+            .copied()
+            .unwrap_or(Pair::none())
+    }
+
+    // The next edges behind the one at a place.
+    fn next(&self, at: u32) -> Pair {
+        self.nexts.get(at as usize).copied().unwrap_or(Pair::none())
+    }
+}
+
 /// The least sets that hold those who have the right and that no edge and nobody who acts leads out of. Where y may yet
 /// be made, who acts is taken for one who has the right. Fails only when out of memory.
 pub(crate) fn search(
@@ -58,15 +124,18 @@ pub(crate) fn search(
     y: u64,
 ) -> Result<Found, AllocError> {
     let mut found = Found::start(alloc, picture, silent)?;
+    let edges = picture.edges();
+    let mut ways = Ways::none(alloc, picture.made() as usize, edges.len())?;
     if comes_later(picture, y) {
         found.put_actors(picture, false)?;
     }
-    for edge in picture.edges() {
+    for (at, edge) in edges.iter().enumerate() {
+        ways.add(at, edge);
         if edge.to == y && has(edge.label, right) {
             found.put(edge.from, false, NONE)?;
         }
     }
-    found.spread(alloc, picture)?;
+    found.spread(edges, &ways)?;
     Ok(found)
 }
 
@@ -79,18 +148,21 @@ pub(crate) fn search_back(
     x: u64,
 ) -> Result<Found, AllocError> {
     let mut found = Found::start(alloc, picture, silent)?;
+    let edges = picture.edges();
+    let mut ways = Ways::none(alloc, picture.made() as usize, edges.len())?;
     if comes_later(picture, x) {
         found.put_actors(picture, true)?;
     }
     if found.acts(x) {
         found.put(x, true, NONE)?;
     }
-    for edge in picture.edges() {
+    for (at, edge) in edges.iter().enumerate() {
+        ways.add(at, edge);
         if edge.to == x && has(edge.label, Right::G) {
             found.put(edge.from, false, NONE)?;
         }
     }
-    found.spread(alloc, picture)?;
+    found.spread(edges, &ways)?;
     Ok(found)
 }
 
@@ -122,11 +194,7 @@ impl Found {
     }
 
     // Goes on from each step to what its vertex leads to, until nothing is new.
-    fn spread(&mut self, alloc: Global, picture: &Picture) -> Result<(), AllocError> {
-        let made = picture.made() as usize;
-        let edges = picture.edges();
-        let of_holders = Chains::of_holders(alloc, made, edges)?;
-        let of_targets = Chains::of_targets(alloc, made, edges)?;
+    fn spread(&mut self, edges: &[Edge], ways: &Ways) -> Result<(), AllocError> {
         for at in 0..NONE {
             let Some(kept) = self.steps.get(at as usize).copied() else {
                 break;
@@ -136,9 +204,9 @@ impl Found {
                 self.put(step.vertex, !step.forward, at)?;
             }
             if step.forward {
-                self.leave(edges, &of_holders, at, step.vertex)?;
+                self.leave(edges, ways, at, step.vertex)?;
             }
-            self.enter(edges, &of_targets, at, step)?;
+            self.enter(edges, ways, at, step)?;
         }
         Ok(())
     }
@@ -157,11 +225,11 @@ impl Found {
     fn leave(
         &mut self,
         edges: &[Edge],
-        chains: &Chains,
+        ways: &Ways,
         at: u32,
         vertex: u64,
     ) -> Result<(), AllocError> {
-        let mut next = chains.first(vertex);
+        let mut next = ways.first(vertex).on;
         for _ in 0..edges.len() {
             let Some(edge) = edges.get(next as usize) else {
                 break;
@@ -172,7 +240,7 @@ impl Found {
             if has(edge.label, Right::G) {
                 self.put(edge.to, false, at)?;
             }
-            next = chains.next(next);
+            next = ways.next(next).on;
         }
         Ok(())
     }
@@ -181,12 +249,12 @@ impl Found {
     fn enter(
         &mut self,
         edges: &[Edge],
-        chains: &Chains,
+        ways: &Ways,
         at: u32,
         step: Step,
     ) -> Result<(), AllocError> {
         let wanted = if step.forward { Right::G } else { Right::T };
-        let mut next = chains.first(step.vertex);
+        let mut next = ways.first(step.vertex).back;
         for _ in 0..edges.len() {
             let Some(edge) = edges.get(next as usize) else {
                 break;
@@ -194,7 +262,7 @@ impl Found {
             if has(edge.label, wanted) {
                 self.put(edge.from, false, at)?;
             }
-            next = chains.next(next);
+            next = ways.next(next).back;
         }
         Ok(())
     }

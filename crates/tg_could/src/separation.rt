@@ -1,5 +1,5 @@
 //! Separations: two sets of vertices, and whether they part someone from a right.
-ghost use Rattle.std.specs.Prelude.{◌≡◌, ◌↔◌, ◌<◌, ◌≤◌, IsTrue, length};
+ghost use Rattle.std.specs.Prelude.{◌≡◌, ◌≢◌, ◌↔◌, ◌<◌, ◌≤◌, IsTrue, length};
 ghost use Rattle.std.specs.List.{All, Contains};
 ghost use Rattle.tg_rights.specs.RightSet.{has as has_right};
 ghost use Rattle.tg_model.specs.Graph.{ProtectionGraph};
@@ -7,18 +7,17 @@ ghost use Rattle.tg_model.specs.Opened.{label_in};
 ghost use Rattle.tg_model.specs.declared.opening.TheConstants.{MAX_WORKERS};
 ghost use Rattle.tg_model.specs.Picture.{Holds, IsPictureOf};
 ghost use Rattle.tg_could.specs.Turns.{NeverHolds};
-ghost use Rattle.tg_could.specs.Separation.{MayAdd, Parts, Stays, sides_of, sides_against, place_in, ComesLater, IsEven};
+ghost use Rattle.tg_could.specs.Separation.{MayAdd, Parts, Stays, sides_of, sides_against, place_in, ComesLater, IsEven, IsIdle, AreApart, Suits};
 
-use crate::marks::Marks;
+use crate::marks::{Pairs, is_in_first, is_in_second};
 use std::alloc::{AllocError, Global};
 use tg_model::{Edge, MAX_WORKERS, Picture};
 use tg_rights::{Label, Right, Rights};
 
-/// Why x never holds a right: two sets of names, a bit of each name in each.
+/// Why x never holds a right: two sets of names, two bits for each name.
 #[derive(Drop)]
 pub struct Separation {
-    forward: Marks,
-    back: Marks,
+    pairs: Pairs,
 }
 
 /// Where a vertex is: in the first set, and in the second.
@@ -100,12 +99,49 @@ pub(crate) fn stays(label: Label, from: Place, to: Place) -> bool
     leads(grant, to.forward, from.back)
 }
 
+// Whether an edge has neither take nor grant, nor the right over y.
+fn is_idle(edge: &Edge, right: Right, y: u64) -> bool
+    ensures { IsTrue result → IsIdle right y edge.now }
+{
+    let take = has(edge.label, Right::T);
+    let grant = has(edge.label, Right::G);
+    let held = has(edge.label, right);
+    !take && !grant && (edge.to != y || !held)
+}
+
+// Whether neither of two vertices is in a set, and the name of the second isn't y.
+fn are_apart(from: Place, to: Place, name: u64, y: u64) -> bool
+    ensures { IsTrue result → AreApart from to × (name ≢ y) }
+{
+    !from.forward && !from.back && !to.forward && !to.back && name != y
+}
+
+// Whether an edge between vertices in these sets leads out of neither, and x is neither its holder nor its gift.
+fn are_fit(edge: &Edge, from: Place, to: Place, x: u64, right: Right, y: u64) -> bool
+    ensures { IsTrue result → Suits from to x right y edge.now }
+{
+    let grant = has(edge.label, Right::G);
+    let held = has(edge.label, right);
+    let at_x = edge.from == x;
+    let to_x = edge.to == x;
+    let to_y = edge.to == y;
+    if !stays(edge.label, from, to) {
+        return false;
+    }
+    if !leads(held, to_y, from.back) {
+        return false;
+    }
+    if !are_not_all(at_x, to_y, held) {
+        return false;
+    }
+    are_not_all(to_x, grant, from.forward)
+}
+
 impl Separation {
     /// Sets on so many names, which no name is in. Fails only when out of memory.
     pub(crate) fn none(alloc: Global, made: usize) -> Result<Separation, AllocError> {
         Ok(Separation {
-            forward: Marks::none(alloc, made)?,
-            back: Marks::none(alloc, made)?,
+            pairs: Pairs::none(alloc, made)?,
         })
     }
 
@@ -113,23 +149,24 @@ impl Separation {
     pub(crate) fn is_forward(&self, name: u64) -> bool
         ensures { result ≡ (sides_of self.now).forward name }
     {
-        self.forward.has(name)
+        is_in_first(self.pairs.pair(name))
     }
 
     /// Whether a name is in the second set.
     pub(crate) fn is_back(&self, name: u64) -> bool
         ensures { result ≡ (sides_of self.now).back name }
     {
-        self.back.has(name)
+        is_in_second(self.pairs.pair(name))
     }
 
     /// In which of the sets a name is.
     pub(crate) fn place(&self, name: u64) -> Place
         ensures { result ≡ place_in (sides_of self.now) name }
     {
+        let pair = self.pairs.pair(name);
         Place {
-            forward: self.is_forward(name),
-            back: self.is_back(name),
+            forward: is_in_first(pair),
+            back: is_in_second(pair),
         }
     }
 
@@ -137,42 +174,31 @@ impl Separation {
     pub(crate) fn place_against(&self, name: u64) -> Place
         ensures { result ≡ place_in (sides_against self.now) name }
     {
+        let pair = self.pairs.pair(name);
         Place {
-            forward: !self.is_back(name),
-            back: !self.is_forward(name),
+            forward: !is_in_second(pair),
+            back: !is_in_first(pair),
         }
     }
 
     /// Puts a name into one of the sets. Whether it wasn't there.
     pub(crate) fn put(&mut self, name: u64, forward: bool) -> bool {
-        if forward {
-            self.forward.put(name)
-        } else {
-            self.back.put(name)
-        }
+        self.pairs.put(name, forward)
     }
 
     // Whether an edge leads out of neither set, and x is neither its holder nor its gift.
     fn fits(&self, edge: &Edge, x: u64, right: Right, y: u64) -> bool
         ensures { IsTrue result → MayAdd (sides_of self.now) x right y edge.now.from edge.now.to edge.now.label }
     {
+        if is_idle(edge, right, y) {
+            return true;
+        }
         let from = self.place(edge.from);
         let to = self.place(edge.to);
-        let grant = has(edge.label, Right::G);
-        let held = has(edge.label, right);
-        let at_x = edge.from == x;
-        let to_x = edge.to == x;
-        let to_y = edge.to == y;
-        if !stays(edge.label, from, to) {
-            return false;
+        if are_apart(from, to, edge.to, y) {
+            return true;
         }
-        if !leads(held, to_y, from.back) {
-            return false;
-        }
-        if !are_not_all(at_x, to_y, held) {
-            return false;
-        }
-        are_not_all(to_x, grant, from.forward)
+        are_fit(edge, from, to, x, right, y)
     }
 
     // Whether the two sets part x from a right over y, as far as these edges go.

@@ -46,7 +46,7 @@ impl View {
     {
         let actors = actors_of(alloc, picture, silent)?;
         let sorted = Incoming::of(alloc, picture.made() as usize, picture.edges())?;
-        let islands = Islands::of(alloc, picture, &sorted.incoming, actors.as_slice())?;
+        let islands = Islands::of(alloc, picture, actors.as_slice())?;
         let facts = Facts {
             actors,
             islands,
@@ -100,7 +100,7 @@ impl Facts {
     }
 
     // Whether the facts are those of a picture.
-    fn is_checked(&self, picture: &Picture, silent: &[u64], places: &[u64]) -> bool
+    fn is_checked(&self, picture: &Picture, silent: &[u64], places: &[u32]) -> bool
         ensures { IsTrue result → IsCheckedOn silent.now picture.now self.now }
     {
         let actors = self.actors.as_slice();

@@ -1,38 +1,41 @@
-//! Who walks to each vertex along take edges: a bit for each of those who act. One search, depth first and back along
-//! the edges, in vertices + edges: vertices that walk to each other make a knot, which is known when all that lead to
-//! it are. Nothing is believed of it: what it finds is checked.
-use crate::incoming::Incoming;
+//! Who walks to each vertex along take edges: a bit for each of those who act. One search from them, depth first, in
+//! vertices + edges: vertices that walk to each other make a knot, and a knot is left behind all that it leads to; so
+//! back from the last one, each knot hands its bits on when it has all. Only what is walked to is looked at. Nothing is
+//! believed of it: what it finds is checked.
+use crate::chains::NONE;
+use crate::links::{Link, Links, number_of};
 use crate::separation::has;
 use crate::words::{add, word_of};
 use std::alloc::{AllocError, Global};
+use tg_model::Edge;
 use tg_rights::Right;
-
-// The number of a vertex whose knot is known, greater than that of any other.
-const KNOWN: u64 = u64::MAX;
 
 /// For each vertex a word of those of `actors` who walk to it, of whom the first 64 count. Fails only when out of
 /// memory.
 pub(crate) fn walks(
     alloc: Global,
-    incoming: &Incoming,
+    edges: &[Edge],
     made: usize,
     actors: &[u64],
 ) -> Result<Vec<u64>, AllocError> {
+    let takes = takes_of(alloc, made, edges)?;
     let mut words = vec![in alloc; 0; made]?;
-    for (at, actor) in actors.iter().enumerate() {
-        add(&mut words, *actor, bit_of(at));
-    }
     let mut walk = Walk {
-        words,
         numbers: vec![in alloc; 0; made]?,
         count: 0,
         path: Vec::new(alloc),
         open: Vec::new(alloc),
+        left: Vec::new(alloc),
+        starts: Vec::new(alloc),
     };
-    for name in 0..made as u64 {
-        walk.search(incoming, name)?;
+    for (at, actor) in actors.iter().enumerate() {
+        add(&mut words, *actor, bit_of(at));
+        if let Some(vertex) = number_of(*actor) {
+            walk.search(&takes, vertex)?;
+        }
     }
-    Ok(walk.words)
+    walk.hand_on(&takes, &mut words);
+    Ok(words)
 }
 
 /// The bit of a number, none past 63.
@@ -43,118 +46,163 @@ pub(crate) fn bit_of(at: usize) -> u64 {
     }
 }
 
-// A vertex on the path, the number that it got, and the place of the next edge to it.
-#[derive(Clone, Copy, Debug, Drop)]
-struct Visit {
-    name: u64,
-    number: u64,
-    next: u64,
+// The take edges from each vertex. Fails only when out of memory.
+fn takes_of(alloc: Global, made: usize, edges: &[Edge]) -> Result<Links, AllocError> {
+    let mut takes = Links::with_room(alloc, made, 0)?;
+    for edge in edges {
+        if has(edge.label, Right::T) {
+            takes.add(edge.from, edge.to, edge.label)?;
+        }
+    }
+    Ok(takes)
 }
 
-// For each vertex the word so far, and its number: 0 where it wasn't come to, else the least number of those that it
-// was seen to be in one knot with. The path leads to where the search is; open are those whose knot isn't known yet.
+// A vertex on the path, the number that it got, and the place of the next take edge from it.
+#[derive(Clone, Copy, Debug, Drop)]
+struct Visit {
+    vertex: u32,
+    number: u32,
+    next: u32,
+}
+
+// For each vertex a number: 0 where it wasn't come to, else the least number of those that it was seen to be in one
+// knot with, `NONE` when its knot was left. The path leads to where the search is; open are those whose knot wasn't left
+// yet; left are the others, knot by knot, and where each knot starts.
 #[derive(Drop)]
 struct Walk {
-    words: Vec<u64>,
-    numbers: Vec<u64>,
-    count: u64,
+    numbers: Vec<u32>,
+    count: u32,
     path: Vec<Visit>,
-    open: Vec<u64>,
+    open: Vec<u32>,
+    left: Vec<u32>,
+    starts: Vec<usize>,
 }
 
 impl Walk {
-    // Goes back from a vertex to all that walk to it, but for those that were come to.
-    fn search(&mut self, incoming: &Incoming, name: u64) -> Result<(), AllocError> {
-        if self.number(name) != 0 {
+    // Goes from a vertex to all that it walks to, but for those that were come to.
+    fn search(&mut self, takes: &Links, vertex: u32) -> Result<(), AllocError> {
+        if self.number(vertex) != 0 {
             return Ok(());
         }
-        self.visit(incoming, name)?;
+        self.visit(takes, vertex)?;
         for _ in 0..u64::MAX {
             let Some(visit) = self.path.last().copied() else {
                 break;
             };
-            if visit.next < incoming.end(visit.name) {
-                self.look_at(incoming, visit)?;
-            } else {
-                self.leave(visit);
+            match takes.at(visit.next) {
+                Some(link) => self.follow(takes, visit, link)?,
+                None => self.leave(visit)?,
             }
         }
         Ok(())
     }
 
     // Comes to a vertex.
-    fn visit(&mut self, incoming: &Incoming, name: u64) -> Result<(), AllocError> {
+    fn visit(&mut self, takes: &Links, vertex: u32) -> Result<(), AllocError> {
         self.count = self.count.saturating_add(1);
-        if let Some(number) = self.numbers.get_mut(name as usize) {
+        if let Some(number) = self.numbers.get_mut(vertex as usize) {
             *number = self.count;
         }
-        self.open.push(name)?;
+        self.open.push(vertex)?;
         self.path.push(Visit {
-            name,
+            vertex,
             number: self.count,
-            next: incoming.first(name),
+            next: takes.first(vertex),
         })?;
         Ok(())
     }
 
-    // Looks at the next edge to the last vertex of the path.
-    fn look_at(&mut self, incoming: &Incoming, visit: Visit) -> Result<(), AllocError> {
+    // Follows the next take edge from the last vertex of the path.
+    fn follow(&mut self, takes: &Links, visit: Visit, link: Link) -> Result<(), AllocError> {
         if let Some(last) = self.path.last_mut() {
-            last.next = visit.next.saturating_add(1);
+            last.next = link.next();
         }
-        let Some((from, label)) = incoming.holder(visit.next) else {
-            return Ok(());
-        };
-        if !has(label, Right::T) {
-            return Ok(());
+        if self.number(link.end()) == 0 {
+            return self.visit(takes, link.end());
         }
-        if self.number(from) == 0 {
-            return self.visit(incoming, from);
-        }
-        self.join(visit.name, from);
+        self.join(visit.vertex, link.end());
         Ok(())
     }
 
-    // Leaves the last vertex of the path. Its knot is known where it leads to none before it.
-    fn leave(&mut self, visit: Visit) {
+    // Leaves the last vertex of the path, and its knot where it leads to none before it.
+    fn leave(&mut self, visit: Visit) -> Result<(), AllocError> {
         self.path.pop();
-        if self.number(visit.name) == visit.number {
-            self.close(visit.name);
+        if self.number(visit.vertex) == visit.number {
+            self.leave_knot(visit.vertex)?;
         }
         if let Some(before) = self.path.last().copied() {
-            self.join(before.name, visit.name);
+            self.join(before.vertex, visit.vertex);
         }
+        Ok(())
     }
 
-    // Gives each vertex of a knot the word of the one where it was entered.
-    fn close(&mut self, first: u64) {
-        let word = word_of(self.words.as_slice(), first);
+    // Leaves the knot that was entered at a vertex.
+    fn leave_knot(&mut self, first: u32) -> Result<(), AllocError> {
+        self.starts.push(self.left.len())?;
         for _ in 0..self.open.len() {
-            let Some(name) = self.open.pop() else {
+            let Some(vertex) = self.open.pop() else {
                 break;
             };
-            add(&mut self.words, name, word);
-            if let Some(number) = self.numbers.get_mut(name as usize) {
-                *number = KNOWN;
+            if let Some(number) = self.numbers.get_mut(vertex as usize) {
+                *number = NONE;
             }
-            if name == first {
+            self.left.push(vertex)?;
+            if vertex == first {
                 break;
             }
         }
+        Ok(())
     }
 
-    // Counts for a vertex what is known of one that takes from it.
-    fn join(&mut self, name: u64, from: u64) {
-        let least = self.number(from);
-        if let Some(number) = self.numbers.get_mut(name as usize) {
+    // Counts for a vertex with whom one that it takes from is in one knot.
+    fn join(&mut self, vertex: u32, end: u32) {
+        let least = self.number(end);
+        if let Some(number) = self.numbers.get_mut(vertex as usize) {
             *number = least.min(*number);
         }
-        let word = word_of(self.words.as_slice(), from);
-        add(&mut self.words, name, word);
     }
 
     // The number of a vertex.
-    fn number(&self, name: u64) -> u64 {
-        self.numbers.get(name as usize).copied().unwrap_or(KNOWN)
+    fn number(&self, vertex: u32) -> u32 {
+        self.numbers.get(vertex as usize).copied().unwrap_or(NONE)
+    }
+
+    // From the knot left last to the first one, each hands its bits on.
+    fn hand_on(&mut self, takes: &Links, words: &mut Vec<u64>) {
+        let mut end = self.left.len();
+        for _ in 0..self.starts.len() {
+            let Some(start) = self.starts.pop() else {
+                break;
+            };
+            let word = self.word_of_knot(words.as_slice(), start, end);
+            for at in start..end {
+                self.hand_on_at(takes, words, at, word);
+            }
+            end = start;
+        }
+    }
+
+    // The vertex left at a place has these bits, and hands them on along each take edge from it.
+    fn hand_on_at(&self, takes: &Links, words: &mut Vec<u64>, at: usize, word: u64) {
+        let vertex = self.left.get(at).copied().unwrap_or(NONE);
+        add(words, u64::from(vertex), word);
+        let mut next = takes.first(vertex);
+        for _ in 0..takes.len() {
+            let Some(link) = takes.at(next) else {
+                break;
+            };
+            add(words, u64::from(link.end()), word);
+            next = link.next();
+        }
+    }
+
+    // The bits of all vertices of a knot.
+    fn word_of_knot(&self, words: &[u64], start: usize, end: usize) -> u64 {
+        let mut word = 0;
+        for at in start..end {
+            let vertex = self.left.get(at).copied().unwrap_or(NONE);
+            word |= word_of(words, u64::from(vertex));
+        }
+        word
     }
 }

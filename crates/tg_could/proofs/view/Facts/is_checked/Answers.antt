@@ -1,4 +1,4 @@
-use Rattle.std.proofs.Common.{◌≡◌, ◌∙◌, ◌<◌, subst, ℕ, List}
+use Rattle.std.proofs.Common.{◌∙◌, ◌<◌, subst, ℕ, List}
 use Rattle.std.specs.List.{All, Contains}
 use Rattle.tg_model.specs.declared.edge.Edge.{Edge}
 use Rattle.tg_could.specs.View.{IsListed, IsOfOne, Joins, IsIn}

@@ -1,0 +1,101 @@
+//! The edges with take or grant at each vertex, as chains of links, each with the vertex at the edge's other end.
+//! Nothing has to be believed of them: what is found by them is checked.
+use crate::chains::{NONE, place};
+use crate::separation::has;
+use std::alloc::{AllocError, Global};
+use tg_rights::{Label, Right};
+
+// How many vertices are numbered.
+const NUMBERED: u64 = 1 << 30;
+
+/// The number of a vertex, none past the last that is numbered, 2^30 - 1.
+pub(crate) fn number_of(vertex: u64) -> Option<u32> {
+    if vertex < NUMBERED {
+        u32::try_from(vertex).ok()
+    } else {
+        None
+    }
+}
+
+/// An edge as one of its ends sees it, in 8 bytes: four times the other end, two more for take, one more for grant; and
+/// the place of the next link of the same vertex.
+#[derive(Clone, Copy, Debug, Drop)]
+pub(crate) struct Link {
+    packed: u32,
+    next: u32,
+}
+
+impl Link {
+    /// The vertex at the other end.
+    pub(crate) fn end(self) -> u32 {
+        self.packed >> 2
+    }
+
+    /// Whether the edge has take.
+    pub(crate) fn has_take(self) -> bool {
+        self.packed & 2 != 0
+    }
+
+    /// Whether the edge has grant.
+    pub(crate) fn has_grant(self) -> bool {
+        self.packed & 1 != 0
+    }
+
+    /// The place of the next link of the same vertex, `NONE` where there is none.
+    pub(crate) fn next(self) -> u32 {
+        self.next
+    }
+}
+
+/// For each vertex the place of its last link, and all links.
+#[derive(Drop)]
+pub(crate) struct Links {
+    first: Vec<u32>,
+    links: Vec<Link>,
+}
+
+impl Links {
+    /// No vertex has a link; there is room for so many. Fails only when out of memory.
+    pub(crate) fn with_room(alloc: Global, made: usize, room: usize) -> Result<Links, AllocError> {
+        let mut links = Vec::new(alloc);
+        links.try_reserve(room)?;
+        Ok(Links {
+            first: vec![in alloc; NONE; made]?,
+            links,
+        })
+    }
+
+    /// Puts a link in front of a vertex's others. Fails only when out of memory.
+    pub(crate) fn add(&mut self, vertex: u64, end: u64, label: Label) -> Result<(), AllocError> {
+        let Some(end) = number_of(end) else {
+            return Ok(());
+        };
+        let at = place(self.links.len());
+        let Some(first) = self.first.get_mut(vertex as usize) else {
+            return Ok(());
+        };
+        let take = u32::from(has(label, Right::T));
+        let grant = u32::from(has(label, Right::G));
+        self.links.push(Link {
+            packed: end << 2 | take << 1 | grant,
+            next: *first,
+        })?;
+        *first = at;
+        Ok(())
+    }
+
+    /// The place of a vertex's first link, `NONE` where it has none.
+    pub(crate) fn first(&self, vertex: u32) -> u32 {
+        self.first.get(vertex as usize).copied().unwrap_or(NONE)
+    }
+
+    /// The link at a place.
+    pub(crate) fn at(&self, place: u32) -> Option<Link> {
+        self.links.get(place as usize).copied()
+    }
+
+    /// How many links there are.
+    pub(crate) fn len(&self) -> usize {
+        self.links.len()
+    }
+}
