@@ -1,6 +1,7 @@
 -- What a line more comes to for an audit of a text.
-use Rattle.std.proofs.Common.{◌≡◌, ◌∙◌, ℕ, ◌+◌, List, [], ◌∷◌, ◌++◌, length, ap, sym, subst, refl, append-nil, append_assoc, length-append, arith}
+use Rattle.std.proofs.Common.{◌≡◌, ◌∙◌, ℕ, ◌+◌, List, [], ◌∷◌, ◌++◌, length, Option, Some, None, IfSome, ap, sym, subst, refl, append-nil, append_assoc, length-append, arith}
 use Rattle.std.proofs.lemmas.List.{flat_map_more}
+use Rattle.std.specs.Io.KnownBytes.{Consumes, IsAtEnd}
 use Rattle.std.specs.List.{flat_map}
 use Rattle.tg_model.specs.declared.edge.Edge.{Edge}
 use Rattle.tg_model.specs.declared.value.Value.{Value}
@@ -12,7 +13,8 @@ use Rattle.tg_journal.specs.History.{graph_after}
 use Rattle.tg_journal.specs.Live.{graph_kept}
 use Rattle.tg_journal.proofs.HistoryLaws.{IsLegal-push, graph_after-push}
 use Rattle.tg_entries.specs.declared.stage.Entered.{Entered}
-use Rattle.tg_entries.specs.Read.{HasEntered}
+use Rattle.tg_entries.specs.declared.stage.Stage.{Stage}
+use Rattle.tg_entries.specs.Read.{HasEntered, HasRead}
 use Rattle.tg_entries.specs.Texts.{IsAudited, edge_text, end_text, entry_text, head_text, limits_text, opening_text, version_text, worker_text}
 
 -- the limits, behind the first line
@@ -84,3 +86,32 @@ end_read text line entered count was is same =
       whole =
           ap (λ (x : List ℕ). x ++ line) was.text_is ∙ ap (λ (x : List ℕ). front ++ x) (is ∙ ap end_text (same ∙ was.number));
     }
+
+-- ---- all lines of a reader
+
+-- what was taken of the known bytes is what the audit has read
+abbrev pub IsAt : Option (List ℕ) → Option (List ℕ) → Stage → Type 0
+IsAt None now stage = Unit {0}
+IsAt (Some xs) None stage = ⊥
+IsAt (Some xs) (Some rest) stage = (front : List ℕ) × (xs ≡ front ++ rest) × HasRead front stage
+
+pub at_first : (known : Option (List ℕ)) (stage : Stage) → HasRead [] stage → IsAt known known stage
+at_first None stage read = tt
+at_first (Some xs) stage read = ([], refl, read)
+
+-- a line was taken and read
+pub at_next : (known now then : Option (List ℕ)) (stage next : Stage) (line : List ℕ) → IsAt known now stage → Consumes now then line →
+    ((text : List ℕ) → HasRead text stage → HasRead (text ++ line) next) → IsAt known then next
+at_next None now then stage next line was takes reads = tt
+at_next (Some xs) None then stage next line was takes reads = absurd was
+at_next (Some xs) (Some rest) None stage next line was takes reads = absurd takes
+at_next (Some xs) (Some rest) (Some left) stage next line was takes reads =
+    (was.0 ++ line, was.1 ∙ ap (λ (x : List ℕ). was.0 ++ x) takes ∙ sym (append_assoc was.0 line left), reads was.0 was.2)
+
+-- none is left
+pub at_last : (known now : Option (List ℕ)) (stage : Stage) (count : ℕ) → IsAt known now stage → IsAtEnd now →
+    ((text : List ℕ) → HasRead text stage → IsAudited text count) → IfSome known (λ text. IsAudited text count)
+at_last None now stage count was none ends = tt
+at_last (Some xs) None stage count was none ends = absurd was
+at_last (Some xs) (Some rest) stage count was none ends =
+    subst (λ (text : List ℕ). IsAudited text count) (sym (was.1 ∙ ap (λ (x : List ℕ). was.0 ++ x) none ∙ append-nil was.0)) (ends was.0 was.2)

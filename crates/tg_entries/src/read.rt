@@ -32,9 +32,9 @@ pub(crate) fn read_end(text: &str) -> Option<u64> {
 
 /// The edge of the opening.
 pub(crate) fn read_edge(text: &str) -> Option<Edge> {
-    match read_line(text.as_bytes())? {
-        Line::Edge(edge) => Some(edge),
-        _ => None,
+    match read_line(text.as_bytes()) {
+        Some(Line::Edge(edge)) => Some(edge),
+        Some(_) | None => None,
     }
 }
 
