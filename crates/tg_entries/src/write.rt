@@ -21,7 +21,8 @@ pub const VERSION: &[u8] = b"kovshenul entries 1\n";
 
 /// Writes the line of an entry, or a front of it where the sink fails. Takes no memory.
 pub fn write_entry<K: Sink>(sink: &mut K, entry: &Entry) -> Result<(), WriteFailed>
-    ensures { Writes (K.taken sink.old) (K.failures sink.old) (entry_text entry.now) result (K.taken sink.new) (K.failures sink.new) }
+    ensures { Writes (K.taken sink.old) (K.failures sink.old) (entry_text entry.now) result
+        (K.taken sink.new) (K.failures sink.new) }
 {
     write_deed(sink, entry.worker, &entry.deed)?;
     write_answered(sink, entry)
@@ -29,7 +30,9 @@ pub fn write_entry<K: Sink>(sink: &mut K, entry: &Entry) -> Result<(), WriteFail
 
 // Writes what stands behind the deed.
 fn write_answered<K: Sink>(sink: &mut K, entry: &Entry) -> Result<(), WriteFailed>
-    ensures { Writes (K.taken sink.old) (K.failures sink.old) (codes " = " ++ answer_text (Answer.Reply entry.now.reply)) result (K.taken sink.new) (K.failures sink.new) }
+    ensures { Writes (K.taken sink.old) (K.failures sink.old)
+        (codes " = " ++ answer_text (Answer.Reply entry.now.reply)) result
+        (K.taken sink.new) (K.failures sink.new) }
 {
     put_all(sink, b" = ")?;
     write_reply_of(sink, &entry.reply)
@@ -42,7 +45,8 @@ pub fn write_limits<K: Sink>(
     workers: u64,
     max_vertices: u64,
 ) -> Result<(), WriteFailed>
-    ensures { Writes (K.taken sink.old) (K.failures sink.old) (limits_text workers max_vertices) result (K.taken sink.new) (K.failures sink.new) }
+    ensures { Writes (K.taken sink.old) (K.failures sink.old) (limits_text workers max_vertices) result
+        (K.taken sink.new) (K.failures sink.new) }
 {
     let mut first = Buffer::new();
     let mut second = Buffer::new();
@@ -60,14 +64,17 @@ pub fn write_limits<K: Sink>(
 
 /// Writes the line of a worker's value, or a front of it where the sink fails. Takes no memory.
 pub fn write_worker<K: Sink>(sink: &mut K, value: &Value) -> Result<(), WriteFailed>
-    ensures { Writes (K.taken sink.old) (K.failures sink.old) (worker_text value.now) result (K.taken sink.new) (K.failures sink.new) }
+    ensures { Writes (K.taken sink.old) (K.failures sink.old) (worker_text value.now) result
+        (K.taken sink.new) (K.failures sink.new) }
 {
     put_all(sink, b"worker ")?;
     write_value_line(sink, value)
 }
 
 fn write_value_line<K: Sink>(sink: &mut K, value: &Value) -> Result<(), WriteFailed>
-    ensures { Writes (K.taken sink.old) (K.failures sink.old) (value_text value.now.law value.now.state ++ codes "\n") result (K.taken sink.new) (K.failures sink.new) }
+    ensures { Writes (K.taken sink.old) (K.failures sink.old)
+        (value_text value.now.law value.now.state ++ codes "\n") result
+        (K.taken sink.new) (K.failures sink.new) }
 {
     write_value(sink, value.law, value.state.as_slice())?;
     put_all(sink, b"\n")
@@ -75,14 +82,16 @@ fn write_value_line<K: Sink>(sink: &mut K, value: &Value) -> Result<(), WriteFai
 
 /// Writes the line of an edge of the opening, or a front of it where the sink fails. Takes no memory.
 pub fn write_edge<K: Sink>(sink: &mut K, edge: Edge) -> Result<(), WriteFailed>
-    ensures { Writes (K.taken sink.old) (K.failures sink.old) (edge_text edge) result (K.taken sink.new) (K.failures sink.new) }
+    ensures { Writes (K.taken sink.old) (K.failures sink.old) (edge_text edge) result
+        (K.taken sink.new) (K.failures sink.new) }
 {
     write_edge_words(sink, edge)?;
     put_all(sink, b"\n")
 }
 
 fn write_edge_words<K: Sink>(sink: &mut K, edge: Edge) -> Result<(), WriteFailed>
-    ensures { Writes (K.taken sink.old) (K.failures sink.old) (line_text (Line.Edge edge)) result (K.taken sink.new) (K.failures sink.new) }
+    ensures { Writes (K.taken sink.old) (K.failures sink.old) (line_text (Line.Edge edge)) result
+        (K.taken sink.new) (K.failures sink.new) }
 {
     let mut first = Buffer::new();
     let mut second = Buffer::new();
@@ -100,22 +109,17 @@ fn write_edge_words<K: Sink>(sink: &mut K, edge: Edge) -> Result<(), WriteFailed
 
 /// Writes the last line, with the number of entries, or a front of it where the sink fails. Takes no memory.
 pub fn write_end<K: Sink>(sink: &mut K, count: u64) -> Result<(), WriteFailed>
-    ensures { Writes (K.taken sink.old) (K.failures sink.old) (end_text count) result (K.taken sink.new) (K.failures sink.new) }
+    ensures { Writes (K.taken sink.old) (K.failures sink.old) (end_text count) result
+        (K.taken sink.new) (K.failures sink.new) }
 {
     let mut buffer = Buffer::new();
-    put_texts(
-        sink,
-        &[b"entries ", buffer.format(count).as_bytes(), b"\n"],
-    )
+    put_texts(sink, &[b"entries ", buffer.format(count).as_bytes(), b"\n"])
 }
 
 /// Writes the deed of an entry, which stands in front of ` = `, or a front of it where the sink fails. Takes no memory.
-pub(crate) fn write_deed<K: Sink>(
-    sink: &mut K,
-    worker: u64,
-    deed: &Deed,
-) -> Result<(), WriteFailed>
-    ensures { Writes (K.taken sink.old) (K.failures sink.old) (deed_text worker deed.now) result (K.taken sink.new) (K.failures sink.new) }
+pub(crate) fn write_deed<K: Sink>(sink: &mut K, worker: u64, deed: &Deed) -> Result<(), WriteFailed>
+    ensures { Writes (K.taken sink.old) (K.failures sink.old) (deed_text worker deed.now) result
+        (K.taken sink.new) (K.failures sink.new) }
 {
     match deed {
         Deed::Create { label, law, state } => {
@@ -137,7 +141,9 @@ fn write_making<K: Sink>(
     law: Law,
     state: &[u64],
 ) -> Result<(), WriteFailed>
-    ensures { Writes (K.taken sink.old) (K.failures sink.old) (join_with_byte 32 (decimal worker ∷ word.now ∷ text_of label ∷ []) ++ (32 ∷ value_text law state.now)) result (K.taken sink.new) (K.failures sink.new) }
+    ensures { Writes (K.taken sink.old) (K.failures sink.old)
+        (join_with_byte 32 (decimal worker ∷ word.now ∷ text_of label ∷ []) ++ (32 ∷ value_text law state.now)) result
+        (K.taken sink.new) (K.failures sink.new) }
 {
     write_making_words(sink, worker, word, label)?;
     write_stored(sink, law, state)
@@ -149,7 +155,9 @@ fn write_making_words<K: Sink>(
     word: &[u8],
     label: Label,
 ) -> Result<(), WriteFailed>
-    ensures { Writes (K.taken sink.old) (K.failures sink.old) (join_with_byte 32 (decimal worker ∷ word.now ∷ text_of label ∷ [])) result (K.taken sink.new) (K.failures sink.new) }
+    ensures { Writes (K.taken sink.old) (K.failures sink.old)
+        (join_with_byte 32 (decimal worker ∷ word.now ∷ text_of label ∷ [])) result
+        (K.taken sink.new) (K.failures sink.new) }
 {
     let mut first = Buffer::new();
     let rights = label.rights().text();
@@ -162,7 +170,8 @@ fn write_making_words<K: Sink>(
 
 // Writes what a vertex stores, behind a space.
 fn write_stored<K: Sink>(sink: &mut K, law: Law, state: &[u64]) -> Result<(), WriteFailed>
-    ensures { Writes (K.taken sink.old) (K.failures sink.old) (32 ∷ value_text law state.now) result (K.taken sink.new) (K.failures sink.new) }
+    ensures { Writes (K.taken sink.old) (K.failures sink.old) (32 ∷ value_text law state.now) result
+        (K.taken sink.new) (K.failures sink.new) }
 {
     put_all(sink, b" ")?;
     write_value(sink, law, state)
@@ -170,7 +179,8 @@ fn write_stored<K: Sink>(sink: &mut K, law: Law, state: &[u64]) -> Result<(), Wr
 
 // Writes the letter of a law and the numbers.
 fn write_value<K: Sink>(sink: &mut K, law: Law, state: &[u64]) -> Result<(), WriteFailed>
-    ensures { Writes (K.taken sink.old) (K.failures sink.old) (value_text law state.now) result (K.taken sink.new) (K.failures sink.new) }
+    ensures { Writes (K.taken sink.old) (K.failures sink.old) (value_text law state.now) result
+        (K.taken sink.new) (K.failures sink.new) }
 {
     match law {
         Law::Cell => write_numbers(sink, b"c", state),
@@ -181,7 +191,8 @@ fn write_value<K: Sink>(sink: &mut K, law: Law, state: &[u64]) -> Result<(), Wri
 }
 
 fn write_log<K: Sink>(sink: &mut K, most: u32, state: &[u64]) -> Result<(), WriteFailed>
-    ensures { Writes (K.taken sink.old) (K.failures sink.old) (value_text (Law.Log most) state.now) result (K.taken sink.new) (K.failures sink.new) }
+    ensures { Writes (K.taken sink.old) (K.failures sink.old) (value_text (Law.Log most) state.now) result
+        (K.taken sink.new) (K.failures sink.new) }
 {
     write_number(sink, b"l", u64::from(most))?;
     write_logged(sink, state)
@@ -189,7 +200,8 @@ fn write_log<K: Sink>(sink: &mut K, most: u32, state: &[u64]) -> Result<(), Writ
 
 // Writes the numbers of a log, behind a colon where it has any.
 fn write_logged<K: Sink>(sink: &mut K, state: &[u64]) -> Result<(), WriteFailed>
-    ensures { Writes (K.taken sink.old) (K.failures sink.old) (logged_text state.now) result (K.taken sink.new) (K.failures sink.new) }
+    ensures { Writes (K.taken sink.old) (K.failures sink.old) (logged_text state.now) result
+        (K.taken sink.new) (K.failures sink.new) }
 {
     match state {
         [] => Ok(()),
@@ -199,7 +211,8 @@ fn write_logged<K: Sink>(sink: &mut K, state: &[u64]) -> Result<(), WriteFailed>
 
 // Writes a text, and numbers behind it with a comma between two.
 fn write_numbers<K: Sink>(sink: &mut K, front: &[u8], numbers: &[u64]) -> Result<(), WriteFailed>
-    ensures { Writes (K.taken sink.old) (K.failures sink.old) (front.now ++ numbers_text numbers.now) result (K.taken sink.new) (K.failures sink.new) }
+    ensures { Writes (K.taken sink.old) (K.failures sink.old) (front.now ++ numbers_text numbers.now) result
+        (K.taken sink.new) (K.failures sink.new) }
 {
     put_all(sink, front)?;
     match numbers {
@@ -209,14 +222,16 @@ fn write_numbers<K: Sink>(sink: &mut K, front: &[u8], numbers: &[u64]) -> Result
 }
 
 fn write_joined<K: Sink>(sink: &mut K, first: u64, rest: &[u64]) -> Result<(), WriteFailed>
-    ensures { Writes (K.taken sink.old) (K.failures sink.old) (numbers_text (first ∷ rest.now)) result (K.taken sink.new) (K.failures sink.new) }
+    ensures { Writes (K.taken sink.old) (K.failures sink.old) (numbers_text (first ∷ rest.now)) result
+        (K.taken sink.new) (K.failures sink.new) }
 {
     write_number(sink, b"", first)?;
     write_more(sink, rest)
 }
 
 fn write_more<K: Sink>(sink: &mut K, numbers: &[u64]) -> Result<(), WriteFailed>
-    ensures { Writes (K.taken sink.old) (K.failures sink.old) (flat_map more_text numbers.now) result (K.taken sink.new) (K.failures sink.new) }
+    ensures { Writes (K.taken sink.old) (K.failures sink.old) (flat_map more_text numbers.now) result
+        (K.taken sink.new) (K.failures sink.new) }
 {
     for number in numbers {
         write_number(sink, b",", *number)?;
@@ -225,7 +240,8 @@ fn write_more<K: Sink>(sink: &mut K, numbers: &[u64]) -> Result<(), WriteFailed>
 }
 
 fn write_number<K: Sink>(sink: &mut K, front: &[u8], number: u64) -> Result<(), WriteFailed>
-    ensures { Writes (K.taken sink.old) (K.failures sink.old) (front.now ++ decimal number) result (K.taken sink.new) (K.failures sink.new) }
+    ensures { Writes (K.taken sink.old) (K.failures sink.old) (front.now ++ decimal number) result
+        (K.taken sink.new) (K.failures sink.new) }
 {
     let mut buffer = Buffer::new();
     put_texts(sink, &[front, buffer.format(number).as_bytes()])
@@ -233,7 +249,8 @@ fn write_number<K: Sink>(sink: &mut K, front: &[u8], number: u64) -> Result<(), 
 
 // Writes the words of a command.
 fn write_command<K: Sink>(sink: &mut K, worker: u64, command: Command) -> Result<(), WriteFailed>
-    ensures { Writes (K.taken sink.old) (K.failures sink.old) (line_text (Line.Plain worker command)) result (K.taken sink.new) (K.failures sink.new) }
+    ensures { Writes (K.taken sink.old) (K.failures sink.old) (line_text (Line.Plain worker command)) result
+        (K.taken sink.new) (K.failures sink.new) }
 {
     match command {
         Command::Take {
@@ -265,7 +282,9 @@ fn write_move<K: Sink>(
     target: u64,
     label: Label,
 ) -> Result<(), WriteFailed>
-    ensures { Writes (K.taken sink.old) (K.failures sink.old) (join_with_byte 32 (decimal worker ∷ word.now ∷ decimal via ∷ decimal target ∷ text_of label ∷ [])) result (K.taken sink.new) (K.failures sink.new) }
+    ensures { Writes (K.taken sink.old) (K.failures sink.old)
+        (join_with_byte 32 (decimal worker ∷ word.now ∷ decimal via ∷ decimal target ∷ text_of label ∷ [])) result
+        (K.taken sink.new) (K.failures sink.new) }
 {
     let mut first = Buffer::new();
     let mut second = Buffer::new();
@@ -290,7 +309,9 @@ fn write_removal<K: Sink>(
     target: u64,
     label: Label,
 ) -> Result<(), WriteFailed>
-    ensures { Writes (K.taken sink.old) (K.failures sink.old) (join_with_byte 32 (decimal worker ∷ codes "remove" ∷ decimal target ∷ text_of label ∷ [])) result (K.taken sink.new) (K.failures sink.new) }
+    ensures { Writes (K.taken sink.old) (K.failures sink.old)
+        (join_with_byte 32 (decimal worker ∷ codes "remove" ∷ decimal target ∷ text_of label ∷ [])) result
+        (K.taken sink.new) (K.failures sink.new) }
 {
     let mut first = Buffer::new();
     let mut second = Buffer::new();
@@ -313,7 +334,9 @@ fn write_of_one<K: Sink>(
     word: &[u8],
     number: u64,
 ) -> Result<(), WriteFailed>
-    ensures { Writes (K.taken sink.old) (K.failures sink.old) (join_with_byte 32 (decimal worker ∷ word.now ∷ decimal number ∷ [])) result (K.taken sink.new) (K.failures sink.new) }
+    ensures { Writes (K.taken sink.old) (K.failures sink.old)
+        (join_with_byte 32 (decimal worker ∷ word.now ∷ decimal number ∷ [])) result
+        (K.taken sink.new) (K.failures sink.new) }
 {
     let mut first = Buffer::new();
     let mut second = Buffer::new();
@@ -332,7 +355,9 @@ fn write_of_two<K: Sink>(
     number: u64,
     value: u64,
 ) -> Result<(), WriteFailed>
-    ensures { Writes (K.taken sink.old) (K.failures sink.old) (join_with_byte 32 (decimal worker ∷ word.now ∷ decimal number ∷ decimal value ∷ [])) result (K.taken sink.new) (K.failures sink.new) }
+    ensures { Writes (K.taken sink.old) (K.failures sink.old)
+        (join_with_byte 32 (decimal worker ∷ word.now ∷ decimal number ∷ decimal value ∷ [])) result
+        (K.taken sink.new) (K.failures sink.new) }
 {
     let mut first = Buffer::new();
     let mut second = Buffer::new();
@@ -350,19 +375,19 @@ fn write_of_two<K: Sink>(
 
 // Writes the words of a command with nothing behind its own.
 fn write_bare<K: Sink>(sink: &mut K, worker: u64, word: &[u8]) -> Result<(), WriteFailed>
-    ensures { Writes (K.taken sink.old) (K.failures sink.old) (join_with_byte 32 (decimal worker ∷ word.now ∷ [])) result (K.taken sink.new) (K.failures sink.new) }
+    ensures { Writes (K.taken sink.old) (K.failures sink.old)
+        (join_with_byte 32 (decimal worker ∷ word.now ∷ [])) result
+        (K.taken sink.new) (K.failures sink.new) }
 {
     let mut first = Buffer::new();
     write_words(sink, first.format(worker).as_bytes(), &[word])
 }
 
 // Writes words, with a space between two.
-fn write_words<K: Sink>(
-    sink: &mut K,
-    first: &[u8],
-    others: &[&[u8]],
-) -> Result<(), WriteFailed>
-    ensures { Writes (K.taken sink.old) (K.failures sink.old) (join_with_byte 32 (first.now ∷ map (λ word. word.now) others.now)) result (K.taken sink.new) (K.failures sink.new) }
+fn write_words<K: Sink>(sink: &mut K, first: &[u8], others: &[&[u8]]) -> Result<(), WriteFailed>
+    ensures { Writes (K.taken sink.old) (K.failures sink.old)
+        (join_with_byte 32 (first.now ∷ map (λ word. word.now) others.now)) result
+        (K.taken sink.new) (K.failures sink.new) }
 {
     put_all(sink, first)?;
     write_others(sink, others)
@@ -370,7 +395,8 @@ fn write_words<K: Sink>(
 
 // Writes words, each behind a space.
 fn write_others<K: Sink>(sink: &mut K, words: &[&[u8]]) -> Result<(), WriteFailed>
-    ensures { Writes (K.taken sink.old) (K.failures sink.old) (flat_map (λ word. 32 ∷ word.now) words.now) result (K.taken sink.new) (K.failures sink.new) }
+    ensures { Writes (K.taken sink.old) (K.failures sink.old) (flat_map (λ word. 32 ∷ word.now) words.now) result
+        (K.taken sink.new) (K.failures sink.new) }
 {
     for word in words {
         write_other(sink, word)?;
@@ -379,7 +405,8 @@ fn write_others<K: Sink>(sink: &mut K, words: &[&[u8]]) -> Result<(), WriteFaile
 }
 
 fn write_other<K: Sink>(sink: &mut K, word: &[u8]) -> Result<(), WriteFailed>
-    ensures { Writes (K.taken sink.old) (K.failures sink.old) (32 ∷ word.now) result (K.taken sink.new) (K.failures sink.new) }
+    ensures { Writes (K.taken sink.old) (K.failures sink.old) (32 ∷ word.now) result
+        (K.taken sink.new) (K.failures sink.new) }
 {
     put_texts(sink, &[b" ", word])
 }

@@ -6,9 +6,9 @@ use std::convert::AsStr;
 
 const ABOUT: &str = "Audits the text of a history, as tgstore --entries writes it
 
-Reads from standard input which form the text has, an opening, a line for each entry, and how many these are. Replays the entries on
-the plain graph of the opening, and compares each reply. Writes 'audit ok, N entries' where all is as the rules have it. Else
-standard error names the first line at fault, counted from 1; an entry by its place, counted from 0.
+Reads from standard input which form the text has, an opening, a line for each entry, and how many these are. Replays
+the entries on the plain graph of the opening, and compares each reply. Writes 'audit ok, N entries' where all is as the
+rules have it. Else standard error names the first line at fault, counted from 1; an entry by its place, from 0.
 
 It takes memory by the longest line, and by what the subjects reach, and not by the entries.";
 
@@ -20,11 +20,12 @@ const FORM: &str = "The form:
   0 create r c0 = ok 5        for each entry: a line of a script, what a new vertex stores, and the reply
   entries N                   the last line
 
-  A vertex stores a law's letter and its numbers: c7 a cell, s7 a sum, m7 a maximum, l4:1,2 a log of at most 4, l4 an empty one.
+  A vertex stores a law's letter and its numbers: c7 a cell, s7 a sum, m7 a maximum, l4:1,2 a log of at most 4, and l4
+  one that is empty.
 
 Faults:
   line L: bad line            it is none of these, or may not stand there; or N isn't the number of entries
-  line L: bad entry N         the worker is no active subject, the value fits no law, or the reply isn't the rules' answer
+  line L: bad entry N         its worker is no active subject, its value fits no law, or the reply isn't the rules'
   line L: the end is cut off  the text ends within line L, or in front of it without the last line
 
 Exit status:
