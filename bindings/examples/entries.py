@@ -6,19 +6,23 @@ OPENING = [Cell(0), Max(3)], [Edge(HOST, GUEST, GRANT | TAKE)]
 LETTERS = {Cell: "c", Sum: "s", Max: "m", Log: "l"}
 
 
+def value_text(value):
+    """What a vertex stores at first: the letter of its law, and its number, or how many a log keeps."""
+    return f"{LETTERS[type(value)]}{value.most if isinstance(value, Log) else value.number}"
+
+
 def words_of(deed):
     """What was asked for: its name, and its numbers, rights and value."""
     for word in (type(deed).__name__.lower(), *vars(deed).values()):
-        letter = LETTERS.get(type(word))
-        yield letter + str(*vars(word).values()) if letter else getattr(word, "letters", word)
+        yield value_text(word) if type(word) in LETTERS else getattr(word, "letters", word)
 
 
 def reply_text(reply):
     """What was answered."""
     if isinstance(reply, journal.Denied):
-        causes = {"distinct": ["distinct"], "law": ["law"]}
-        missing = [f"{reply.edge[0]}->{reply.edge[1]}", reply.rights.letters] if reply.edge else causes[reply.cause]
-        return " ".join(["denied", reply.rule, *missing])
+        others = {"not distinct": ["distinct"], "not log": ["law"]}
+        cause = [f"{reply.edge[0]}->{reply.edge[1]}", reply.rights.letters] if reply.edge else others[reply.cause]
+        return " ".join(["denied", reply.rule, *cause])
     if isinstance(reply, (journal.VerticesFull, journal.WorkersFull)):
         return "refused vertices" if isinstance(reply, journal.VerticesFull) else "refused workers"
     words = {
@@ -38,7 +42,7 @@ def opening_text(values, edges, max_vertices):
     """The lines in front of the entries."""
     yield "kovshenul entries 1"
     yield f"opening {len(values)} {max_vertices}"
-    yield from (f"worker {LETTERS[type(value)]}{vars(value).popitem()[1]}" for value in values)
+    yield from (f"worker {value_text(value)}" for value in values)
     yield from (f"edge {edge.source} {edge.target} {edge.rights.letters}" for edge in edges)
 
 
