@@ -1,5 +1,4 @@
-//! Audits the text of a history: an opening and the entries behind it, as `tgstore --entries` and hosts of the library
-//! write them.
+//! Audits the text of a history: an opening and the entries behind it, as hosts of the library write them.
 //!
 //! It reads the text from standard input, line by line, and answers how many entries it has where all of them are a
 //! legal history of its opening; else which line is the first at fault. `tg_entries` reads and replays it: this is the

@@ -4,7 +4,8 @@ use clap::{Command, Error};
 use std::alloc::Global;
 use std::convert::AsStr;
 
-const ABOUT: &str = "Audits the text of a history, as tgstore --entries writes it
+const ABOUT: &str =
+    "Audits the text of a history: its opening, and a line for each entry with its reply
 
 Reads from standard input which form the text has, an opening, a line for each entry, and how many these are. Replays
 the entries on the plain graph of the opening, and compares each reply. Writes 'audit ok, N entries' where all is as the
@@ -34,7 +35,8 @@ Exit status:
   2  the words of the command line were not accepted
 
 Example:
-  tgstore --entries --stock c3 < script.txt | tgaudit";
+  printf 'kovshenul entries 1\\nopening 1 9\\nworker c0\\n0 create r c5 = ok 1\\n0 read 1 = ok 5\\nentries 2\\n' | tgaudit
+  writes 'audit ok, 2 entries'.";
 
 /// Reads the words, the first of which is the program's name: there are no options but for the help. An `Err` is the
 /// text for the user, of the help as of a fault.
