@@ -4,8 +4,11 @@ use Rattle.std.proofs.Common.{Bor}
 use Rattle.std.proofs.lemmas.List.{take_more, flat_map_more}
 use Rattle.std.specs.List.{flat_map, join_with_byte}
 use Rattle.std.specs.Result.{IsErr}
+use Rattle.tg_model.specs.declared.edge.Edge.{Edge}
+use Rattle.tg_model.specs.declared.value.Value.{Value}
 use Rattle.tg_text.specs.Sinks.{Wrote, WroteSome, Writes}
 use Rattle.tg_text.proofs.SinkLaws.{Sofar, wrote_more, writes_cut_at}
+use Rattle.tg_entries.specs.Texts.{opening_text}
 
 -- words behind a first one, each behind a space, are joined by spaces
 pub words_join : (first : List ℕ) (words : List (Bor (List ℕ))) →
@@ -30,3 +33,10 @@ pub cut_more : {T E X : Type 0} (text : X → List ℕ) (xs : List X) (i : ℕ) 
     Writes old f (flat_map text xs) r after h
 cut_more {T} {E} {X} text xs i x old now after f g h r inside is failed was k =
     writes_cut_at text xs i x [] old now after f g h r inside failed was (subst (λ (y : X). WroteSome now (text y) after) is k.0, k.1)
+
+-- the same opening, part by part
+pub opening_same : (workers workers' limit limit' : ℕ) (values values' : List Value) (edges edges' : List Edge) → workers ≡ workers' → limit ≡ limit' →
+    values ≡ values' → edges ≡ edges' → opening_text workers limit values edges ≡ opening_text workers' limit' values' edges'
+opening_same workers workers' limit limit' values values' edges edges' p q r s =
+    ap (λ (x : ℕ). opening_text x limit values edges) p ∙ ap (λ (x : ℕ). opening_text workers' x values edges) q
+    ∙ ap (λ (x : List Value). opening_text workers' limit' x edges) r ∙ ap (λ (x : List Edge). opening_text workers' limit' values' x) s
