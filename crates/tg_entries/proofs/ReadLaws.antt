@@ -1,0 +1,117 @@
+-- What a line more comes to for an audit of a text.
+use Rattle.std.proofs.Common.{◌≡◌, ◌∙◌, ℕ, ◌+◌, List, [], ◌∷◌, ◌++◌, length, Option, Some, None, IfSome, ap, sym, subst, refl, append-nil, append_assoc, length-append, arith}
+use Rattle.std.proofs.lemmas.List.{flat_map_more}
+use Rattle.std.specs.Io.KnownBytes.{Consumes, IsAtEnd}
+use Rattle.std.specs.List.{flat_map}
+use Rattle.tg_model.specs.declared.edge.Edge.{Edge}
+use Rattle.tg_model.specs.declared.value.Value.{Value}
+use Rattle.tg_model.specs.Graph.{ProtectionGraph}
+use Rattle.tg_model.specs.Opened.{Plan, IsPlan, start_of}
+use Rattle.tg_journal.specs.declared.entry.Entry.{Entry}
+use Rattle.tg_journal.specs.Auditing.{HasComeTo, Passes}
+use Rattle.tg_journal.specs.History.{graph_after}
+use Rattle.tg_journal.specs.Live.{graph_kept}
+use Rattle.tg_journal.proofs.HistoryLaws.{IsLegal-push, graph_after-push}
+use Rattle.tg_entries.specs.declared.stage.Entered.{Entered}
+use Rattle.tg_entries.specs.declared.stage.Stage.{Stage}
+use Rattle.tg_entries.specs.Read.{HasEntered, HasRead}
+use Rattle.tg_entries.specs.Texts.{IsAudited, edge_text, end_text, entry_text, head_text, limits_text, opening_text, version_text, worker_text}
+
+-- the limits, behind the first line
+pub limits_read : (text line : List ℕ) (workers limit : ℕ) → text ≡ version_text → line ≡ limits_text workers limit → text ++ line ≡ opening_text workers limit [] []
+limits_read text line workers limit before is =
+    let front = version_text ++ limits_text workers limit in
+    ap (λ (x : List ℕ). x ++ line) before ∙ ap (λ (x : List ℕ). version_text ++ x) is
+    ∙ sym (append-nil (front ++ []) ∙ append-nil front)
+
+-- a worker's value, where no edge came
+pub worker_read : (text line : List ℕ) (workers limit : ℕ) (values : List Value) (value : Value) →
+    text ≡ opening_text workers limit values [] → line ≡ worker_text value → text ++ line ≡ opening_text workers limit (values ++ value ∷ []) []
+worker_read text line workers limit values value before is =
+    let front = version_text ++ limits_text workers limit in
+    ap (λ (x : List ℕ). x ++ line) (before ∙ append-nil (front ++ flat_map worker_text values))
+    ∙ ap (λ (x : List ℕ). (front ++ flat_map worker_text values) ++ x) is
+    ∙ flat_map_more worker_text front values value ∙ sym (append-nil (front ++ flat_map worker_text (values ++ value ∷ [])))
+
+-- an edge
+pub edge_read : (text line : List ℕ) (workers limit : ℕ) (values : List Value) (edges : List Edge) (edge : Edge) →
+    text ≡ opening_text workers limit values edges → line ≡ edge_text edge → text ++ line ≡ opening_text workers limit values (edges ++ edge ∷ [])
+edge_read text line workers limit values edges edge before is =
+    let front = (version_text ++ limits_text workers limit) ++ flat_map worker_text values in
+    ap (λ (x : List ℕ). x ++ line) before ∙ ap (λ (x : List ℕ). (front ++ flat_map edge_text edges) ++ x) is
+    ∙ flat_map_more edge_text front edges edge
+
+-- the whole opening, before any entry
+pub opening_read : (text : List ℕ) (plan : Plan) (entered : Entered) → text ≡ head_text plan → IsPlan plan →
+    HasComeTo (start_of plan) (graph_kept entered.auditor) → entered.count ≡ 0 → HasEntered text entered
+opening_read text plan entered is opening come none = record {
+  plan = plan;
+  entries = [];
+  opening = opening;
+  passes = record { legal = tt; next = come };
+  number = none;
+  text_is = is ∙ sym (append-nil (head_text plan));
+}
+
+-- an entry
+pub entry_read : (text line : List ℕ) (entered next : Entered) (e : Entry) → HasEntered text entered → line ≡ entry_text e →
+    ((g : ProtectionGraph) → HasComeTo g (graph_kept entered.auditor) → Passes g (e ∷ []) (graph_kept next.auditor)) →
+    next.count ≡ entered.count + 1 → HasEntered (text ++ line) next
+entry_read text line entered next e was is passes more =
+    let g = start_of was.plan in
+    let front = head_text was.plan ++ flat_map entry_text was.entries in
+    let p : Passes (graph_after g was.entries) (e ∷ []) (graph_kept next.auditor) = passes (graph_after g was.entries) was.passes.next in record {
+      plan = was.plan;
+      entries = was.entries ++ e ∷ [];
+      opening = was.opening;
+      passes = record {
+        legal = IsLegal-push g was.entries e was.passes.legal p.legal.0;
+        next = subst (λ (h : ProtectionGraph). HasComeTo h (graph_kept next.auditor)) (sym (graph_after-push g was.entries e)) p.next;
+      };
+      number = omega (arith, more, was.number, length-append was.entries (e ∷ []));
+      text_is =
+          ap (λ (x : List ℕ). x ++ line) was.text_is ∙ ap (λ (x : List ℕ). front ++ x) is
+          ∙ flat_map_more entry_text (head_text was.plan) was.entries e;
+    }
+
+-- the end
+pub end_read : (text line : List ℕ) (entered : Entered) (count : ℕ) → HasEntered text entered → line ≡ end_text count → count ≡ entered.count → IsAudited (text ++ line) count
+end_read text line entered count was is same =
+    let front = head_text was.plan ++ flat_map entry_text was.entries in record {
+      plan = was.plan;
+      entries = was.entries;
+      opening = was.opening;
+      legal = was.passes.legal;
+      number = same ∙ was.number;
+      whole =
+          ap (λ (x : List ℕ). x ++ line) was.text_is ∙ ap (λ (x : List ℕ). front ++ x) (is ∙ ap end_text (same ∙ was.number));
+    }
+
+-- ---- all lines of a reader
+
+-- what was taken of the known bytes is what the audit has read
+abbrev pub IsAt : Option (List ℕ) → Option (List ℕ) → Stage → Type 0
+IsAt None now stage = Unit {0}
+IsAt (Some xs) None stage = ⊥
+IsAt (Some xs) (Some rest) stage = (front : List ℕ) × (xs ≡ front ++ rest) × HasRead front stage
+
+pub at_first : (known : Option (List ℕ)) (stage : Stage) → HasRead [] stage → IsAt known known stage
+at_first None stage read = tt
+at_first (Some xs) stage read = ([], refl, read)
+
+-- a line was taken and read
+pub at_next : (known now then : Option (List ℕ)) (stage next : Stage) (line : List ℕ) → IsAt known now stage → Consumes now then line →
+    ((text : List ℕ) → HasRead text stage → HasRead (text ++ line) next) → IsAt known then next
+at_next None now then stage next line was takes reads = tt
+at_next (Some xs) None then stage next line was takes reads = absurd was
+at_next (Some xs) (Some rest) None stage next line was takes reads = absurd takes
+at_next (Some xs) (Some rest) (Some left) stage next line was takes reads =
+    (was.0 ++ line, was.1 ∙ ap (λ (x : List ℕ). was.0 ++ x) takes ∙ sym (append_assoc was.0 line left), reads was.0 was.2)
+
+-- none is left
+pub at_last : (known now : Option (List ℕ)) (stage : Stage) (count : ℕ) → IsAt known now stage → IsAtEnd now →
+    ((text : List ℕ) → HasRead text stage → IsAudited text count) → IfSome known (λ text. IsAudited text count)
+at_last None now stage count was none ends = tt
+at_last (Some xs) None stage count was none ends = absurd was
+at_last (Some xs) (Some rest) stage count was none ends =
+    subst (λ (text : List ℕ). IsAudited text count) (sym (was.1 ∙ ap (λ (x : List ℕ). was.0 ++ x) none ∙ append-nil was.0)) (ends was.0 was.2)

@@ -1,0 +1,6 @@
+use Rattle.std.proofs.Common.{subst}
+use Rattle.tg_entries.specs.Read.{HasRead}
+use Rattle.tg_entries.proofs.audit.next_stage.Goals as goal
+
+pub returns-in-Opening : goal.returns-in-Opening
+returns-in-Opening g c = λ text was. c.opening_line.ensures text (subst (HasRead text) c.in-Opening.is was)

@@ -1,0 +1,18 @@
+use Rattle.std.proofs.Common.{◌++◌, List, ℕ, length}
+use Rattle.std.specs.List.{flat_map}
+use Rattle.tg_text.proofs.SinkLaws.{writes_then, writes_cut_first}
+use Rattle.tg_entries.specs.Texts.{edge_text, end_text, entry_text, head_text, limits_text, version_text, worker_text}
+use Rattle.tg_entries.proofs.WriteLaws.{sofar_more, cut_more}
+use Rattle.tg_entries.proofs.history.write_workers.Goals as goal
+
+pub loop-value-preserved : goal.loop-value-preserved
+loop-value-preserved g c =
+    let s = g.K.Sink in
+    sofar_more worker_text c.args.values.now c.loop-value.value-index c.value-item.result (s.taken c.args.sink.now) (s.taken c.loop-value.sink) (s.taken c.write_worker.new.sink)
+    (s.failures c.args.sink.now) (s.failures c.loop-value.sink) (s.failures c.write_worker.new.sink) c.loop-value-test.true c.value-item.is c.loop-value.invariant c.in_ok-write_worker.ensures
+
+pub returns-in_err-write_worker : goal.returns-in_err-write_worker
+returns-in_err-write_worker g c =
+    let s = g.K.Sink in
+    cut_more worker_text c.args.values.now c.loop-value.value-index c.value-item.result (s.taken c.args.sink.now) (s.taken c.loop-value.sink) (s.taken c.write_worker.new.sink)
+    (s.failures c.args.sink.now) (s.failures c.loop-value.sink) (s.failures c.write_worker.new.sink) c.from_residual.result c.loop-value-test.true c.value-item.is c.from_residual.ensures.0 c.loop-value.invariant c.in_err-write_worker.ensures

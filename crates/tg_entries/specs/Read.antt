@@ -1,0 +1,34 @@
+-- What an audit of a text has read.
+use Rattle.std.specs.Prelude.{◌≡◌, ℕ, List, [], ◌++◌, length}
+use Rattle.std.specs.List.{flat_map}
+use Rattle.tg_model.specs.Opened.{Plan, IsPlan, start_of}
+use Rattle.tg_journal.specs.declared.entry.Entry.{Entry}
+use Rattle.tg_journal.specs.Auditing.{Passes}
+use Rattle.tg_journal.specs.Live.{graph_kept}
+use Rattle.tg_entries.specs.declared.stage.Head.{Head}
+use Rattle.tg_entries.specs.declared.stage.Entered.{Entered}
+use Rattle.tg_entries.specs.declared.stage.Stage.{Stage}
+use Rattle.tg_entries.specs.declared.stage.Stage.TheVariants as stage
+use Rattle.tg_entries.specs.Texts.{IsAudited, entry_text, head_text, limits_text, opening_text, version_text}
+
+-- the text is an opening's and then that of so many entries, which are a legal history; and the audit has come to the graph after them
+pub record HasEntered (text : List ℕ) (entered : Entered) : Type 0 where
+  pub plan : Plan
+  pub entries : List Entry
+  pub opening : IsPlan plan
+  pub passes : Passes (start_of plan) entries (graph_kept entered.auditor)
+  pub number : entered.count ≡ length entries
+  pub text_is : text ≡ head_text plan ++ flat_map entry_text entries
+
+-- the text is the front of an opening's
+abbrev pub HasHead : List ℕ → Head → Type 0
+HasHead text head = text ≡ opening_text head.workers head.max_vertices head.values.items head.edges.items
+
+-- the text that an audit has read where it stands: nothing, parts of an opening, entries, or a whole history
+abbrev pub HasRead : List ℕ → Stage → Type 0
+HasRead text stage.Version = text ≡ []
+HasRead text stage.Limits = text ≡ version_text
+HasRead text (stage.Opening head) = HasHead text head
+HasRead text (stage.Entries entered) = HasEntered text entered
+HasRead text (stage.Ended count) = IsAudited text count
+HasRead text stage.Stopped = ⊥

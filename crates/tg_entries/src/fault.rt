@@ -1,0 +1,50 @@
+//! Why a text is none of a legal history.
+ghost use Rattle.std.specs.Prelude.{◌≡◌};
+
+use std::alloc::AllocError;
+use std::io;
+use thiserror::Error;
+
+/// Why a line doesn't go on with the lines before it.
+#[derive(Clone, Copy, PartialEq, Eq, Debug, Error)]
+pub enum LineFault {
+    /// There was no memory for it, which says nothing of the line.
+    #[error("out of memory")]
+    OutOfMemory,
+    /// The first line is none of this form: 'kovshenul entries 1'.
+    #[error("not 'kovshenul entries 1', the one form that is read")]
+    OtherVersion,
+    /// It is no line of this form, or none that may stand there; or the number of entries isn't theirs.
+    #[error("bad line")]
+    BadLine,
+    /// The entry of this place, counted from 0, isn't legal: its worker is no active subject, the value of a new vertex
+    /// doesn't fit its law, or the reply isn't the answer of the rules.
+    #[error("bad entry {at}")]
+    BadEntry { at: u64 },
+}
+
+impl From<AllocError> for LineFault {
+    ghost use Rattle.std.specs.Prelude.{◌≡◌};
+    ghost use Rattle.tg_entries.specs.declared.fault.LineFault.TheVariants.{OutOfMemory};
+
+    ghost from_gives = { λ _ e. e ≡ OutOfMemory };
+
+    fn from(_error: AllocError) -> LineFault {
+        LineFault::OutOfMemory
+    }
+}
+
+/// Why a text didn't pass.
+#[derive(Clone, Copy, Debug, Error)]
+pub enum TextFault {
+    /// The first line at fault, counted from 1.
+    #[error("line {line}: {why}")]
+    Line { line: u64, why: LineFault },
+    /// The text ends within this line, counted from 1, or in front of it without the line that tells the number of
+    /// entries.
+    #[error("line {line}: the end is cut off")]
+    CutOff { line: u64 },
+    /// Reading failed.
+    #[error(transparent)]
+    Stream(#[from] io::Error),
+}

@@ -1,0 +1,40 @@
+//! The text of a history, and an audit that reads it.
+//!
+//! A history is written line by line: which form the text has, its opening with a line for each worker's value and each
+//! edge, a line for each entry, and at the end how many entries there are. `specs/Texts` says how each is spelled.
+//!
+//! ```text
+//!     kovshenul entries 1
+//!     opening 2 1000000
+//!     worker c0
+//!     worker c0
+//!     edge 0 1 rw
+//!     0 create r c0 = ok 2
+//!     1 take 0 2 r = denied take 1->0 t
+//!     entries 2
+//! ```
+//!
+//! [`write_history`] puts all of it into a sink of `tg_text`, and [`write_opening`], [`write_entry`] and [`write_end`]
+//! what a host writes as it goes. [`audit_text`] reads all of a
+//! reader's, and answers how many entries there are only where the text is that of a legal history of the opening that
+//! it tells ([`TextAudit`] is the same, fed a line at a time). Nothing that takes a line apart has to be believed: what
+//! was read is written again, and has to be the bytes that came; and `tg_journal`'s [`Auditor`](tg_journal::Auditor)
+//! replays it. So an audit takes memory by the longest line and by what its subjects reach, and not by the entries.
+#![tactic(auto)]
+
+mod audit;
+mod fault;
+mod history;
+mod read;
+mod read_reply;
+mod same;
+mod stage;
+mod stream;
+mod write;
+
+pub use audit::TextAudit;
+pub use fault::{LineFault, TextFault};
+pub use history::{write_history, write_opening};
+pub use read::MOST_DEED_BYTES;
+pub use stream::audit_text;
+pub use write::{VERSION, write_edge, write_end, write_entry, write_limits, write_worker};

@@ -1,0 +1,51 @@
+//! An audit of all lines of a reader.
+ghost use Rattle.std.specs.Prelude.{◌≡◌, ◌<◌, IfOk, IfSome};
+ghost use Rattle.tg_entries.specs.Texts.{IsAudited};
+
+use crate::audit::TextAudit;
+use crate::fault::TextFault;
+use std::alloc::Global;
+use std::io::BufRead;
+use std::marker::Brand;
+use std::sync::ledger::{Blank, Ledger};
+use tg_text::Count;
+
+/// Reads the text of a history to its end, and answers how many entries it has; only where it is the text of a legal
+/// history of the opening that it tells. Else the first line at fault, or that the end is cut off. A reader that fails
+/// says nothing of the text.
+pub fn audit_text<R: BufRead + Drop>(alloc: Global, reader: &mut R) -> Result<u64, TextFault>
+    ensures { IfOk result (λ count. IfSome (R.remaining reader.old) (λ text. IsAudited text count)) }
+{
+    audit_named::<Brand, R>(alloc, Blank::new(1), reader)
+}
+
+// The ledger names the audit's buffer.
+fn audit_named<L: Ledger, R: BufRead + Drop>(
+    alloc: Global,
+    blank: Blank,
+    reader: &mut R,
+) -> Result<u64, TextFault>
+    requires name { blank.name ≡ L.name }
+    requires parts { blank.parts ≡ L.parts }
+    requires some { 0 < blank.parts }
+    ensures { IfOk result (λ count. IfSome (R.remaining reader.old) (λ text. IsAudited text count)) }
+{
+    let mut audit = TextAudit::<L>::new(alloc, Count::<L>::new(blank));
+    let mut line = Vec::new(alloc);
+    for number in 1..u64::MAX {
+        line.clear();
+        if reader.read_until(b'\n', &mut line)? == 0 {
+            return match audit.ended() {
+                Some(count) => Ok(count),
+                None => Err(TextFault::CutOff { line: number }),
+            };
+        }
+        if line.as_slice().last() != Some(&b'\n') {
+            return Err(TextFault::CutOff { line: number });
+        }
+        if let Err(why) = audit.line(line.as_slice()) {
+            return Err(TextFault::Line { line: number, why });
+        }
+    }
+    Err(TextFault::CutOff { line: u64::MAX })
+}

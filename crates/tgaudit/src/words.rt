@@ -1,0 +1,49 @@
+//! The words of the command line.
+
+use clap::{Command, Error};
+use std::alloc::Global;
+use std::convert::AsStr;
+
+const ABOUT: &str =
+    "Audits the text of a history: its opening, and a line for each entry with its reply
+
+Reads from standard input which form the text has, an opening, a line for each entry, and how many these are. Replays
+the entries on the plain graph of the opening, and compares each reply. Writes 'audit ok, N entries' where all is as the
+rules have it. Else standard error names the first line at fault, counted from 1; an entry by its place, from 0.
+
+It takes memory by the longest line, and by what the subjects reach, and not by the entries.";
+
+const FORM: &str = "The form:
+  kovshenul entries 1         the first line
+  opening WORKERS VERTICES    workers at first, from 1 to 64, and vertices that may ever be made, up to 2^48
+  worker c0                   for each worker: what it stores
+  edge 0 1 rw                 for each edge between workers
+  0 create r c0 = ok 5        for each entry: a line of a script, what a new vertex stores, and the reply
+  entries N                   the last line
+
+  A vertex stores a law's letter and its numbers: c7 a cell, s7 a sum, m7 a maximum, l4:1,2 a log of at most 4, and l4
+  one that is empty.
+
+Faults:
+  line L: bad line            it is none of these, or may not stand there; or N isn't the number of entries
+  line L: bad entry N         its worker is no active subject, its value fits no law, or the reply isn't the rules'
+  line L: the end is cut off  the text ends within line L, or in front of it without the last line
+
+Exit status:
+  0  all entries are legal
+  1  a line is at fault, or reading or writing failed, or memory was wanting
+  2  the words of the command line were not accepted
+
+Example:
+  printf 'kovshenul entries 1\\nopening 1 9\\nworker c0\\n0 create r c5 = ok 1\\n0 read 1 = ok 5\\nentries 2\\n' | tgaudit
+  writes 'audit ok, 2 entries'.";
+
+/// Reads the words, the first of which is the program's name: there are no options but for the help. An `Err` is the
+/// text for the user, of the help as of a fault.
+pub fn read_words<S: AsStr>(alloc: Global, words: &[S]) -> Result<(), Error> {
+    let command = Command::new(alloc, "tgaudit").about(ABOUT).after_help(FORM);
+    match command.try_get_matches_from(words) {
+        Ok(_) => Ok(()),
+        Err(error) => Err(error),
+    }
+}
