@@ -153,6 +153,11 @@ def commands_on_a_small_graph():
     return Script("--workers 2 --stock sm", ["0 create rw", "0 create rw", *lines])
 
 
+def lists_of_a_row_of_2000():
+    """2,000 lists of 2,000 edges take no more than one: 64 MB of entries are given up as they are answered."""
+    return Script("--workers 1 --stock c2000", creates(2_000) + ["0 list"] * 2_000)
+
+
 def lists_of_a_row_of_70000():
     """A row with more places than 2 ^ 16, listed and collected."""
     size = 70_000
@@ -259,8 +264,9 @@ SCRIPTS = {
     for it in (
         edges_lost_and_got_again, long_rows_that_die, hundreds_of_long_rows, spawns_and_retires, sixty_four_subjects,
         minors, minors_by_helpers, minors_of_nothing, fulls, fulls_of_a_heap_that_grows, a_heap_that_shrinks,
-        boxes_that_die, old_cells_that_are_remembered, commands_on_a_small_graph, lists_of_a_row_of_70000,
-        takes_of_a_row_of_70000, a_heap_of_5000_blocks, old_cells_of_1100000_places, sixty_four_blocks,
+        boxes_that_die, old_cells_that_are_remembered, commands_on_a_small_graph, lists_of_a_row_of_2000,
+        lists_of_a_row_of_70000, takes_of_a_row_of_70000, a_heap_of_5000_blocks, old_cells_of_1100000_places,
+        sixty_four_blocks,
         five_thousand_vertices, a_long_command_line, a_line_too_long, one_request_is_refused,
         a_collection_of_the_nurseries_is_refused, a_collection_by_helpers_is_refused, a_session_of_25_calls,
         a_race_of_12000_lines, a_race_of_nobodys_boxes, a_race_for_a_row_of_70000, a_race_that_is_denied,
