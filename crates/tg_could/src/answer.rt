@@ -8,7 +8,7 @@ ghost use Rattle.tg_could.specs.Answered.{IsAnswer, IsShort};
 use crate::plan::turns_to;
 use crate::search::search;
 use crate::separation::{Separation, comes_later};
-use crate::witness::lead_there;
+use crate::witness::replay;
 use std::alloc::{AllocError, Global};
 use tg_model::{Deed, Picture};
 use tg_rights::Right;
@@ -55,7 +55,18 @@ pub fn could_hold(
     let planned = turns_to(alloc, picture, &found, x, right, y)?;
     let names = planned.made.saturating_sub(picture.limit());
     let turns = planned.turns;
-    let leads = lead_there(alloc, picture, silent, names, turns.as_slice(), x, right, y)?;
+    let rows = found.rows;
+    let leads = replay(
+        alloc,
+        picture,
+        rows,
+        silent,
+        names,
+        turns.as_slice(),
+        x,
+        right,
+        y,
+    )?;
     if !leads {
         return Ok(Answer::Open);
     }

@@ -25,20 +25,40 @@ impl Chains {
         made: usize,
         edges: &[Edge],
     ) -> Result<Chains, AllocError> {
-        let mut first = vec![in alloc; NONE; made]?;
-        let mut next = vec![in alloc; NONE; edges.len()]?;
+        let mut chains = Chains::none(alloc, made, edges.len())?;
         for (at, edge) in edges.iter().enumerate() {
-            if let Some(next) = next.get_mut(at)
-                && let Some(first) = first.get_mut(edge.from as usize)
-            {
-                *next = *first;
-                *first = place(at);
-            }
+            chains.put(at, edge.from);
         }
-        Ok(Chains { first, next })
+        Ok(chains)
     }
 
-    /// Puts the next edge of the list in front of a vertex's others. Fails only when out of memory.
+    /// No chain has an edge, of so many. Fails only when out of memory.
+    pub(crate) fn none(alloc: Global, made: usize, edges: usize) -> Result<Chains, AllocError> {
+        Ok(Chains {
+            first: vec![in alloc; NONE; made]?,
+            next: vec![in alloc; NONE; edges]?,
+        })
+    }
+
+    /// The same chains in memory of their own. Fails only when out of memory.
+    pub(crate) fn copy(&self, alloc: Global) -> Result<Chains, AllocError> {
+        Ok(Chains {
+            first: Vec::from_slice(alloc, self.first.as_slice())?,
+            next: Vec::from_slice(alloc, self.next.as_slice())?,
+        })
+    }
+
+    /// Puts the edge at a place of the list in front of a vertex's others.
+    pub(crate) fn put(&mut self, at: usize, vertex: u64) {
+        if let Some(next) = self.next.get_mut(at)
+            && let Some(first) = self.first.get_mut(vertex as usize)
+        {
+            *next = *first;
+            *first = place(at);
+        }
+    }
+
+    /// Puts an edge behind the list in front of a vertex's others. Fails only when out of memory.
     pub(crate) fn add(&mut self, vertex: u64) -> Result<(), AllocError> {
         let at = place(self.next.len());
         match self.first.get_mut(vertex as usize) {

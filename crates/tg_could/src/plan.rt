@@ -415,7 +415,7 @@ pub(crate) fn turns_to(
             over: y,
             source: y,
         },
-        trial: Trial::new(alloc, picture, u64::MAX)?,
+        trial: Trial::new(alloc, picture, found.rows.copy(alloc)?, u64::MAX)?,
         turns: Vec::new(alloc),
     };
     if let Some(end) = end_of(picture, found, x) {

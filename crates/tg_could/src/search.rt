@@ -1,6 +1,6 @@
 //! The search: who may come to hold a right, and on which way. What it finds is checked (`Separation::parts`,
 //! `lead_there`), so that nothing has to be believed of it. Each edge is looked at four times at most.
-use crate::chains::{NONE, place};
+use crate::chains::{Chains, NONE, place};
 use crate::marks::Marks;
 use crate::separation::{Separation, comes_later, has, is_silent};
 use std::alloc::{AllocError, Global};
@@ -22,10 +22,11 @@ struct Kept {
     before: u32,
 }
 
-/// What the search has found: the sets, its steps in order, and who acts.
+/// What the search has found: the sets, its steps in order, and who acts; and the edges from each vertex.
 #[derive(Drop)]
 pub(crate) struct Found {
     pub(crate) sides: Separation,
+    pub(crate) rows: Chains,
     steps: Vec<Kept>,
     acting: Marks,
 }
@@ -48,69 +49,12 @@ impl Kept {
     }
 }
 
-// The places of two edges, `NONE` where there is none: one from a vertex, and one to a vertex.
-#[derive(Clone, Copy, Debug, Drop)]
-struct Pair {
-    on: u32,
-    back: u32,
-}
-
-// For each vertex an edge from it and one to it, and for each edge the next ones at the same vertices. Edges with
-// neither take nor grant are left out.
-#[derive(Drop)]
-struct Ways {
-    firsts: Vec<Pair>,
-    nexts: Vec<Pair>,
-}
-
-impl Pair {
-    // No edge.
-    fn none() -> Pair {
-        Pair {
-            on: NONE,
-            back: NONE,
-        }
-    }
-}
-
-impl Ways {
-    // No edge is there yet, of so many. Fails only when out of memory.
-    fn none(alloc: Global, made: usize, edges: usize) -> Result<Ways, AllocError> {
-        Ok(Ways {
-            firsts: vec![in alloc; Pair::none(); made]?,
-            nexts: vec![in alloc; Pair::none(); edges]?,
-        })
-    }
-
-    // Puts the edge at a place in front of the others of its vertices, where it has take or grant.
-    fn add(&mut self, at: usize, edge: &Edge) {
-        if !has(edge.label, Right::T) && !has(edge.label, Right::G) {
-            return;
-        }
-        let Some(next) = self.nexts.get_mut(at) else {
-            return;
-        };
-        if let Some(first) = self.firsts.get_mut(edge.from as usize) {
-            next.on = first.on;
-            first.on = place(at);
-        }
-        if let Some(first) = self.firsts.get_mut(edge.to as usize) {
-            next.back = first.back;
-            first.back = place(at);
-        }
-    }
-
-    // The first edges at a vertex.
-    fn first(&self, vertex: u64) -> Pair {
-        self.firsts
-            .get(vertex as usize)
-            .copied()
-            .unwrap_or(Pair::none())
-    }
-
-    // The next edges behind the one at a place.
-    fn next(&self, at: u32) -> Pair {
-        self.nexts.get(at as usize).copied().unwrap_or(Pair::none())
+// Adds the edge at a place of the list to the chains of its two vertices. To its target it leads where it has take or
+// grant.
+fn add_edge(rows: &mut Chains, columns: &mut Chains, at: usize, edge: &Edge) {
+    rows.put(at, edge.from);
+    if has(edge.label, Right::T) || has(edge.label, Right::G) {
+        columns.put(at, edge.to);
     }
 }
 
@@ -125,17 +69,17 @@ pub(crate) fn search(
 ) -> Result<Found, AllocError> {
     let mut found = Found::start(alloc, picture, silent)?;
     let edges = picture.edges();
-    let mut ways = Ways::none(alloc, picture.made() as usize, edges.len())?;
+    let mut columns = Chains::none(alloc, picture.made() as usize, edges.len())?;
     if comes_later(picture, y) {
         found.put_actors(picture, false)?;
     }
     for (at, edge) in edges.iter().enumerate() {
-        ways.add(at, edge);
+        add_edge(&mut found.rows, &mut columns, at, edge);
         if edge.to == y && has(edge.label, right) {
             found.put(edge.from, false, NONE)?;
         }
     }
-    found.spread(edges, &ways)?;
+    found.spread(edges, &columns)?;
     Ok(found)
 }
 
@@ -149,7 +93,7 @@ pub(crate) fn search_back(
 ) -> Result<Found, AllocError> {
     let mut found = Found::start(alloc, picture, silent)?;
     let edges = picture.edges();
-    let mut ways = Ways::none(alloc, picture.made() as usize, edges.len())?;
+    let mut columns = Chains::none(alloc, picture.made() as usize, edges.len())?;
     if comes_later(picture, x) {
         found.put_actors(picture, true)?;
     }
@@ -157,12 +101,12 @@ pub(crate) fn search_back(
         found.put(x, true, NONE)?;
     }
     for (at, edge) in edges.iter().enumerate() {
-        ways.add(at, edge);
+        add_edge(&mut found.rows, &mut columns, at, edge);
         if edge.to == x && has(edge.label, Right::G) {
             found.put(edge.from, false, NONE)?;
         }
     }
-    found.spread(edges, &ways)?;
+    found.spread(edges, &columns)?;
     Ok(found)
 }
 
@@ -178,6 +122,7 @@ impl Found {
         }
         Ok(Found {
             sides: Separation::none(alloc, made)?,
+            rows: Chains::none(alloc, made, picture.edges().len())?,
             steps: Vec::new(alloc),
             acting,
         })
@@ -194,7 +139,7 @@ impl Found {
     }
 
     // Goes on from each step to what its vertex leads to, until nothing is new.
-    fn spread(&mut self, edges: &[Edge], ways: &Ways) -> Result<(), AllocError> {
+    fn spread(&mut self, edges: &[Edge], columns: &Chains) -> Result<(), AllocError> {
         for at in 0..NONE {
             let Some(kept) = self.steps.get(at as usize).copied() else {
                 break;
@@ -204,9 +149,9 @@ impl Found {
                 self.put(step.vertex, !step.forward, at)?;
             }
             if step.forward {
-                self.leave(edges, ways, at, step.vertex)?;
+                self.leave(edges, at, step.vertex)?;
             }
-            self.enter(edges, ways, at, step)?;
+            self.enter(edges, columns, at, step)?;
         }
         Ok(())
     }
@@ -222,14 +167,8 @@ impl Found {
     }
 
     // Goes along the edges from a vertex of the first set.
-    fn leave(
-        &mut self,
-        edges: &[Edge],
-        ways: &Ways,
-        at: u32,
-        vertex: u64,
-    ) -> Result<(), AllocError> {
-        let mut next = ways.first(vertex).on;
+    fn leave(&mut self, edges: &[Edge], at: u32, vertex: u64) -> Result<(), AllocError> {
+        let mut next = self.rows.first(vertex);
         for _ in 0..edges.len() {
             let Some(edge) = edges.get(next as usize) else {
                 break;
@@ -240,7 +179,7 @@ impl Found {
             if has(edge.label, Right::G) {
                 self.put(edge.to, false, at)?;
             }
-            next = ways.next(next).on;
+            next = self.rows.next(next);
         }
         Ok(())
     }
@@ -249,12 +188,12 @@ impl Found {
     fn enter(
         &mut self,
         edges: &[Edge],
-        ways: &Ways,
+        columns: &Chains,
         at: u32,
         step: Step,
     ) -> Result<(), AllocError> {
         let wanted = if step.forward { Right::G } else { Right::T };
-        let mut next = ways.first(step.vertex).back;
+        let mut next = columns.first(step.vertex);
         for _ in 0..edges.len() {
             let Some(edge) = edges.get(next as usize) else {
                 break;
@@ -262,7 +201,7 @@ impl Found {
             if has(edge.label, wanted) {
                 self.put(edge.from, false, at)?;
             }
-            next = ways.next(next).back;
+            next = columns.next(next);
         }
         Ok(())
     }

@@ -56,13 +56,18 @@ fn rights_between(edge: Edge, x: u64, y: u64) -> Rights
 }
 
 impl Trial {
-    /// The graph of a picture, on which so many vertices may be made. Fails only when out of memory.
-    pub(crate) fn new(alloc: Global, picture: &Picture, limit: u64) -> Result<Trial, AllocError>
+    /// The graph of a picture, on which so many vertices may be made; `rows` are the edges from each vertex. Fails only
+    /// when out of memory.
+    pub(crate) fn new(
+        alloc: Global,
+        picture: &Picture,
+        rows: Chains,
+        limit: u64,
+    ) -> Result<Trial, AllocError>
         ensures { IfOk result (λ trial. (g : ProtectionGraph) → IsPictureOf picture.now g →
             Stands picture.now.edges trial (record g { limit = limit })) }
     {
         let subjects = Vec::from_slice(alloc, picture.subjects())?;
-        let rows = Chains::of_holders(alloc, picture.made() as usize, picture.edges())?;
         Ok(Trial {
             rows,
             added: Vec::new(alloc),

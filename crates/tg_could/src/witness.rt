@@ -4,6 +4,7 @@ ghost use Rattle.tg_model.specs.Graph.{ProtectionGraph};
 ghost use Rattle.tg_model.specs.Picture.{IsPictureOf};
 ghost use Rattle.tg_could.specs.Turns.{LeadThere, with_names};
 
+use crate::chains::Chains;
 use crate::trial::Trial;
 use std::alloc::{AllocError, Global};
 use tg_model::{Deed, Picture};
@@ -25,12 +26,31 @@ pub fn lead_there(
     ensures { IfOk result (λ lead. IsTrue lead → (g : ProtectionGraph) → IsPictureOf picture.now g →
         LeadThere silent.now (with_names g names) turns.now x right y) }
 {
+    let rows = Chains::of_holders(alloc, picture.made() as usize, picture.edges())?;
+    replay(alloc, picture, rows, silent, names, turns, x, right, y)
+}
+
+/// The same, where the edges from each vertex are known. Nothing is believed of them.
+pub(crate) fn replay(
+    alloc: Global,
+    picture: &Picture,
+    rows: Chains,
+    silent: &[u64],
+    names: u64,
+    turns: &[(u64, Deed)],
+    x: u64,
+    right: Right,
+    y: u64,
+) -> Result<bool, AllocError>
+    ensures { IfOk result (λ lead. IsTrue lead → (g : ProtectionGraph) → IsPictureOf picture.now g →
+        LeadThere silent.now (with_names g names) turns.now x right y) }
+{
     let Some(limit) = limit_with(picture, names) else {
         return Ok(false);
     };
     let first = picture.made();
     let edges = picture.edges();
-    let mut trial = Trial::new(alloc, picture, limit)?;
+    let mut trial = Trial::new(alloc, picture, rows, limit)?;
     for turn in turns {
         let taken = trial.take_turn(edges, silent, first, turn)?;
         if !taken {

@@ -10,7 +10,7 @@ use Rattle.tg_model.specs.Rules.{HoldsOver}
 use Rattle.tg_could.specs.Turns.{Turn, AreTurns, after}
 use Rattle.tg_could.specs.Trial.{Stands}
 use Rattle.tg_could.proofs.TurnLaws.{AreTurns-push, after-push}
-use Rattle.tg_could.proofs.witness.lead_there.Goals as goal
+use Rattle.tg_could.proofs.witness.replay.Goals as goal
 
 pub loop-turn-init : goal.loop-turn-init
 loop-turn-init c g picture = (

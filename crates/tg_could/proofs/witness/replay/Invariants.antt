@@ -4,7 +4,7 @@ use Rattle.tg_model.specs.Graph.{ProtectionGraph}
 use Rattle.tg_model.specs.Picture.{IsPictureOf}
 use Rattle.tg_could.specs.Turns.{AreTurns, after}
 use Rattle.tg_could.specs.Trial.{Stands}
-use Rattle.tg_could.proofs.witness.lead_there.Given as goal
+use Rattle.tg_could.proofs.witness.replay.Given as goal
 
 -- the turns before this place are those of who acts, and the trial stands for the graph behind them
 abbrev pub invariant-loop-turn : goal.invariant-loop-turn
