@@ -1,7 +1,7 @@
 -- Marks on names, and what a view tells by them.
-use Rattle.std.proofs.Common.{◌≡◌, ◌↔◌, ◌⊎◌, inl, inr, ⊎_elim, ℕ, ◌<◌, ◌≤◌, ◌==◌, Bool, true, false, List, [], ◌∷◌, ◌++◌, Option, Some, None, IfSome, set, get_or, length, refl, take, sym, ap, ◌∙◌, subst, arith}
+use Rattle.std.proofs.Common.{◌≡◌, ◌↔◌, ◌⊎◌, inl, inr, ⊎_elim, ℕ, ◌+◌, ◌<◌, ◌≤◌, ◌==◌, Bool, true, false, List, [], ◌∷◌, ◌++◌, Option, Some, None, IfSome, set, get_or, length, refl, take, sym, ap, ◌∙◌, subst, arith}
 use Rattle.std.specs.List.{Contains}
-use Rattle.std.proofs.lemmas.Bool.{cases_Bool, cases_lt, eqb-true}
+use Rattle.std.proofs.lemmas.Bool.{cases_Bool, cases_eq, cases_lt, eqb-true}
 use Rattle.std.proofs.lemmas.List.{get_or-set_other, get_or-set_same, length-set, take_all, take_more}
 use Rattle.std.proofs.lemmas.List.Elements.{Contains-append_left, Contains-push, Contains-push_cases}
 use Rattle.tg_model.specs.declared.edge.Edge.{Edge}
@@ -25,16 +25,13 @@ pub record AreOn (made : ℕ) (these : ℕ → Type 0) (marks : List Bool) : Typ
   pub each : (x : ℕ) → x < made → (get_or marks x false ≡ true) ↔ these x
 
 -- one mark more
-one_more : (made : ℕ) (these more : ℕ → Type 0) (marks : List Bool) (name : ℕ) → AreOn made these marks → ((x : ℕ) → more x ↔ (these x ⊎ (x ≡ name))) → AreOn made more (set marks name true)
-one_more made these more marks name on same = record {
+one_more : (made : ℕ) (these those : ℕ → Type 0) (marks : List Bool) (name : ℕ) → AreOn made these marks → ((x : ℕ) → those x ↔ (these x ⊎ (x ≡ name))) → AreOn made those (set marks name true)
+one_more made these those marks name on same = record {
   all = length-set marks name true ∙ on.all;
-  each = λ x low. by_test x low (cases_nat x);
+  each = λ x low. by_test x low (cases_eq x name);
 }
   where
-    cases_nat : (x : ℕ) → (x ≡ name) ⊎ ((x ≡ name) → ⊥)
-    cases_nat x = ⊎_elim (λ t. inl (eqb-true x name t)) (λ f. inr (λ here. cc (here, f))) (cases_Bool (x == name))
-
-    by_test : (x : ℕ) → x < made → (x ≡ name) ⊎ ((x ≡ name) → ⊥) → (get_or (set marks name true) x false ≡ true) ↔ more x
+    by_test : (x : ℕ) → x < made → (x ≡ name) ⊎ (x ≡ name → ⊥) → (get_or (set marks name true) x false ≡ true) ↔ those x
     by_test x low (inl here) =
         let inside : name < length marks = omega (arith, low, here, on.all) in (
           λ _. (same x).1 (inr here),
@@ -108,6 +105,11 @@ pub all_marked : (p : Shown) (i : ℕ) (marks : List Bool) → length p.edges �
 all_marked p i marks past on =
     let whole : take i p.edges ≡ p.edges = take_all i p.edges past in
     record { all = on.all; each = λ x low. subst (λ (es : List Edge). (get_or marks x false ≡ true) ↔ ShownBy p.subjects es x) whole (on.each x low) }
+
+-- a list of no items
+pub none_there : (xs : List ℕ) → (length xs == 0) ≡ true → xs ≡ []
+none_there [] t = refl
+none_there (x ∷ xs) t = let is = eqb-true (length (x ∷ xs)) 0 t in absurd (omega (arith, is))
 
 -- ---- a view
 

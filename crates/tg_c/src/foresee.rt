@@ -110,8 +110,8 @@ impl LawStore {
         Ok(Box::new(alloc, Outlook { told })?)
     }
 
-    /// What a question or a view is about, of an open store. `NoSuchWorker` is answered exactly where a silent one is no
-    /// worker, and else nothing but want of memory. The edges' rights were looked at.
+    /// What a question or a view is about, of an open store. `NoSuchWorker` is answered exactly where a silent one is
+    /// no worker, and else nothing but want of memory. The edges' rights were looked at.
     pub fn scene(
         &self,
         alloc: Global,

@@ -13,10 +13,10 @@ use crate::view::place::ViewPlace;
 use crate::view::sight::Sight;
 use std::alloc::Global;
 
-/// Opens a view, which no place has yet, of the store in a place, where the silent ones take no turns, as if these edges
-/// were there too. What is asked for is looked at as a question's is (`crate::foresee`): the edges' rights, and whether
-/// the view's place is open; then whether the store's is, whether the silent ones are workers, and with memory whether
-/// each edge joins two different vertices that workers reach. The store is as it was.
+/// Opens a view, which no place has yet, of the store in a place, where the silent ones take no turns, as if these
+/// edges were there too. What is asked for is looked at as a question's is (`crate::foresee`): the edges' rights, and
+/// whether the view's place is open; then whether the store's is, whether the silent ones are workers, and with memory
+/// whether each edge joins two different vertices that workers reach. The store is as it was.
 pub fn open(
     alloc: Global,
     place: &mut StorePlace,

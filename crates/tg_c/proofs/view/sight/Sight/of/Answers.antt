@@ -1,9 +1,9 @@
-use Rattle.std.proofs.Common.{inr, refl, sym, subst, ◌∙◌, [], Some, None}
+use Rattle.std.proofs.Common.{◌==◌, inr, length, refl, sym, subst, ap, ◌∙◌, Some, None}
 use Rattle.std.proofs.lemmas.Bool.{false≢true}
 use Rattle.tg_model.specs.Picture.{Shown}
 use Rattle.tg_could.specs.View.{IsViewOf}
 use Rattle.tg_c.specs.Could.{JoinReached}
-use Rattle.tg_c.proofs.SightLaws.{sight_of_nobody, sight_on}
+use Rattle.tg_c.proofs.SightLaws.{none_there, sight_of_nobody, sight_on}
 use Rattle.tg_c.proofs.view.sight.Sight.of.Goals as goal
 
 pub returns-then-not-join_reached-clause-refused : goal.returns-then-not-join_reached-clause-refused
@@ -15,7 +15,7 @@ returns-then-is_empty-clause-seen c g sound picture =
     let all : JoinReached g c.args.as_if.now = (c.join_reached.ensures g picture).0 c.if-not-join_reached.false in (
       all,
       sight_of_nobody g sound c.args.as_if.now all c.args.picture.now picture c.args.silent.now (record { view = None; marks = c.in_ok-marks.marks }) c.in_ok-marks.ensures refl
-          ?,
+          (none_there c.args.picture.now.subjects (ap (λ ns. length ns == 0) (sym c.subjects.ensures) ∙ sym c.is_empty.ensures ∙ c.if-is_empty.true)),
     )
 
 pub returns-clause-seen : goal.returns-clause-seen
