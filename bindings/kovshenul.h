@@ -413,7 +413,8 @@ enum {
 /* Answers whether x could ever come to hold the right over y, as if the edges as_if were there too: so a grant is asked
    about before it is made. The answer goes to *answer, which is closed. It is that of the graph that was never collected,
    the same before a collection and after it. The store is as it was, and its journal gets no entry. Time and memory are
-   in proportion to what the workers reach. A name that isn't made yet stands for a vertex that those who act may make.
+   in proportion to what the workers reach, and memory to the names that were made. A name that isn't made yet stands for
+   a vertex that those who act may make.
 
    It is refused in this order: where right isn't one right, or an edge's rights are none (TG_BAD_RIGHTS); where the
    answer is open (TG_ALREADY_OPEN); where the store is closed (TG_NOT_OPEN); where a silent one is no worker

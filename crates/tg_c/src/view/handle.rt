@@ -3,8 +3,8 @@ ghost use Rattle.std.specs.Prelude.{◌≡◌, Bool, true, false};
 ghost use Rattle.tg_c.specs.declared.view.sight.Sight.{Sight as SightValue};
 ghost use Rattle.tg_c.specs.HeldView.{sight_coded, held_sight};
 
-use crate::view::sight::Sight;
 use crate::parts::Parts;
+use crate::view::sight::Sight;
 use std::alloc::Global;
 use std::marker::Model;
 use std::ptr::null_mut;

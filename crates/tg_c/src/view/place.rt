@@ -1,10 +1,10 @@
 //! The view's place in the memory of C, as `crate::place` has that of a store.
 ghost use Rattle.std.specs.Prelude.{◌≡◌, false, true, MatchOption};
 
-use crate::view::sight::Sight;
-use crate::view::handle::ViewHandle;
 use crate::parts::Parts;
 use crate::place::may_cross;
+use crate::view::handle::ViewHandle;
+use crate::view::sight::Sight;
 use std::alloc::Global;
 use std::mem;
 

@@ -15,5 +15,5 @@ returns c =
       not_open = λ right is closed. let refused = asked.not_open right is closed in (hear (Err refusal.NotOpen) refused.0, refused.1);
       told = λ right is opened.
           let told = asked.told right is opened in
-          (record { glimpse = told.0.glimpse; told = hear (Ok (kind_seen told.0.glimpse)) told.0.told; is = told.0.is }, told.1);
+          (record { glimpse = told.0.glimpse; told = hear (Ok (kind_seen told.0.glimpse)) told.0.told; is = told.0.is }, told.1, told.2);
     }
