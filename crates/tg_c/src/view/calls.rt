@@ -17,7 +17,7 @@ use std::alloc::Global;
 /// edges were there too. What is asked for is looked at as a question's is (`crate::foresee`): the edges' rights, and
 /// whether the view's place is open; then whether the store's is, whether the silent ones are workers, and with memory
 /// whether each edge joins two different vertices that workers reach. The store is as it was.
-pub fn open(
+pub fn open_view(
     alloc: Global,
     place: &mut StorePlace,
     silent: &[u64],
@@ -42,7 +42,7 @@ pub fn open(
 }
 
 /// The kind of what a view tells of the question whether x could ever come to hold the right of this bit over y.
-pub fn could(
+pub fn ask_view(
     alloc: Global,
     view: &mut ViewPlace,
     x: u64,

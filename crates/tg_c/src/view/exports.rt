@@ -23,7 +23,7 @@ pub extern "C" fn tg_view_open(
 ) -> u32
     ensures { OpensView store.old store.new silent.now as_if.now view.old view.new result }
 {
-    match calls::open(alloc, store, silent, as_if, view.is_open) {
+    match calls::open_view(alloc, store, silent, as_if, view.is_open) {
         Ok(opened) => {
             view.put(opened);
             DONE
@@ -45,7 +45,7 @@ pub extern "C" fn tg_view_could(
 ) -> u32
     ensures { Glances view.old view.new x right y (TellsNumber result kind.old kind.new) }
 {
-    tell_number(calls::could(alloc, view, x, right, y), kind)
+    tell_number(calls::ask_view(alloc, view, x, right, y), kind)
 }
 
 /// Gives back all memory of a view. The place is closed then, whether it was open or not.

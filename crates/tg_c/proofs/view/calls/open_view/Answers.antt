@@ -4,7 +4,7 @@ use Rattle.tg_store.specs.Store.{graph_of_store}
 use Rattle.tg_c.specs.Calls.{state_in}
 use Rattle.tg_c.specs.Could.{IsRefusedOn}
 use Rattle.tg_c.specs.View.{IsRefusedView}
-use Rattle.tg_c.proofs.view.calls.open.Goals as goal
+use Rattle.tg_c.proofs.view.calls.open_view.Goals as goal
 
 pub returns-clause-refused : goal.returns-clause-refused
 returns-clause-refused c =
