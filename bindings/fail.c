@@ -109,6 +109,13 @@ static uint64_t tell_story(void) {
     const tg_edge supposed = { 1, 0, TG_TAKE };
     tg_answer answer = TG_ANSWER_INIT;
     CALL(tg_could(&store, NULL, 0, &supposed, 1, 1, TG_WRITE, 2, &answer));
+    /* A view of the same, of which a question takes no memory. */
+    tg_view view = TG_VIEW_INIT;
+    CALL(tg_view_open(&store, NULL, 0, &supposed, 1, &view));
+    before = made;
+    CALL(tg_view_could(&view, 1, TG_WRITE, 2, &count));
+    if (count != TG_PERHAPS || made != before || tg_view_close(&view) != TG_DONE)
+        stop(__LINE__, 0);
     /* The heap keeps the blocks that a full collection emptied. One of the nurseries that nothing outlives fills none of them. */
     CALL(tg_collect(&store, TG_FULL, &count));
     CALL(tg_create(&store, 0, TG_READ, &kinds[1], &name));

@@ -28,6 +28,8 @@ tg_status proved_tg_entry(tg_store *store, uint64_t at, tg_record *record, uint6
 tg_status proved_tg_could(tg_store *store, const uint64_t *silent, size_t silent_count, const tg_edge *as_if, size_t as_if_count,
                           uint64_t x, uint64_t right, uint64_t y, tg_answer *answer);
 tg_status proved_tg_answer_turn(tg_answer *answer, uint64_t at, tg_record *record, uint64_t *numbers, size_t room);
+tg_status proved_tg_view_open(tg_store *store, const uint64_t *silent, size_t silent_count, const tg_edge *as_if, size_t as_if_count,
+                              tg_view *view);
 tg_status proved_tg_auditor_open(tg_auditor *auditor, const tg_value *workers, size_t worker_count, const tg_edge *edges,
                                  size_t edge_count, const tg_limits *limits);
 tg_status proved_tg_auditor_feed(tg_auditor *auditor, tg_store *store, uint64_t *count);
@@ -144,6 +146,15 @@ tg_status tg_answer_turn(tg_answer *answer, uint64_t at, tg_record *record, uint
     return proved_tg_answer_turn(answer, at, record, numbers, room);
 }
 
+tg_status tg_view_open(tg_store *store, const uint64_t *silent, size_t silent_count, const tg_edge *as_if, size_t as_if_count,
+                       tg_view *view) {
+    if (silent == NULL && silent_count == 0)
+        silent = nothing;
+    if (as_if == NULL && as_if_count == 0)
+        as_if = (const tg_edge *)nothing;
+    return proved_tg_view_open(store, silent, silent_count, as_if, as_if_count, view);
+}
+
 tg_status tg_auditor_open(tg_auditor *auditor, const tg_value *workers, size_t worker_count, const tg_edge *edges, size_t edge_count,
                           const tg_limits *limits) {
     if (workers == NULL && worker_count == 0)
@@ -166,8 +177,8 @@ const char *tg_status_text(tg_status status) {
     switch (status) {
     case TG_DONE: return "done";
     case TG_DENIED: return "the rules don't allow it";
-    case TG_NOT_OPEN: return "the store or the auditor is not open";
-    case TG_ALREADY_OPEN: return "the store or the auditor is open already";
+    case TG_NOT_OPEN: return "the store, the auditor, the answer or the view is not open";
+    case TG_ALREADY_OPEN: return "the store, the auditor, the answer or the view is open already";
     case TG_OUT_OF_MEMORY: return "out of memory";
     case TG_HEAP_FULL: return "the heap is full, by its limits";
     case TG_VERTICES_FULL: return "as many vertices were made as may be";

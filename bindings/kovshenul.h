@@ -14,12 +14,12 @@
      while the call runs. NULL stands for an array of 0 items, for a text with no room, for a denial that isn't
      wanted and for the count of tg_auditor_feed, and for nothing else.
    - A tg_store is all zero before tg_open, and its bytes are changed by these functions alone. It may be moved, and never
-     copied: of two copies only one may be used from then on. So it is of a tg_auditor.
+     copied: of two copies only one may be used from then on. So it is of a tg_auditor, a tg_answer and a tg_view.
    - A bool in it is 0 or 1.
    - Calls on one store come one after the other. It is used by one thread at a time, and handed over under a lock, by a
      thread's start or by its join. Not from a signal handler, and not in the forked child of a process with threads. Two
      stores share nothing: each may have a thread of its own.
-   - An open store that isn't closed keeps its memory, and so does an open auditor.
+   - An open store that isn't closed keeps its memory, and so does an open auditor, answer or view.
 
    Collections by several helpers and sessions on threads are for Rattle alone, since this library starts no thread and takes no
    lock. Where threads share a store, put a lock of your own around each call. */
@@ -79,9 +79,9 @@ enum {
     TG_DENIED = 1,            /* the rules don't allow it; nothing changed but that the journal has it */
 
     TG_NOT_OPEN = 16,         /* exactly where what was asked is closed, and what was asked for is no TG_BAD_.. or TG_NOT_AUDITED */
-    TG_ALREADY_OPEN = 17,     /* tg_open, tg_auditor_open: exactly where it is open; tg_could: where the answer is, and no bits are bad */
+    TG_ALREADY_OPEN = 17,     /* tg_open, tg_auditor_open: exactly where it is open; tg_could, tg_view_open: where what is to open is, and no bits are bad */
 
-    TG_OUT_OF_MEMORY = 32,    /* malloc or realloc gave none; the same call may be made again. No TG_BAD_.. comes later, but tg_could's edge */
+    TG_OUT_OF_MEMORY = 32,    /* malloc or realloc gave none; the same call may be made again. No TG_BAD_.. comes later, but a supposed edge */
     TG_HEAP_FULL = 33,        /* no cell or block is left, by the limits; after tg_collect there may be */
     TG_VERTICES_FULL = 34,    /* tg_create, tg_spawn: where as many vertices were made as may be; the journal has an entry of it */
     TG_WORKERS_FULL = 35,     /* tg_spawn: where 64 workers are active, and a vertex may be made; the journal has an entry of it */
@@ -94,7 +94,7 @@ enum {
 
     TG_BAD_WORKERS = 80,      /* tg_open: not from 1 to 64 workers */
     TG_BAD_LIMITS = 81,       /* tg_open: a limit is out of its range */
-    TG_BAD_EDGE = 82,         /* an edge from a vertex to itself; tg_open: with an end that is no worker; tg_could: that none reaches */
+    TG_BAD_EDGE = 82,         /* an edge from a vertex to itself; tg_open: with an end that is no worker; as_if: that none reaches */
     TG_BAD_VALUES = 83,       /* tg_open: kept; no value that a tg_value can say gives it */
 
     TG_BAD_ENTRY = 96,        /* tg_auditor_feed: the entry at its place isn't legal; tg_audit: never, if no other wrote to its memory */
@@ -406,13 +406,15 @@ enum {
     TG_COULD = 2,             /* x holds it after the answer's turns, each of which is allowed when it comes */
     TG_WANTS_NAMES = 3,       /* so it is where tg_answer_names more vertices may be made; fewer than 64 names are left */
     TG_UNREACHED = 4,         /* no worker reaches x, which was made: it holds what it holds, for good */
-    TG_OPEN = 5               /* neither was shown. That it doesn't come is tested */
+    TG_OPEN = 5,              /* neither was shown. That it doesn't come is tested */
+    TG_PERHAPS = 6            /* of a view alone: it says nothing of the right. tg_could tells more */
 };
 
 /* Answers whether x could ever come to hold the right over y, as if the edges as_if were there too: so a grant is asked
    about before it is made. The answer goes to *answer, which is closed. It is that of the graph that was never collected,
    the same before a collection and after it. The store is as it was, and its journal gets no entry. Time and memory are
-   in proportion to what the workers reach. A name that isn't made yet stands for a vertex that those who act may make.
+   in proportion to what the workers reach, and memory to the names that were made. A name that isn't made yet stands for
+   a vertex that those who act may make.
 
    It is refused in this order: where right isn't one right, or an edge's rights are none (TG_BAD_RIGHTS); where the
    answer is open (TG_ALREADY_OPEN); where the store is closed (TG_NOT_OPEN); where a silent one is no worker
@@ -437,6 +439,34 @@ tg_status tg_answer_turn(tg_answer *answer, uint64_t at, tg_record *record, uint
 
 /* Gives back all memory of the answer. *answer is closed then, and may be used for another. */
 tg_status tg_answer_close(tg_answer *answer);
+
+/* A view is made once, of what the workers reach at the moment, and tells of each question as of then, in the time of the
+   edges to y. So a host asks it of many at once, and opens another when something silent has acted. 16 bytes, all zero
+   while it is closed. Its caller owns it, and it outlives its store. What is said above of a tg_store holds of it. */
+typedef struct tg_view {
+    bool is_open;
+    struct {
+        void *at;
+    } handle;
+} tg_view;
+
+#define TG_VIEW_INIT { false, { NULL } }
+
+/* Opens a view of the store, in which the silent ones take no turns, as if the edges as_if were there too. It is of the
+   graph that was never collected, the same before a collection and after it. The store is as it was, and its journal gets
+   no entry. Time and memory are in proportion to what the workers reach and to the names that were made. It is refused as
+   tg_could is, in the same order, the view in the answer's place; refused, *view is as it was. */
+tg_status tg_view_open(tg_store *store, const uint64_t *silent, size_t silent_count, const tg_edge *as_if,
+                       size_t as_if_count, tg_view *view);
+
+/* What the view tells of the question whether x could ever come to hold the right over y goes to *kind. TG_NEVER is
+   proved, as by tg_could, of all turns from the moment of the opening on; it is TG_UNREACHED exactly where no worker reached
+   x then, which was made; else it is TG_PERHAPS. No memory is taken. TG_BAD_RIGHTS where right isn't one right, and else
+   TG_NOT_OPEN exactly where the view is closed. */
+tg_status tg_view_could(tg_view *view, uint64_t x, uint64_t right, uint64_t y, uint64_t *kind);
+
+/* Gives back all memory of the view. *view is closed then, and may be opened again. */
+tg_status tg_view_close(tg_view *view);
 
 #ifdef __cplusplus
 }

@@ -1,8 +1,8 @@
 # Writes a C file that compiles exactly where kovshenul.h fits the library's text: each struct of numbers has the same
 # fields at the same offsets, each export the same parameters, each constant the number that the contracts give it.
 #
-# It reads crates/tg_c/src/forms.rt, records.rt, handle.rt, place.rt, answer.rt, exports.rt, could.rt, those of its auditor, crates/tg_c/specs/
-# Forms.antt, Records.antt and Could.antt, and crates/tg_rights/specs/RightSet.antt.
+# It reads crates/tg_c/src/forms.rt, records.rt, handle.rt, place.rt, answer.rt, exports.rt, could.rt, those of its auditor and its view,
+# crates/tg_c/specs/Forms.antt, Records.antt, Could.antt and View.antt, and crates/tg_rights/specs/RightSet.antt.
 
 function same(is, wanted) {
     printf "SAME(%s, %s);\n", is, wanted
@@ -63,6 +63,7 @@ BEGIN {
     types["StorePlace"] = "tg_store"; types["Handle"] = "twin_Handle"
     types["AnswerPlace"] = "tg_answer"; types["AnswerHandle"] = "twin_AnswerHandle"
     types["AuditorPlace"] = "tg_auditor"; types["AuditorHandle"] = "twin_AuditorHandle"
+    types["ViewPlace"] = "tg_view"; types["ViewHandle"] = "twin_ViewHandle"
     same("sizeof(void *)", 8)
     same("sizeof(bool)", 1)
     same("sizeof(size_t)", 8)
@@ -193,8 +194,8 @@ sum {
     same("TG_REPLY_" capitals(name), number_after("(= answered |kind = )", $0))
 }
 
-# of an answer's kind, each by its own name in capitals
-/^kind_(of|in) \(?[A-Z]/ {
+# of an answer's kind and of what a view tells, each by its own name in capitals
+/^kind_(of|in|seen) \(?[A-Z]/ {
     name = $2
     sub(/^\(/, "", name)
     if (name == "Could") {

@@ -17,6 +17,9 @@ SAME(offsetof(tg_store, handle.at), 8);
 SAME(sizeof(tg_answer), 16);
 SAME(offsetof(tg_answer, is_open), 0);
 SAME(offsetof(tg_answer, handle.at), 8);
+SAME(sizeof(tg_view), 16);
+SAME(offsetof(tg_view, is_open), 0);
+SAME(offsetof(tg_view, handle.at), 8);
 SAME(sizeof(tg_auditor), 16);
 SAME(offsetof(tg_auditor, is_open), 0);
 SAME(offsetof(tg_auditor, handle.at), 8);
@@ -82,4 +85,4 @@ SAME(TG_REPLY_EDGES | TG_REPLY_VERTICES_FULL << 8 | TG_REPLY_WORKERS_FULL << 16,
 SAME(TG_FULL | TG_NURSERY << 8, 0x0100);
 SAME(TG_DONE | TG_DENIED << 8, 0x0100);
 SAME(TG_NEVER | TG_NOW << 8 | TG_COULD << 16 | TG_WANTS_NAMES << 24, 0x03020100);
-SAME(TG_UNREACHED | TG_OPEN << 8, 0x0504);
+SAME(TG_UNREACHED | TG_OPEN << 8 | TG_PERHAPS << 16, 0x060504);

@@ -4,6 +4,8 @@
    A script is one that the plain program bench/reference.rs takes, whose replies must be the same. Some stores have tight limits, and of some
    requests for memory are refused. A call that is refused for either changes nothing, so the script leaves it out. The stores move from place
    to place, and what a call may not write to is looked at. Collections of the nurseries run in between, of which the script says nothing.
+   What could come about is asked now and then, of the store and of a view, and again behind a collection; each question is written with what
+   was told to FOLDER/0.questions, and is asked of the plain graph too.
    The journal is written as a script with the replies that it has, FOLDER/0.journal.script and FOLDER/0.journal.replies: at the end, but of
    each second store part after part, as an auditor has replayed entries and they are given up. All is audited, and each block of memory has
    to have been given back. It is linked with --wrap=malloc,--wrap=realloc,--wrap=free. */
@@ -47,7 +49,7 @@ struct run {
     tg_store places[2];    /* the store is in one of them */
     tg_auditor auditors[2];    /* its auditor is in that of the same number */
     int place;
-    FILE *script, *replies, *journal_script, *journal_replies;
+    FILE *script, *replies, *journal_script, *journal_replies, *questions;
     uint64_t audited;      /* how many entries the auditor has come to */
     char line[128];        /* of the command */
     uint64_t state;        /* of the random numbers */
@@ -523,8 +525,95 @@ static void collect(struct run *run, uint32_t kind) {
         fprintf(run->replies, "ok %" PRIu64 "\n", left);
 }
 
+/* ---- questions */
+
+/* A question: who takes no turns, an edge that is supposed to be there, or none, and x, a right and y. */
+struct question {
+    uint64_t silent[MOST_WORKERS], silent_count, as_if_count, x, right, y;
+    tg_edge as_if;
+};
+
+/* Workers are silent, and an edge between two of them is supposed. x and y are of all names, those that aren't made yet too. */
+static struct question draw(struct run *run) {
+    struct question it = { .right = UINT64_C(1) << below(run, RIGHTS) };
+    uint64_t trusted = 1 + below(run, 4);
+    for (uint64_t i = 0; i < run->active; i++)
+        if (below(run, 4) < trusted)
+            it.silent[it.silent_count++] = run->workers[i].name;
+    it.as_if = (tg_edge){ name_of_worker(run), name_of_worker(run), rights_of_some(run) };
+    it.as_if_count = it.as_if.from != it.as_if.to && below(run, 2) == 0;
+    it.x = below(run, 3) == 0 ? below(run, run->made + 2) : name_of_worker(run);
+    it.y = below(run, 8) == 0 ? run->made : name_of_some(run);
+    return it;
+}
+
+/* Whether a call for an answer or a view was served. Else memory was refused. */
+static int is_told(struct run *run, tg_status status, long refused_before) {
+    if (status == TG_OUT_OF_MEMORY && refused > refused_before)
+        return 0;
+    if (status != TG_DONE)
+        stop(run, "a question", status);
+    return 1;
+}
+
+/* The kind of its answer, or none where memory was refused. */
+static uint64_t answer_to(struct run *run, const struct question *it) {
+    tg_answer answer = TG_ANSWER_INIT;
+    uint64_t kind = UNTOUCHED;
+    long before = refused;
+    if (!is_told(run, tg_could(store_of(run), it->silent, it->silent_count, &it->as_if, it->as_if_count, it->x, it->right, it->y, &answer), before))
+        return UNTOUCHED;
+    want(run, tg_answer_kind(&answer, &kind) == TG_DONE && tg_answer_close(&answer) == TG_DONE, "an answer");
+    return kind;
+}
+
+/* What a view tells of it, or nothing where memory was refused. */
+static uint64_t chance_of(struct run *run, const struct question *it) {
+    tg_view view = TG_VIEW_INIT;
+    uint64_t kind = UNTOUCHED;
+    long before = refused;
+    if (!is_told(run, tg_view_open(store_of(run), it->silent, it->silent_count, &it->as_if, it->as_if_count, &view), before))
+        return UNTOUCHED;
+    want(run, tg_view_could(&view, it->x, it->right, it->y, &kind) == TG_DONE && tg_view_close(&view) == TG_DONE, "a view");
+    return kind;
+}
+
+/* Writes a question behind so many lines of the script, and the kind of its answer. */
+static void put_question(struct run *run, const struct question *it, uint64_t kind) {
+    char text[RIGHTS + 1];
+    fprintf(run->questions, "%ld %" PRIu64 " --ask '%" PRIu64 " %s %" PRIu64 "'", WORKERS + run->answered, kind, it->x,
+            letters(it->right, text), it->y);
+    for (uint64_t i = 0; i < it->silent_count; i++)
+        fprintf(run->questions, " --silent %" PRIu64, it->silent[i]);
+    if (it->as_if_count > 0)
+        fprintf(run->questions, " --as-if '%" PRIu64 " %" PRIu64 " %s'", it->as_if.from, it->as_if.to, letters(it->as_if.rights, text));
+    fputs("\n", run->questions);
+}
+
+/* A question is asked, of a view too, and again behind a collection of either kind: the answers are the same. */
+static void ask_some(struct run *run) {
+    struct question it = draw(run);
+    say(run, "asks");
+    uint64_t entries = next_entry(run, store_of(run)), kind = answer_to(run, &it);
+    if (kind == UNTOUCHED)
+        return;
+    put_question(run, &it, kind);
+    want(run, next_entry(run, store_of(run)) == entries, "an entry of a question");
+    for (int times = 0; times < 2; times++) {
+        uint64_t again = answer_to(run, &it), chance = chance_of(run, &it);
+        want(run, again == UNTOUCHED || again == kind, "another answer");
+        want(run, chance == UNTOUCHED || (chance == TG_NEVER && kind == TG_NEVER) || (chance == TG_UNREACHED && kind == TG_UNREACHED)
+                 || (chance == TG_PERHAPS && kind != TG_NEVER && kind != TG_UNREACHED), "a view tells something else");
+        if (times == 0)
+            collect(run, below(run, 2) == 0 ? TG_FULL : TG_NURSERY);
+        say(run, "asks");
+    }
+}
+
 static void command(struct run *run) {
     uint64_t which = below(run, 1000);
+    if (below(run, 4000) == 0)
+        ask_some(run);
     if (which < 2)
         collect(run, which == 0 ? TG_FULL : TG_NURSERY);
     else if (which < 6)
@@ -617,7 +706,7 @@ static void audit_and_close(struct run *run) {
     want(run, tg_auditor_close(auditor_of(run)) == TG_DONE && !auditor_of(run)->is_open, "an auditor's end");
     want(run, tg_close(store) == TG_DONE && !store->is_open && held == 0, "memory is held by a closed store");
     want(run, fclose(run->script) == 0 && fclose(run->replies) == 0, "files");
-    want(run, fclose(run->journal_script) == 0 && fclose(run->journal_replies) == 0, "files");
+    want(run, fclose(run->journal_script) == 0 && fclose(run->journal_replies) == 0 && fclose(run->questions) == 0, "files");
 }
 
 static void *run_all(void *at) {
@@ -630,6 +719,7 @@ static void *run_all(void *at) {
     run->replies = written(run, "replies");
     run->journal_script = written(run, "journal.script");
     run->journal_replies = written(run, "journal.replies");
+    run->questions = written(run, "questions");
     put_opening(run->script);
     put_opening(run->journal_script);
     open_store(run);

@@ -890,6 +890,71 @@ static void questions(void) {
     WANT(tg_close(&store) == TG_DONE && says(&answer, TG_UNREACHED, 0, 0) && tg_answer_close(&answer) == TG_DONE);
 }
 
+/* Whether no view is opened for this status, and its place is as it was. */
+static int is_unseen(tg_store *store, const uint64_t *silent, size_t count, tg_edge supposed, tg_status status) {
+    tg_view view = TG_VIEW_INIT;
+    return tg_view_open(store, silent, count, &supposed, 1, &view) == status && !view.is_open && view.handle.at == NULL;
+}
+
+/* Whether the view tells this of the question whether x could come to write y. */
+static int sees(tg_view *view, uint64_t x, uint64_t y, uint64_t kind) {
+    uint64_t told = UNTOUCHED;
+    return tg_view_could(view, x, TG_WRITE, y, &told) == TG_DONE && told == kind;
+}
+
+/* Whether a question about these rights is refused, and nothing is told. */
+static int is_untold(tg_view *view, uint64_t rights) {
+    uint64_t told = UNTOUCHED;
+    return tg_view_could(view, 1, rights, 0, &told) == TG_BAD_RIGHTS && told == UNTOUCHED;
+}
+
+static void closed_views(void) {
+    tg_store store = TG_STORE_INIT;
+    tg_view view = TG_VIEW_INIT;
+    WANT(tg_view_open(&store, NULL, 0, NULL, 0, &view) == TG_NOT_OPEN && !view.is_open && view.handle.at == NULL);
+    WANT(tg_view_could(&view, 0, TG_READ, 1, &number) == TG_NOT_OPEN && is_untouched());
+    WANT(tg_view_could(&view, 0, TG_READ | TG_WRITE, 1, &number) == TG_BAD_RIGHTS && is_untouched());
+    WANT(tg_view_close(&view) == TG_NOT_OPEN && !view.is_open && view.handle.at == NULL);
+}
+
+static void bad_views(tg_store *store) {
+    static const uint64_t strangers[2] = { 0, 3 };
+    static const tg_edge empty = { 1, 0, 0 }, loop = { 1, 1, TG_READ }, far = { 1, 9, TG_READ };
+    WANT(is_unseen(store, strangers, 2, empty, TG_BAD_RIGHTS));
+    WANT(is_unseen(store, strangers, 2, loop, TG_NO_SUCH_WORKER));
+    WANT(is_unseen(store, host, 1, loop, TG_BAD_EDGE));
+    WANT(is_unseen(store, host, 1, far, TG_BAD_EDGE));
+}
+
+/* A view tells of many questions, as of the moment when it was opened, and outlives its store. */
+static void views(void) {
+    static const tg_edge supposed[1] = { { 1, 0, TG_TAKE } };
+    tg_store store = TG_STORE_INIT;
+    tg_view view = TG_VIEW_INIT, other = TG_VIEW_INIT, kept;
+    uint64_t document, entries, left;
+    tg_denial why;
+    WANT(tg_open(&store, workers, 2, edges, 2, &limits) == TG_DONE);
+    WANT(tg_create(&store, 0, TG_WRITE, &cell, &document) == TG_DONE);
+    bad_views(&store);
+    WANT(tg_view_open(&store, host, 1, NULL, 0, &view) == TG_DONE && view.is_open && view.handle.at != NULL);
+    kept = view;
+    WANT(tg_view_open(&store, host, 1, NULL, 0, &view) == TG_ALREADY_OPEN);
+    WANT(tg_view_open(&store, host, 1, &(tg_edge){ 1, 0, 0 }, 1, &view) == TG_BAD_RIGHTS);
+    WANT(view.is_open && view.handle.at == kept.handle.at && sees(&view, 1, document, TG_NEVER));
+    WANT(sees(&view, 0, document, TG_PERHAPS) && sees(&view, document, 0, TG_NEVER) && sees(&view, UINT64_MAX, 0, TG_NEVER));
+    WANT(is_untold(&view, 0) && is_untold(&view, TG_READ | TG_WRITE) && is_untold(&view, 256));
+    WANT(tg_view_open(&store, host, 1, supposed, 1, &other) == TG_DONE && sees(&other, 1, document, TG_PERHAPS));
+    WANT(tg_view_close(&other) == TG_DONE && !other.is_open && other.handle.at == NULL);
+    WANT(tg_retire(&store, 1) == TG_DONE && tg_remove(&store, 0, 1, edges[0].rights, &why) == TG_DONE);
+    WANT(tg_view_open(&store, NULL, 0, NULL, 0, &other) == TG_DONE && sees(&other, 1, document, TG_UNREACHED));
+    WANT(tg_collect(&store, TG_FULL, &left) == TG_DONE && left == 2 && sees(&other, 1, document, TG_UNREACHED));
+    WANT(tg_entries(&store, &entries) == TG_DONE && entries == 3 && tg_retire(&store, 0) == TG_DONE);
+    WANT(tg_view_close(&other) == TG_DONE && tg_view_open(&store, NULL, 0, NULL, 0, &other) == TG_DONE);
+    WANT(sees(&other, 0, document, TG_UNREACHED) && sees(&other, document + 1, 0, TG_NEVER));
+    WANT(tg_close(&store) == TG_DONE && sees(&view, 1, document, TG_NEVER));
+    WANT(tg_view_close(&view) == TG_DONE && tg_view_close(&other) == TG_DONE && tg_view_close(&view) == TG_NOT_OPEN);
+}
+
 /* No name is left: the turns make vertices, of which an entry's numbers are read. */
 static void names_wanting(void) {
     static const tg_edge taker[1] = { { 1, 0, TG_TAKE } };
@@ -921,6 +986,7 @@ int main(void) {
     unwanted_denials();
     closed();
     closed_answers();
+    closed_views();
     closed_auditors();
     openings();
     first_faults();
@@ -942,6 +1008,7 @@ int main(void) {
     as_many_workers_as_may_be();
     entries_read();
     questions();
+    views();
     names_wanting();
     a_worker_leaves();
     entries_forgotten();

@@ -17,7 +17,9 @@
   // What a screen reader says of the step.
   function spoken(step) {
     const [reply, change] = [".reply", ".change"].map((it) => step.querySelector(it).textContent);
-    return `Line ${step.querySelector("h2").textContent}` + (reply ? `, reply ${reply}` : "") + (change ? `: ${change}` : "");
+    const answer = step.querySelector(".answer p");
+    const told = answer ? `. ${answer.textContent}` : "";
+    return `Line ${step.querySelector("h2").textContent}` + (reply ? `, reply ${reply}` : "") + (change ? `: ${change}` : "") + told;
   }
 
   // Marks the step's line in the list, and scrolls the list alone, so that the line stands in the window.

@@ -3,7 +3,7 @@
 //!
 //! Before the host hands a right on it asks whether a document that it guards would stay out of reach: not only now, but whatever
 //! the plug-ins do together while the host does nothing.
-use kovshenul::{Edge, Error, Kind, Limits, Rights, Store, Value};
+use kovshenul::{Chance, Edge, Error, Kind, Limits, Rights, Store, Value};
 
 const HOST: u64 = 0;
 
@@ -45,9 +45,9 @@ fn meddle(store: &mut Store, worker: u64, document: u64) -> Result<String, Error
 
 /// Which worker, but for the host, could ever come to read the guarded document if this edge were there.
 fn who_could(store: &Store, supposed: Edge, guarded: u64) -> Result<Option<u64>, Error> {
+    let view = store.view(&[HOST], &[supposed])?;
     for worker in store.subjects()? {
-        let never = worker == HOST || store.could(worker, Rights::READ, guarded, &[HOST], &[supposed])?.is_never();
-        if !never {
+        if worker != HOST && view.could(worker, Rights::READ, guarded)? != Chance::Never {
             return Ok(Some(worker));
         }
     }

@@ -11,7 +11,7 @@ TypeError: nothing happened then.
 
 A store's journal is read by `entry` and `journal`, and given up by `forget`. An Auditor replays it before that, part after part.
 The types of what an entry says are those of `kovshenul.journal`, and those of what could come about, which `could` answers,
-those of `kovshenul.outlook`.
+those of `kovshenul.outlook`. A View, which `view` opens, tells of all questions at once.
 
 Any thread may call a store: a lock in it makes the calls come one after the other. The library is the one that the
 variable KOVSHENUL_LIBRARY names, else the one beside this module, else the one that the system finds.
@@ -46,6 +46,7 @@ from ._refusals import (
 )
 from ._store import Store
 from ._values import MOST_NUMBERS, Cell, Counts, Edge, Kind, Limits, Log, Max, Rights, Sum, Target, Value
+from ._view import View
 
 READ, WRITE, TAKE, GRANT, APPEND, INSPECT, FREE_U, FREE_V = Rights
 FULL, NURSERY = Kind
@@ -98,6 +99,7 @@ __all__ = [
     "Target",
     "Value",
     "VerticesFull",
+    "View",
     "WRITE",
     "WorkersFull",
     "journal",

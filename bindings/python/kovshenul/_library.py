@@ -12,7 +12,7 @@ NAME = f"libkovshenul.so.{ABI}"
 CALLS = (
     "abi open close take grant remove write append create spawn retire leave who_holds subjects read list inspect label collect census names entries "
     "first entry forget audit auditor_open auditor_feed auditor_at auditor_forget auditor_sweep auditor_close "
-    "could answer_kind answer_names answer_turns answer_turn answer_close"
+    "could answer_kind answer_names answer_turns answer_turn answer_close view_open view_could view_close"
 ).split()
 
 Number = ctypes.c_uint64
@@ -85,7 +85,7 @@ class Counts(ctypes.Structure):
 
 
 class Place(ctypes.Structure):
-    """A store, or none where all of it is zero; an auditor and an answer are held in the same way."""
+    """A store, or none where all of it is zero; an auditor, an answer and a view are held in the same way."""
 
     _fields_ = [("is_open", ctypes.c_bool), ("at", ctypes.c_void_p)]
 

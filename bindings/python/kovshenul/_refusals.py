@@ -68,13 +68,13 @@ class Refused(Error):
 
 
 class NotOpen(Refused, ValueError):
-    """The store, or the auditor, is closed."""
+    """The store, the auditor or the view is closed."""
 
     status = 16
 
 
 class AlreadyOpen(Refused, ValueError):
-    """The store, or the auditor, is open already."""
+    """The store, the auditor or the view is open already."""
 
     status = 17
 

@@ -12,6 +12,7 @@ from ._library import BITS, library, number_in, short
 from ._held import Held
 from ._refusals import BadPlace, Denied, NotOpen, refusal, told_by
 from ._values import MOST_NUMBERS, RIGHTS, Counts, Kind, Limits, Rights, Target, Value
+from ._view import View, scene_in
 from .journal import DEEDS, Entry, Inspect, entry_of
 from .journal import List as Listed
 from .outlook import Outlook, outlook_of
@@ -340,21 +341,23 @@ class Store(Held):
         right, NoSuchWorker where a silent one is no worker, BadEdge where an edge joins a vertex to itself, or one that no
         worker reaches.
         """
-        names, edges = _numbers(*silent), [_numbers(source, target, rights) for source, target, rights in as_if]
-        names_in, edges_in = (_library.Number * len(names))(*names), (_library.Edge * len(edges))(*edges)
+        scene = scene_in(silent, as_if)
         asked = [_number(x), _number(right), _number(y)]
         answer = _library.Place()
         answer_at = byref(answer)
         with self._lock:
-            status = library.tg_could(
-                self._at, byref(names_in), c_size_t(len(names)), byref(edges_in), c_size_t(len(edges)), *asked, answer_at
-            )
+            status = library.tg_could(self._at, *scene, *asked, answer_at)
         if status:
             raise refusal(status)
         try:
             return outlook_of(answer_at)
         finally:
             short.tg_answer_close(answer_at)
+
+    def view(self, silent: Iterable[int] = (), as_if: Iterable[Tuple[int, int, int]] = ()) -> View:
+        """A view of what the workers reach, in which the silent ones take no turns, as if these edges were there too. The
+        journal gets no entry. It is refused as `could` is, where that is for what is silent or supposed."""
+        return View(self, silent, as_if)
 
     def collect(self, kind: int = Kind.FULL) -> int:
         """Collects, and answers how many vertices the heap then has."""

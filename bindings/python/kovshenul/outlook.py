@@ -1,4 +1,4 @@
-"""What is answered to the question whether x could ever come to hold a right over y (`Store.could`).
+"""What is answered to the question whether x could ever come to hold a right over y (`Store.could`, `View.could`).
 
     match store.could(plugin, WRITE, document, silent=[host]):
         case outlook.Never():
@@ -64,10 +64,18 @@ class Open:
     """Neither was shown."""
 
 
+@dataclass(frozen=True)
+class Perhaps:
+    """A view says nothing of the right. `Store.could` tells more."""
+
+
 Outlook = Union[Never, Now, Could, WantsNames, Unreached, Open]
 
+# What a view tells.
+Chance = Union[Never, Unreached, Perhaps]
+
 # By their numbers.
-OUTLOOKS = {0: Never, 1: Now, 2: Could, 3: WantsNames, 4: Unreached, 5: Open}
+OUTLOOKS = {0: Never, 1: Now, 2: Could, 3: WantsNames, 4: Unreached, 5: Open, 6: Perhaps}
 
 
 def outlook_of(answer_at: object) -> Outlook:

@@ -1,5 +1,5 @@
 """What could ever come about: on small random graphs what `could` answers is what a closure under take and grant says,
-which is written apart; its turns lead there; and a collection changes no answer."""
+which is written apart; a view tells the same; its turns lead there; and a collection changes no answer."""
 import itertools
 import pickle
 import random
@@ -8,6 +8,7 @@ import unittest
 from kovshenul import (
     FULL,
     GRANT,
+    NURSERY,
     READ,
     TAKE,
     WRITE,
@@ -20,6 +21,7 @@ from kovshenul import (
     NotOpen,
     Rights,
     Store,
+    View,
     journal,
     outlook,
 )
@@ -143,6 +145,9 @@ class Could(unittest.TestCase):
         closed, reached = whole.closed(sorted(graph.active - set(silent))), whole.reached()
         asked = list(itertools.product(range(graph.made), [TAKE, GRANT, READ], range(graph.made)))
         answers = [store.could(x, right, y, silent, as_if) for x, right, y in asked]
+        with store.view(silent, as_if) as view:
+            chances = [view.could(x, right, y) for x, right, y in asked]
+        self.assertEqual(chances, [self.seen(answer) for answer in answers])
         for (x, right, y), answer in zip(asked, answers):
             if x not in reached:
                 self.assertEqual(answer, outlook.Unreached())
@@ -153,9 +158,16 @@ class Could(unittest.TestCase):
             else:
                 self.assertEqual(answer, outlook.Never())
         self.assertEqual(store.entries(), entries)
-        store.collect(FULL)
-        self.assertEqual([store.could(x, right, y, silent, as_if) for x, right, y in asked], answers)
+        for kind in (NURSERY, FULL):
+            store.collect(kind)
+            self.assertEqual([store.could(x, right, y, silent, as_if) for x, right, y in asked], answers)
+            with store.view(silent, as_if) as view:
+                self.assertEqual([view.could(x, right, y) for x, right, y in asked], chances)
         return {type(answer) for answer in answers}
+
+    def seen(self, answer):
+        """What a view tells of a question that has this answer."""
+        return answer if isinstance(answer, (outlook.Never, outlook.Unreached)) else outlook.Perhaps()
 
     def test_turns_lead_there(self):
         """The turns are those of workers that act, and are all served."""
@@ -192,6 +204,43 @@ class Could(unittest.TestCase):
             self.assertIsInstance(answer, outlook.WantsNames)
             makings = [turn for turn in answer.turns if isinstance(turn.deed, journal.Create)]
             self.assertEqual(answer.names, len(makings))
+
+    def test_a_view_is_of_its_moment(self):
+        with opened() as store:
+            document = store.create(0, READ | WRITE, Cell(7))
+            entries = store.entries()
+            view, other = store.view([0]), store.view(silent=[0], as_if=[(1, 0, TAKE)])
+            self.assertIsInstance(view, View)
+            self.assertEqual(store.entries(), entries)
+            self.assertEqual(view.could(1, WRITE, document), outlook.Never())
+            self.assertEqual(view.could(0, WRITE, document), outlook.Perhaps())
+            self.assertEqual(other.could(1, WRITE, document), outlook.Perhaps())
+            store.retire(2)
+            self.assertEqual(store.view().could(2, WRITE, document), outlook.Unreached())
+            self.assertEqual(view.could(2, WRITE, document), outlook.Never())
+        self.assertEqual(view.could(1, WRITE, document), outlook.Never())
+        view.close()
+        self.assertRaises(NotOpen, view.could, 1, WRITE, document)
+        self.assertRaises(BadRights, view.could, 1, READ | WRITE, document)
+        self.assertRaises(TypeError, pickle.dumps, other)
+
+    def test_a_view_where_nobody_works(self):
+        with opened(1) as store:
+            store.retire(0)
+            with store.view() as view:
+                self.assertEqual(view.could(0, READ, 1), outlook.Unreached())
+                self.assertEqual(view.could(1, READ, 0), outlook.Never())
+            self.assertEqual(store.could(1, READ, 0), outlook.Never())
+
+    def test_refusals_of_a_view(self):
+        store = opened(2, [(0, 1, GRANT)])
+        self.assertRaises(BadRights, store.view, (), [(0, 1, 0)])
+        self.assertRaises(NoSuchWorker, store.view, [0, 2], [(0, 0, READ)])
+        self.assertRaises(BadEdge, store.view, [], [(0, 2, READ)])
+        self.assertRaises(OverflowError, store.view, [2**64])
+        store.close()
+        self.assertRaises(NotOpen, store.view)
+        self.assertRaises(BadRights, store.view, (), [(0, 1, 0)])
 
     def test_one_that_is_made_later(self):
         with opened(2, [(0, 1, GRANT)]) as store:

@@ -26,6 +26,7 @@ mod raw;
 mod rights;
 mod store;
 mod value;
+mod view;
 
 pub use auditor::Auditor;
 pub use could::{Could, Turn};
@@ -34,3 +35,4 @@ pub use journal::{Deed, Entry, Journal, Reply};
 pub use rights::{NoRights, Rights};
 pub use store::Store;
 pub use value::{Counts, Edge, Kind, Limits, Target, Value};
+pub use view::{Chance, View};

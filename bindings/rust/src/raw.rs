@@ -54,6 +54,7 @@ pub const COULD: u64 = 2;
 pub const WANTS_NAMES: u64 = 3;
 pub const UNREACHED: u64 = 4;
 pub const OPEN: u64 = 5;
+pub const PERHAPS: u64 = 6;
 
 /// A store, or none where all of it is zero.
 #[repr(C)]
@@ -147,6 +148,13 @@ pub struct RawAnswer {
     pub at: *mut c_void,
 }
 
+/// A view, or none where all of it is zero.
+#[repr(C)]
+pub struct RawView {
+    pub is_open: bool,
+    pub at: *mut c_void,
+}
+
 extern "C" {
     pub fn tg_abi() -> u32;
     pub fn tg_status_text(status: u32) -> *const c_char;
@@ -228,6 +236,16 @@ extern "C" {
         room: usize,
     ) -> u32;
     pub fn tg_answer_close(answer: &mut RawAnswer) -> u32;
+    pub fn tg_view_open(
+        store: *mut RawStore,
+        silent: *const u64,
+        silent_count: usize,
+        as_if: *const RawEdge,
+        as_if_count: usize,
+        view: *mut RawView,
+    ) -> u32;
+    pub fn tg_view_could(view: *mut RawView, x: u64, right: u64, y: u64, kind: &mut u64) -> u32;
+    pub fn tg_view_close(view: *mut RawView) -> u32;
     pub fn tg_auditor_open(
         auditor: *mut RawAuditor,
         workers: *const RawValue,

@@ -1,5 +1,5 @@
 //! What could ever come about: its answers hold before a collection and after it, and their turns lead there.
-use kovshenul::{Could, Deed, Edge, Error, Kind, Limits, Rights, Store, Turn, Value};
+use kovshenul::{Chance, Could, Deed, Edge, Error, Kind, Limits, Rights, Store, Turn, Value};
 
 fn opened(workers: usize, edges: &[Edge], max_vertices: u64) -> Store {
     let limits = Limits {
@@ -82,4 +82,40 @@ fn what_is_refused() {
     assert_eq!(ask(Rights::READ, &[2], &[]), Error::NoSuchWorker);
     assert_eq!(ask(Rights::READ, &[], &[edge(1, 1, Rights::READ)]), Error::BadEdge);
     assert_eq!(ask(Rights::READ, &[], &[edge(0, 2, Rights::READ)]), Error::BadEdge);
+}
+
+// A view tells of each question what its answer is, as of the moment when it was opened.
+#[test]
+fn a_view_tells_of_all() {
+    let mut store = opened(3, &[edge(0, 1, Rights::GRANT)], 100);
+    let document = store.create(0, Rights::WRITE, Value::Cell(0)).unwrap();
+    store.retire(2).unwrap();
+    let (trusted, supposed) = ([0], [edge(1, 0, Rights::TAKE)]);
+    let (view, other) = (store.view(&trusted, &[]).unwrap(), store.view(&trusted, &supposed).unwrap());
+    assert_eq!(view.could(1, Rights::WRITE, document), Ok(Chance::Never));
+    assert_eq!(view.could(0, Rights::WRITE, document), Ok(Chance::Perhaps));
+    assert_eq!(view.could(2, Rights::WRITE, document), Ok(Chance::Unreached));
+    assert_eq!(other.could(1, Rights::WRITE, document), Ok(Chance::Perhaps));
+    for (x, y) in (0..5).flat_map(|x| (0..5).map(move |y| (x, y))) {
+        let told = match store.could(x, Rights::WRITE, y, &trusted, &[]).unwrap() {
+            Could::Never => Chance::Never,
+            Could::Unreached => Chance::Unreached,
+            _ => Chance::Perhaps,
+        };
+        assert_eq!(view.could(x, Rights::WRITE, y), Ok(told), "{x} over {y}");
+    }
+    store.grant(0, 1, document, Rights::WRITE).unwrap();
+    drop(store);
+    let elsewhere = std::thread::spawn(move || view.could(1, Rights::WRITE, document));
+    assert_eq!(elsewhere.join().unwrap(), Ok(Chance::Never));
+}
+
+#[test]
+fn what_a_view_refuses() {
+    let store = opened(2, &[], 100);
+    assert_eq!(store.view(&[], &[edge(0, 1, Rights::NONE)]).unwrap_err(), Error::BadRights);
+    assert_eq!(store.view(&[2], &[]).unwrap_err(), Error::NoSuchWorker);
+    assert_eq!(store.view(&[], &[edge(0, 2, Rights::READ)]).unwrap_err(), Error::BadEdge);
+    let view = store.view(&[], &[]).unwrap();
+    assert_eq!(view.could(0, Rights::READ | Rights::WRITE, 1), Err(Error::BadRights));
 }

@@ -32,7 +32,7 @@ label_in-append (e ∷ es) more a b = by_test (label_in-append es more a b) ((a 
     by_test rest false = rest
 
 -- a right that is held, and an edge
-held_edge : (s : RightSet) (q : Right) → has s q ≡ true → is_none_held s ≡ false
+pub held_edge : (s : RightSet) (q : Right) → has s q ≡ true → is_none_held s ≡ false
 held_edge s q h = ⊎_elim (λ none. absurd (some_edge s q h (none_held-same s none))) (λ some. some) (cases_Bool (is_none_held s))
 
 -- what is held is held with more rights too
@@ -83,13 +83,13 @@ module _ (g : ProtectionGraph) (sound : IsSound g) (es : List Edge) (all : JoinR
   reached_then = Walk-map (λ q is. is) (λ a b edge. more_held (g.label a b) (label_in es a b) edge)
 
   module _ (p : Shown) (picture : IsReachedPicture p g) where
-    abbrev seen : ℕ → ℕ → RightSet
+    abbrev pub seen : ℕ → ℕ → RightSet
     seen a b = union (label_in p.edges a b) (label_in es a b)
 
     abbrev pub more : Shown
     more = record p { edges = p.edges ++ es }
 
-    agrees : Agree (Known g) supposed seen
+    pub agrees : Agree (Known g) supposed seen
     agrees =
         let before = picture_agrees p g sound picture in
         record {
@@ -99,7 +99,7 @@ module _ (g : ProtectionGraph) (sound : IsSound g) (es : List Edge) (all : JoinR
           labels = λ a b is. ap (λ s. union s (label_in es a b)) (before.labels a b is);
         }
 
-    seen_by : IsPictureOf more (relabelled supposed seen)
+    pub seen_by : IsPictureOf more (relabelled supposed seen)
     seen_by =
         let before = pictured p g sound picture in
         record {

@@ -7,10 +7,10 @@ use Rattle.tg_rights.specs.declared.Right.{Right}
 use Rattle.tg_rights.specs.declared.Right.TheVariants.{R, W, T, G, A, L, U, V}
 use Rattle.tg_model.specs.declared.edge.Edge.{Edge}
 use Rattle.tg_model.specs.declared.reply.Reply.TheVariants.{Done}
-use Rattle.tg_model.specs.Graph.{ProtectionGraph, IsSubject, IsReachable}
+use Rattle.tg_model.specs.Graph.{ProtectionGraph, IsSubject, IsReachable, IsSound}
 use Rattle.tg_model.specs.Opened.{label_in}
 use Rattle.tg_could.specs.Turns.{Turn}
-use Rattle.tg_could.specs.Reached.{IsToldOf}
+use Rattle.tg_could.specs.Reached.{IsReachedPicture, IsToldOf}
 use Rattle.tg_could.specs.declared.answer.Answer.{Answer}
 use Rattle.tg_could.specs.declared.answer.Answer.TheVariants.{Never, Could, WantsNames, Open}
 use Rattle.tg_could.specs.declared.reached.Told.{Told}
@@ -18,6 +18,7 @@ use Rattle.tg_could.specs.declared.reached.Told.TheVariants.{Unreached, Of}
 use Rattle.tg_store.specs.Store.{StandsFor}
 use Rattle.tg_graph.specs.Shown.{shown_in}
 use Rattle.tg_c.specs.declared.answer.AnswerPlace.{AnswerPlace}
+use Rattle.tg_c.specs.declared.foresee.Scene.{Scene}
 use Rattle.tg_c.specs.declared.forms.EdgeIn.{EdgeIn}
 use Rattle.tg_c.specs.declared.place.StorePlace.{StorePlace}
 use Rattle.tg_c.specs.declared.records.RecordOut.{RecordOut}
@@ -60,6 +61,13 @@ JoinReached g edges = All (JoinsReached g) edges
 abbrev pub AreActive : ProtectionGraph → List ℕ → Type 0
 AreActive g names = All (IsSubject g) names
 
+-- what is asked about on a graph: all silent ones are active subjects, and there are the picture of what is reached and the edges
+pub record IsSceneOf (g : ProtectionGraph) (silent : List ℕ) (as_if : List EdgeIn) (scene : Scene) : Type 0 where
+  pub active : AreActive g silent
+  pub sound : IsSound g
+  pub picture : IsReachedPicture scene.picture g
+  pub edges : scene.as_if.items ≡ map edge_in as_if
+
 -- What is told is so of the graph with the edges that are supposed to be there. All silent ones are active subjects, and each edge
 -- joins two that are reached.
 pub record IsForeseenOn (g : ProtectionGraph) (silent : List ℕ) (as_if : List EdgeIn) (x : ℕ) (right : Right) (y : ℕ) (told : Told) : Type 0 where
@@ -74,14 +82,17 @@ IsRefusedOn g silent as_if why =
     ((¬ AreActive g silent) × (why ≡ refusal.NoSuchWorker))
     ⊎ (AreActive g silent × IsMemoryOr refusal.BadEdge (¬ JoinReached g (map edge_in as_if)) why)
 
--- what a question asks for, in the order in which it is looked at, before the store is
-abbrev pub asked_first : StorePlace → Bool → List EdgeIn → ℕ → List Demand
-asked_first place is_open as_if right =
-    demand (IsSome (right_at right)) refusal.BadRights
-    ∷ demand (HaveLabels as_if) refusal.BadRights
+-- what is asked of the edges and of the two places, in the order in which it is looked at, before the store is
+abbrev pub asked_of_places : StorePlace → Bool → List EdgeIn → List Demand
+asked_of_places place is_open as_if =
+    demand (HaveLabels as_if) refusal.BadRights
     ∷ demand (is_open ≡ false) refusal.AlreadyOpen
     ∷ demand (place.is_open ≡ true) refusal.NotOpen
     ∷ []
+
+-- what a question asks for: one right, and then the same
+abbrev pub asked_first : StorePlace → Bool → List EdgeIn → ℕ → List Demand
+asked_first place is_open as_if right = demand (IsSome (right_at right)) refusal.BadRights ∷ asked_of_places place is_open as_if
 
 -- the answer to a question to a store in its place, where the answer's place was open or not
 pub record IsForeseen (place : StorePlace) (is_open : Bool) (silent : List ℕ) (as_if : List EdgeIn) (x right y : ℕ) (told : Told) : Type 0 where

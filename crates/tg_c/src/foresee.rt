@@ -67,11 +67,21 @@ pub fn right_of(bits: u64) -> Option<Right>
     }
 }
 
+/// What is asked about of an open store: the picture of what its workers reach, and the edges that are supposed to be
+/// there.
+#[derive(Drop)]
+pub struct Scene {
+    /// The picture.
+    pub picture: Picture,
+    /// The edges.
+    pub as_if: Vec<Edge>,
+}
+
 impl LawStore {
     ghost use Rattle.std.specs.Prelude.{◌↔◌, IfOk, IfErr, IsTrue};
     ghost use Rattle.tg_store.specs.Store.{graph_of_store};
     ghost use Rattle.tg_c.specs.Forms.{HaveLabels};
-    ghost use Rattle.tg_c.specs.Could.{AreActive, IsForeseenOn, IsRefusedOn};
+    ghost use Rattle.tg_c.specs.Could.{AreActive, IsForeseenOn, IsRefusedOn, IsSceneOf};
 
     // The same of an open store. The edges' rights were looked at.
     fn foresee(
@@ -87,15 +97,39 @@ impl LawStore {
         ensures told { IfOk result (λ opened. IsForeseenOn (graph_of_store self.now.store) silent.now as_if.now x right y opened.value.told) }
         ensures refused { IfErr result (IsRefusedOn (graph_of_store self.now.store) silent.now as_if.now) }
     {
+        let scene = self.scene(alloc, silent, as_if)?;
+        let told = foresee_on(
+            alloc,
+            &scene.picture,
+            scene.as_if.as_slice(),
+            silent,
+            x,
+            right,
+            y,
+        )?;
+        Ok(Box::new(alloc, Outlook { told })?)
+    }
+
+    /// What a question or a view is about, of an open store. `NoSuchWorker` is answered exactly where a silent one is
+    /// no worker, and else nothing but want of memory. The edges' rights were looked at.
+    pub fn scene(
+        &self,
+        alloc: Global,
+        silent: &[u64],
+        as_if: &[EdgeIn],
+    ) -> Result<Scene, CallRefusal>
+        requires { HaveLabels as_if.now }
+        ensures scene { IfOk result (IsSceneOf (graph_of_store self.now.store) silent.now as_if.now) }
+        ensures refused { IfErr result (IsRefusedOn (graph_of_store self.now.store) silent.now as_if.now) }
+    {
         if !self.are_workers(silent) {
             return Err(CallRefusal::NoSuchWorker);
         }
         // It tells that the store stands for a sound graph.
         let _ = self.store.journal();
-        let edges = edges_in(alloc, as_if)?;
+        let as_if = edges_in(alloc, as_if)?;
         let picture = self.store.picture(alloc)?;
-        let told = foresee_on(alloc, &picture, edges.as_slice(), silent, x, right, y)?;
-        Ok(Box::new(alloc, Outlook { told })?)
+        Ok(Scene { picture, as_if })
     }
 
     // Whether each of these is a worker.
@@ -138,8 +172,8 @@ fn foresee_on(
     Ok(Told::Of(answer))
 }
 
-// Whether each edge joins two different vertices that active subjects reach.
-fn join_reached(picture: &Picture, edges: &[Edge]) -> bool
+/// Whether each edge joins two different vertices that active subjects reach.
+pub fn join_reached(picture: &Picture, edges: &[Edge]) -> bool
     ensures { (g : ProtectionGraph) → IsReachedPicture picture.now g → IsTrue result ↔ JoinReached g edges.now }
 {
     for edge in edges {
@@ -157,8 +191,8 @@ fn joins_reached(picture: &Picture, edge: &Edge) -> bool
     edge.from != edge.to && is_reached(picture, edge.from) && is_reached(picture, edge.to)
 }
 
-// The picture with more edges. Fails only when out of memory.
-fn supposing(alloc: Global, picture: &Picture, more: &[Edge]) -> Result<Picture, AllocError>
+/// The picture with more edges. Fails only when out of memory.
+pub fn supposing(alloc: Global, picture: &Picture, more: &[Edge]) -> Result<Picture, AllocError>
     ensures { IfOk result (λ supposed. supposed ≡ record picture.now { edges = picture.now.edges ++ more.now }) }
 {
     let subjects = Vec::from_slice(alloc, picture.subjects())?;

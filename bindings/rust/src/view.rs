@@ -1,0 +1,102 @@
+//! What could ever come about, of all questions at once.
+use crate::error::served;
+use crate::raw::{self, RawEdge, RawView};
+use crate::{Edge, Error, Rights, Store};
+use std::cell::UnsafeCell;
+use std::fmt;
+use std::panic::RefUnwindSafe;
+use std::ptr::null_mut;
+
+/// What a [`View`] tells of the question whether x could ever come to hold a right over y.
+#[derive(Clone, Copy, PartialEq, Eq, Hash, Debug)]
+#[non_exhaustive]
+pub enum Chance {
+    /// After no list of turns of those who act does x hold it.
+    Never,
+    /// No worker reached x, which was made: it holds what it holds, for good.
+    Unreached,
+    /// Nothing is told of the right. [`Store::could`] tells more.
+    Perhaps,
+}
+
+/// A view of a store: what could come about, of all questions at once, as of the moment of [`Store::view`]. A question
+/// takes the time of the edges to y. `Never` stays so until something silent acts. It has nothing of the store, and
+/// outlives it. Dropping it closes it.
+///
+/// Any thread may have a view, and one at a time, as a [`Store`].
+///
+/// ```
+/// # use kovshenul::{Chance, Error, Limits, Rights, Store, Value};
+/// # let limits = Limits { max_vertices: 100, max_blocks: 8, max_space_blocks: 4 };
+/// let mut store = Store::open(&[Value::Cell(0)], &[], &limits)?;
+/// let document = store.create(0, Rights::READ | Rights::WRITE, Value::Sum(40))?;
+/// let plugins = [store.spawn(0, Rights::GRANT, Value::Cell(0))?, store.spawn(0, Rights::GRANT, Value::Cell(0))?];
+/// store.grant(0, plugins[0], document, Rights::READ)?;
+/// let view = store.view(&[0], &[])?;
+/// assert_eq!(view.could(plugins[0], Rights::WRITE, document)?, Chance::Never);
+/// assert_eq!(view.could(plugins[0], Rights::READ, document)?, Chance::Perhaps);
+/// assert_eq!(view.could(plugins[1], Rights::READ, document)?, Chance::Never);
+/// # Ok::<(), Error>(())
+/// ```
+pub struct View {
+    // As of a store: while a call runs, the library takes the view out of its place.
+    place: UnsafeCell<RawView>,
+}
+
+// What the pointer leads to may go to another thread: the library has a function whose bound asks for it (crates/tg_c/src/place.rt).
+unsafe impl Send for View {}
+
+// No call of the library unwinds, so none is left half done.
+impl RefUnwindSafe for View {}
+
+impl Store {
+    /// Opens a view of what the workers reach, in which the silent ones take no turns, as if these edges were there too.
+    /// The journal gets no entry. Refused as [`Store::could`] is, where that is for what is silent or supposed.
+    pub fn view(&self, silent: &[u64], as_if: &[Edge]) -> Result<View, Error> {
+        let edges: Vec<RawEdge> = as_if.iter().map(RawEdge::from).collect();
+        let view = View {
+            place: UnsafeCell::new(RawView {
+                is_open: false,
+                at: null_mut(),
+            }),
+        };
+        served(unsafe {
+            raw::tg_view_open(
+                self.at(),
+                silent.as_ptr(),
+                silent.len(),
+                edges.as_ptr(),
+                edges.len(),
+                view.place.get(),
+            )
+        })?;
+        Ok(view)
+    }
+}
+
+impl View {
+    /// What it tells of the question whether x could ever come to hold the right over y. `BadRights` where it isn't one
+    /// right.
+    pub fn could(&self, x: u64, right: Rights, y: u64) -> Result<Chance, Error> {
+        let mut kind = 0;
+        served(unsafe { raw::tg_view_could(self.place.get(), x, right.bits(), y, &mut kind) })?;
+        Ok(match kind {
+            raw::NEVER => Chance::Never,
+            raw::UNREACHED => Chance::Unreached,
+            raw::PERHAPS => Chance::Perhaps,
+            kind => unreachable!("interface {} has no view that tells {kind}", raw::ABI),
+        })
+    }
+}
+
+impl Drop for View {
+    fn drop(&mut self) {
+        unsafe { raw::tg_view_close(self.place.get()) };
+    }
+}
+
+impl fmt::Debug for View {
+    fn fmt(&self, f: &mut fmt::Formatter<'_>) -> fmt::Result {
+        f.debug_struct("View").finish_non_exhaustive()
+    }
+}

@@ -1,0 +1,87 @@
+//! The calls on a view in its place, in Rattle's own types.
+ghost use Rattle.std.specs.Prelude.{◌≡◌, true, IfOk, IfErr};
+ghost use Rattle.tg_c.specs.Calls.{state_in};
+ghost use Rattle.tg_c.specs.View.{Glances, IsRefusedView, IsSeen};
+
+use crate::foresee::right_of;
+use crate::forms::EdgeIn;
+use crate::law_store::LawStore;
+use crate::opening::check_rights;
+use crate::place::StorePlace;
+use crate::refusal::CallRefusal;
+use crate::view::place::ViewPlace;
+use crate::view::sight::Sight;
+use std::alloc::Global;
+
+/// Opens a view, which no place has yet, of the store in a place, where the silent ones take no turns, as if these
+/// edges were there too. What is asked for is looked at as a question's is (`crate::foresee`): the edges' rights, and
+/// whether the view's place is open; then whether the store's is, whether the silent ones are workers, and with memory
+/// whether each edge joins two different vertices that workers reach. The store is as it was.
+pub fn open_view(
+    alloc: Global,
+    place: &mut StorePlace,
+    silent: &[u64],
+    as_if: &[EdgeIn],
+    is_open: bool,
+) -> Result<Box<Sight>, CallRefusal>
+    ensures stays { place.new.is_open ≡ place.old.is_open }
+    ensures same { place.old.is_open ≡ true → state_in place.new ≡ state_in place.old }
+    ensures seen { IfOk result (λ opened. IsSeen place.old is_open silent.now as_if.now opened.value) }
+    ensures refused { IfErr result (IsRefusedView place.old is_open silent.now as_if.now) }
+{
+    check_rights(as_if)?;
+    if is_open {
+        return Err(CallRefusal::AlreadyOpen);
+    }
+    let Some(opened) = place.take(alloc) else {
+        return Err(CallRefusal::NotOpen);
+    };
+    let seen = opened.look(alloc, silent, as_if);
+    place.put(opened);
+    seen
+}
+
+/// The kind of what a view tells of the question whether x could ever come to hold the right of this bit over y.
+pub fn ask_view(
+    alloc: Global,
+    view: &mut ViewPlace,
+    x: u64,
+    right: u64,
+    y: u64,
+) -> Result<u64, CallRefusal>
+    ensures { Glances view.old view.new x right y (λ told. result ≡ told) }
+{
+    let Some(right) = right_of(right) else {
+        return Err(CallRefusal::BadRights);
+    };
+    let Some(sight) = view.take(alloc) else {
+        return Err(CallRefusal::NotOpen);
+    };
+    let kind = sight.could(x, right, y).kind();
+    view.put(sight);
+    Ok(kind)
+}
+
+impl LawStore {
+    ghost use Rattle.std.specs.Prelude.{IfOk, IfErr};
+    ghost use Rattle.tg_store.specs.Store.{graph_of_store};
+    ghost use Rattle.tg_c.specs.Forms.{HaveLabels};
+    ghost use Rattle.tg_c.specs.Could.{IsRefusedOn};
+    ghost use Rattle.tg_c.specs.View.{IsSeenOn};
+
+    // A view of an open store. The edges' rights were looked at.
+    fn look(
+        &self,
+        alloc: Global,
+        silent: &[u64],
+        as_if: &[EdgeIn],
+    ) -> Result<Box<Sight>, CallRefusal>
+        requires { HaveLabels as_if.now }
+        ensures seen { IfOk result (λ opened. IsSeenOn (graph_of_store self.now.store) silent.now as_if.now opened.value) }
+        ensures refused { IfErr result (IsRefusedOn (graph_of_store self.now.store) silent.now as_if.now) }
+    {
+        let scene = self.scene(alloc, silent, as_if)?;
+        let sight = Sight::of(alloc, &scene.picture, scene.as_if.as_slice(), silent)?;
+        Ok(Box::new(alloc, sight)?)
+    }
+}
