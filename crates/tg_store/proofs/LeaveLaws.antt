@@ -1,22 +1,24 @@
 -- Who gives up each edge of its row, one after the other, and retires, holds nothing then, and all else is as it was.
 use mathlib.Core.Bool.{true≢false}
 use Rattle.std.proofs.Common.{◌≡◌, ◌≢◌, ℕ, zero, suc, ◌+◌, ◌<◌, ◌≤◌, ◌==◌, ◌&&◌, nat_lt, Bool, true, false, cond, not, List, [], ◌∷◌, ◌++◌, map, refl, sym, ap, subst, ◌∙◌, arith}
-use Rattle.std.specs.List.{Contains, filter, range_with_len}
+use Rattle.std.specs.List.{All, Contains, filter, range_with_len}
 use Rattle.std.specs.Prelude.{Option, Some, None}
 use Rattle.tg_model.specs.declared.reply.Denial.{Denial}
 use Rattle.tg_subjects.specs.declared.subject.Subject.{Subject}
 use Rattle.tg_model.specs.Opened.{IsPlan, start_of}
 use Rattle.tg_graph.specs.Heap.{HeapState, KeepsPlaces, content_of, subject_names}
+use Rattle.tg_graph.specs.Content.{Content}
 use Rattle.tg_graph.specs.Standing.{IsContentOf}
+use Rattle.tg_store.proofs.AnswerLaws.{reply-served}
 use Rattle.tg_store.specs.Store.{StoreState, IsFaithful, IsStore, graph_of_store}
 use Rattle.tg_subjects.specs.Subjects.{nursery_held}
 use Rattle.tg_rules.specs.Verdict.{HasSubject}
 use Rattle.std.proofs.lemmas.Bool.{eqb-true, eqb-false, eq-eqb, ne_eqb, ltb-true, ltb-false}
 use Rattle.tg_rights.specs.RightSet.{RightSet, no_rights, is_none_held, minus, holds_all}
 use Rattle.tg_rights.specs.RightLaws.{none_held-same}
-use Rattle.tg_model.specs.declared.command.Command.TheVariants.{Remove, Retire}
+use Rattle.tg_model.specs.declared.command.Command.TheVariants.{List as Listing, Remove, Retire}
 use Rattle.tg_model.specs.declared.command.Deed.TheVariants.{Plain}
-use Rattle.tg_model.specs.declared.reply.Reply.TheVariants.{Done}
+use Rattle.tg_model.specs.declared.reply.Reply.TheVariants.{Done, Edges}
 use Rattle.tg_model.specs.Graph.{ProtectionGraph, IsSubject, IsSound, listing_of, without_rights, without_subject}
 use Rattle.tg_model.specs.Rules.{Permits, denial_of, denied_or, effect, step, unless_denied}
 use Rattle.tg_model.proofs.AllowedLaws.{no_denial-permits, step-allowed}
@@ -227,6 +229,13 @@ module _ (g : ProtectionGraph) (x : ℕ) (sound : IsSound g) (subject : IsSubjec
   graph_left = graph_after-push g removals (retiring x) ∙ ap (λ (h : ProtectionGraph). step h x (Plain Retire)) removed
 
 -- ---- on the heap
+
+-- the row that the heap lists is the graph's
+pub listed : (c : Content) (g : ProtectionGraph) (w : ℕ) (row : List (ℕ × RightSet)) → IsContentOf c g → IsSubject g w
+    → ((n : ℕ) → All (λ name. name < n) c.names → row ≡ listing_of c.label n w) → row ≡ listing_of g.label g.made w
+listed c g w row stands subject is =
+    let told : Edges row ≡ Edges (listing_of g.label g.made w) = reply-served c g stands w Listing subject refl (Edges row) (λ n below. ap (λ (es : List (ℕ × RightSet)). Edges es) (is n below)) in
+    cc told
 
 -- what is answered that it is done isn't denied
 pub served : (o : Option Denial) → Done ≡ denied_or o Done → o ≡ None

@@ -7,9 +7,25 @@ ghost use Rattle.tg_store.specs.Store.{IsUnchanged, StandsFor};
 use crate::fault::ApplyFault;
 use crate::leaving::leave_heap;
 use crate::store::Store;
+use tg_model::EdgeList;
 use tg_payload::Payload;
 
 impl<P: Payload> Store<P> {
+    /// The edges of a worker, by rising name: the listing on the graph that the store stands for. It changes nothing
+    /// and makes no entry: no journal tells of what is asked this way. `NoSuchWorker` is answered exactly where no
+    /// worker has the name; else `OutOfMemory` alone, for 16 bytes an edge.
+    pub fn row(&self, worker: u64) -> Result<EdgeList, ApplyFault>
+        ensures edges { (g : ProtectionGraph) → StandsFor self.now g → IfOk result (λ edges. edges ≡ listing_of g.label g.made worker) }
+        ensures no_such_worker { (g : ProtectionGraph) → StandsFor self.now g → (result ≡ Err ApplyFault.NoSuchWorker) ↔ (¬ IsSubject g worker) }
+        ensures never_full { result ≢ Err ApplyFault.HeapFull }
+    {
+        let Some(subject) = self.heap.subject(worker) else {
+            return Err(ApplyFault::NoSuchWorker);
+        };
+        let row = self.heap.row(subject.place)?;
+        Ok(row)
+    }
+
     /// A worker leaves: it gives up each edge that it has, by rising name, and retires. Answers how many edges these
     /// were. Each remove and the retire is an entry, as if the worker had asked for it; what it alone reached is
     /// nobody's then, and a full collection frees it. So whoever has an edge to it keeps nothing of what it held.

@@ -1,11 +1,9 @@
 -- What is given up on the heap and entered is what leaves the graph.
-use Rattle.std.proofs.Common.{◌≡◌, ◌∙◌, ◌++◌, ◌∷◌, ◌<◌, [], ℕ, List, ap, length, map, refl, subst, sym}
+use Rattle.std.proofs.Common.{◌≡◌, ◌∙◌, ◌++◌, ◌∷◌, [], ℕ, List, ap, length, map, refl, subst, sym}
 use Rattle.std.proofs.lemmas.List.{append_assoc}
 use Rattle.tg_rights.specs.RightSet.{RightSet}
-use Rattle.tg_model.specs.declared.command.Command.TheVariants.{List as Listing, Retire}
+use Rattle.tg_model.specs.declared.command.Command.TheVariants.{Retire}
 use Rattle.tg_model.specs.declared.command.Deed.TheVariants.{Plain}
-use Rattle.tg_model.specs.declared.reply.Reply.TheVariants.{Edges}
-use Rattle.std.specs.List.{All}
 use Rattle.tg_model.specs.Graph.{ProtectionGraph, IsSound, IsSubject, listing_of, without_subject}
 use Rattle.tg_graph.specs.Content.{Content}
 use Rattle.tg_model.specs.Rules.{step}
@@ -15,8 +13,7 @@ use Rattle.tg_graph.specs.Heap.{content_of, subject_names}
 use Rattle.tg_graph.specs.Standing.{IsContentOf}
 use Rattle.tg_store.specs.Leaving.{HasLeft, leaving, removal, retiring}
 use Rattle.tg_store.specs.Store.{StoreState, StandsFor, graph_of_store}
-use Rattle.tg_store.proofs.AnswerLaws.{reply-served}
-use Rattle.tg_store.proofs.LeaveLaws.{IsStore-left, graph_of_left, legal_removals, sound_before}
+use Rattle.tg_store.proofs.LeaveLaws.{IsStore-left, graph_of_left, legal_removals, listed, sound_before}
 use Rattle.tg_store.proofs.StandLaws.{subject_here}
 use Rattle.tg_store.proofs.store.Store.leave.Goals as goal
 
@@ -26,13 +23,6 @@ left_entries : (old reserved new : List Entry) (x w : ℕ) (row listing : List (
 left_entries old reserved new x w row listing made same named is =
     made ∙ ap (λ es. es ++ map (removal x) row ++ retiring x ∷ []) same ∙ append_assoc old (map (removal x) row) (retiring x ∷ [])
     ∙ (λ i. old ++ (map (removal (named i)) (is i) ++ retiring (named i) ∷ []))
-
--- the row that the heap lists is the graph's
-listed : (c : Content) (g : ProtectionGraph) (w : ℕ) (row : List (ℕ × RightSet)) → IsContentOf c g → IsSubject g w
-    → ((n : ℕ) → All (λ name. name < n) c.names → row ≡ listing_of c.label n w) → row ≡ listing_of g.label g.made w
-listed c g w row stands subject is =
-    let told : Edges row ≡ Edges (listing_of g.label g.made w) = reply-served c g stands w Listing subject refl (Edges row) (λ n below. ap (λ (es : List (ℕ × RightSet)). Edges es) (is n below)) in
-    cc told
 
 -- the heap stands for the graph that the worker has left
 left_heap : (before after : Content) (g : ProtectionGraph) (x w : ℕ) (row : List (ℕ × RightSet)) → x ≡ w → row ≡ listing_of g.label g.made w → IsSound g → IsSubject g w → IsContentOf before g
