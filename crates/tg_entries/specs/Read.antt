@@ -9,7 +9,7 @@ use Rattle.tg_entries.specs.declared.stage.Head.{Head}
 use Rattle.tg_entries.specs.declared.stage.Entered.{Entered}
 use Rattle.tg_entries.specs.declared.stage.Stage.{Stage}
 use Rattle.tg_entries.specs.declared.stage.Stage.TheVariants as stage
-use Rattle.tg_entries.specs.Texts.{IsAudited, entry_text, head_text, limits_text, opening_text, version_text}
+use Rattle.tg_entries.specs.Texts.{IsAudited, entry_text, head_text, opening_text, version_text}
 
 -- the text is an opening's and then that of so many entries, which are a legal history; and the audit has come to the graph after them
 pub record HasEntered (text : List ℕ) (entered : Entered) : Type 0 where

@@ -1,8 +1,7 @@
-use Rattle.std.proofs.Common.{◌++◌, List, ℕ, length}
+use Rattle.std.proofs.Common.{◌++◌, length}
 use Rattle.std.specs.List.{flat_map}
 use Rattle.tg_text.proofs.SinkLaws.{writes_then, writes_cut_first}
-use Rattle.tg_entries.specs.Texts.{edge_text, end_text, entry_text, head_text, limits_text, version_text, worker_text}
-use Rattle.tg_entries.proofs.WriteLaws.{sofar_more, cut_more}
+use Rattle.tg_entries.specs.Texts.{end_text, entry_text, head_text}
 use Rattle.tg_entries.proofs.history.write_history.Goals as goal
 
 pub returns : goal.returns

@@ -1,7 +1,4 @@
-use Rattle.std.proofs.Common.{◌++◌, List, ℕ, length}
-use Rattle.std.specs.List.{flat_map}
-use Rattle.tg_text.proofs.SinkLaws.{writes_then, writes_cut_first}
-use Rattle.tg_entries.specs.Texts.{edge_text, end_text, entry_text, head_text, limits_text, version_text, worker_text}
+use Rattle.tg_entries.specs.Texts.{worker_text}
 use Rattle.tg_entries.proofs.WriteLaws.{sofar_more, cut_more}
 use Rattle.tg_entries.proofs.history.write_workers.Goals as goal
 
