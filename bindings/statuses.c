@@ -490,7 +490,6 @@ static void a_worker_comes_and_goes(void) {
     WANT(tg_close(&store) == TG_DONE);
 }
 
-/* With 64 workers none is spawned until one retires; the refusal has its entry. No worker is needed to count, collect or audit. */
 /* Who leaves holds nothing any more, and each edge that it gave up is an entry. Who holds a right is told without one. */
 static void a_worker_leaves(void) {
     tg_store store = TG_STORE_INIT;
@@ -521,6 +520,33 @@ static void a_worker_leaves(void) {
     WANT(tg_close(&store) == TG_DONE);
 }
 
+/* Three clients that know each other leave: their empty rows stay, which their spawner has edges to, and nothing else. */
+static void three_leave(void) {
+    const uint64_t know = TG_TAKE | TG_GRANT;
+    tg_store store = TG_STORE_INIT;
+    uint64_t clients[3], notes[3], names[8] = { 0 }, count = UNTOUCHED;
+    WANT(tg_open(&store, workers, 1, NULL, 0, &limits) == TG_DONE);
+    for (int i = 0; i < 3; i++)
+        WANT(tg_spawn(&store, 0, know, &sum, &clients[i]) == TG_DONE);
+    for (int i = 0; i < 3; i++) {
+        WANT(tg_grant(&store, 0, clients[i], clients[(i + 1) % 3], know, &why) == TG_DONE);
+        WANT(tg_grant(&store, 0, clients[i], clients[(i + 2) % 3], know, &why) == TG_DONE);
+        WANT(tg_create(&store, clients[i], TG_READ, &sum, &notes[i]) == TG_DONE);
+    }
+    for (int i = 0; i < 3; i++)
+        WANT(tg_leave(&store, clients[i], &count) == TG_DONE && count == 3);
+    WANT(tg_collect(&store, TG_FULL, &count) == TG_DONE && count == 4);
+    WANT(tg_names(&store, names, 8, &count) == TG_DONE && count == 4);
+    for (int i = 0; i < 4; i++)
+        WANT(names[i] == 0 || (names[i] >= clients[0] && names[i] <= clients[2]));
+    for (int i = 0; i < 3; i++) {
+        WANT(tg_who_holds(&store, TG_READ, notes[i], names, 8, &count) == TG_DONE && count == 0);
+        WANT(tg_who_holds(&store, TG_GRANT, clients[i], names, 8, &count) == TG_DONE && count == 1 && names[0] == 0);
+    }
+    WANT(tg_close(&store) == TG_DONE);
+}
+
+/* With 64 workers none is spawned until one retires; the refusal has its entry. No worker is needed to count, collect or audit. */
 static void as_many_workers_as_may_be(void) {
     const tg_limits many = { 200, 200, 100 };
     tg_store store = TG_STORE_INIT;
@@ -1011,6 +1037,7 @@ int main(void) {
     views();
     names_wanting();
     a_worker_leaves();
+    three_leave();
     entries_forgotten();
     parts_audited();
     auditors_stopped();

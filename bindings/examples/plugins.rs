@@ -1,5 +1,5 @@
 //! A host of plug-ins. Each plug-in is a worker that the host spawns and grants rights to. It has no more than those: what it isn't
-//! allowed is denied. When it is unloaded it retires, and nothing is answered to its name any more.
+//! allowed is denied. When it is unloaded it leaves, with all that it held, and nothing is answered to its name any more.
 //!
 //! Before the host hands a right on it asks whether a document that it guards would stay out of reach: not only now, but whatever
 //! the plug-ins do together while the host does nothing.
@@ -87,9 +87,10 @@ fn run(store: &mut Store, loaded: &Loaded<'_>, document: u64) -> Result<(), Erro
     Ok(())
 }
 
-/// Retires the plug-in's worker, and gives up what the host has over it. What only the worker held goes with the next full collection.
+/// Has the plug-in's worker leave, whether it would or not: it gives up all it has, and retires. Then the host gives up what it has
+/// over the worker, which goes with the next full collection.
 fn unload(store: &mut Store, loaded: &Loaded<'_>) -> Result<(), Error> {
-    store.retire(loaded.worker)?;
+    store.leave(loaded.worker)?;
     store.remove(HOST, loaded.worker, over_plugins())?;
     println!("{}: unloaded, workers {:?} are left", loaded.plugin.name, store.subjects()?);
     Ok(())

@@ -5,8 +5,8 @@
    Who holds what is asked by tg_label, of which the journal gets no entry: a list would keep the whole row in it each
    time. After a collection tg_names says which objects there still are; what was kept beside the others is freed.
 
-   Whoever has an edge to a process that retired keeps all that it held. So when one ends, the others forget it first:
-   the host speaks for every worker, and removes in their names.
+   Whoever has an edge to a process that merely retired keeps all that it held. So one that ends leaves: it gives up all
+   its handles and retires, in one call. The others know it still, and have nothing by it.
 
    Build it with: cc processes.c -lkovshenul */
 #include "kovshenul.h"
@@ -22,7 +22,7 @@ static uint64_t processes[SLOTS];
 static unsigned sizes[NAMES];
 static uint64_t objects[OBJECTS];
 static tg_store store = TG_STORE_INIT;
-static unsigned long made, started, handed_on, given_up, denied, freed;
+static unsigned long made, started, handed_on, given_up, left_with, denied, freed;
 
 /* Numbers that are the same in each run. */
 static uint32_t next_random(uint32_t below) {
@@ -63,15 +63,12 @@ static void start_process(uint64_t *slot) {
     started++;
 }
 
-/* The process of a slot ends. All forget it, and what it alone reached goes with the next full collection. */
+/* The process of a slot ends, willing or not. What it alone reached goes with the next full collection. */
 static void end_process(uint64_t *slot) {
-    uint64_t process = *slot;
+    uint64_t count;
+    done(tg_leave(&store, *slot, &count));
     *slot = NONE;
-    for (int i = 0; i < SLOTS; i++)
-        if (processes[i] != NONE)
-            done(tg_remove(&store, processes[i], process, TG_GRANT, NULL));
-    done(tg_remove(&store, SYSTEM, process, TG_GRANT, NULL));
-    done(tg_retire(&store, process));
+    left_with += count;
 }
 
 static void open_object(uint64_t process) {
@@ -158,8 +155,8 @@ int main(void) {
         return 1;
     }
     done(tg_audit(&store, &entries));
-    printf("%lu processes, %lu objects, %lu handles handed on, %lu given up, %lu denied, all objects freed\n", started,
-           made, handed_on, given_up, denied);
+    printf("%lu processes, %lu objects, %lu handles handed on, %lu given up, %lu at an end, %lu denied, all freed\n",
+           started, made, handed_on, given_up, left_with, denied);
     printf("audit ok, %" PRIu64 " entries\n", entries);
     return done(tg_close(&store)) ? 0 : 1;
 }

@@ -325,6 +325,20 @@ class Stores(unittest.TestCase):
             self.assertEqual(store.collect(), 4)
             self.assertEqual(store.audit(), store.entries())
 
+    def test_three_who_know_each_other_leave_empty_rows(self):
+        with opened() as store:
+            clients = [store.spawn(0, GRANT | TAKE, Cell(0)) for _ in range(3)]
+            for one in clients:
+                for other in clients:
+                    if one != other:
+                        store.grant(0, one, other, GRANT | TAKE)
+            notes = [store.create(client, READ, Cell(7)) for client in clients]
+            self.assertEqual([store.leave(client) for client in clients], [3, 3, 3])
+            self.assertEqual((store.collect(), store.names()), (5, {0, 1, *clients}))
+            self.assertEqual([store.who_holds(GRANT, client) for client in clients], [[0], [0], [0]])
+            self.assertEqual([store.who_holds(READ, note) for note in notes], [[], [], []])
+            self.assertEqual(store.audit(), store.entries())
+
     def test_a_worker_too_many_is_refused(self):
         with Store([Cell(0)] * 64, limits=(1000, 100, 64)) as store:
             self.assertRaises(kovshenul.WorkersFull, store.spawn, 0, READ, Cell(0))

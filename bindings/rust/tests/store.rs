@@ -158,6 +158,28 @@ fn who_leaves_holds_nothing() {
 }
 
 #[test]
+fn three_who_know_each_other_leave_empty_rows() {
+    let mut store = opened(1);
+    let know = Rights::TAKE | Rights::GRANT;
+    let clients: Vec<u64> = (0..3).map(|_| store.spawn(0, know, Value::Cell(0)).unwrap()).collect();
+    for (one, other) in [(0, 1), (0, 2), (1, 0), (1, 2), (2, 0), (2, 1)] {
+        store.grant(0, clients[one], clients[other], know).unwrap();
+    }
+    let notes: Vec<u64> = clients.iter().map(|client| store.create(*client, Rights::READ, Value::Cell(7)).unwrap()).collect();
+    for client in &clients {
+        assert_eq!(store.leave(*client), Ok(3));
+    }
+    assert_eq!(store.collect(Kind::Full), Ok(4));
+    let mut names = store.names().unwrap();
+    names.sort();
+    assert_eq!(names, [vec![0], clients.clone()].concat());
+    for (client, note) in clients.iter().zip(&notes) {
+        assert_eq!((store.who_holds(Rights::GRANT, *client), store.who_holds(Rights::READ, *note)), (Ok(vec![0]), Ok(vec![])));
+    }
+    assert_eq!(store.entries(), store.audit());
+}
+
+#[test]
 fn a_retired_worker_asks_no_more() {
     let mut store = opened(1);
     let grant = Rights::GRANT | Rights::INSPECT;

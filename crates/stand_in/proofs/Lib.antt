@@ -1,0 +1,2 @@
+mod AloneLaws
+mod DeskLaws

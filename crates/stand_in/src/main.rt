@@ -1,0 +1,31 @@
+//! An example: how to take back, though no rule does.
+//!
+//! An owner keeps a count, and shows it to a client for as long as it likes. It never hands the count out, but a
+//! vertex of its own that stands in for it, and fills that with what the count says (`desk`). The client may hand on
+//! what it has, and does. To take back, the owner empties what stands in, and stops: nobody is told of the count any
+//! more, whoever holds what.
+//!
+//! What is proved of it stands in `laws`, for each graph and whatever anybody does, and in the contracts of `Desk`, for
+//! this program. Who else could come to read what stands in is asked of `could_hold` of `tg_could`.
+#![tactic(auto)]
+
+mod desk;
+mod fault;
+mod laws;
+mod opening;
+mod story;
+mod tell;
+
+use fault::StoryFault;
+use std::process::ExitCode;
+use story::run_story;
+
+fn main(rt: HostRuntime) -> ExitCode {
+    match run_story(&rt) {
+        Ok(()) => ExitCode::SUCCESS,
+        Err(fault) => {
+            let _ = eprintln!(rt; "stand_in: {fault}");
+            ExitCode::FAILURE
+        }
+    }
+}
