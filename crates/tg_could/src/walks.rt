@@ -66,8 +66,8 @@ struct Visit {
 }
 
 // For each vertex a number: 0 where it wasn't come to, else the least number of those that it was seen to be in one
-// knot with, `NONE` when its knot was left. The path leads to where the search is; open are those whose knot wasn't left
-// yet; left are the others, knot by knot, and where each knot starts.
+// knot with, `NONE` when its knot was left. The path leads to where the search is; open are those whose knot wasn't
+// left yet; left are the others, knot by knot, and where each knot starts.
 #[derive(Drop)]
 struct Walk {
     numbers: Vec<u32>,
