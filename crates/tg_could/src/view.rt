@@ -39,8 +39,8 @@ struct Facts {
 
 impl View {
     /// Makes ready for all questions of a picture, where the silent ones take no turns: for each vertex two words of 64
-    /// bits, and the edges by their targets. Time and memory are in proportion to the picture. Fails only when out of
-    /// memory.
+    /// bits, and the edges by their targets. Time and memory are in proportion to the picture. Names and edges count by
+    /// 32 bits: where one is past them, all is told as `Perhaps`. Fails only when out of memory.
     pub fn open(alloc: Global, picture: &Picture, silent: &[u64]) -> Result<View, AllocError>
         ensures { IfOk result (λ view. IsViewOf silent.now picture.now view) }
     {
