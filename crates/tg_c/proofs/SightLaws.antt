@@ -15,7 +15,7 @@ use Rattle.tg_could.specs.View.{IsViewOf}
 use Rattle.tg_could.specs.declared.view.View.{View}
 use Rattle.tg_could.proofs.ReachedLaws.{Known, never_on, reached_shown, relabelled, shown_reached}
 use Rattle.tg_c.specs.Could.{JoinReached, with_edges}
-use Rattle.tg_c.specs.View.{AreMarked, IsSightOf, IsShownIn}
+use Rattle.tg_c.specs.View.{AreMarked, IsSightOf}
 use Rattle.tg_c.specs.declared.view.sight.Sight.{Sight}
 use Rattle.tg_c.proofs.AsIfLaws.{agrees, held_edge, more, reached_before, reached_then, seen, seen_by, supposed_sound}
 

@@ -1,5 +1,5 @@
 -- What C asks of a view: it is opened on what the workers of a store reach, and tells of each question as of then.
-use Rattle.std.specs.Prelude.{◌≡◌, ◌≢◌, ◌↔◌, ◌⊎◌, ℕ, ◌<◌, ◌≤◌, ◌==◌, Bool, true, false, List, [], Option, Some, None, IfSome, Result, Ok, Err, if◌then◌else◌, length, map, slice_index_or}
+use Rattle.std.specs.Prelude.{◌≡◌, ◌≢◌, ◌↔◌, ◌⊎◌, ℕ, ◌<◌, ◌≤◌, Bool, true, false, List, [], Some, None, IfSome, Result, Ok, Err, length, map, slice_index_or}
 use Rattle.std.specs.List.{Contains}
 use Rattle.tg_rights.specs.declared.Right.{Right}
 use Rattle.tg_model.specs.Graph.{ProtectionGraph, IsReachable, IsSound}

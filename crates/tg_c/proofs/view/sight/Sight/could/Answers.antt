@@ -1,4 +1,4 @@
-use Rattle.std.proofs.Common.{◌≡◌, ◌⊎◌, ◌<◌, ◌≤◌, true, false, IfSome, refl, sym, ◌∙◌, subst}
+use Rattle.std.proofs.Common.{◌⊎◌, ◌<◌, ◌≤◌, true, false, IfSome, refl, sym, ◌∙◌, subst}
 use Rattle.std.proofs.lemmas.Bool.{false≢true}
 use Rattle.tg_model.specs.Graph.{IsReachable}
 use Rattle.tg_could.specs.View.{IsViewOf}
