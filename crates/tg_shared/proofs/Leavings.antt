@@ -1,5 +1,5 @@
 -- The entries by which a worker leaves: their receipts, and what they make of the balance behind the lock.
-use Rattle.std.proofs.Common.{◌≡◌, ◌∙◌, ℕ, ◌+◌, ◌≤◌, Bool, true, cond, List, [], ◌∷◌, ◌++◌, length, length-append, map, append_assoc, append-nil, drop, refl, sym, ap, subst, arith}
+use Rattle.std.proofs.Common.{◌≡◌, ◌∙◌, ℕ, ◌+◌, ◌≤◌, Bool, true, cond, List, [], ◌∷◌, ◌++◌, length, length-append, map, append_assoc, drop, refl, sym, ap, subst, arith}
 use Rattle.std.specs.Prelude.{take}
 use Rattle.std.proofs.lemmas.List.{length-map, length-take, take-append-le, drop-append-le}
 use Rattle.std.proofs.lemmas.List.Sums.{sum_by-append, sum_by-cons}
@@ -12,9 +12,8 @@ use Rattle.tg_journal.specs.History.{IsLegal}
 use Rattle.tg_journal.proofs.HistoryLaws.{IsLegal-cut}
 use Rattle.tg_store.specs.Leaving.{HasLeft, leaving, removal, retiring}
 use Rattle.tg_store.specs.Store.{StoreState, IsFaithful, graph_of_store}
-use Rattle.tg_shared.specs.declared.receipt.Receipt.{Receipt}
 use Rattle.tg_shared.specs.Receipts.{receipt_of, receipts_from}
-use Rattle.tg_shared.specs.Sessions.{AddsReceipt, AddsReceipts, GoesOn, IsBalanced, KeepsReceipts, SessionState, SharedStart, is_spawn, retired_behind, retired_by, sessions_made, spawned}
+use Rattle.tg_shared.specs.Sessions.{AddsReceipt, AddsReceipts, GoesOn, IsBalanced, SessionState, SharedStart, is_spawn, retired_behind, retired_by, sessions_made, spawned}
 
 -- ---- receipts
 
@@ -41,14 +40,6 @@ adds_one old now new at next es e more one place own = (
   one.3 ∙ more.3,
   one.4 ∙ ap (λ b. retired_by b e.deed) more.4 ∙ sym (retired_push old.retired es e),
 )
-
-pub adds_none : (s : SessionState) (at : ℕ) → AddsReceipts s s at []
-adds_none s at = (refl {A = ℕ}, sym (append-nil s.receipts), refl {A = ℕ}, refl {A = ℕ}, refl {A = Bool})
-
--- the same, after room was made
-pub adds_after : (old ready new : SessionState) (at : ℕ) (es : List Entry) → KeepsReceipts old ready → AddsReceipts ready new at es → AddsReceipts old new at es
-adds_after old ready new at es keeps adds =
-    (adds.0 ∙ keeps.0, adds.1 ∙ ap (λ rs. rs ++ receipts_from at es) keeps.1, adds.2 ∙ keeps.2, adds.3 ∙ keeps.3, adds.4 ∙ ap (λ b. retired_behind b es) keeps.4)
 
 -- who has left has entered a retire
 pub retired_left : (retired : Bool) (g : ProtectionGraph) (x : ℕ) → retired_behind retired (leaving g x) ≡ true
