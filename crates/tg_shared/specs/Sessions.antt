@@ -8,24 +8,25 @@ use Rattle.tg_model.specs.declared.command.Deed.TheVariants.{Plain, Spawn}
 use Rattle.tg_model.specs.declared.reply.Reply.{Reply}
 use Rattle.tg_model.specs.declared.reply.Reply.TheVariants.{Name, VerticesFull, WorkersFull}
 use Rattle.tg_model.specs.declared.value.Value.{Value}
-use Rattle.tg_model.specs.Graph.{IsSubject}
+use Rattle.tg_model.specs.Graph.{IsSubject, listing_of}
 use Rattle.tg_model.specs.Opened.{Plan, start_of}
 use Rattle.tg_model.specs.Rules.{IsAllowed}
 use Rattle.tg_word.specs.Word.{nursery_space}
 use Rattle.tg_space.specs.SpaceTable.{BlockLimits}
 use Rattle.tg_journal.specs.declared.entry.Entry.{Entry}
-use Rattle.tg_journal.specs.History.{IsLegalEntry, graph_after}
+use Rattle.tg_journal.specs.History.{IsLegal, IsLegalEntry, graph_after}
 use Rattle.tg_journal.specs.Journal.{Entries}
 use Rattle.tg_graph.specs.Heap.{nursery_of}
 use Rattle.tg_graph.specs.Spots.{LacksCellsFor}
 use Rattle.tg_space.specs.declared.kind.Kind.{Kind}
 use Rattle.tg_store.specs.Collecting.{IsSwept, KeepsHistory}
+use Rattle.tg_store.specs.Leaving.{leaving}
 use Rattle.tg_store.specs.declared.fault.CreateFault.{CreateFault}
 use Rattle.tg_store.specs.declared.fault.CreateFault.TheVariants as fault
 use Rattle.tg_store.specs.declared.fault.CreateRefused.{CreateRefused}
 use Rattle.tg_store.specs.Store.{StoreState, Enters, IsFaithful, IsUnchanged, graph_of_store}
 use Rattle.tg_shared.specs.declared.receipt.Receipt.{Receipt}
-use Rattle.tg_shared.specs.Receipts.{MatchParts, ReceiptsMatch, all_receipts, receipt_of}
+use Rattle.tg_shared.specs.Receipts.{MatchParts, ReceiptsMatch, all_receipts, receipt_of, receipts_from}
 
 -- A session: the name of its subject, its receipts in order, how many before them were handed out, for how many sessions it stands
 -- (its own, and those that it took over), whether it entered a retire of its own, for how many more receipts there is room, and the
@@ -138,6 +139,20 @@ AddsReceipt old new at deed reply =
     × (new.parts ≡ old.parts)
     × (new.retired ≡ retired_by old.retired deed)
 
+-- whether a session has entered a retire of its own behind these entries of its worker
+abbrev pub retired_behind : Bool → List Entry → Bool
+retired_behind retired [] = retired
+retired_behind retired (e ∷ es) = retired_behind (retired_by retired e.deed) es
+
+-- exactly these receipts more: of the entries, one behind the other from this place on
+abbrev pub AddsReceipts : SessionState → SessionState → ℕ → List Entry → Type 0
+AddsReceipts old new at entries =
+    (new.worker ≡ old.worker)
+    × (new.receipts ≡ old.receipts ++ receipts_from at entries)
+    × (new.handed ≡ old.handed)
+    × (new.parts ≡ old.parts)
+    × (new.retired ≡ retired_behind old.retired entries)
+
 -- A session took over one that ended, and stands for both: what that one handed out counts as handed out by this one.
 pub record TakesOver (old ended new : SessionState) : Type 0 where
   pub worker : new.worker ≡ old.worker
@@ -152,6 +167,15 @@ abbrev pub IsAnswered : SharedStart → SessionState → SessionState → Deed �
 IsAnswered start old new deed reply =
     AtSome start (λ s. AddsReceipt old new (length s.entries) deed reply
     × IsLegalEntry (graph_of_store s) (record { worker = old.worker; deed = deed; reply = reply }))
+
+-- The session's worker left, and gave up so many edges. Exactly the receipts of its leaving were added: of a remove for each edge, by
+-- rising name, and of a retire. These entries came next in the journal of a store that may have been behind the lock, and were
+-- legal there.
+abbrev pub HasLeftAtSome : SharedStart → SessionState → SessionState → ℕ → Type 0
+HasLeftAtSome start old new count =
+    AtSome start (λ s. AddsReceipts old new (length s.entries) (leaving (graph_of_store s) old.worker)
+    × IsLegal (graph_of_store s) (leaving (graph_of_store s) old.worker)
+    × (count ≡ length (listing_of (graph_of_store s).label (graph_of_store s).made old.worker)))
 
 -- exactly one entry more, and exactly one receipt of it, at the place of the entry
 pub record Records (old new : StoreState) (before after : SessionState) (deed : Deed) (reply : Reply) : Type 0 where

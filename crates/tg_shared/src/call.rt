@@ -1,5 +1,5 @@
 //! The calls of a session, each under the lock.
-ghost use Rattle.std.specs.Prelude.{◌≡◌, ◌≢◌, ◌≤◌, ℕ, IfOk, IfErr, IsErrAnd, MatchResult, true, ⊤};
+ghost use Rattle.std.specs.Prelude.{◌≡◌, ◌≢◌, ◌≤◌, ℕ, Err, IfOk, IfErr, IsErrAnd, MatchResult, OnErr, OnOk, true, ⊤};
 ghost use Rattle.tg_model.specs.Graph.{IsSubject};
 ghost use Rattle.tg_model.specs.Rules.{IsAllowed};
 ghost use Rattle.tg_model.specs.declared.command.Deed.TheVariants.{Create, Plain, Spawn};
@@ -9,7 +9,7 @@ ghost use Rattle.tg_rules.specs.Effect.{AddsEdge, LacksCellsToServe};
 ghost use Rattle.tg_store.specs.Held.{IsHeldOver};
 ghost use Rattle.tg_store.specs.Room.{LacksRoomToCollect};
 ghost use Rattle.tg_store.specs.Store.{graph_of_store};
-ghost use Rattle.tg_shared.specs.Sessions.{AtSome, IsAnswered, IsFresh, KeepsReceipts, LeavesAtSome, MayRefuseAtSome};
+ghost use Rattle.tg_shared.specs.Sessions.{AtSome, HasLeftAtSome, IsAnswered, IsFresh, KeepsReceipts, LeavesAtSome, MayRefuseAtSome};
 
 use crate::round::Round;
 use crate::session::Session;
@@ -139,6 +139,38 @@ impl<L: Round> Session<L> {
         // and of the one that is left
         let _ = locked.store();
         spawned
+    }
+
+    /// The session's worker leaves, by one call of [`Locked::leave`](crate::Locked::leave) under the lock: it gives up
+    /// each edge that it has, by rising name, and retires. Answers how many edges these were. Exactly the receipts of
+    /// these entries were added, which came next in the journal of a store that may have been behind the lock, and were
+    /// legal there. From then on each call of the session answers that there is no such worker; its receipts are taken
+    /// or closed with as before.
+    ///
+    /// Where it is refused, the receipts stay, and the worker holds what it held: of such a store there was no such
+    /// worker, or memory was wanting. Nothing is refused on the way.
+    pub fn leave<P: Payload, R: Wait>(
+        &mut self,
+        rt: &R,
+        store: &SharedStore<L, P>,
+    ) -> Result<u64, ApplyFault>
+        ensures left { IfOk result (HasLeftAtSome L.start self.old self.new) }
+        ensures gone { OnOk result (self.new.retired ≡ true) }
+        ensures refused { OnErr result (KeepsReceipts self.old self.new) }
+        ensures no_such_worker { IfErr result (λ why. why ≡ ApplyFault.NoSuchWorker → AtSome L.start (λ s. ¬ IsSubject (graph_of_store s) self.old.worker)) }
+        ensures never_full { result ≢ Err ApplyFault.HeapFull }
+        ensures retired { self.old.retired ≡ true → IsErrAnd result (λ why. why ≡ ApplyFault.NoSuchWorker) }
+    {
+        if self.retired() {
+            return Err(ApplyFault::NoSuchWorker);
+        }
+        let mut locked = store.locked.lock(rt);
+        // for what is told of it: the shared store, gone on
+        let _ = locked.store();
+        let count = locked.leave(self)?;
+        // and that the new entries are legal
+        let _ = locked.store();
+        Ok(count)
     }
 
     /// The rights that the session's subject holds over a vertex, by one call of

@@ -40,7 +40,7 @@ impl<L: Round, P: Payload> Model for Locked<L, P> {
 }
 
 impl<L: Round, P: Payload> Locked<L, P> {
-    ghost use Rattle.tg_model.specs.Graph.{ProtectionGraph, IsSubject};
+    ghost use Rattle.tg_model.specs.Graph.{ProtectionGraph, IsSubject, listing_of};
     ghost use Rattle.tg_model.specs.Rules.{IsAllowed, step, answer_of};
     ghost use Rattle.tg_model.specs.declared.opening.TheConstants.{MAX_WORKERS};
     ghost use Rattle.tg_model.specs.declared.reply.Denial.{Denial};
@@ -49,10 +49,11 @@ impl<L: Round, P: Payload> Locked<L, P> {
     ghost use Rattle.tg_could.specs.Reached.{IsReachedPicture};
     ghost use Rattle.tg_store.specs.Collecting.{IsSwept};
     ghost use Rattle.tg_store.specs.Held.{IsHeldOver};
+    ghost use Rattle.tg_store.specs.Leaving.{HasLeft, leaving};
     ghost use Rattle.tg_store.specs.Made.{IsMadeFor, MayRefuse};
     ghost use Rattle.tg_store.specs.Room.{LacksRoomToCollect};
-    ghost use Rattle.tg_store.specs.Store.{HandsOut, HasFewBlocks, IsFaithful, StandsFor};
-    ghost use Rattle.tg_shared.specs.Sessions.{AreFresh, GoesOn, IsFresh, KeepsLocked, MayNote, MayShare, Records, RecordsNothing, sessions_made, subjects_at};
+    ghost use Rattle.tg_store.specs.Store.{HandsOut, HasFewBlocks, IsFaithful, StandsFor, graph_of_store};
+    ghost use Rattle.tg_shared.specs.Sessions.{AddsReceipts, AreFresh, GoesOn, IsFresh, KeepsLocked, MayNote, MayShare, Records, RecordsNothing, sessions_made, subjects_at};
 
     /// The store. What holds whenever the lock is free is told here: the store's own promise, that its journal is a
     /// legal history of its opening and its heap stands for the graph after it; and it is the store that was shared,
@@ -232,6 +233,33 @@ impl<L: Round, P: Payload> Locked<L, P> {
                 Err(refused)
             }
         }
+    }
+
+    /// The session's worker leaves, by one call of the store: it gives up each edge that it has, by rising name, and
+    /// retires. Each of these entries adds a receipt. Answers how many edges these were.
+    ///
+    /// Room for all entries and receipts is made first, behind the lock, since the row may grow until then: 168 bytes
+    /// for each edge, and 32 for its listing. `NoSuchWorker` is answered exactly where the session's subject is none
+    /// any more; else `OutOfMemory` alone. The store and the receipts are then as they were, and nothing is refused on
+    /// the way.
+    pub fn leave(&mut self, session: &mut Session<L>) -> Result<u64, ApplyFault>
+        ensures left { OnOk result (HasLeft session.old.worker self.old.store self.new.store) }
+        ensures receipts { OnOk result (AddsReceipts session.old session.new (length self.old.store.entries) (leaving (graph_of_store self.old.store) session.old.worker)) }
+        ensures count { (g : ProtectionGraph) → StandsFor self.old.store g → IfOk result (λ count. count ≡ length (listing_of g.label g.made session.old.worker)) }
+        ensures no_such_worker { (g : ProtectionGraph) → StandsFor self.old.store g → (result ≡ Err ApplyFault.NoSuchWorker) ↔ (¬ IsSubject g session.old.worker) }
+        ensures never_full { result ≢ Err ApplyFault.HeapFull }
+        ensures refused { OnErr result (RecordsNothing self.old.store self.new.store session.old session.new) }
+        ensures sessions { self.new.sessions ≡ self.old.sessions }
+    {
+        let at = self.store.journal().len();
+        let worker = session.worker();
+        let row = self.store.row(worker)?;
+        session.make_room_for(row.as_slice().len() + 1)?;
+        let count = self.store.leave(worker)?;
+        // It tells that the store is faithful, and that the journal's places are numbers.
+        let _ = self.store.journal().len();
+        session.note_leaving(&mut self.book, at, &row);
+        Ok(count)
     }
 
     /// The rights that the session's subject holds over a vertex, by one call of the store. It changes nothing, and

@@ -1,0 +1,122 @@
+-- The entries by which a worker leaves: their receipts, and what they make of the balance behind the lock.
+use Rattle.std.proofs.Common.{◌≡◌, ◌∙◌, ℕ, ◌+◌, ◌≤◌, Bool, true, cond, List, [], ◌∷◌, ◌++◌, length, length-append, map, append_assoc, drop, refl, sym, ap, subst, arith}
+use Rattle.std.specs.Prelude.{take}
+use Rattle.std.proofs.lemmas.List.{length-map, length-take, take-append-le, drop-append-le}
+use Rattle.std.proofs.lemmas.List.Sums.{sum_by-append, sum_by-cons}
+use Rattle.tg_rights.specs.RightSet.{RightSet}
+use Rattle.tg_model.specs.Graph.{ProtectionGraph, IsSubject, listing_of}
+use Rattle.tg_model.specs.Opened.{Plan, start_of}
+use Rattle.tg_model.proofs.SubjectLaws.{is_without}
+use Rattle.tg_journal.specs.declared.entry.Entry.{Entry}
+use Rattle.tg_journal.specs.History.{IsLegal}
+use Rattle.tg_journal.proofs.HistoryLaws.{IsLegal-cut}
+use Rattle.tg_store.specs.Leaving.{HasLeft, leaving, removal, retiring}
+use Rattle.tg_store.specs.Store.{StoreState, IsFaithful, graph_of_store}
+use Rattle.tg_shared.specs.Receipts.{receipt_of, receipts_from}
+use Rattle.tg_shared.specs.Sessions.{AddsReceipt, AddsReceipts, GoesOn, IsBalanced, SessionState, SharedStart, is_spawn, retired_behind, retired_by, sessions_made, spawned}
+
+-- ---- receipts
+
+receipts_push : (at : ℕ) (es : List Entry) (e : Entry) → receipts_from at (es ++ e ∷ []) ≡ receipts_from at es ++ receipt_of (at + length es) e ∷ []
+receipts_push at [] e =
+    let same : at ≡ at + 0 = omega arith in
+    ap (λ n. receipt_of n e ∷ []) same
+receipts_push at (x ∷ es) e =
+    let same : at + 1 + length es ≡ at + length (x ∷ es) = omega arith in
+    ap (λ rs. receipt_of at x ∷ rs) (receipts_push (at + 1) es e ∙ ap (λ n. receipts_from (at + 1) es ++ receipt_of n e ∷ []) same)
+
+retired_push : (retired : Bool) (es : List Entry) (e : Entry) → retired_behind retired (es ++ e ∷ []) ≡ retired_by (retired_behind retired es) e.deed
+retired_push retired [] e = refl
+retired_push retired (x ∷ es) e = retired_push (retired_by retired x.deed) es e
+
+-- one receipt more, of the entry that comes next
+pub adds_one : (old now new : SessionState) (at next : ℕ) (es : List Entry) (e : Entry) → AddsReceipts old now at es → AddsReceipt now new next e.deed e.reply
+    → next ≡ at + length es → e.worker ≡ now.worker → AddsReceipts old new at (es ++ e ∷ [])
+adds_one old now new at next es e more one place own = (
+  one.0 ∙ more.0,
+  one.1 ∙ (λ i. more.1 i ++ receipt_of (place i) (record { worker = sym own i; deed = e.deed; reply = e.reply }) ∷ [])
+      ∙ append_assoc old.receipts (receipts_from at es) (receipt_of (at + length es) e ∷ []) ∙ ap (λ rs. old.receipts ++ rs) (sym (receipts_push at es e)),
+  one.2 ∙ more.2,
+  one.3 ∙ more.3,
+  one.4 ∙ ap (λ b. retired_by b e.deed) more.4 ∙ sym (retired_push old.retired es e),
+)
+
+-- who has left has entered a retire
+pub retired_left : (retired : Bool) (g : ProtectionGraph) (x : ℕ) → retired_behind retired (leaving g x) ≡ true
+retired_left retired g x = retired_push retired (map (removal x) (listing_of g.label g.made x)) (retiring x)
+
+-- ---- the store
+
+-- what was entered was legal
+pub legal_more : (old new : StoreState) (es : List Entry) → new.entries ≡ old.entries ++ es → new.opening ≡ old.opening → IsFaithful new → IsLegal (graph_of_store old) es
+legal_more old new es entries opening faithful =
+    let legal : IsLegal (start_of old.opening) new.entries = subst (λ (p : Plan). IsLegal (start_of p) new.entries) opening faithful.legal in
+    (IsLegal-cut (start_of old.opening) old.entries es (subst (IsLegal (start_of old.opening)) entries legal)).1
+
+-- who has left is no subject
+pub gone_left : (old new : StoreState) (x : ℕ) → HasLeft x old new → ¬ IsSubject (graph_of_store new) x
+gone_left old new x left here =
+    ((is_without (graph_of_store old).subjects x x).0 (subst (λ (g : ProtectionGraph). IsSubject g x) left.graph here)).1 refl
+
+pub length_leaving : (g : ProtectionGraph) (x : ℕ) → length (leaving g x) ≡ length (listing_of g.label g.made x) + 1
+length_leaving g x =
+    let row = listing_of g.label g.made x in
+    let all = length-append (map (removal x) row) (retiring x ∷ []) in
+    let each = length-map row (removal x) in
+    omega (arith, all, each)
+
+abbrev one : Bool → ℕ
+one b = cond b 1 0
+
+none_spawned : (x : ℕ) (row : List (ℕ × RightSet)) → spawned (map (removal x) row ++ retiring x ∷ []) ≡ 0
+none_spawned x [] = let last = sum_by-cons (λ e. one (is_spawn e)) (retiring x) [] in omega (arith, last)
+none_spawned x (e ∷ row) =
+    let rest = none_spawned x row in
+    let first = sum_by-cons (λ y. one (is_spawn y)) (removal x e) (map (removal x) row ++ retiring x ∷ []) in
+    omega (arith, first, rest)
+
+sessions_left : (start : SharedStart) (es : List Entry) (g : ProtectionGraph) (x : ℕ) → length start.entries ≤ length es → sessions_made start (es ++ leaving g x) ≡ sessions_made start es
+sessions_left start es g x few =
+    let n = length start.entries in
+    let more = ap spawned (drop-append-le n es (leaving g x) few) in
+    let both = sum_by-append (λ e. one (is_spawn e)) (drop n es) (leaving g x) in
+    let none = none_spawned x (listing_of g.label g.made x) in
+    omega (arith, more, both, none)
+
+module _ (old new : StoreState) (x : ℕ) (left : HasLeft x old new) where
+  pub longer : length new.entries ≡ length old.entries + (length (listing_of (graph_of_store old).label (graph_of_store old).made x) + 1)
+  longer =
+      let all = ap (λ (es : List Entry). length es) left.entries in
+      let both = length-append old.entries (leaving (graph_of_store old) x) in
+      let more = length_leaving (graph_of_store old) x in
+      omega (arith, all, both, more)
+
+  -- each entry is counted
+  pub balanced_left : (start sessions total next rest parts : ℕ) → IsBalanced old start sessions total rest parts
+      → next ≡ total + (length (listing_of (graph_of_store old).label (graph_of_store old).made x) + 1) → IsBalanced new start sessions next rest parts
+  balanced_left start sessions total next rest parts held counts =
+      let count = held.counted in
+      let more = longer in
+      record {
+        counted = omega (arith, count, more, counts);
+        cut = held.cut;
+        enough = held.enough ∙ ap (λ (p : Plan). p.limit + 1) (sym left.opening);
+        made = subst (λ (g : ProtectionGraph). sessions ≤ g.made) (sym left.graph) held.made;
+      }
+
+  pub goes_on_left : (start : SharedStart) → GoesOn start old → GoesOn start new
+  goes_on_left start on =
+      let n = length start.entries in
+      let long = ap (λ (es : List Entry). length es) on.earlier in
+      let few : n ≤ length old.entries = omega (arith, long, length-take n old.entries) in
+      record {
+        opening = left.opening ∙ on.opening;
+        earlier = ap (take n) left.entries ∙ (take-append-le n old.entries (leaving (graph_of_store old) x) few ∙ on.earlier);
+        limits = left.limits ∙ on.limits;
+        within = on.within;
+        whole = λ is_whole. left.handed ∙ on.whole is_whole;
+      }
+
+  pub made_left : (start : SharedStart) (sessions : ℕ) → length start.entries ≤ length old.entries → sessions ≡ sessions_made start old.entries → sessions ≡ sessions_made start new.entries
+  made_left start sessions few made =
+      made ∙ sym (ap (sessions_made start) left.entries ∙ sessions_left start old.entries (graph_of_store old) x few)
