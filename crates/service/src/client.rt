@@ -8,11 +8,12 @@ use tg_rights::Label;
 use tg_shared::{Round, Session, SharedStore};
 use tg_store::{ApplyFault, Kind, StoreFault};
 
-/// What a client sees as it leaves: how many vertices a full collection counts before its retire and after it, and why
-/// its next line is refused.
+/// What a client sees as it leaves: how many vertices a full collection counts before and after, how many edges it gave
+/// up, and why its next line is refused.
 #[derive(Clone, Copy, Debug)]
 pub struct Leave {
     pub before: u64,
+    pub given_up: u64,
     pub after: u64,
     pub refused: Option<ApplyFault>,
 }
@@ -44,8 +45,7 @@ fn command<L: Round, R: Wait>(
 }
 
 /// Makes a document and spawns a client, with these rights over both, and puts its session behind those of the other
-/// clients. Hands the rights over the document on to the client, and gives up those over the client: what the client
-/// makes is reached through itself alone. Answers the document's name.
+/// clients. Hands the rights over the document on to the client. Answers the document's name.
 pub fn welcome<L: Round, R: Wait + AllocGlobal>(
     rt: &R,
     store: &SharedStore<L, SumPayload>,
@@ -61,8 +61,6 @@ pub fn welcome<L: Round, R: Wait + AllocGlobal>(
         rights,
     };
     command(rt, store, service, grant)?;
-    let target = client;
-    command(rt, store, service, Command::Remove { target, rights })?;
     Ok(document)
 }
 
@@ -94,7 +92,7 @@ pub fn work<L: Round, R: Wait>(
     Ok(())
 }
 
-/// Works, makes two notes that the client alone has these rights over, and retires.
+/// Works, makes two notes that the client alone has these rights over, and leaves.
 pub fn work_and_leave<L: Round, R: Wait + AllocGlobal>(
     rt: &R,
     store: &SharedStore<L, SumPayload>,
@@ -106,20 +104,21 @@ pub fn work_and_leave<L: Round, R: Wait + AllocGlobal>(
     for _ in 0..2 {
         make(rt, store, client, rights)?;
     }
-    retire(rt, store, client)
+    take_leave(rt, store, client)
 }
 
-fn retire<L: Round, R: Wait>(
+fn take_leave<L: Round, R: Wait>(
     rt: &R,
     store: &SharedStore<L, SumPayload>,
     session: &mut Session<L>,
 ) -> Result<Leave, StoreFault> {
     let before = session.collect(rt, store, Kind::Full)?;
-    session.call(rt, store, Command::Retire)?;
+    let given_up = session.leave(rt, store)?;
     let refused = session.call(rt, store, Command::List).err();
     let after = session.collect(rt, store, Kind::Full)?;
     Ok(Leave {
         before,
+        given_up,
         after,
         refused,
     })

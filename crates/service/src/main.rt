@@ -1,8 +1,8 @@
 //! An example: a service whose clients come and go.
 //!
 //! The service spawns three clients and hands each a document. They write at once, each on a thread of its own, and
-//! meanwhile one of them leaves. What it alone had a right over goes with it, though it gave up nothing; what it wrote
-//! to its document stays.
+//! meanwhile one of them leaves: it gives up all that it has, and retires. What it alone had a right over goes, though
+//! the service still has rights over the client; what it wrote to its document stays.
 #![tactic(auto)]
 
 ghost use Rattle.tg_shared.specs.Sessions.{MayShare};
@@ -164,6 +164,7 @@ fn work_on_threads<L: Round + Send + Sync, R: Threads + Wait + Sync + AllocGloba
 
 fn tell_leave<R: Print>(rt: &R, left: Leave) -> Result<()> {
     println!(rt; "{} vertices before a client leaves", left.before)?;
+    println!(rt; "it gives up {} edges", left.given_up)?;
     println!(rt; "{} vertices after it", left.after)?;
     if let Some(fault) = left.refused {
         println!(rt; "its next line is refused: {fault}")?;
