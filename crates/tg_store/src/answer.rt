@@ -56,8 +56,9 @@ fn denied(denial: &Denial) -> Replies
     }
 }
 
-// Performs a command that changes nothing. Its reply is copied, which may be refused.
-#[inline(always)]
+// Performs a command that changes nothing. Its reply is copied, which may be refused. A call of its own: so what is left
+// of a command is small enough to stand where it is asked for.
+#[inline(never)]
 fn look<P: Payload>(
     alloc: Global,
     heap: &Heap<P>,
