@@ -10,7 +10,7 @@ use tg_rights::Label;
 use tg_store::Store;
 
 // What is seen of a store whose journal goes away in three parts, the last of which it gives up but for one entry.
-#[derive(Clone, Copy)]
+#[derive(Clone, Copy, PartialEq, Eq, Debug)]
 struct SeenOfCut {
     // The places of the first entry of each part and of the one behind its last, and those that the store has then.
     places: [(u64, u64); 3],
@@ -21,13 +21,6 @@ struct SeenOfCut {
     // What an audit says that is fed the first part and then the second, the second with another first reply, or what
     // the store holds.
     fed: [Result<(), AuditStopped>; 3],
-}
-
-// The first two parts, and the store that holds one entry more.
-#[derive(Drop)]
-struct StoreInParts {
-    parts: [Journal; 2],
-    store: Store<CellPayload>,
 }
 
 // Lets the first worker make a vertex.
@@ -51,22 +44,26 @@ fn forget_all_but_one(store: &mut Store<CellPayload>) {
     }
 }
 
-// Two entries for each part, and two for the store, which gives up the first of them.
-fn cut_twice(alloc: Global) -> Option<StoreInParts> {
-    let mut store = store_with(alloc, "rw")?;
-    let first_name = make(alloc, &mut store)?;
-    read(&mut store, first_name)?;
-    let first = store.take_journal();
-    read(&mut store, first_name)?;
-    let last_name = make(alloc, &mut store)?;
-    let second = store.take_journal();
-    read(&mut store, first_name)?;
-    read(&mut store, last_name)?;
-    forget_all_but_one(&mut store);
-    Some(StoreInParts {
-        parts: [first, second],
-        store,
-    })
+// A part of two entries: a vertex is made and read. Answers its name, too.
+fn first_part(alloc: Global, store: &mut Store<CellPayload>) -> Option<(u64, Journal)> {
+    let name = make(alloc, store)?;
+    read(store, name)?;
+    Some((name, store.take_journal()))
+}
+
+// The next one: that vertex is read, and another made. Answers its name, too.
+fn second_part(alloc: Global, store: &mut Store<CellPayload>, name: u64) -> Option<(u64, Journal)> {
+    read(store, name)?;
+    let last = make(alloc, store)?;
+    Some((last, store.take_journal()))
+}
+
+// Both are read, and all entries but the last one are given up.
+fn leave_one(store: &mut Store<CellPayload>, name: u64, last: u64) -> Option<()> {
+    read(store, name)?;
+    read(store, last)?;
+    forget_all_but_one(store);
+    Some(())
 }
 
 // The same first entry as the second part's, with another reply.
@@ -82,9 +79,14 @@ fn altered(alloc: Global) -> Option<Vec<Entry>> {
 }
 
 // What an audit says of these entries behind those of the first part.
-fn fed(alloc: Global, cut: &StoreInParts, entries: &[Entry]) -> Option<Result<(), AuditStopped>> {
-    let mut auditor = Auditor::open(alloc, cut.store.opening()).ok()?;
-    auditor.feed(cut.parts[0].entries()).ok()?;
+fn fed(
+    alloc: Global,
+    store: &Store<CellPayload>,
+    first: &Journal,
+    entries: &[Entry],
+) -> Option<Result<(), AuditStopped>> {
+    let mut auditor = Auditor::open(alloc, store.opening()).ok()?;
+    auditor.feed(first.entries()).ok()?;
     Some(auditor.feed(entries))
 }
 
@@ -92,33 +94,54 @@ fn places(part: &Journal) -> (u64, u64) {
     (part.start(), part.len())
 }
 
-fn look_at(alloc: Global, cut: &StoreInParts) -> Option<SeenOfCut> {
-    let second = cut.parts[1].entries();
-    let held = cut.store.journal();
+fn look_at(
+    alloc: Global,
+    store: &Store<CellPayload>,
+    first: &Journal,
+    second: &Journal,
+) -> Option<SeenOfCut> {
+    let held = store.journal();
     let altered = altered(alloc)?;
     Some(SeenOfCut {
-        places: [places(&cut.parts[0]), places(&cut.parts[1]), places(held)],
+        places: [places(first), places(second), places(held)],
         held: held.entries().len(),
-        alone: audit(alloc, cut.store.opening(), second),
+        alone: audit(alloc, store.opening(), second.entries()),
         fed: [
-            fed(alloc, cut, second)?,
-            fed(alloc, cut, altered.as_slice())?,
-            fed(alloc, cut, held.entries())?,
+            fed(alloc, store, first, second.entries())?,
+            fed(alloc, store, first, altered.as_slice())?,
+            fed(alloc, store, first, held.entries())?,
         ],
     })
+}
+
+// Takes two parts of the store and looks at them, and at the entry that it holds then.
+fn cut_twice(alloc: Global, store: &mut Store<CellPayload>) -> Option<SeenOfCut> {
+    let (name, first) = first_part(alloc, store)?;
+    let (last, second) = second_part(alloc, store, name)?;
+    leave_one(store, name, last)?;
+    look_at(alloc, store, &first, &second)
+}
+
+// What is seen of a store that is cut twice. This function owns the store.
+fn seen(alloc: Global) -> Option<SeenOfCut> {
+    let mut store = store_with(alloc, "rw")?;
+    let seen = cut_twice(alloc, &mut store);
+    drop(store);
+    seen
 }
 
 // Parts begin where the last one ended. The second alone reads what was made in the first, and what the store holds
 // reads what was made in the second.
 #[test]
 fn a_store_is_cut_and_forgets(rt: HostRuntime) -> Result<(), Fail> {
-    let cut = cut_twice(rt.alloc()).ok_or("a refusal")?;
-    let seen = look_at(rt.alloc(), &cut).ok_or("a refusal")?;
     let bad = AuditFault::BadEntry { at: 0 };
     let stopped = AuditStopped { at: 0, why: bad };
-    assert_eq!(rt; seen.places, [(0, 2), (2, 4), (5, 6)]);
-    assert_eq!(rt; seen.held, 1);
-    assert_eq!(rt; seen.alone, Err(bad));
-    assert_eq!(rt; seen.fed, [Ok(()), Err(stopped), Err(stopped)]);
+    let wanted = SeenOfCut {
+        places: [(0, 2), (2, 4), (5, 6)],
+        held: 1,
+        alone: Err(bad),
+        fed: [Ok(()), Err(stopped), Err(stopped)],
+    };
+    assert_eq!(rt; seen(rt.alloc()), Some(wanted));
     Ok(())
 }

@@ -56,8 +56,8 @@ fn denied(denial: &Denial) -> Replies
     }
 }
 
-// Performs a command that changes nothing. Its reply is copied, which may be refused. A call of its own: so what is left
-// of a command is small enough to stand where it is asked for.
+// Performs a command that changes nothing. Its reply is copied, which may be refused. It is a call of its own: so what
+// is left of a command is small enough to stand where it is asked for.
 #[inline(never)]
 fn look<P: Payload>(
     alloc: Global,

@@ -12,7 +12,7 @@ use tg_store::Store;
 
 /// What is seen once the first of two workers, who may read one another, has made vertex 2. Labels are seen by their
 /// bits.
-#[derive(Clone, Copy)]
+#[derive(Clone, Copy, PartialEq, Eq, Debug)]
 pub(crate) struct Labels {
     // what the first worker holds over vertex 2, over the second worker and over itself
     of_first: [u8; 3],
@@ -90,10 +90,13 @@ fn labels_and_names_are_told(rt: HostRuntime) -> Result<(), Fail> {
     let Some(Seen::Labels(seen)) = seen_of(&rt, alloc, Story::MakeAndAsk, opening) else {
         return Err(Fail::from("a refusal"));
     };
-    assert_eq!(rt; seen.of_first, [3, 1, 0]);
-    assert_eq!(rt; seen.of_others, [0, 0]);
-    assert_eq!(rt; seen.asked, [3, 0]);
-    assert_eq!(rt; seen.names, (3, [0, 2, 1, 9], [0, 2]));
-    assert_eq!(rt; seen.entries, 1);
+    let wanted = Labels {
+        of_first: [3, 1, 0],
+        of_others: [0, 0],
+        asked: [3, 0],
+        names: (3, [0, 2, 1, 9], [0, 2]),
+        entries: 1,
+    };
+    assert_eq!(rt; seen, wanted);
     Ok(())
 }

@@ -31,7 +31,7 @@ const NOT_LOG: Denial = Denial {
 };
 
 /// What is seen of two sessions in a store that has room for two more vertices.
-#[derive(Clone, Copy)]
+#[derive(Clone, Copy, PartialEq, Eq, Debug)]
 pub(crate) struct Turns {
     // what the first session is answered that makes a vertex, the second, and the first once more
     made: [Result<u64, CreateFault>; 3],
@@ -130,9 +130,12 @@ fn sessions_in_turn(rt: HostRuntime) -> Result<(), Fail> {
         return Err(Fail::from("a refusal"));
     };
     let full = Err(CreateFault::VerticesFull);
-    assert_eq!(rt; seen.made, [Ok(2), Ok(3), full]);
-    assert_eq!(rt; seen.why_not_closed, CloseFault::SessionsMissing);
-    assert_eq!(rt; seen.entries, 6);
-    assert_eq!(rt; seen.matches, [true, false, false]);
+    let wanted = Turns {
+        made: [Ok(2), Ok(3), full],
+        why_not_closed: CloseFault::SessionsMissing,
+        entries: 6,
+        matches: [true, false, false],
+    };
+    assert_eq!(rt; seen, wanted);
     Ok(())
 }

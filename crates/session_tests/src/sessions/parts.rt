@@ -22,7 +22,7 @@ use tg_store::Store;
 const READ: Command = Command::Read { target: 2 };
 
 // What is seen of a store of two workers that is cut twice.
-#[derive(Clone, Copy)]
+#[derive(Clone, Copy, PartialEq, Eq, Debug)]
 struct SeenOfParts {
     // the place of the first entry of each part, and the one behind its last
     places: [(u64, u64); 2],
@@ -171,12 +171,15 @@ fn a_shared_store_is_cut_and_closes(rt: HostRuntime) -> Result<(), Fail> {
     let Some(seen) = seen(&rt, rt.alloc()) else {
         return Err(Fail::from("a refusal"));
     };
-    assert_eq!(rt; seen.places, [(0, 1), (1, 4)]);
-    assert_eq!(rt; seen.matches, [true, false]);
-    assert_eq!(rt; seen.taken_over, [false, true]);
-    assert_eq!(rt; seen.why_not_closed, CloseFault::ReceiptMismatch);
-    assert_eq!(rt; seen.entries, (5, 4));
-    assert_eq!(rt; seen.alone, Err(AuditFault::BadEntry { at: 0 }));
-    assert!(rt; seen.in_a_row);
+    let wanted = SeenOfParts {
+        places: [(0, 1), (1, 4)],
+        matches: [true, false],
+        taken_over: [false, true],
+        why_not_closed: CloseFault::ReceiptMismatch,
+        entries: (5, 4),
+        alone: Err(AuditFault::BadEntry { at: 0 }),
+        in_a_row: true,
+    };
+    assert_eq!(rt; seen, wanted);
     Ok(())
 }

@@ -25,7 +25,7 @@ struct Worked {
 }
 
 /// What a spawned session and the one that spawned it come to.
-#[derive(Clone, Copy)]
+#[derive(Clone, Copy, PartialEq, Eq, Debug)]
 pub(crate) struct Told {
     name: u64,
     worked: Worked,
@@ -34,7 +34,7 @@ pub(crate) struct Told {
 }
 
 /// What is seen of it.
-#[derive(Clone, Copy)]
+#[derive(Clone, Copy, PartialEq, Eq, Debug)]
 pub(crate) struct Spawned {
     told: Told,
     why_not_closed: CloseFault,
@@ -167,11 +167,17 @@ fn a_spawned_session(rt: HostRuntime) -> Result<(), Fail> {
         retired: true,
         then: Some(ApplyFault::NoSuchWorker),
     };
-    assert_eq!(rt; seen.told.name, 2);
-    assert_eq!(rt; seen.told.worked, worked);
-    assert!(rt; seen.told.read);
-    assert_eq!(rt; seen.why_not_closed, CloseFault::SessionsMissing);
-    assert_eq!(rt; seen.entries, 13);
-    assert_eq!(rt; seen.audited, Ok(()));
+    let told = Told {
+        name: 2,
+        worked,
+        read: true,
+    };
+    let wanted = Spawned {
+        told,
+        why_not_closed: CloseFault::SessionsMissing,
+        entries: 13,
+        audited: Ok(()),
+    };
+    assert_eq!(rt; seen, wanted);
     Ok(())
 }
