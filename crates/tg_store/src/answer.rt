@@ -23,8 +23,8 @@ pub(crate) struct Replies {
 
 // Decides a command of a worker, and performs it where it is served. For each graph that the heap stands for the
 // reply is that graph's, and then the heap stands for the graph after the command. Where it is refused, the heap is
-// as it was.
-#[inline(always)]
+// as it was. It is a call of its own: put into its callers it makes them so large that what it calls isn't put into it.
+#[inline(never)]
 pub(crate) fn answer_command<P: Payload>(
     alloc: Global,
     heap: &mut Heap<P>,
@@ -56,9 +56,8 @@ fn denied(denial: &Denial) -> Replies
     }
 }
 
-// Performs a command that changes nothing. Its reply is copied, which may be refused. It is a call of its own: so what
-// is left of a command is small enough to stand where it is asked for.
-#[inline(never)]
+// Performs a command that changes nothing. Its reply is copied, which may be refused.
+#[inline(always)]
 fn look<P: Payload>(
     alloc: Global,
     heap: &Heap<P>,
