@@ -3,14 +3,10 @@
 //! No rule takes a right from the one who holds it: a worker gives up its own. So what the caretaker hands on comes
 //! back when the visitor gives it up; and from the moment when the caretaker gives up its own right, it can't be handed
 //! on again.
-ghost use Rattle.std.specs.Prelude.{◌≡◌, IfErr, IfOk, OnOk, length};
-ghost use Rattle.tg_journal.specs.History.{IsAuditFault, IsLegal};
-ghost use Rattle.tg_model.specs.Opened.{start_of};
 
 use crate::fault::StoryFault;
 use crate::tell::tell_reply;
 use std::alloc::Global;
-use tg_journal::{AuditFault, Entry, audit};
 use tg_model::{Command, Edge, Opening, Reply};
 use tg_payload::{Draft, Payload, values_of};
 use tg_rights::Label;
@@ -254,28 +250,10 @@ fn left_by_collection<P: Payload>(store: &mut Store<P>) -> Result<u64, StoreFaul
     Ok(store.collect(Kind::Full)?)
 }
 
+// Audits the store's own journal, and answers how many entries it has.
 fn audited<P: Payload>(alloc: Global, store: &Store<P>) -> Result<u64, StoreFault> {
-    Ok(audit_own(alloc, store)?)
-}
-
-// Audits the store's own journal, of which nothing was handed out, and answers how many entries it has. As the journal
-// of a store is always a legal history, the audit can fail for want of memory alone.
-fn audit_own<P: Payload>(alloc: Global, store: &Store<P>) -> Result<u64, AuditFault>
-    ensures count { store.now.handed ≡ 0 → IfOk result (λ count. count ≡ length store.now.entries) }
-    ensures fault { store.now.handed ≡ 0 → IfErr result (λ fault. fault ≡ AuditFault.OutOfMemory) }
-{
-    count_audited(alloc, store.opening(), store.journal().entries())
-}
-
-// Replays entries, whoever they come from, from an opening. Answers how many there are only where they are a legal
-// history of it; a fault is that of the audit, which says of a bad entry that it is the first.
-fn count_audited(alloc: Global, opening: &Opening, entries: &[Entry]) -> Result<u64, AuditFault>
-    ensures count { IfOk result (λ count. count ≡ length entries.now) }
-    ensures legal { OnOk result (IsLegal (start_of opening.now) entries.now) }
-    ensures fault { IfErr result (IsAuditFault (start_of opening.now) entries.now) }
-{
-    audit(alloc, opening, entries)?;
-    Ok(entries.len() as u64)
+    let audited = store.audit(alloc)?;
+    Ok(audited.entries())
 }
 
 fn read(target: u64) -> Command {

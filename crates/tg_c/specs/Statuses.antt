@@ -14,8 +14,8 @@ use Rattle.tg_store.specs.declared.fault.CreateFault.TheVariants as create
 use Rattle.tg_space.specs.declared.room_fault.RoomFault.{RoomFault}
 use Rattle.tg_space.specs.declared.room_fault.RoomFault.TheVariants as no_room
 use Rattle.tg_journal.specs.declared.entry.Entry.{Entry}
-use Rattle.tg_journal.specs.declared.replay.AuditFault.{AuditFault}
-use Rattle.tg_journal.specs.declared.replay.AuditFault.TheVariants as audit
+use Rattle.tg_store.specs.declared.fault.StoreAuditFault.{StoreAuditFault}
+use Rattle.tg_store.specs.declared.fault.StoreAuditFault.TheVariants as audit
 use Rattle.tg_c.specs.declared.refusal.CallRefusal.{CallRefusal}
 use Rattle.tg_c.specs.declared.refusal.CallRefusal.TheVariants as refusal
 use Rattle.tg_c.specs.declared.forms.CensusOut.{CensusOut}
@@ -78,7 +78,8 @@ abbrev pub of_collect : RoomFault → CallRefusal
 of_collect no_room.OutOfMemory = refusal.OutOfMemory
 of_collect no_room.HeapFull = refusal.HeapFull
 
-abbrev pub of_audit : AuditFault → CallRefusal
+abbrev pub of_audit : StoreAuditFault → CallRefusal
+of_audit audit.NotWhole = refusal.NotWhole
 of_audit audit.OutOfMemory = refusal.OutOfMemory
 of_audit (audit.BadEntry at) = refusal.BadEntry
 

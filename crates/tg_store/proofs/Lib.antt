@@ -13,3 +13,4 @@ mod ReachingLaws
 mod PictureLaws
 mod ErrLaws
 mod LeaveLaws
+mod AuditLaws

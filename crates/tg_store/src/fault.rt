@@ -1,6 +1,7 @@
 //! Why calls of a store are refused, with what they hand back.
 use std::alloc::AllocError;
 use tg_graph::VertexRefused;
+use tg_journal::AuditFault;
 use tg_model::Opening;
 use tg_payload::{Draft, Payload};
 use tg_space::RoomFault;
@@ -71,6 +72,20 @@ pub struct CreateRefused<P: Payload> {
     pub why: CreateFault,
 }
 
+/// Why a store's own journal was not audited.
+#[derive(Clone, Copy, PartialEq, Eq, Debug, Error)]
+pub enum StoreAuditFault {
+    /// Entries were handed out or given up, so the store doesn't hold all that there were from its opening on.
+    #[error("entries were given up")]
+    NotWhole,
+    /// There was no memory for the replay, which says nothing of the entries.
+    #[error("out of memory")]
+    OutOfMemory,
+    /// The first entry, counted from 0, that isn't legal. No store answers so while it is what it is proved to be.
+    #[error("entry {at} is not legal")]
+    BadEntry { at: u64 },
+}
+
 impl From<RoomFault> for OpenFault {
     ghost use Rattle.std.specs.Prelude.{◌≡◌};
     ghost use Rattle.tg_store.specs.Faults.{open_fault_of};
@@ -135,6 +150,20 @@ impl<P: Payload> From<VertexRefused<P>> for CreateRefused<P> {
         CreateRefused {
             draft,
             why: CreateFault::from(why),
+        }
+    }
+}
+
+impl From<AuditFault> for StoreAuditFault {
+    ghost use Rattle.std.specs.Prelude.{◌≡◌};
+    ghost use Rattle.tg_store.specs.Faults.{store_audit_fault_of};
+
+    ghost from_gives = { λ fault e. e ≡ store_audit_fault_of fault };
+
+    fn from(fault: AuditFault) -> StoreAuditFault {
+        match fault {
+            AuditFault::OutOfMemory => StoreAuditFault::OutOfMemory,
+            AuditFault::BadEntry { at } => StoreAuditFault::BadEntry { at },
         }
     }
 }

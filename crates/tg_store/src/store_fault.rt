@@ -1,5 +1,7 @@
 //! One error for all calls of a store, for callers that hand each of them on.
-use crate::fault::{ApplyFault, CreateFault, CreateRefused, OpenFault, OpenRefused};
+use crate::fault::{
+    ApplyFault, CreateFault, CreateRefused, OpenFault, OpenRefused, StoreAuditFault,
+};
 use std::alloc::{AllocError, AllocFailed};
 use tg_journal::AuditFault;
 use tg_model::OpeningFault;
@@ -31,7 +33,7 @@ pub enum StoreFault {
     Collect(RoomFault),
     /// The audit did not pass.
     #[error("{0}")]
-    Audit(AuditFault),
+    Audit(StoreAuditFault),
 }
 
 impl From<AllocError> for StoreFault {
@@ -129,10 +131,22 @@ impl From<RoomFault> for StoreFault {
 impl From<AuditFault> for StoreFault {
     ghost use Rattle.std.specs.Prelude.{◌≡◌};
     ghost use Rattle.tg_store.specs.declared.store_fault.StoreFault.TheVariants.{Audit};
+    ghost use Rattle.tg_store.specs.Faults.{store_audit_fault_of};
+
+    ghost from_gives = { λ fault e. e ≡ Audit (store_audit_fault_of fault) };
+
+    fn from(fault: AuditFault) -> StoreFault {
+        StoreFault::Audit(StoreAuditFault::from(fault))
+    }
+}
+
+impl From<StoreAuditFault> for StoreFault {
+    ghost use Rattle.std.specs.Prelude.{◌≡◌};
+    ghost use Rattle.tg_store.specs.declared.store_fault.StoreFault.TheVariants.{Audit};
 
     ghost from_gives = { λ fault e. e ≡ Audit fault };
 
-    fn from(fault: AuditFault) -> StoreFault {
+    fn from(fault: StoreAuditFault) -> StoreFault {
         StoreFault::Audit(fault)
     }
 }

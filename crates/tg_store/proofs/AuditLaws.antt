@@ -1,5 +1,5 @@
 -- An audit of a legal history finds no bad entry.
-use Rattle.std.proofs.Common.{◌≡◌, List, Result, Ok, Err, IfErr, refl, subst, sym}
+use Rattle.std.proofs.Common.{◌≡◌, List, refl, subst, sym}
 use Rattle.tg_model.specs.Opened.{Plan, start_of}
 use Rattle.tg_journal.specs.declared.entry.Entry.{Entry}
 use Rattle.tg_journal.specs.declared.replay.AuditFault.{AuditFault}
@@ -13,10 +13,3 @@ fault_of_legal given own listed entries OutOfMemory same_plan same_list legal sa
 fault_of_legal given own listed entries (BadEntry at) same_plan same_list legal says =
     absurd (IsFirstBad-not_legal (start_of given) listed at says
     (subst (λ p. IsLegal (start_of p) listed) (sym same_plan) (subst (λ es. IsLegal (start_of own) es) (sym same_list) legal)))
-
--- where what is replayed is the history that is legal
-pub audit_of_legal : {T : Type 0} (result : Result T AuditFault) (given own : Plan) (listed entries : List Entry) → given ≡ own → listed ≡ entries
-    → IsLegal (start_of own) entries → IfErr result (IsAuditFault (start_of given) listed) → IfErr result (λ fault. fault ≡ OutOfMemory)
-audit_of_legal (Ok x) given own listed entries same_plan same_list legal says = tt
-audit_of_legal (Err fault) given own listed entries same_plan same_list legal says =
-    fault_of_legal given own listed entries fault same_plan same_list legal says
