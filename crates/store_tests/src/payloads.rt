@@ -9,7 +9,8 @@ use std::sync::atomic::{AtomicU64, Ordering};
 use std::test::Fail;
 use tg_model::Law;
 use tg_payload::{
-    CellPayload, Draft, LogPayload, MaxPayload, Payload, PayloadBox, PayloadTable, SumPayload,
+    CellPayload, Draft, LawPayload, LogPayload, MaxPayload, Payload, PayloadBox, PayloadTable,
+    SumPayload,
 };
 
 // Puts the payload into the table.
@@ -74,6 +75,17 @@ fn log_and_sum_payloads(rt: HostRuntime) -> Result<(), Fail> {
     let sum = is_after(alloc, sum_box(alloc)?, (1, 2, 3), Law::Sum, &[5])?;
     let max = is_after(alloc, max_box(alloc)?, (5, 9, 8), Law::Max, &[9])?;
     let log = is_after(alloc, log_box(alloc)?, (1, 2, 3), Law::Log(2), &[2, 3])?;
+    assert_eq!(rt; [cell, sum, max, log], [true; 4]);
+    Ok(())
+}
+
+#[test]
+fn payloads_of_the_four_laws(rt: HostRuntime) -> Result<(), Fail> {
+    let alloc = rt.alloc();
+    let cell = is_after(alloc, LawPayload::cell(7), (1, 2, 3), Law::Cell, &[3])?;
+    let sum = is_after(alloc, LawPayload::sum(u64::MAX), (1, 2, 3), Law::Sum, &[5])?;
+    let max = is_after(alloc, LawPayload::max(7), (5, 9, 8), Law::Max, &[9])?;
+    let log = is_after(alloc, LawPayload::log(alloc, 2), (1, 2, 3), Law::Log(2), &[2, 3])?;
     assert_eq!(rt; [cell, sum, max, log], [true; 4]);
     Ok(())
 }

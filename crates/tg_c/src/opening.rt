@@ -5,11 +5,10 @@ ghost use Rattle.tg_c.specs.Calls.{AreMet, IsAskedFor, IsFirstUnmet, IsMemoryOr,
 ghost use Rattle.tg_c.specs.Forms.{AreValues, HaveLabels, JoinWorkers, edge_in, value_in};
 
 use crate::forms::{EdgeIn, LimitsIn, ValueIn, label_of};
-use crate::payload::LawPayload;
 use crate::refusal::CallRefusal;
 use std::alloc::Global;
 use tg_model::{Edge, MAX_LASTING_VERTICES, MAX_WORKERS, Opening};
-use tg_payload::{Draft, values_of};
+use tg_payload::{Draft, LawPayload, values_of};
 use tg_store::Limits;
 
 /// What an opening asks for, all of which was found as it has to be.

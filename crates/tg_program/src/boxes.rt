@@ -1,19 +1,17 @@
-//! The boxes of a run.
-//!
-//! Boxes are made here, by a closure that says what is in each, and the run over them is generic in its payloads,
-//! because no contract can speak of boxes that a function gives to its caller.
-ghost use Rattle.std.specs.Prelude.{◌≡◌, IfOk};
+//! The boxes of a run, which are what its vertices store.
+ghost use Rattle.std.specs.Prelude.{◌≡◌, IfOk, map, replicate};
+ghost use Rattle.tg_text.specs.declared.stock.StockItem.TheVariants.{Cell};
 ghost use Rattle.tg_program.specs.Boxes.{value_of};
 ghost use Rattle.tg_program.specs.Serving.{ServesFrom};
 ghost use Rattle.tg_program.specs.Starts.{MayServe};
 
-use crate::making::serve_made;
+use crate::serving::{RunPayloads, serve};
 use crate::start::Start;
 use crate::stop::Stop;
 use std::alloc::{AllocError, Global};
 use std::sync::Wait;
 use std::thread::Threads;
-use tg_payload::{CellPayload, LogPayload, MaxPayload, PayloadBox, SumPayload};
+use tg_payload::{Draft, LawPayload, Payload};
 use tg_script::{Collector, Sink, Source, StockItem};
 
 /// Runs the source's script from the start, with new boxes: a cell with 0 for each worker, and those of the stock.
@@ -29,15 +27,45 @@ pub(crate) fn serve_with_boxes<R: Threads + Wait + Sync, C: Collector, S: Source
     requires servable { MayServe C.Ready start.now }
     ensures served { ServesFrom start.now (S.left source.old) (S.left source.new) (K.taken sink.old) (K.taken sink.new) result }
 {
-    let make = |item: StockItem| -> Result<PayloadBox, AllocError>
-        ensures { IfOk result (λ payload. value payload ≡ value_of item) }
-    {
-        Ok(match item {
-            StockItem::Cell => Box::new(alloc, CellPayload::new(0))?,
-            StockItem::Sum => Box::new(alloc, SumPayload::new(0))?,
-            StockItem::Max => Box::new(alloc, MaxPayload::new(0))?,
-            StockItem::Log => Box::new(alloc, LogPayload::new(alloc, 4))?,
-        })
-    };
-    serve_made(rt, alloc, collector, source, sink, start, make)
+    let workers = new_cells(alloc, start.settings.workers)?;
+    let stock = new_drafts(alloc, &start.stock)?;
+    let payloads = RunPayloads { workers, stock };
+    serve(rt, alloc, collector, source, sink, start, payloads)
+}
+
+// So many cells with 0. Fails only when out of memory.
+fn new_cells(alloc: Global, count: u64) -> Result<Vec<LawPayload>, AllocError>
+    ensures { IfOk result (λ cells. map (⟦<LawPayload as Payload>⟧.value) cells.items ≡ replicate count (value_of Cell)) }
+{
+    let mut cells = Vec::new(alloc);
+    for _ in 0..count {
+        cells.push(new_box(alloc, StockItem::Cell))?;
+    }
+    Ok(cells)
+}
+
+// A draft of a new box for each item. Fails only when out of memory.
+fn new_drafts(alloc: Global, items: &[StockItem]) -> Result<Vec<Draft<LawPayload>>, AllocError>
+    ensures { IfOk result (λ drafts. drafts.items ≡ map value_of items.now) }
+{
+    let mut drafts = Vec::with_capacity(alloc, items.len())?;
+    for item in items {
+        let Ok(draft) = Draft::new(alloc, new_box(alloc, *item)) else {
+            return Err(AllocError);
+        };
+        drafts.push(draft)?;
+    }
+    Ok(drafts)
+}
+
+// A new box of this kind. Takes no memory.
+fn new_box(alloc: Global, item: StockItem) -> LawPayload
+    ensures { ⟦<LawPayload as Payload>⟧.value result ≡ value_of item }
+{
+    match item {
+        StockItem::Cell => LawPayload::cell(0),
+        StockItem::Sum => LawPayload::sum(0),
+        StockItem::Max => LawPayload::max(0),
+        StockItem::Log => LawPayload::log(alloc, 4),
+    }
 }

@@ -1,8 +1,8 @@
 //! What the program `tgstore` is made of, so that its `main` is one call.
 //!
 //! The words of the command line are read first (`words`), then the stock and the limits are looked at (`start`), and
-//! only then are buffers (`streams`), boxes (`boxes`) and drafts of them (`making`) made and input read (`serving`),
-//! whose last line is noted where it is to be said why a line is bad (`noted`). Collections by several helpers run on
+//! only then are buffers (`streams`) and boxes with drafts of them (`boxes`) made and input read (`serving`), whose
+//! last line is noted where it is to be said why a line is bad (`noted`). Collections by several helpers run on
 //! threads (`on_threads`). What goes wrong is one line on standard error and a status (`stop`). [`obey`] does all of
 //! it.
 //!
@@ -13,7 +13,6 @@
 
 mod boxes;
 mod help;
-mod making;
 mod noted;
 mod on_threads;
 mod program;

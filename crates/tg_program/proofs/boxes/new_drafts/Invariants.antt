@@ -1,6 +1,6 @@
 use Rattle.std.proofs.Common.{◌≡◌, map, take}
 use Rattle.tg_program.specs.Boxes.{value_of}
-use Rattle.tg_program.proofs.making.new_drafts.Given as goal
+use Rattle.tg_program.proofs.boxes.new_drafts.Given as goal
 
 -- the drafts of the first so many items were made
 abbrev pub invariant-loop-item : goal.invariant-loop-item

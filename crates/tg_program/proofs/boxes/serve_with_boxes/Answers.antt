@@ -1,6 +1,6 @@
 use Rattle.std.proofs.Common.{refl}
 use Rattle.tg_program.proofs.ServingLaws.{served_none, wanting, wanting_status}
-use Rattle.tg_program.proofs.making.serve_made.Goals as goal
+use Rattle.tg_program.proofs.boxes.serve_with_boxes.Goals as goal
 
 pub returns-in_err-workers : goal.returns-in_err-workers
 returns-in_err-workers g c =
