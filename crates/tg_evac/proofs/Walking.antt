@@ -1,5 +1,5 @@
 -- A walk over the cells: claims one after the other, and the image of a cell word by word.
-use Rattle.std.proofs.Common.{◌≡◌, ℕ, ◌<◌, ◌≤◌, ◌+◌, ◌-◌, ◌++◌, ◌∷◌, Bool, List, [], length, get_or, set, take, drop, map, refl, sym, ap, subst, arith, ◌∙◌, ⊎_elim}
+use Rattle.std.proofs.Common.{◌≡◌, ℕ, suc, ◌<◌, ◌≤◌, ◌+◌, ◌-◌, ◌++◌, ◌∷◌, Bool, List, [], length, get_or, set, take, drop, map, refl, sym, ap, subst, arith, ◌∙◌, ⊎_elim}
 use Rattle.std.specs.List.{All, Contains, flat_map}
 use Rattle.std.proofs.lemmas.Bool.{cases_lt, cases_eq}
 use Rattle.std.proofs.lemmas.Grind.{flat_map-append}
@@ -72,6 +72,13 @@ module _ {X : Type 0} (f : Kind → X → List ℕ) (h : SpaceList) (straight : 
 
 -- ---- the image of a cell, word by word
 
+-- words that are all 0 name nothing
+named_none : (from : ℕ → Bool) (h : SpaceList) (words : List ℕ) → ((k : ℕ) → k < length words → get_or words k 0 ≡ 0) → named_by from h words ≡ []
+named_none from h [] zeros = refl
+named_none from h (w ∷ ws) zeros =
+    let rest : named_by from h ws ≡ [] = named_none from h ws (λ k below. zeros (suc k) (omega (arith, below))) in
+    subst (λ (x : ℕ). target_in from h x ++ named_by from h ws ≡ []) (sym (zeros 0 (omega arith))) rest
+
 pub record IsImaged {Fixed : Type 0} (h : SpaceList) (straight : Bool) (first : ℕ) (words image : List ℕ) (i : ℕ) (a b : Walked Fixed) (before after : (ℕ → Place) → Type 0) : Type 0 where
   pub low : first ≤ i
   pub high : i ≤ 8
@@ -98,6 +105,28 @@ module _ (h : SpaceList) (straight : Bool) (first : ℕ) (words : List ℕ) wher
     rest = λ _ _. refl;
     ahead = λ _ _. refl;
   }
+
+  -- where all words from the first one on are 0, the cell is its own image
+  pub imaged_nothing : length words ≡ 8 → first ≤ 8 → ((j : ℕ) → first ≤ j → j < 8 → get_or words j 0 ≡ 0) → {Fixed : Type 0} (a : Walked Fixed) (knows : (ℕ → Place) → Type 0) → IsImaged h straight first words words 8 a a knows knows
+  imaged_nothing wide inside zeros a knows =
+      let from = from_space a.kind in
+      let at : (k : ℕ) → k < 8 - first → get_or (take (8 - first) (drop first words)) k 0 ≡ 0 =
+      λ k below. get_or-take (8 - first) (drop first words) k 0 below ∙ get_or-drop first words k 0 ∙ zeros (first + k) (omega arith) (omega (arith, inside, below)) in
+      let none : named_by from h (take (8 - first) (drop first words)) ≡ [] =
+      (let long : 8 - first ≤ length (drop first words) = omega (arith, length-drop first words, wide, inside) in
+      named_none from h (take (8 - first) (drop first words)) (λ k below. at k (omega (arith, below, length-take-le (8 - first) (drop first words) long)))) in
+      record {
+        low = inside;
+        high = omega arith;
+        wide = wide;
+        long = wide;
+        added = wins_none (IsClaimOf h straight (named_by from h (drop first words))) a;
+        grows = λ _ agrees. agrees;
+        met = subst (λ (ns : List ℕ). All (Contains a.met) ns) (sym none) (All-nil (Contains a.met));
+        done = λ to _ j past below. subst (λ (w : ℕ). w ≡ moved_word from h to w) (sym (zeros j past below)) refl;
+        rest = λ _ _. refl;
+        ahead = λ _ _. refl;
+      }
 
   module _ (image : List ℕ) (i : ℕ) (more : i < 8) {Fixed : Type 0} {a b c : Walked Fixed} {before mid : (ℕ → Place) → Type 0} (so : IsImaged h straight first words image i a b before mid)
       (two : AddsWins (IsClaimOf h straight (target_in (from_space b.kind) h (get_or image i 0))) b c) where

@@ -1,5 +1,5 @@
 //! The copy of a cell, whose words are moved where they stand. What they name is claimed.
-ghost use Rattle.std.specs.Prelude.{◌≡◌, ℕ, ◌≤◌, ◌++◌, drop, map, take, OnOk, length};
+ghost use Rattle.std.specs.Prelude.{◌≡◌, ℕ, ◌≤◌, ◌<◌, ◌++◌, drop, get_or, map, take, OnOk, IsTrue, length};
 ghost use Rattle.std.specs.List.{All};
 ghost use Rattle.tg_word.specs.declared.Place.{Place as PlaceOf};
 ghost use Rattle.tg_word.specs.Word.{place_in, rights_in, word_at};
@@ -31,10 +31,39 @@ pub fn move_cell<C: Claimer>(
 {
     // A loop from a known word on is laid out word by word.
     match cell[0] {
-        OBJECT_TAG => move_from(claimer, spaces, kind, straight, OBJECT_POINTERS, cell),
+        OBJECT_TAG => move_object(claimer, spaces, kind, straight, cell),
         CHUNK_TAG => move_from(claimer, spaces, kind, straight, CHUNK_POINTERS, cell),
         _ => Ok(()),
     }
+}
+
+// Moves the words of an object. Most objects name nothing, which one test tells.
+#[inline(always)]
+fn move_object<C: Claimer>(
+    claimer: &mut C,
+    spaces: &Spaces,
+    kind: Kind,
+    straight: bool,
+    cell: &mut [u64; WORDS],
+) -> Result<(), RoomFault>
+    requires pointers { All (IsPointer spaces.now.spaces) (drop 4 cell.old) }
+    requires table { IsTableFor kind spaces.now.spaces (C.walked claimer.old) }
+    ensures claims { ClaimsAll C.walked C.knows C.is_full spaces.now.spaces straight (named_by (from_space (C.walked claimer.old).kind) spaces.now.spaces (drop 4 cell.old)) claimer.old claimer.new result }
+    ensures long { length cell.new ≡ 8 }
+    ensures image { OnOk result ((to : ℕ → PlaceOf) → C.knows claimer.new to → cell.new ≡ take 4 cell.old ++ map (moved_word (from_space (C.walked claimer.old).kind) spaces.now.spaces to) (drop 4 cell.old)) }
+{
+    if names_nothing(cell) {
+        return Ok(());
+    }
+    move_from(claimer, spaces, kind, straight, OBJECT_POINTERS, cell)
+}
+
+// Whether the references and the link of an object are all 0.
+#[inline(always)]
+fn names_nothing(object: &[u64; WORDS]) -> bool
+    ensures { IsTrue result → (i : ℕ) → 4 ≤ i → i < 8 → get_or object.now i 0 ≡ 0 }
+{
+    object[4] | object[5] | object[6] | object[7] == 0
 }
 
 /// Moves the words of a cell from one on. What they name is claimed.

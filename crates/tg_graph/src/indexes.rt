@@ -13,6 +13,9 @@ use indexmap::IndexMap;
 use std::alloc::{AllocError, Global};
 use std::marker::Model;
 
+// Of how many first names it is kept where the index stood last.
+const HINTS: usize = 64;
+
 /// How the row of an object is looked along.
 #[derive(Drop)]
 pub(crate) enum Way {
@@ -31,6 +34,9 @@ pub(crate) struct LongRows {
     pub(crate) indexes: IndexMap<u64, IndexedRow>,
     // How many rows are known to lie in Old whole.
     pub(crate) old_rows: usize,
+    // Where the index of each of the first names stood last, so that its name needn't be looked up. It may stand
+    // elsewhere by now, so it is asked for its name.
+    hints: [usize; HINTS],
 }
 
 impl Model for LongRows {
@@ -52,6 +58,7 @@ impl LongRows {
         LongRows {
             indexes: IndexMap::new(alloc),
             old_rows: 0,
+            hints: [0; HINTS],
         }
     }
 
@@ -63,11 +70,35 @@ impl LongRows {
     }
 
     /// At which place the index of the row of the vertex with a name stands, if it has one. Takes no memory.
+    #[inline(always)]
     pub(crate) fn place(&self, name: u64) -> Option<usize>
         ensures there { IfSome result (HasIndexAt self.now.entries name) }
         ensures none { result ≡ None → lookup (nat_eq name) self.now.entries ≡ None }
     {
-        self.indexes.get_index_of(&name)
+        match self.hinted(name) {
+            Some(at) => Some(at),
+            None => self.indexes.get_index_of(&name),
+        }
+    }
+
+    // The same, where it stands there still.
+    #[inline(always)]
+    fn hinted(&self, name: u64) -> Option<usize>
+        ensures { IfSome result (HasIndexAt self.now.entries name) }
+    {
+        let at = *self.hints.get(name as usize)?;
+        let (key, _) = self.indexes.get_index(at)?;
+        if *key == name { Some(at) } else { None }
+    }
+
+    // Keeps where the index of the row of the vertex with a name stands.
+    #[inline(always)]
+    fn keep_hint(&mut self, name: u64, at: usize)
+        ensures { self.new ≡ self.old }
+    {
+        if let Some(hint) = self.hints.get_mut(name as usize) {
+            *hint = at;
+        }
     }
 
     /// The index at a place. Takes no memory.
@@ -91,8 +122,10 @@ impl LongRows {
         ensures none { result ≡ None → lookup (nat_eq name) self.new.entries ≡ None }
         ensures same { (q : ℕ) → lookup (nat_eq q) self.new.entries ≡ lookup (nat_eq q) self.old.entries }
     {
-        let at = self.place(name)?;
-        Some(self.make_young(at))
+        let place = self.place(name)?;
+        let at = self.make_young(place);
+        self.keep_hint(name, at);
+        Some(at)
     }
 
     /// Makes room for one more name and one more cell in the index of the row of the vertex with a name, which stands

@@ -9,33 +9,33 @@ use Rattle.tg_evac.specs.Walks.{ClaimsAll}
 use Rattle.tg_evac.proofs.Walking.{IsImaged, imaged_is, imaged_met, imaged_none}
 use Rattle.tg_evac.proofs.images.move_cell.Goals as goal
 
-pub move_from-requires-clause-pointers : goal.move_from-requires-clause-pointers
-move_from-requires-clause-pointers g c = subst (λ (n : ℕ). All (IsPointer c.args.spaces.now.spaces) (drop n c.args.cell.now)) (ap first_pointer c.in-1.is) c.requires.pointers
+pub move_object-requires-clause-pointers : goal.move_object-requires-clause-pointers
+move_object-requires-clause-pointers g c = subst (λ (n : ℕ). All (IsPointer c.args.spaces.now.spaces) (drop n c.args.cell.now)) (ap first_pointer c.in-1.is) c.requires.pointers
 
 pub returns-in-1-clause-claims : goal.returns-in-1-clause-claims
 returns-in-1-clause-claims g c =
     let m = g.C.Claimer in let h = c.args.spaces.now.spaces in let from = from_space (m.walked c.args.claimer.now).kind in
-    subst (λ (n : ℕ). ClaimsAll m.walked m.knows m.is_full h c.args.straight (named_by from h (drop n c.args.cell.now)) c.args.claimer.now c.move_from.new.claimer c.move_from.result) (sym (ap first_pointer c.in-1.is)) c.move_from.ensures.claims
+    subst (λ (n : ℕ). ClaimsAll m.walked m.knows m.is_full h c.args.straight (named_by from h (drop n c.args.cell.now)) c.args.claimer.now c.move_object.new.claimer c.move_object.result) (sym (ap first_pointer c.in-1.is)) c.move_object.ensures.claims
 
 pub returns-in-1-clause-image : goal.returns-in-1-clause-image
 returns-in-1-clause-image g c =
     let m = g.C.Claimer in
     let e : 4 ≡ first_pointer (slice_index c.args.cell.now 0) = sym (ap first_pointer c.in-1.is) in
-    subst (λ (n : ℕ). OnOk c.move_from.result ((to : ℕ → Place) → m.knows c.move_from.new.claimer to → c.move_from.new.cell ≡ take n c.args.cell.now ++ map (moved_word (from_space (m.walked c.args.claimer.now).kind) c.args.spaces.now.spaces to) (drop n c.args.cell.now))) e c.move_from.ensures.image
+    subst (λ (n : ℕ). OnOk c.move_object.result ((to : ℕ → Place) → m.knows c.move_object.new.claimer to → c.move_object.new.cell ≡ take n c.args.cell.now ++ map (moved_word (from_space (m.walked c.args.claimer.now).kind) c.args.spaces.now.spaces to) (drop n c.args.cell.now))) e c.move_object.ensures.image
 
-pub move_from-requires-in-2-clause-pointers : goal.move_from-requires-in-2-clause-pointers
-move_from-requires-in-2-clause-pointers g c = subst (λ (n : ℕ). All (IsPointer c.args.spaces.now.spaces) (drop n c.args.cell.now)) (ap first_pointer c.in-2.is) c.requires.pointers
+pub move_from-requires-clause-pointers : goal.move_from-requires-clause-pointers
+move_from-requires-clause-pointers g c = subst (λ (n : ℕ). All (IsPointer c.args.spaces.now.spaces) (drop n c.args.cell.now)) (ap first_pointer c.in-2.is) c.requires.pointers
 
 pub returns-in-2-clause-claims : goal.returns-in-2-clause-claims
 returns-in-2-clause-claims g c =
     let m = g.C.Claimer in let h = c.args.spaces.now.spaces in let from = from_space (m.walked c.args.claimer.now).kind in
-    subst (λ (n : ℕ). ClaimsAll m.walked m.knows m.is_full h c.args.straight (named_by from h (drop n c.args.cell.now)) c.args.claimer.now c.move_from-in-2.new.claimer c.move_from-in-2.result) (sym (ap first_pointer c.in-2.is)) c.move_from-in-2.ensures.claims
+    subst (λ (n : ℕ). ClaimsAll m.walked m.knows m.is_full h c.args.straight (named_by from h (drop n c.args.cell.now)) c.args.claimer.now c.move_from.new.claimer c.move_from.result) (sym (ap first_pointer c.in-2.is)) c.move_from.ensures.claims
 
 pub returns-in-2-clause-image : goal.returns-in-2-clause-image
 returns-in-2-clause-image g c =
     let m = g.C.Claimer in
     let e : 1 ≡ first_pointer (slice_index c.args.cell.now 0) = sym (ap first_pointer c.in-2.is) in
-    subst (λ (n : ℕ). OnOk c.move_from-in-2.result ((to : ℕ → Place) → m.knows c.move_from-in-2.new.claimer to → c.move_from-in-2.new.cell ≡ take n c.args.cell.now ++ map (moved_word (from_space (m.walked c.args.claimer.now).kind) c.args.spaces.now.spaces to) (drop n c.args.cell.now))) e c.move_from-in-2.ensures.image
+    subst (λ (n : ℕ). OnOk c.move_from.result ((to : ℕ → Place) → m.knows c.move_from.new.claimer to → c.move_from.new.cell ≡ take n c.args.cell.now ++ map (moved_word (from_space (m.walked c.args.claimer.now).kind) c.args.spaces.now.spaces to) (drop n c.args.cell.now))) e c.move_from.ensures.image
 
 -- no word of another cell is looked at
 none : (h : SpaceList) (straight : Bool) (cell : List ℕ) → length cell ≡ 8 → {Fixed : Type 0} (a : Walked Fixed) (knows : (ℕ → Place) → Type 0) → IsImaged h straight 8 cell cell 8 a a knows knows

@@ -1,7 +1,7 @@
-use Rattle.std.proofs.Common.{◌≡◌, ◌≤◌, List, [], ◌∷◌, ℕ, decimal, drop, set, ◌+◌, ◌-◌, ◌<◌, length, ◌++◌, ◌^◌, arith, length-set, ap, ◌∙◌}
+use Rattle.std.proofs.Common.{◌≡◌, ◌≤◌, List, [], ◌∷◌, ℕ, decimal, drop, set, ◌+◌, ◌-◌, length, ◌++◌, arith, length-set, ap, ◌∙◌}
 use Rattle.std.proofs.lemmas.List.{drop-set, drop_all}
-use Rattle.std.proofs.lemmas.Fmt.{length-decimal-le}
-use Rattle.tg_text.proofs.reply.spell_name_line.Goals as goal
+use Rattle.tg_text.proofs.NumberLaws.{short_decimal}
+use Rattle.tg_text.proofs.reply.spell_number_line.Goals as goal
 
 -- three bytes in front of a text
 in_front : (bytes text : List ℕ) (start at : ℕ) → start + 3 ≡ at → at ≤ length bytes → drop at bytes ≡ text →
@@ -24,19 +24,16 @@ in_front bytes text start at here within known =
 last_byte : (bytes : List ℕ) → length bytes ≡ 24 → drop 23 (set bytes 23 10) ≡ 10 ∷ []
 last_byte bytes long = rw (drop-set bytes 23 10 (omega (arith, long)), drop_all 24 bytes (omega (arith, long)))
 
-short : (n : ℕ) → n < 2 ^ 64 → length (decimal n) ≤ 20
-short n small = length-decimal-le 20 n (omega arith) (omega (arith, small)) small
-
 pub write_digits-start-requires : goal.write_digits-start-requires
-write_digits-start-requires c = (omega (arith, short c.args.number c.ranges.number.fits), omega (arith, c.told-line, length-set c.args.line.now 23 10))
+write_digits-start-requires c = (omega (arith, short_decimal c.args.number c.ranges.number.fits), omega (arith, c.told-line, length-set c.args.line.now 23 10))
 
 pub overflow_sub-start : goal.overflow_sub-start
-overflow_sub-start c = omega (arith, short c.args.number c.ranges.number.fits, c.write_digits-start.ensures.start)
+overflow_sub-start c = omega (arith, short_decimal c.args.number c.ranges.number.fits, c.write_digits-start.ensures.start)
 
 pub returns-clause-spelt : goal.returns-clause-spelt
 returns-clause-spelt c =
     let digits = c.write_digits-start in
     in_front digits.new.buf (decimal c.args.number ++ 10 ∷ []) (digits.result - 3) digits.result
-    (omega (arith, short c.args.number c.ranges.number.fits, digits.ensures.start))
+    (omega (arith, short_decimal c.args.number c.ranges.number.fits, digits.ensures.start))
     (omega (arith, digits.ensures.start, digits.auto.buf, c.told-line, length-set c.args.line.now 23 10))
     (digits.ensures.written ∙ ap (λ x. decimal c.args.number ++ x) (last_byte c.args.line.now c.told-line))
