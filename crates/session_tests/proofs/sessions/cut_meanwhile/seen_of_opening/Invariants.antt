@@ -1,5 +1,5 @@
 use Rattle.tg_shared.specs.Sessions.{start_in_parts}
-use Rattle.session_tests.proofs.sessions.cut_meanwhile.seen.Given as goal
+use Rattle.session_tests.proofs.sessions.cut_meanwhile.seen_of_opening.Given as goal
 
 abbrev pub ghosts-seen_of_store-L-Ledger : goal.ghosts-seen_of_store-L-Ledger
 ghosts-seen_of_store-L-Ledger g a = record { name = a.blank.name; parts = a.blank.parts }
