@@ -1,12 +1,11 @@
 //! A store whose journal is handed out and given up in parts, and an audit that is fed them.
 
-use crate::sessions::opened::{draft, store_with};
+use crate::sessions::opened::{store_with, wanted};
 use std::alloc::Global;
 use std::test::Fail;
 use tg_journal::{AuditFault, AuditStopped, Auditor, Entry, Journal, audit};
 use tg_model::{Command, Deed, Reply};
 use tg_payload::CellPayload;
-use tg_rights::Label;
 use tg_store::Store;
 
 // What is seen of a store whose journal goes away in three parts, the last of which it gives up but for one entry.
@@ -25,14 +24,13 @@ struct SeenOfCut {
 
 // Lets the first worker make a vertex.
 fn make(alloc: Global, store: &mut Store<CellPayload>) -> Option<u64> {
-    let label = Label::read_text(b"r")?;
-    store.create(0, label, draft(alloc)?).ok()
+    let (label, draft) = wanted(alloc)?;
+    store.create(0, label, draft).ok()
 }
 
-// Lets it read the vertex, and passes over the reply.
-fn read(store: &mut Store<CellPayload>, target: u64) -> Option<()> {
-    let _reply = store.apply(0, Command::Read { target }).ok()?;
-    Some(())
+// Lets it read the vertex. Whether that is answered; the reply is passed over.
+fn reads(store: &mut Store<CellPayload>, target: u64) -> bool {
+    store.apply(0, Command::Read { target }).is_ok()
 }
 
 // Gives up all entries but the last one.
@@ -47,23 +45,26 @@ fn forget_all_but_one(store: &mut Store<CellPayload>) {
 // A part of two entries: a vertex is made and read. Answers its name, too.
 fn first_part(alloc: Global, store: &mut Store<CellPayload>) -> Option<(u64, Journal)> {
     let name = make(alloc, store)?;
-    read(store, name)?;
+    if !reads(store, name) {
+        return None;
+    }
     Some((name, store.take_journal()))
 }
 
 // The next one: that vertex is read, and another made. Answers its name, too.
 fn second_part(alloc: Global, store: &mut Store<CellPayload>, name: u64) -> Option<(u64, Journal)> {
-    read(store, name)?;
+    if !reads(store, name) {
+        return None;
+    }
     let last = make(alloc, store)?;
     Some((last, store.take_journal()))
 }
 
-// Both are read, and all entries but the last one are given up.
-fn leave_one(store: &mut Store<CellPayload>, name: u64, last: u64) -> Option<()> {
-    read(store, name)?;
-    read(store, last)?;
+// Both are read, and all entries but the last one are given up. Whether they were.
+fn leave_one(store: &mut Store<CellPayload>, name: u64, last: u64) -> bool {
+    let both_read = reads(store, name) && reads(store, last);
     forget_all_but_one(store);
-    Some(())
+    both_read
 }
 
 // The same first entry as the second part's, with another reply.
@@ -78,6 +79,16 @@ fn altered(alloc: Global) -> Option<Vec<Entry>> {
     Some(entries)
 }
 
+// What an audit says of these entries behind the others.
+fn feed(
+    auditor: &mut Auditor,
+    others: &[Entry],
+    entries: &[Entry],
+) -> Option<Result<(), AuditStopped>> {
+    auditor.feed(others).ok()?;
+    Some(auditor.feed(entries))
+}
+
 // What an audit says of these entries behind those of the first part.
 fn fed(
     alloc: Global,
@@ -86,40 +97,64 @@ fn fed(
     entries: &[Entry],
 ) -> Option<Result<(), AuditStopped>> {
     let mut auditor = Auditor::open(alloc, store.opening()).ok()?;
-    auditor.feed(first.entries()).ok()?;
-    Some(auditor.feed(entries))
+    feed(&mut auditor, first.entries(), entries)
 }
 
 fn places(part: &Journal) -> (u64, u64) {
     (part.start(), part.len())
 }
 
+// What is seen of the parts, of what the store holds, and of these altered entries.
 fn look_at(
     alloc: Global,
     store: &Store<CellPayload>,
     first: &Journal,
     second: &Journal,
+    altered: &[Entry],
 ) -> Option<SeenOfCut> {
     let held = store.journal();
-    let altered = altered(alloc)?;
     Some(SeenOfCut {
         places: [places(first), places(second), places(held)],
         held: held.entries().len(),
         alone: audit(alloc, store.opening(), second.entries()),
         fed: [
             fed(alloc, store, first, second.entries())?,
-            fed(alloc, store, first, altered.as_slice())?,
+            fed(alloc, store, first, altered)?,
             fed(alloc, store, first, held.entries())?,
         ],
     })
 }
 
-// Takes two parts of the store and looks at them, and at the entry that it holds then.
+// Looks at these two parts of the store, and at the entry that it holds then.
+fn look_at_both(
+    alloc: Global,
+    store: &Store<CellPayload>,
+    first: &Journal,
+    second: &Journal,
+) -> Option<SeenOfCut> {
+    let altered = altered(alloc)?;
+    look_at(alloc, store, first, second, altered.as_slice())
+}
+
+// Takes a second part of the store, and looks at both.
+fn cut_again(
+    alloc: Global,
+    store: &mut Store<CellPayload>,
+    name: u64,
+    first: &Journal,
+) -> Option<SeenOfCut> {
+    let (last, second) = second_part(alloc, store, name)?;
+    if leave_one(store, name, last) {
+        look_at_both(alloc, store, first, &second)
+    } else {
+        None
+    }
+}
+
+// Takes two parts of the store and looks at them.
 fn cut_twice(alloc: Global, store: &mut Store<CellPayload>) -> Option<SeenOfCut> {
     let (name, first) = first_part(alloc, store)?;
-    let (last, second) = second_part(alloc, store, name)?;
-    leave_one(store, name, last)?;
-    look_at(alloc, store, &first, &second)
+    cut_again(alloc, store, name, &first)
 }
 
 // What is seen of a store that is cut twice. This function owns the store.

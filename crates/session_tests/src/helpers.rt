@@ -44,9 +44,12 @@ fn passes_of_a_store<R: Threads + Wait + Sync>(rt: &R, alloc: Global, helpers: u
 // helper.
 #[test]
 fn helpers_of_a_store_at_one_gate(rt: HostRuntime) -> Result<(), Fail> {
-    for (helpers, passes) in [(1, 4), (2, 6), (3, 8), (8, 18)] {
-        let seen = passes_of_a_store(&rt, rt.alloc(), helpers);
-        assert_eq!(rt; seen, Some(passes), "with {helpers}");
-    }
+    let alloc = rt.alloc();
+    let by_one = passes_of_a_store(&rt, alloc, 1);
+    let by_two = passes_of_a_store(&rt, alloc, 2);
+    let by_three = passes_of_a_store(&rt, alloc, 3);
+    let by_eight = passes_of_a_store(&rt, alloc, 8);
+    let seen = [by_one, by_two, by_three, by_eight];
+    assert_eq!(rt; seen, [Some(4), Some(6), Some(8), Some(18)]);
     Ok(())
 }

@@ -168,13 +168,27 @@ fn furnished<P: Payload>(
 {
     let _ = opening.workers();
     let mut store = Store::open(alloc, opening, limits, drafts)?;
-    let thing = made(&mut store, rights, thing)?;
-    let stand_in = made(&mut store, rights, stand_in)?;
+    let names = furnish(&mut store, rights, thing, stand_in)?;
     Ok(Desk {
         store,
-        thing,
-        stand_in,
+        thing: names.0,
+        stand_in: names.1,
     })
+}
+
+// Has the owner make the thing and what stands in for it. Their names.
+fn furnish<P: Payload>(
+    store: &mut Store<P>,
+    rights: Label,
+    thing: Draft<P>,
+    stand_in: Draft<P>,
+) -> Result<(u64, u64), StoreFault>
+    requires untaken { IsUntaken OWNER (graph_of_store store.old) }
+    ensures { IfOk result (λ names. IsKept (record { store = store.new; thing = names.0; stand_in = names.1 })) }
+{
+    let thing = made(store, rights, thing)?;
+    let stand_in = made(store, rights, stand_in)?;
+    Ok((thing, stand_in))
 }
 
 // The name of a vertex that the owner has made, which is its own alone.

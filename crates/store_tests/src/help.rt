@@ -1,5 +1,5 @@
 //! The numbers in the help.
-use std::alloc::{AllocError, Global};
+use std::alloc::Global;
 use std::test::Fail;
 use tg_model::{MAX_VERTICES, MAX_WORKERS};
 use tg_program::{
@@ -16,57 +16,55 @@ fn help_text(alloc: Global) -> Result<String, Fail> {
     }
 }
 
-// Each number of the help, with what stands before it and behind it.
-fn numbers() -> [(&'static str, u64, &'static str); 11] {
+// Whether the text has the number between these.
+fn has_number(alloc: Global, text: &str, before: &str, number: u64, after: &str) -> bool {
+    match format!(in alloc; "{before}{number}{after}") {
+        Ok(line) => text.contains(line.as_str()),
+        Err(_) => false,
+    }
+}
+
+// Whether it has the most workers, helpers and vertices, how many cells a block has, and the most blocks.
+fn has_limits(alloc: Global, text: &str) -> [bool; 5] {
+    let workers = "How many workers there are at first, from 1 to ";
+    let helpers = "How many threads a collection may use, from 1 to ";
+    let vertices = "How many vertices may ever be made, from 1 to ";
+    let blocks = " cells the heap may have, from 1 to ";
     [
-        (
-            "How many workers there are at first, from 1 to ",
-            MAX_WORKERS,
-            ". ",
-        ),
-        ("[default: ", DEFAULT_WORKERS, "]"),
-        (
-            "How many threads a collection may use, from 1 to ",
-            u64::from(MOST_HELPERS),
-            ". ",
-        ),
-        ("[default: ", DEFAULT_HELPERS, "]"),
-        (
-            "How many vertices may ever be made, from 1 to ",
-            MAX_VERTICES,
-            ". ",
-        ),
-        ("[default: ", DEFAULT_VERTICES, "]"),
-        (
-            "How many blocks of ",
-            CELLS,
-            " cells the heap may have, from 1 to ",
-        ),
-        (" cells the heap may have, from 1 to ", MOST_BLOCKS, ". "),
-        ("[default: ", DEFAULT_BLOCKS, "]"),
-        ("of at most ", MOST_LINE_BYTES as u64, " bytes"),
-        ("at most ", u64::from(MOST_BYTES >> 20), " MiB in all"),
+        has_number(alloc, text, workers, MAX_WORKERS, ". "),
+        has_number(alloc, text, helpers, u64::from(MOST_HELPERS), ". "),
+        has_number(alloc, text, vertices, MAX_VERTICES, ". "),
+        has_number(alloc, text, "How many blocks of ", CELLS, blocks),
+        has_number(alloc, text, blocks, MOST_BLOCKS, ". "),
     ]
 }
 
-// Whether the text has the number between these.
-fn has_number(alloc: Global, text: &str, number: (&str, u64, &str)) -> Result<bool, AllocError> {
-    let (before, number, after) = number;
-    let line = format!(in alloc; "{before}{number}{after}")?;
-    Ok(text.contains(line.as_str()))
+// Whether it has what workers, helpers, vertices and blocks are without a word.
+fn has_defaults(alloc: Global, text: &str) -> [bool; 4] {
+    [
+        has_number(alloc, text, "[default: ", DEFAULT_WORKERS, "]"),
+        has_number(alloc, text, "[default: ", DEFAULT_HELPERS, "]"),
+        has_number(alloc, text, "[default: ", DEFAULT_VERTICES, "]"),
+        has_number(alloc, text, "[default: ", DEFAULT_BLOCKS, "]"),
+    ]
 }
 
-// Whether the help has it.
-fn help_has_number(alloc: Global, number: (&str, u64, &str)) -> Result<bool, Fail> {
-    let text = help_text(alloc)?;
-    Ok(has_number(alloc, text.as_str(), number)?)
+// Whether it has the most bytes of a line, and of a script.
+fn has_lengths(alloc: Global, text: &str) -> [bool; 2] {
+    let mebibytes = u64::from(MOST_BYTES >> 20);
+    [
+        has_number(alloc, text, "of at most ", MOST_LINE_BYTES as u64, " bytes"),
+        has_number(alloc, text, "at most ", mebibytes, " MiB in all"),
+    ]
 }
 
 // The help has each number as it is in the code.
 #[test]
 fn help_is_true(rt: HostRuntime) -> Result<(), Fail> {
-    for number in numbers() {
-        assert!(rt; help_has_number(rt.alloc(), number)?, "{}", number.0);
-    }
+    let alloc = rt.alloc();
+    let text = help_text(alloc)?;
+    assert_eq!(rt; has_limits(alloc, text.as_str()), [true; 5]);
+    assert_eq!(rt; has_defaults(alloc, text.as_str()), [true; 4]);
+    assert_eq!(rt; has_lengths(alloc, text.as_str()), [true; 2]);
     Ok(())
 }

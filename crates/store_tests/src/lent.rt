@@ -17,10 +17,10 @@ fn draft(alloc: Global, tag: u64) -> Option<Draft<Tagged>> {
 
 // The drafts of two workers, who have the tags 10 and 11.
 fn two_drafts(alloc: Global) -> Option<Vec<Draft<Tagged>>> {
-    let mut drafts = Vec::new(alloc);
-    drafts.push(draft(alloc, 10)?).ok()?;
-    drafts.push(draft(alloc, 11)?).ok()?;
-    Some(drafts)
+    match (draft(alloc, 10), draft(alloc, 11)) {
+        (Some(first), Some(second)) => vec![in alloc; first, second].ok(),
+        _ => None,
+    }
 }
 
 // An opening of two workers with these drafts, in which three vertices may be made.
@@ -65,8 +65,7 @@ fn make(alloc: Global, store: &mut Store<Tagged>) -> Option<u64> {
 
 // Worker 0 commands, and the reply is passed over.
 fn command(store: &mut Store<Tagged>, command: Command) -> Option<()> {
-    let _reply = store.apply(0, command).ok()?;
-    Some(())
+    store.apply(0, command).is_ok().then_some(())
 }
 
 // Makes vertex 2, writes 5 to it, and collects.

@@ -1,5 +1,5 @@
 //! Boxes of several kinds, through generic code.
-ghost use Rattle.std.specs.Prelude.{◌≡◌, Some, None, IfOk};
+ghost use Rattle.std.specs.Prelude.{◌≡◌, Some, None, IsSome, IfOk, OnOk};
 ghost use Rattle.tg_payload.specs.Table.{entry, Updates};
 
 use crate::counting_payload::counting_box;
@@ -31,6 +31,30 @@ fn insert<P: Payload>(
     Ok(key)
 }
 
+// Writes the number to the payload of this key, which has one then, too.
+fn write<P: Payload>(table: &mut PayloadTable<P>, key: u64, number: u64) -> Result<(), AllocError>
+    requires { IsSome (entry table.old key) }
+    ensures { OnOk result (IsSome (entry table.new key)) }
+{
+    table.write(key, number)
+}
+
+// Writes three numbers to the payload of this key. Whether it then has this law and this state.
+fn is_after_three<P: Payload>(
+    table: &mut PayloadTable<P>,
+    key: u64,
+    numbers: (u64, u64, u64),
+    law: Law,
+    state: &[u64],
+) -> Result<bool, AllocError>
+    requires { IsSome (entry table.old key) }
+{
+    write(table, key, numbers.0)?;
+    write(table, key, numbers.1)?;
+    write(table, key, numbers.2)?;
+    Ok(table.law(key) == law && table.read(key)?.as_slice() == state)
+}
+
 // Whether the payload has this law in a table, and this state once three numbers were written to it.
 fn is_after<P: Payload>(
     alloc: Global,
@@ -41,10 +65,9 @@ fn is_after<P: Payload>(
 ) -> Result<bool, AllocError> {
     let mut table = PayloadTable::new(alloc);
     let key = insert(alloc, &mut table, payload)?;
-    table.write(key, numbers.0)?;
-    table.write(key, numbers.1)?;
-    table.write(key, numbers.2)?;
-    Ok(table.law(key) == law && table.read(key)?.as_slice() == state)
+    let is_after = is_after_three(&mut table, key, numbers, law, state);
+    drop(table);
+    is_after
 }
 
 // A box of each kind.
@@ -90,6 +113,21 @@ fn payloads_of_the_four_laws(rt: HostRuntime) -> Result<(), Fail> {
     Ok(())
 }
 
+// Puts two payloads into a table with room for them. The key of the first.
+fn put_both<P: Payload>(
+    alloc: Global,
+    table: &mut PayloadTable<P>,
+    first: P,
+    second: P,
+) -> Result<u64, AllocError>
+    ensures { IfOk result (λ key. IsSome (entry table.new key)) }
+{
+    table.reserve(2)?;
+    let key = insert(alloc, table, first)?;
+    let _ = insert(alloc, table, second)?;
+    Ok(key)
+}
+
 // Puts two payloads into a table with room for them, takes the first out and drops it, and then the table. Answers
 // how many were dropped before each of the two, and at the end.
 fn dropped_in_turn<P: Payload>(
@@ -99,9 +137,7 @@ fn dropped_in_turn<P: Payload>(
     drops: &AtomicU64,
 ) -> Result<(u64, u64, u64), AllocError> {
     let mut table = PayloadTable::new(alloc);
-    table.reserve(2)?;
-    let key = insert(alloc, &mut table, first)?;
-    let _ = insert(alloc, &mut table, second)?;
+    let key = put_both(alloc, &mut table, first, second)?;
     let payload = table.take_out(key);
     let before = drops.load(Ordering::SeqCst);
     drop(payload);

@@ -1,7 +1,6 @@
 //! Replies and denials, shown as scripts write them, and the faults that no row of `rows/` meets.
 use std::alloc::{AllocError, Global};
 use std::fmt::Display;
-use std::test::Fail;
 use tg_journal::AuditFault;
 use tg_model::{Cause, Denial, EdgeList, Numbers, Reply, Rule};
 use tg_program::{StartFault, Stop};
@@ -62,14 +61,22 @@ fn is_reply(alloc: Global, reply: Reply, wanted: &str) -> bool {
     is_shown(alloc, AsText(&reply), wanted)
 }
 
+// The same of a reply for which memory may be wanting.
+fn is_made_reply(alloc: Global, reply: Result<Reply, AllocError>, wanted: &str) -> bool {
+    match reply {
+        Ok(reply) => is_reply(alloc, reply, wanted),
+        Err(_) => false,
+    }
+}
+
 // Whether the denial is shown so.
 fn is_denial(alloc: Global, denial: &Denial, wanted: &str) -> bool {
     is_shown(alloc, AsText(denial), wanted)
 }
 
 // Whether each of the replies is shown as it should be.
-fn are_replies(alloc: Global) -> Result<[bool; 6], AllocError> {
-    Ok([
+fn are_replies(alloc: Global) -> [bool; 6] {
+    [
         is_reply(alloc, Reply::Done, "ok"),
         is_reply(alloc, Reply::Name(40), "ok 40"),
         is_reply(
@@ -77,10 +84,10 @@ fn are_replies(alloc: Global) -> Result<[bool; 6], AllocError> {
             Reply::Denied(not_distinct(Rule::Take)),
             "denied take distinct",
         ),
-        is_reply(alloc, values(alloc)?, "ok 7 18446744073709551615"),
-        is_reply(alloc, edges(alloc, "rg")?, "ok 3:rg"),
-        is_reply(alloc, edges(alloc, "rwtgaluv")?, "ok 3:rwtgaluv"),
-    ])
+        is_made_reply(alloc, values(alloc), "ok 7 18446744073709551615"),
+        is_made_reply(alloc, edges(alloc, "rg"), "ok 3:rg"),
+        is_made_reply(alloc, edges(alloc, "rwtgaluv"), "ok 3:rwtgaluv"),
+    ]
 }
 
 // The same of denials.
@@ -97,10 +104,9 @@ fn are_denials(alloc: Global) -> [bool; 3] {
 }
 
 #[test]
-fn replies_and_denials(rt: HostRuntime) -> Result<(), Fail> {
-    assert_eq!(rt; are_replies(rt.alloc())?, [true; 6]);
+fn replies_and_denials(rt: HostRuntime) {
+    assert_eq!(rt; are_replies(rt.alloc()), [true; 6]);
     assert_eq!(rt; are_denials(rt.alloc()), [true; 3]);
-    Ok(())
 }
 
 // Whether a label with this right alone is shown so.

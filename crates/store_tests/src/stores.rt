@@ -26,9 +26,15 @@ fn cell_of(number: u64) -> Value {
 
 // An opening of one worker, who stores a cell with the number.
 fn opening_of_one(alloc: Global, number: u64, max_vertices: u64) -> Option<Opening> {
-    let mut values = Vec::new(alloc);
-    values.push(cell_of(number)).ok()?;
+    let values = vec![in alloc; cell_of(number)].ok()?;
     Opening::new(1, Vec::new(alloc), values, max_vertices).ok()
+}
+
+// A draft for the payload.
+fn one_draft<P: Payload>(alloc: Global, payload: P) -> Option<Vec<Draft<P>>> {
+    let mut drafts = Vec::new(alloc);
+    drafts.push(Draft::new(alloc, payload).ok()?).ok()?;
+    Some(drafts)
 }
 
 // Opens a store of one worker, who is to store a cell with 0.
@@ -37,12 +43,11 @@ fn open_one<P: Payload>(
     payload: P,
     max_vertices: u64,
 ) -> Option<Result<Store<P>, OpenRefused<P>>> {
-    let opening = opening_of_one(alloc, 0, max_vertices)?;
-    let mut drafts = Vec::new(alloc);
-    let draft = Draft::new(alloc, payload).ok()?;
-    drafts.push(draft).ok()?;
-    let limits = Limits::new(4, 4).ok()?;
-    Some(Store::open(alloc, opening, limits, drafts))
+    let drafts = one_draft(alloc, payload)?;
+    match (opening_of_one(alloc, 0, max_vertices), Limits::new(4, 4)) {
+        (Some(opening), Ok(limits)) => Some(Store::open(alloc, opening, limits, drafts)),
+        _ => None,
+    }
 }
 
 // Such a store, where it is opened.
@@ -98,6 +103,27 @@ fn create<P: Payload>(
     Some(store.create(worker, label, draft))
 }
 
+// The name of such a vertex of the first worker, where it is made.
+fn made<P: Payload>(
+    alloc: Global,
+    store: &mut Store<P>,
+    rights: Rights,
+    payload: P,
+) -> Option<u64> {
+    create(alloc, store, 0, rights, payload)?.ok()
+}
+
+// What the worker is answered who makes a vertex for the payload, over which it may read.
+fn name_or_why<P: Payload>(
+    alloc: Global,
+    store: &mut Store<P>,
+    worker: u64,
+    payload: P,
+) -> Option<Result<u64, CreateFault>> {
+    let made = create(alloc, store, worker, Rights::of(Right::R), payload)?;
+    Some(made.map_err(|refused| refused.why))
+}
+
 // What is refused when the second of two vertices is made in a store with room for one.
 fn refuse_second<P: Payload>(
     alloc: Global,
@@ -106,7 +132,7 @@ fn refuse_second<P: Payload>(
     second: P,
 ) -> Option<CreateRefused<P>> {
     let read = Rights::of(Right::R);
-    let _name = create(alloc, store, 0, read, first)?.ok()?;
+    let _name = made(alloc, store, read, first)?;
     create(alloc, store, 0, read, second)?.err()
 }
 
@@ -170,9 +196,7 @@ fn two_counting_boxes(rt: HostRuntime) -> Result<(), Fail> {
 
 // An opening of two workers, who store cells with 0.
 fn opening_of_two(alloc: Global, max_vertices: u64) -> Option<Opening> {
-    let mut values = Vec::new(alloc);
-    values.push(cell_of(0)).ok()?;
-    values.push(cell_of(0)).ok()?;
+    let values = vec![in alloc; cell_of(0), cell_of(0)].ok()?;
     Opening::new(2, Vec::new(alloc), values, max_vertices).ok()
 }
 
@@ -192,9 +216,13 @@ fn open_two<P: Payload>(
     max_vertices: u64,
     limits: Limits,
 ) -> Option<Store<P>> {
-    let opening = opening_of_two(alloc, max_vertices)?;
-    let drafts = two_drafts(alloc, payloads)?;
-    Store::open(alloc, opening, limits, drafts).ok()
+    match (
+        two_drafts(alloc, payloads),
+        opening_of_two(alloc, max_vertices),
+    ) {
+        (Some(drafts), Some(opening)) => Store::open(alloc, opening, limits, drafts).ok(),
+        _ => None,
+    }
 }
 
 // Makes vertices for the payloads until one is refused. Answers the last name, and why the next is refused.
@@ -205,9 +233,9 @@ fn fill<P: Payload>(
 ) -> Option<(u64, CreateFault)> {
     let mut last = 1;
     for payload in payloads {
-        match create(alloc, store, 0, Rights::of(Right::R), payload)? {
+        match name_or_why(alloc, store, 0, payload)? {
             Ok(name) => last = name,
-            Err(CreateRefused { why, .. }) => return Some((last, why)),
+            Err(why) => return Some((last, why)),
         }
     }
     None
@@ -249,11 +277,16 @@ fn filled<P: Payload>(
     seen
 }
 
+// Adds a payload.
+fn add<P: Payload>(payloads: &mut Vec<P>, payload: P) -> Option<()> {
+    payloads.push(payload).ok()
+}
+
 // So many boxes, each with a cell that stores 0.
 fn cell_boxes(alloc: Global, number: u64) -> Option<Vec<PayloadBox>> {
     let mut payloads = Vec::new(alloc);
     for _ in 0..number {
-        payloads.push(cell_box(alloc, 0)?).ok()?;
+        add(&mut payloads, cell_box(alloc, 0)?)?;
     }
     Some(payloads)
 }
@@ -288,15 +321,14 @@ fn read_and_grant() -> Rights {
 // Makes a vertex for each payload, with rights to read it and to grant.
 fn create_each<P: Payload>(alloc: Global, store: &mut Store<P>, payloads: Vec<P>) -> Option<()> {
     for payload in payloads {
-        let _name = create(alloc, store, 0, read_and_grant(), payload)?.ok()?;
+        let _name = made(alloc, store, read_and_grant(), payload)?;
     }
     Some(())
 }
 
 // Lets the worker command, and passes over the reply.
 fn command<P: Payload>(store: &mut Store<P>, worker: u64, command: Command) -> Option<()> {
-    let _reply = store.apply(worker, command).ok()?;
-    Some(())
+    store.apply(worker, command).is_ok().then_some(())
 }
 
 // Lets each of the first three vertices have an edge to the next in turn.
@@ -332,7 +364,7 @@ fn make_cycle<P: Payload>(alloc: Global, store: &mut Store<P>, payloads: Vec<P>)
 fn counting_boxes(alloc: Global, number: u64, drops: &Arc<AtomicU64>) -> Option<Vec<PayloadBox>> {
     let mut payloads = Vec::new(alloc);
     for at in 0..number {
-        payloads.push(counting_box(alloc, at, drops).ok()?).ok()?;
+        add(&mut payloads, counting_box(alloc, at, drops).ok()?)?;
     }
     Some(payloads)
 }
@@ -361,6 +393,36 @@ struct Death {
     helpers: Option<u32>,
 }
 
+// Makes a cycle for the payloads, and collects as often as it is to see it alive.
+fn live_on<P: Payload, R: Threads + Wait + Sync>(
+    rt: &R,
+    alloc: Global,
+    store: &mut Store<P>,
+    payloads: Vec<P>,
+    death: Death,
+) -> Option<()>
+    requires { IfSome death.helpers (λ number. (1 ≤ number) × (number ≤ 8)) }
+{
+    make_cycle(alloc, store, payloads)?;
+    for kind in death.alive {
+        let _left = left_by(rt, alloc, store, *kind, death.helpers)?;
+    }
+    Some(())
+}
+
+// Gives up all rights over the cycle. How many vertices the collection that it dies in leaves.
+fn die<P: Payload, R: Threads + Wait + Sync>(
+    rt: &R,
+    alloc: Global,
+    store: &mut Store<P>,
+    death: Death,
+) -> Option<u64>
+    requires { IfSome death.helpers (λ number. (1 ≤ number) × (number ≤ 8)) }
+{
+    give_up_cycle(store)?;
+    left_by(rt, alloc, store, death.kind, death.helpers)
+}
+
 // How many boxes of such a cycle are dropped before nobody has rights over it, how many vertices the collection that it
 // dies in leaves, and how many boxes are dropped then.
 fn dropped_by_collections<P: Payload, R: Threads + Wait + Sync>(
@@ -373,13 +435,9 @@ fn dropped_by_collections<P: Payload, R: Threads + Wait + Sync>(
 ) -> Option<(u64, u64, u64)>
     requires { IfSome death.helpers (λ number. (1 ≤ number) × (number ≤ 8)) }
 {
-    make_cycle(alloc, store, payloads)?;
-    for kind in death.alive {
-        let _left = left_by(rt, alloc, store, *kind, death.helpers)?;
-    }
+    live_on(rt, alloc, store, payloads, death)?;
     let before = drops.load(Ordering::SeqCst);
-    give_up_cycle(store)?;
-    let left = left_by(rt, alloc, store, death.kind, death.helpers)?;
+    let left = die(rt, alloc, store, death)?;
     Some((before, left, drops.load(Ordering::SeqCst)))
 }
 
@@ -443,14 +501,7 @@ fn create_cell(
     store: &mut Store<CellPayload>,
     worker: u64,
 ) -> Option<Result<u64, CreateFault>> {
-    let made = create(
-        alloc,
-        store,
-        worker,
-        Rights::of(Right::R),
-        CellPayload::new(0),
-    )?;
-    Some(made.map_err(|refused| refused.why))
+    name_or_why(alloc, store, worker, CellPayload::new(0))
 }
 
 // A store of two workers, in which so many vertices may be made.
@@ -515,23 +566,32 @@ fn vertex_limit_and_unknown_worker(rt: HostRuntime) -> Result<(), Fail> {
     Ok(())
 }
 
-// Makes vertex 1 for the first payload and vertex 2 for the second, over which the worker may append and inspect. The
-// first may read the second.
-fn make_appendable<P: Payload>(
-    alloc: Global,
-    store: &mut Store<P>,
-    first: P,
-    second: P,
-) -> Option<()> {
+// Makes a vertex for the payload, over which the worker may append and inspect.
+fn create_appendable<P: Payload>(alloc: Global, store: &mut Store<P>, payload: P) -> Option<u64> {
     let rights = Rights::read_text(b"rgal")?;
-    let _first = create(alloc, store, 0, rights, first)?.ok()?;
-    let _second = create(alloc, store, 0, rights, second)?.ok()?;
+    made(alloc, store, rights, payload)
+}
+
+// Lets vertex 1 read vertex 2.
+fn grant_read<P: Payload>(store: &mut Store<P>) -> Option<()> {
     let grant = Command::Grant {
         via: 1,
         target: 2,
         rights: Label::read_text(b"r")?,
     };
     command(store, 0, grant)
+}
+
+// Makes such vertices 1 and 2 for the payloads. The first may read the second.
+fn make_appendable<P: Payload>(
+    alloc: Global,
+    store: &mut Store<P>,
+    first: P,
+    second: P,
+) -> Option<()> {
+    let _first = create_appendable(alloc, store, first)?;
+    let _second = create_appendable(alloc, store, second)?;
+    grant_read(store)
 }
 
 // Whether the target takes in what the worker appends.

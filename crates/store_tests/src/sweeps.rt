@@ -10,8 +10,7 @@ use tg_rights::Label;
 const MADE: u64 = 66_000;
 
 fn opening(alloc: Global) -> Option<Opening> {
-    let mut values = Vec::new(alloc);
-    values.push(cell()).ok()?;
+    let values = vec![in alloc; cell()].ok()?;
     Opening::new(1, Vec::new(alloc), values, 100_000).ok()
 }
 
@@ -73,13 +72,20 @@ fn fed(auditor: &mut Auditor, label: Label, next: u64) -> [Result<(), AuditStopp
 }
 
 // The same once the audit has swept by itself, and once more when it was told to sweep.
+fn fed_twice(auditor: &mut Auditor, label: Label) -> Option<[[Result<(), AuditStopped>; 3]; 2]> {
+    feed_all(auditor, label)?;
+    let by_itself = fed(auditor, label, MADE + 1);
+    auditor.sweep().ok()?;
+    Some([by_itself, fed(auditor, label, MADE + 2)])
+}
+
 fn seen(alloc: Global) -> Option<[[Result<(), AuditStopped>; 3]; 2]> {
     let label = Label::read_text(b"r")?;
-    let mut auditor = Auditor::open(alloc, &opening(alloc)?).ok()?;
-    feed_all(&mut auditor, label)?;
-    let by_itself = fed(&mut auditor, label, MADE + 1);
-    auditor.sweep().ok()?;
-    Some([by_itself, fed(&mut auditor, label, MADE + 2)])
+    let opening = opening(alloc)?;
+    match Auditor::open(alloc, &opening) {
+        Ok(mut auditor) => fed_twice(&mut auditor, label),
+        Err(_) => None,
+    }
 }
 
 // What is read of a vertex that is kept passes, of one that was given up it doesn't, and the next name is the next.

@@ -1,20 +1,13 @@
--- Words that are joined, and texts that are written one after another.
-use Rattle.std.proofs.Common.{◌≡◌, ◌∙◌, ℕ, ◌+◌, ◌<◌, List, [], ◌∷◌, ◌++◌, length, take, get_or, Option, Result, ap, sym, subst, append-nil, map}
-use Rattle.std.proofs.Common.{Bor}
+-- Texts that are written one after another.
+use Rattle.std.proofs.Common.{◌≡◌, ◌∙◌, ℕ, ◌+◌, ◌<◌, List, [], ◌∷◌, ◌++◌, length, take, get_or, Option, Result, ap, sym, subst}
 use Rattle.std.proofs.lemmas.List.{take_more, flat_map_more}
-use Rattle.std.specs.List.{flat_map, join_with_byte}
+use Rattle.std.specs.List.{flat_map}
 use Rattle.std.specs.Result.{IsErr}
 use Rattle.tg_model.specs.declared.edge.Edge.{Edge}
 use Rattle.tg_model.specs.declared.value.Value.{Value}
 use Rattle.tg_text.specs.Sinks.{Wrote, WroteSome, Writes}
 use Rattle.tg_text.proofs.SinkLaws.{Sofar, wrote_more, writes_cut_at}
 use Rattle.tg_entries.specs.Texts.{opening_text}
-
--- words behind a first one, each behind a space, are joined by spaces
-pub words_join : (first : List ℕ) (words : List (Bor (List ℕ))) →
-    first ++ flat_map (λ word. 32 ∷ word.now) words ≡ join_with_byte 32 (first ∷ map (λ word. word.now) words)
-words_join first [] = append-nil first
-words_join first (word ∷ words) = ap (λ (ys : List ℕ). first ++ 32 ∷ ys) (words_join word.now words)
 
 -- the texts of all before this one were written, and then its own
 pub sofar_more : {X : Type 0} (text : X → List ℕ) (xs : List X) (i : ℕ) (x : X) (old now after : Option (List ℕ)) (f g h : ℕ) →

@@ -1,5 +1,6 @@
 //! An audit of all lines of a reader.
-ghost use Rattle.std.specs.Prelude.{◌≡◌, ◌<◌, IfOk, IfSome};
+ghost use Rattle.std.specs.Prelude.{◌≡◌, ◌<◌, [], IfOk, IfSome};
+ghost use Rattle.tg_entries.specs.Read.{HasRead};
 ghost use Rattle.tg_entries.specs.Texts.{IsAudited};
 
 use crate::audit::TextAudit;
@@ -32,9 +33,21 @@ fn audit_named<L: Ledger, R: BufRead + Drop>(
 {
     let mut audit = TextAudit::<L>::new(alloc, Count::<L>::new(blank));
     let mut line = Vec::new(alloc);
+    audit_lines(&mut audit, reader, &mut line)
+}
+
+// All lines, each of which is kept in turn.
+fn audit_lines<L: Ledger, R: BufRead + Drop>(
+    audit: &mut TextAudit<L>,
+    reader: &mut R,
+    line: &mut Vec<u8>,
+) -> Result<u64, TextFault>
+    requires { HasRead [] audit.old }
+    ensures { IfOk result (λ count. IfSome (R.remaining reader.old) (λ text. IsAudited text count)) }
+{
     for number in 1..u64::MAX {
         line.clear();
-        if reader.read_until(b'\n', &mut line)? == 0 {
+        if reader.read_until(b'\n', line)? == 0 {
             return match audit.ended() {
                 Some(count) => Ok(count),
                 None => Err(TextFault::CutOff { line: number }),

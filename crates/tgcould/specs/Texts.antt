@@ -1,24 +1,15 @@
 -- The texts of answers: a word, and behind `could` the lines of a script that do it.
 use Rattle.std.specs.Prelude.{ℕ, ◌==◌, List, [], ◌∷◌, ◌++◌, codes, decimal, length, if◌then◌else◌}
 use Rattle.std.specs.List.{flat_map}
-use Rattle.tg_model.specs.declared.command.Deed.{Deed}
-use Rattle.tg_model.specs.declared.command.Deed.TheVariants as deed
 use Rattle.tg_could.specs.declared.answer.Answer.{Answer}
 use Rattle.tg_could.specs.declared.answer.Answer.TheVariants.{Never, Could, WantsNames, Open}
 use Rattle.tg_could.specs.Turns.{Turn}
-use Rattle.tg_text.specs.declared.line.Line.{Line}
-use Rattle.tg_text.specs.declared.line.Line.TheVariants as line
+use Rattle.tg_text.specs.Deeds.{deed_line}
 use Rattle.tg_text.specs.Grammar.{line_text}
-
--- the line by which x asks for a deed
-abbrev pub line_of_deed : ℕ → Deed → Line
-line_of_deed x (deed.Create label law state) = line.Create x label
-line_of_deed x (deed.Spawn label law state) = line.Spawn x label
-line_of_deed x (deed.Plain command) = line.Plain x command
 
 -- a turn as a line of a script, with its line feed
 abbrev pub turn_text : Turn → List ℕ
-turn_text turn = line_text (line_of_deed turn.0 turn.1) ++ 10 ∷ []
+turn_text turn = line_text (deed_line turn.0 turn.1) ++ 10 ∷ []
 
 -- the words behind the number of names that are wanting
 abbrev pub more_text : ℕ → List ℕ

@@ -35,7 +35,7 @@ pub struct Scene<'a> {
 }
 
 /// What was told of a question.
-#[derive(Clone, Copy, Debug)]
+#[derive(Clone, Copy)]
 pub struct Told {
     /// Whether what is asked never comes about.
     pub is_never: bool,
@@ -118,10 +118,15 @@ fn tell_who(
     y: Vertex,
 ) -> Result<Told, AllocError> {
     let names = who(scene, right, name_of(scene, y))?;
+    add_who(text, scene.picture.made(), names.as_slice())
+}
+
+// Adds these names, or that there are none.
+fn add_who(text: &mut Vec<u8>, made: u64, names: &[u64]) -> Result<Told, AllocError> {
     if names.is_empty() {
         put(text, b"nobody\n")?;
     } else {
-        add_names(text, scene.picture.made(), names.as_slice())?;
+        add_names(text, made, names)?;
     }
     Ok(listed(names.is_empty()))
 }
@@ -196,26 +201,42 @@ fn is_left_out(who: &Who, x: u64) -> bool
 
 // Adds which rights x could come to hold, and over whom.
 fn tell_what(text: &mut Vec<u8>, scene: &Scene, x: Vertex) -> Result<Told, AllocError> {
-    let made = scene.picture.made();
     let first = text.len();
-    let x = name_of(scene, x);
-    let told = what_could(scene.alloc, scene.picture, scene.silent, x)?;
-    for y in 0..=made {
-        let rights = what(scene, &told, x, y)?;
-        if !rights.is_empty() {
-            if text.len() > first {
-                put(text, b" ")?;
-            }
-            add_vertex(text, made, y)?;
-            add_rights(text, rights)?;
-        }
-    }
+    add_what(text, scene, name_of(scene, x))?;
     let is_never = text.len() == first;
     if is_never {
         put(text, b"nothing")?;
     }
     put(text, b"\n")?;
     Ok(listed(is_never))
+}
+
+// Adds each vertex over which x could come to hold a right, with these rights, and a space between two.
+fn add_what(text: &mut Vec<u8>, scene: &Scene, x: u64) -> Result<(), AllocError> {
+    let made = scene.picture.made();
+    let told = what_could(scene.alloc, scene.picture, scene.silent, x)?;
+    let mut space: &[u8] = b"";
+    for y in 0..=made {
+        let rights = what(scene, &told, x, y)?;
+        if !rights.is_empty() {
+            add_held(text, made, space, y, rights)?;
+            space = b" ";
+        }
+    }
+    Ok(())
+}
+
+// Adds a vertex and rights over it, behind these bytes.
+fn add_held(
+    text: &mut Vec<u8>,
+    made: u64,
+    space: &[u8],
+    y: u64,
+    rights: Rights,
+) -> Result<(), AllocError> {
+    put(text, space)?;
+    add_vertex(text, made, y)?;
+    add_rights(text, rights)
 }
 
 // The rights of which it isn't shown that x never holds them over y: by the search that told of all at once, else by

@@ -41,7 +41,12 @@ fn obey(rt: &HostRuntime) -> Result<u8, AskFault> {
         return Err(AskFault::BadWords);
     };
     let words: Vec<String> = words.collect(rt.alloc())?;
-    match read_words(rt.alloc(), words.as_slice()) {
+    obey_words(rt, words.as_slice())
+}
+
+// Does what the words ask for. The exit status.
+fn obey_words(rt: &HostRuntime, words: &[String]) -> Result<u8, AskFault> {
+    match read_words(rt.alloc(), words) {
         Ok(options) => answer(rt, rt.alloc(), &options),
         Err(WordFault::Words(error)) => {
             error.print(rt)?;
@@ -71,12 +76,32 @@ fn answer<R: Print + Eprint + Input>(
         return Err(AskFault::NoQuestion);
     }
     let mut script = Script::new(alloc, options.plain)?;
+    answer_script(rt, options, &mut script)
+}
+
+// Answers them on the graph that these lines leave, once they are read.
+fn answer_script<R: Print + Eprint + Input>(
+    rt: &R,
+    options: &AskOptions,
+    script: &mut Script,
+) -> Result<u8, AskFault> {
     script.read(rt)?;
     script.whole()?;
-    let run = PlainRun::of(&script)?;
-    check_names(rt, options, run.graph.made())?;
-    let picture = picture_of(alloc, &run, options.as_if.as_slice())?;
+    let run = PlainRun::of(script)?;
     let boxes = (script.stock.len() as u64).saturating_sub(run.taken as u64);
+    answer_run(rt, script.alloc, options, &run, boxes)
+}
+
+// Answers them on the graph that the run leaves, where so many boxes are left in the stock.
+fn answer_run<R: Print + Eprint>(
+    rt: &R,
+    alloc: Global,
+    options: &AskOptions,
+    run: &PlainRun,
+    boxes: u64,
+) -> Result<u8, AskFault> {
+    check_names(rt, options, run.graph.made())?;
+    let picture = picture_of(alloc, run, options.as_if.as_slice())?;
     let scene = Scene {
         alloc,
         picture: &picture,
@@ -89,21 +114,29 @@ fn answer<R: Print + Eprint + Input>(
 fn check_names<R: Eprint>(rt: &R, options: &AskOptions, made: u64) -> Result<(), AskFault> {
     for name in options.silent.as_slice() {
         if *name >= made {
-            eprintln!(rt; "tgcould: --silent {name}: the script makes no vertex {name}")?;
-            return Err(AskFault::WasSaid);
+            return say_unmade(rt, *name);
         }
     }
     for edge in options.as_if.as_slice() {
-        let Edge { from, to, label } = *edge;
-        let name = from.max(to);
-        if name >= made {
-            eprintln!(rt;
-                "tgcould: --as-if '{from} {to} {label}': the script makes no vertex {name}"
-            )?;
-            return Err(AskFault::WasSaid);
+        if edge.from.max(edge.to) >= made {
+            return say_end_unmade(rt, *edge);
         }
     }
     Ok(())
+}
+
+// Says that the script doesn't make who is to be silent.
+fn say_unmade<R: Eprint>(rt: &R, name: u64) -> Result<(), AskFault> {
+    eprintln!(rt; "tgcould: --silent {name}: the script makes no vertex {name}")?;
+    Err(AskFault::WasSaid)
+}
+
+// Says that the script doesn't make the greater end of an edge.
+fn say_end_unmade<R: Eprint>(rt: &R, edge: Edge) -> Result<(), AskFault> {
+    let Edge { from, to, label } = edge;
+    let name = from.max(to);
+    eprintln!(rt; "tgcould: --as-if '{from} {to} {label}': the script makes no vertex {name}")?;
+    Err(AskFault::WasSaid)
 }
 
 // The picture of the graph that a run leaves, with the edges that are supposed to be there.
@@ -124,10 +157,31 @@ fn answer_on<R: Print + Eprint>(
 ) -> Result<u8, AskFault> {
     let mut text = Vec::new(scene.alloc);
     let mut all_told = Vec::new(scene.alloc);
-    add_answers(&mut text, &mut all_told, scene, questions)?;
-    rt.write_all(text.as_slice())?;
+    print_answers(rt, &mut text, &mut all_told, scene, questions)?;
+    note_all(rt, questions, &all_told, boxes)
+}
+
+// Prints the answers to the questions, and adds what was told of each.
+fn print_answers<R: Print>(
+    rt: &R,
+    text: &mut Vec<u8>,
+    all_told: &mut Vec<Told>,
+    scene: &Scene,
+    questions: &[Asked],
+) -> Result<(), AskFault> {
+    add_answers(text, all_told, scene, questions)?;
+    Ok(rt.write_all(text.as_slice())?)
+}
+
+// Says of each answer on standard error what is to be said there. The exit status.
+fn note_all<R: Eprint>(
+    rt: &R,
+    questions: &[Asked],
+    all_told: &[Told],
+    boxes: u64,
+) -> Result<u8, AskFault> {
     let mut status = 0;
-    for (asked, told) in questions.iter().zip(all_told.as_slice()) {
+    for (asked, told) in questions.iter().zip(all_told) {
         if note(rt, asked, told, boxes)? {
             status = 1;
         }
@@ -159,18 +213,25 @@ fn add_answers(
 // Says on standard error how many boxes the lines of an answer want beside these, and whether what must never come
 // about could: this is the answer.
 fn note<R: Eprint>(rt: &R, asked: &Asked, told: &Told, boxes: u64) -> Result<bool, AskFault> {
-    let text = asked.text;
     if told.made > boxes {
+        let text = asked.text;
         let more = told.made.saturating_sub(boxes);
         eprintln!(rt; "tgcould: {text}: --stock must be longer by {more}")?;
     }
     if !asked.must_never || told.is_never {
         return Ok(false);
     }
-    if told.is_open {
-        eprintln!(rt; "tgcould: --never '{text}': it isn't shown that it never comes about")?;
-    } else {
-        eprintln!(rt; "tgcould: --never '{text}': it could come about")?;
-    }
+    say_not_never(rt, asked.text, told.is_open)?;
     Ok(true)
+}
+
+// Says on standard error that what must never come about could, or that it isn't shown that it never does.
+fn say_not_never<R: Eprint>(rt: &R, text: &str, is_open: bool) -> Result<(), AskFault> {
+    let reason = if is_open {
+        "it isn't shown that it never comes about"
+    } else {
+        "it could come about"
+    };
+    eprintln!(rt; "tgcould: --never '{text}': {reason}")?;
+    Ok(())
 }

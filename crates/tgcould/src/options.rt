@@ -3,7 +3,7 @@
 use crate::help;
 use crate::question::{Question, read_question};
 use clap::builder::ValueParser;
-use clap::{ArgAction, ArgMatches, Command, Error};
+use clap::{Arg, ArgAction, ArgMatches, Command, Error};
 use std::alloc::{AllocError, AllocFailed, Global};
 use std::convert::AsStr;
 use tg_model::Edge;
@@ -109,17 +109,28 @@ pub fn read_words<'a, S: AsStr>(
     alloc: Global,
     words: &'a [S],
 ) -> Result<AskOptions<'a>, WordFault<'a>> {
-    let mut args = Vec::new(alloc);
-    add_args(&mut args, alloc, CHOICES)?;
-    let command = Command::new(alloc, "tgcould")
-        .bin_name("tgcould")?
-        .about(help::ABOUT)
-        .after_help(help::MANUAL)
-        .args(args)?;
-    match command.try_get_matches_from(words) {
+    match command(alloc)?.try_get_matches_from(words) {
         Ok(matches) => options_of(alloc, &matches),
         Err(error) => Err(WordFault::Words(error)),
     }
+}
+
+// The command line.
+fn command<'a>(alloc: Global) -> Result<Command<'a>, AllocError> {
+    let mut args = Vec::new(alloc);
+    add_args(&mut args, alloc, CHOICES)?;
+    with_options(alloc, args)
+}
+
+// The command line with these options.
+fn with_options<'a>(alloc: Global, options: Vec<Arg<'a>>) -> Result<Command<'a>, AllocError> {
+    Ok(
+        Command::new(alloc, "tgcould")
+            .about(help::ABOUT)
+            .after_help(help::MANUAL)
+            .args(options)?
+            .bin_name("tgcould")?,
+    )
 }
 
 // The options that were found in the words.
@@ -127,15 +138,26 @@ fn options_of<'a>(
     alloc: Global,
     matches: &ArgMatches<'a>,
 ) -> Result<AskOptions<'a>, WordFault<'a>> {
-    let mut questions = Vec::new(alloc);
-    add_questions(&mut questions, matches, "ask", false)?;
-    add_questions(&mut questions, matches, "never", true)?;
-    Ok(AskOptions {
+    let mut options = AskOptions {
         plain: read_options(matches),
-        silent: silent_of(alloc, matches)?,
-        as_if: supposed_of(alloc, matches)?,
-        questions,
-    })
+        silent: Vec::new(alloc),
+        as_if: Vec::new(alloc),
+        questions: Vec::new(alloc),
+    };
+    add_options(alloc, &mut options, matches)?;
+    Ok(options)
+}
+
+// Adds those that may come more than once.
+fn add_options<'a>(
+    alloc: Global,
+    options: &mut AskOptions<'a>,
+    matches: &ArgMatches<'a>,
+) -> Result<(), WordFault<'a>> {
+    add_questions(&mut options.questions, matches, "ask", false)?;
+    add_questions(&mut options.questions, matches, "never", true)?;
+    add_silent(&mut options.silent, matches)?;
+    add_supposed(alloc, &mut options.as_if, matches)
 }
 
 // Adds the questions of an option.
@@ -164,9 +186,8 @@ fn add_questions<'a>(
     Ok(())
 }
 
-// Who takes no turns.
-fn silent_of(alloc: Global, matches: &ArgMatches) -> Result<Vec<u64>, AllocError> {
-    let mut silent = Vec::new(alloc);
+// Adds who takes no turns.
+fn add_silent(silent: &mut Vec<u64>, matches: &ArgMatches) -> Result<(), AllocError> {
     if let Some(names) = matches.get_many::<u64>("silent") {
         for name in names {
             if let Ok(name) = name {
@@ -174,33 +195,46 @@ fn silent_of(alloc: Global, matches: &ArgMatches) -> Result<Vec<u64>, AllocError
             }
         }
     }
-    Ok(silent)
+    Ok(())
 }
 
-// The edges that are asked about as if they were there.
-fn supposed_of<'a>(alloc: Global, matches: &ArgMatches<'a>) -> Result<Vec<Edge>, WordFault<'a>> {
-    let mut edges = Vec::new(alloc);
+// Adds the edges that are asked about as if they were there.
+fn add_supposed<'a>(
+    alloc: Global,
+    edges: &mut Vec<Edge>,
+    matches: &ArgMatches<'a>,
+) -> Result<(), WordFault<'a>> {
     for text in matches.get_strs("as-if").unwrap_or(&[]) {
-        edges.push(read_edge(alloc, text)?)?;
+        add_edge(alloc, edges, text)?;
     }
-    Ok(edges)
+    Ok(())
 }
 
-// The edge that the text is, as it stands in an edge line.
-fn read_edge<'a>(alloc: Global, text: &'a str) -> Result<Edge, WordFault<'a>> {
+// Adds the edge that the text is, as it stands in an edge line.
+fn add_edge<'a>(alloc: Global, edges: &mut Vec<Edge>, text: &'a str) -> Result<(), WordFault<'a>> {
+    let line = edge_line(alloc, text)?;
+    match edge_of(line.as_slice()) {
+        Ok(edge) => Ok(edges.push(edge)?),
+        Err(reason) => Err(WordFault::Value {
+            option: "as-if",
+            text,
+            reason,
+        }),
+    }
+}
+
+// The edge line with this text.
+fn edge_line(alloc: Global, text: &str) -> Result<Vec<u8>, AllocError> {
     let mut line = Vec::from_slice(alloc, b"edge ")?;
     line.extend_from_slice(text.as_bytes())?;
-    match read_line(line.as_slice()) {
+    Ok(line)
+}
+
+// The edge that the line is, or why it is none.
+fn edge_of(line: &[u8]) -> Result<Edge, &'static str> {
+    match read_line(line) {
         Some(Line::Edge(edge)) if edge.from != edge.to => Ok(edge),
-        Some(_) => Err(WordFault::Value {
-            option: "as-if",
-            text,
-            reason: "an edge joins two different vertices",
-        }),
-        None => Err(WordFault::Value {
-            option: "as-if",
-            text,
-            reason: reason_of(line.as_slice(), true, ANY),
-        }),
+        Some(_) => Err("an edge joins two different vertices"),
+        None => Err(reason_of(line, true, ANY)),
     }
 }

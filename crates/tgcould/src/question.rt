@@ -4,7 +4,7 @@ use tg_reason::reason_of_number;
 use tg_rights::Right;
 
 /// A vertex of a question.
-#[derive(Clone, Copy, Debug)]
+#[derive(Clone, Copy)]
 pub enum Vertex {
     /// The one of this name, whether it was made or not.
     Named(u64),
@@ -13,7 +13,7 @@ pub enum Vertex {
 }
 
 /// What is asked.
-#[derive(Clone, Copy, Debug)]
+#[derive(Clone, Copy)]
 pub enum Question {
     /// Could x come to hold the right over y? `3 r 7`
     Hold { x: Vertex, right: Right, y: Vertex },
@@ -58,26 +58,40 @@ pub fn read_question(text: &str) -> Result<Question, &'static str> {
 // The question of three words.
 fn read_words(holder: &str, right: &str, over: &str) -> Result<Question, &'static str> {
     if right == "*" {
-        return if over == "*" && holder != "*" {
-            Ok(Question::What {
-                x: read_vertex(holder)?,
-            })
-        } else {
-            Err(NO_WORDS)
-        };
+        return read_what(holder, over);
     }
     if over == "*" {
         return Err(NO_WORDS);
     }
     if holder == "*" {
-        return Ok(Question::Who {
-            right: read_right(right)?,
-            y: read_vertex(over)?,
-        });
+        return read_who(right, over);
     }
     if holder == "new" && over == "new" {
         return Err(BOTH_NEW);
     }
+    read_hold(holder, right, over)
+}
+
+// Which rights the first word could come to hold, where the other is a star.
+fn read_what(holder: &str, over: &str) -> Result<Question, &'static str> {
+    if over != "*" || holder == "*" {
+        return Err(NO_WORDS);
+    }
+    Ok(Question::What {
+        x: read_vertex(holder)?,
+    })
+}
+
+// Who could come to hold the right over the second word.
+fn read_who(right: &str, over: &str) -> Result<Question, &'static str> {
+    Ok(Question::Who {
+        right: read_right(right)?,
+        y: read_vertex(over)?,
+    })
+}
+
+// Whether the first word could come to hold the right over the last.
+fn read_hold(holder: &str, right: &str, over: &str) -> Result<Question, &'static str> {
     Ok(Question::Hold {
         x: read_vertex(holder)?,
         right: read_right(right)?,

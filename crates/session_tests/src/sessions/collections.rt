@@ -1,11 +1,10 @@
 //! Collections that sessions ask for, and a race for one of its sessions.
 
-use crate::sessions::opened::{make, opening_with};
+use crate::sessions::opened::{is_answered, make, opening_with};
 use crate::sessions::story::{Seen, Story, seen_of};
 use meeting::{MANY_TURNS, Meet};
 use std::alloc::Global;
 use std::sync::Wait;
-use std::test::Fail;
 use std::thread::Threads;
 use tg_model::Command;
 use tg_payload::CellPayload;
@@ -23,10 +22,8 @@ fn give_up<L: Round, R: Wait>(
     target: u64,
 ) -> Option<()> {
     let rights = Label::read_text(b"rw")?;
-    let _done = session
-        .call(rt, store, Command::Remove { target, rights })
-        .ok()?;
-    Some(())
+    let removal = Command::Remove { target, rights };
+    is_answered(rt, store, session, removal).then_some(())
 }
 
 /// Who collects.
@@ -59,6 +56,46 @@ fn collect<L: Round, R: Threads + Wait + Sync>(
         .ok()
 }
 
+// Makes a vertex and gives it up, and collects the nurseries. How many vertices the heap then has.
+fn left_of_young<L: Round, R: Threads + Wait + Sync>(
+    rt: &R,
+    alloc: Global,
+    store: &SharedStore<L, CellPayload>,
+    session: &mut Session<L>,
+    by: Collectors<'_>,
+) -> Option<u64> {
+    let young = make(rt, alloc, store, session)?.ok()?;
+    give_up(rt, store, session, young)?;
+    collect(rt, store, session, Kind::Nursery, by)
+}
+
+// Makes a vertex and collects all. Its name, and how many vertices the heap then has.
+fn kept_old<L: Round, R: Threads + Wait + Sync>(
+    rt: &R,
+    alloc: Global,
+    store: &SharedStore<L, CellPayload>,
+    session: &mut Session<L>,
+    by: Collectors<'_>,
+) -> Option<(u64, u64)> {
+    let old = make(rt, alloc, store, session)?.ok()?;
+    let kept = collect(rt, store, session, Kind::Full, by)?;
+    Some((old, kept))
+}
+
+// Gives up that vertex, and collects the nurseries and then all. How many vertices the heap has after each.
+fn left_of_old<L: Round, R: Threads + Wait + Sync>(
+    rt: &R,
+    store: &SharedStore<L, CellPayload>,
+    session: &mut Session<L>,
+    old: u64,
+    by: Collectors<'_>,
+) -> Option<(u64, u64)> {
+    give_up(rt, store, session, old)?;
+    let given_up = collect(rt, store, session, Kind::Nursery, by)?;
+    let collected_whole = collect(rt, store, session, Kind::Full, by)?;
+    Some((given_up, collected_whole))
+}
+
 /// A vertex is made and given up, and a nursery collection follows. Another one is made, and lies in Old after a full
 /// collection; it is given up too, and a collection of each kind follows. How many vertices the heap has after each of
 /// the four collections.
@@ -70,14 +107,9 @@ pub(crate) fn left_by_each<L: Round, R: Threads + Wait + Sync>(
     by: Collectors<'_>,
 ) -> Option<[u64; 4]> {
     let session = sessions.first_mut()?;
-    let young = make(rt, alloc, store, session)?.ok()?;
-    give_up(rt, store, session, young)?;
-    let young_given_up = collect(rt, store, session, Kind::Nursery, by)?;
-    let old = make(rt, alloc, store, session)?.ok()?;
-    let kept = collect(rt, store, session, Kind::Full, by)?;
-    give_up(rt, store, session, old)?;
-    let old_given_up = collect(rt, store, session, Kind::Nursery, by)?;
-    let collected_whole = collect(rt, store, session, Kind::Full, by)?;
+    let young_given_up = left_of_young(rt, alloc, store, session, by)?;
+    let (old, kept) = kept_old(rt, alloc, store, session, by)?;
+    let (old_given_up, collected_whole) = left_of_old(rt, store, session, old, by)?;
     Some([young_given_up, kept, old_given_up, collected_whole])
 }
 
@@ -101,16 +133,32 @@ fn met_on_two<R: Threads + Wait + Sync>(
     (!gate.is_missed()).then_some((left, gate.passes()))
 }
 
+// The same by one thread, and by two, three and eight helpers.
+fn met_by_each<R: Threads + Wait + Sync>(
+    rt: &R,
+    alloc: Global,
+    in_race: bool,
+) -> [Option<([u64; 4], u64)>; 4] {
+    [
+        met_on_two(rt, alloc, 1, in_race),
+        met_on_two(rt, alloc, 2, in_race),
+        met_on_two(rt, alloc, 3, in_race),
+        met_on_two(rt, alloc, 8, in_race),
+    ]
+}
+
 // A nursery collection drops a young vertex that was given up, and none that lies in Old; a full one drops it. In each
 // of the four the gate is passed for the workers' rows, which are one chunk of roots, and once more by each of several
 // helpers. In the third no vertex is young, so there one thread collects, which passes it twice.
 #[test]
-fn collections_of_each_kind(rt: HostRuntime) -> Result<(), Fail> {
-    for in_race in [false, true] {
-        for (helpers, passes) in [(1, 0), (2, 11), (3, 14), (8, 29)] {
-            let seen = met_on_two(&rt, rt.alloc(), helpers, in_race).ok_or("a refusal")?;
-            assert_eq!(rt; seen, ([2, 3, 3, 2], passes), "with {helpers}");
-        }
-    }
-    Ok(())
+fn collections_of_each_kind(rt: HostRuntime) {
+    let left = [2, 3, 3, 2];
+    let wanted = [
+        Some((left, 0)),
+        Some((left, 11)),
+        Some((left, 14)),
+        Some((left, 29)),
+    ];
+    assert_eq!(rt; met_by_each(&rt, rt.alloc(), false), wanted);
+    assert_eq!(rt; met_by_each(&rt, rt.alloc(), true), wanted);
 }

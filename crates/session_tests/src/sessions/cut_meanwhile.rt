@@ -2,7 +2,7 @@
 ghost use Rattle.std.specs.Prelude.{◌≡◌, true};
 ghost use Rattle.tg_shared.specs.Sessions.{MayShare};
 
-use crate::sessions::opened::{closed, store_with};
+use crate::sessions::opened::{closed, opening_with, store_of};
 use meeting::MANY_TURNS;
 use std::alloc::Global;
 use std::marker::Brand;
@@ -13,7 +13,7 @@ use std::test::Fail;
 use std::thread;
 use std::thread::{Threads, join};
 use tg_journal::Auditor;
-use tg_model::{Command, Reply};
+use tg_model::{Command, Opening, Reply};
 use tg_payload::CellPayload;
 use tg_shared::{Keeper, Round, Session, Shared, SharedStore};
 use tg_store::Store;
@@ -127,9 +127,23 @@ fn close_in_parts<L: Round>(
     closed(store, sessions)
 }
 
+// What is seen of what was told, and of the store, where it was closed.
+fn look_at(
+    told: Option<(Option<usize>, (u64, u64))>,
+    closed: Option<&Store<CellPayload>>,
+) -> Option<SeenOfParts> {
+    let (entries, good) = told?;
+    let journal = closed?.journal();
+    Some(SeenOfParts {
+        entries,
+        good,
+        held: (journal.start(), journal.len()),
+    })
+}
+
 fn seen_of_shared<L: Round + Send + Sync, R: Threads + Wait + Sync>(
     rt: &R,
-    mut auditor: Auditor,
+    auditor: &mut Auditor,
     shared: Shared<L, CellPayload>,
 ) -> Option<SeenOfParts>
     requires in_parts { L.start.in_parts ≡ true }
@@ -139,34 +153,48 @@ fn seen_of_shared<L: Round + Send + Sync, R: Threads + Wait + Sync>(
         mut sessions,
         mut keeper,
     } = shared;
-    let (entries, good) = list_and_take(rt, &store, &mut keeper, &mut auditor, &mut sessions)?;
-    let store = close_in_parts(store, sessions)?;
-    let held = (store.journal().start(), store.journal().len());
-    Some(SeenOfParts {
-        entries,
-        good,
-        held,
-    })
+    let told = list_and_take(rt, &store, &mut keeper, auditor, &mut sessions);
+    let closed = close_in_parts(store, sessions);
+    let seen = look_at(told, closed.as_ref());
+    drop(closed);
+    seen
 }
 
 fn seen_of_store<L: Round + Send + Sync, R: Threads + Wait + Sync>(
     rt: &R,
     alloc: Global,
+    auditor: &mut Auditor,
     blank: Blank,
     store: Store<CellPayload>,
 ) -> Option<SeenOfParts>
     requires shareable { MayShare L.name L.parts L.start blank store }
     requires in_parts { L.start.in_parts ≡ true }
 {
-    let auditor = Auditor::open(alloc, store.opening()).ok()?;
     let shared = SharedStore::<L, CellPayload>::new(alloc, blank, store).ok()?;
     seen_of_shared(rt, auditor, shared)
 }
 
-fn seen<R: Threads + Wait + Sync>(rt: &R, alloc: Global) -> Option<SeenOfParts> {
-    let store = store_with(alloc, "rw")?;
+// What is seen in a store with this opening, which the auditor has, too.
+fn seen_of_opening<R: Threads + Wait + Sync>(
+    rt: &R,
+    alloc: Global,
+    auditor: &mut Auditor,
+    opening: Opening,
+) -> Option<SeenOfParts> {
+    let store = store_of(alloc, opening)?;
     let blank = Blank::new(store.opening().max_vertices() + 1);
-    seen_of_store::<Brand, R>(rt, alloc, blank, store)
+    seen_of_store::<Brand, R>(rt, alloc, auditor, blank, store)
+}
+
+fn seen<R: Threads + Wait + Sync>(rt: &R, alloc: Global) -> Option<SeenOfParts> {
+    let mut auditor = auditor_of(alloc)?;
+    seen_of_opening(rt, alloc, &mut auditor, opening_with(alloc, "rw")?)
+}
+
+// An auditor of histories of this opening.
+fn auditor_of(alloc: Global) -> Option<Auditor> {
+    let opening = opening_with(alloc, "rw")?;
+    Auditor::open(alloc, &opening).ok()
 }
 
 // All entries are in the parts, of which there are two at the least, and no other.

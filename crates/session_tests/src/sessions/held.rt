@@ -64,10 +64,10 @@ pub(crate) fn make_and_ask<L: Round, R: Wait>(
     store: &SharedStore<L, CellPayload>,
     sessions: &mut [Session<L>],
 ) -> Option<[u8; 2]> {
-    let _name = make(rt, alloc, store, sessions.get_mut(0)?)?.ok()?;
-    let by_first = asked_by(rt, store, sessions.get(0)?);
-    let by_second = asked_by(rt, store, sessions.get(1)?);
-    Some([by_first, by_second])
+    let (first, others) = sessions.split_first_mut()?;
+    let second = others.first()?;
+    let _name = make(rt, alloc, store, first)?.ok()?;
+    Some([asked_by(rt, store, first), asked_by(rt, store, second)])
 }
 
 /// What is seen of the store, once it is closed.

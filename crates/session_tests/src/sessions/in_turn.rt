@@ -1,7 +1,7 @@
 //! Two sessions that take turns on one thread, what is answered where one of them is kept back, and what they have
 //! receipts of.
 
-use crate::sessions::opened::{make, opening_with};
+use crate::sessions::opened::{is_answered, make, opening_with};
 use crate::sessions::story::{Seen, Story, seen_of};
 use std::alloc::Global;
 use std::sync::Wait;
@@ -49,11 +49,10 @@ fn use_the_cell<L: Round, R: Wait>(
     rt: &R,
     store: &SharedStore<L, CellPayload>,
     session: &mut Session<L>,
-) -> Option<()> {
-    let _done = session.call(rt, store, WRITE).ok()?;
-    let _read = session.call(rt, store, READ).ok()?;
-    let _denied = session.call(rt, store, APPEND).ok()?;
-    Some(())
+) -> bool {
+    is_answered(rt, store, session, WRITE)
+        && is_answered(rt, store, session, READ)
+        && is_answered(rt, store, session, APPEND)
 }
 
 // A receipt of worker 1.
@@ -68,16 +67,20 @@ fn receipt(at: u64, command: Command, reply: Reply) -> Receipt {
     }
 }
 
-// Whether receipts of worker 1 match the journal that say that it wrote 7, read this number, and was denied this as an
-// append.
-fn matches_with(alloc: Global, journal: &Journal, number: u64, denied: Command) -> Option<bool> {
+// Receipts that say that worker 1 wrote 7, read this number, and was denied this as an append.
+fn receipts_with(alloc: Global, number: u64, denied: Command) -> Option<Vec<Receipt>> {
     let read = Reply::Values(Numbers::one(number));
-    let mut receipts = Vec::new(alloc);
-    receipts.push(receipt(3, WRITE, Reply::Done)).ok()?;
-    receipts.push(receipt(4, READ, read)).ok()?;
-    receipts
-        .push(receipt(5, denied, Reply::Denied(NOT_LOG)))
-        .ok()?;
+    vec![in alloc;
+        receipt(3, WRITE, Reply::Done),
+        receipt(4, READ, read),
+        receipt(5, denied, Reply::Denied(NOT_LOG)),
+    ]
+    .ok()
+}
+
+// Whether they match the journal.
+fn matches_with(alloc: Global, journal: &Journal, number: u64, denied: Command) -> Option<bool> {
+    let receipts = receipts_with(alloc, number, denied)?;
     Some(receipts_match(journal, 1, &receipts))
 }
 
@@ -90,6 +93,20 @@ fn seen_of_journal(alloc: Global, journal: &Journal) -> Option<(u64, [bool; 3])>
     Some((journal.len(), [as_it_was, altered, other_command]))
 }
 
+// Lets the first session make a vertex, the second one too, and the first once more.
+fn make_in_turn<L: Round, R: Wait>(
+    rt: &R,
+    alloc: Global,
+    store: &SharedStore<L, CellPayload>,
+    first: &mut Session<L>,
+    second: &mut Session<L>,
+) -> Option<[Result<u64, CreateFault>; 3]> {
+    let by_first = make(rt, alloc, store, first)?;
+    let by_second = make(rt, alloc, store, second)?;
+    let then_by_first = make(rt, alloc, store, first)?;
+    Some([by_first, by_second, then_by_first])
+}
+
 /// Lets the first session make a vertex, the second one too, and the first once more, and then the second use the cell.
 pub(crate) fn use_in_turn<L: Round, R: Wait>(
     rt: &R,
@@ -97,11 +114,10 @@ pub(crate) fn use_in_turn<L: Round, R: Wait>(
     store: &SharedStore<L, CellPayload>,
     sessions: &mut [Session<L>],
 ) -> Option<[Result<u64, CreateFault>; 3]> {
-    let by_first = make(rt, alloc, store, sessions.get_mut(0)?)?;
-    let by_second = make(rt, alloc, store, sessions.get_mut(1)?)?;
-    let then_by_first = make(rt, alloc, store, sessions.get_mut(0)?)?;
-    use_the_cell(rt, store, sessions.get_mut(1)?)?;
-    Some([by_first, by_second, then_by_first])
+    let (first, others) = sessions.split_first_mut()?;
+    let second = others.first_mut()?;
+    let made = make_in_turn(rt, alloc, store, first, second)?;
+    use_the_cell(rt, store, second).then_some(made)
 }
 
 /// What is seen, once the store is closed.

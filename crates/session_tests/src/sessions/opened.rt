@@ -2,7 +2,7 @@
 
 use std::alloc::Global;
 use std::sync::Wait;
-use tg_model::{Edge, Law, Numbers, Opening, Value};
+use tg_model::{Command, Edge, Law, Numbers, Opening, Value};
 use tg_payload::{CellPayload, Draft};
 use tg_rights::{Label, Rights};
 use tg_shared::{CloseFault, CloseRefused, Round, Session, SharedStore, close};
@@ -24,17 +24,14 @@ fn edge(from: u64, to: u64, letters: &str) -> Option<Edge> {
 /// An opening of two workers, who store cells with 0, and have these rights over one another. Four vertices may be
 /// made.
 pub(crate) fn opening_with(alloc: Global, letters: &str) -> Option<Opening> {
-    let mut edges = Vec::new(alloc);
-    edges.push(edge(0, 1, letters)?).ok()?;
-    edges.push(edge(1, 0, letters)?).ok()?;
-    opening_of(alloc, edges)
+    let there = edge(0, 1, letters)?;
+    let back = edge(1, 0, letters)?;
+    opening_of(alloc, vec![in alloc; there, back].ok()?)
 }
 
 /// The same with these edges.
 pub(crate) fn opening_of(alloc: Global, edges: Vec<Edge>) -> Option<Opening> {
-    let mut values = Vec::new(alloc);
-    values.push(zero()).ok()?;
-    values.push(zero()).ok()?;
+    let values = vec![in alloc; zero(), zero()].ok()?;
     Opening::new(2, edges, values, 4).ok()
 }
 
@@ -48,13 +45,25 @@ pub(crate) fn store_with(alloc: Global, letters: &str) -> Option<Store<CellPaylo
     store_of(alloc, opening_with(alloc, letters)?)
 }
 
+// The drafts of two workers.
+fn two_drafts(alloc: Global) -> Option<Vec<Draft<CellPayload>>> {
+    let first = draft(alloc)?;
+    let second = draft(alloc)?;
+    vec![in alloc; first, second].ok()
+}
+
 /// A store with this opening of two workers.
 pub(crate) fn store_of(alloc: Global, opening: Opening) -> Option<Store<CellPayload>> {
-    let mut drafts = Vec::new(alloc);
-    drafts.push(draft(alloc)?).ok()?;
-    drafts.push(draft(alloc)?).ok()?;
-    let limits = Limits::new(64, 16).ok()?;
-    Store::open(alloc, opening, limits, drafts).ok()
+    match (Limits::new(64, 16), two_drafts(alloc)) {
+        (Ok(limits), Some(drafts)) => Store::open(alloc, opening, limits, drafts).ok(),
+        _ => None,
+    }
+}
+
+/// The label of a vertex that is to be made, with the rights to read and write, and a draft of what it is to store.
+pub(crate) fn wanted(alloc: Global) -> Option<(Label, Draft<CellPayload>)> {
+    let label = Label::read_text(b"rw")?;
+    Some((label, draft(alloc)?))
 }
 
 /// Lets the session make a vertex, which it may read and write. Answers its name, or why there is none.
@@ -64,11 +73,30 @@ pub(crate) fn make<L: Round, R: Wait>(
     store: &SharedStore<L, CellPayload>,
     session: &mut Session<L>,
 ) -> Option<Result<u64, CreateFault>> {
-    let label = Label::read_text(b"rw")?;
-    match session.create(rt, store, label, draft(alloc)?) {
-        Ok(name) => Some(Ok(name)),
-        Err(refused) => Some(Err(refused.why)),
-    }
+    let (label, draft) = wanted(alloc)?;
+    let made = session.create(rt, store, label, draft);
+    Some(made.map_err(|refused| refused.why))
+}
+
+/// Lets the session spawn one, over which it has the same rights.
+pub(crate) fn spawn_by<L: Round, R: Wait>(
+    rt: &R,
+    alloc: Global,
+    store: &SharedStore<L, CellPayload>,
+    session: &mut Session<L>,
+) -> Option<Session<L>> {
+    let (label, draft) = wanted(alloc)?;
+    session.spawn(rt, store, label, draft).ok()
+}
+
+/// Whether a command of the session is answered. The answer is passed over.
+pub(crate) fn is_answered<L: Round, R: Wait>(
+    rt: &R,
+    store: &SharedStore<L, CellPayload>,
+    session: &mut Session<L>,
+    command: Command,
+) -> bool {
+    session.call(rt, store, command).is_ok()
 }
 
 /// The store, once it is closed with all of its sessions.

@@ -3,7 +3,7 @@
 ghost use Rattle.std.specs.Prelude.{◌≡◌, true};
 ghost use Rattle.tg_shared.specs.Sessions.{MayShare};
 
-use crate::sessions::opened::{closed, draft, make, opening_with, store_of};
+use crate::sessions::opened::{closed, is_answered, make, opening_with, spawn_by, store_of};
 use std::alloc::Global;
 use std::marker::Brand;
 use std::sync::Wait;
@@ -12,7 +12,6 @@ use std::test::Fail;
 use tg_journal::{AuditFault, Auditor, Journal, audit};
 use tg_model::Command;
 use tg_payload::CellPayload;
-use tg_rights::Label;
 use tg_shared::{
     CloseFault, CloseRefused, Keeper, Round, Session, Shared, SharedStore, close, receipts_match,
 };
@@ -44,24 +43,34 @@ struct SeenOfParts {
 struct TakenInParts {
     parts: [Journal; 2],
     matches: [bool; 2],
-    taken_over: [bool; 2],
+    taken_over: Option<[bool; 2]>,
 }
 
-// Lets the session spawn one, which retires. It is taken over once its receipt was taken.
+// Whether the session takes over the spawned one with its receipts, and without.
+fn take_over_twice<L: Round>(session: &mut Session<L>, spawned: Session<L>) -> [bool; 2] {
+    match session.take_over(spawned) {
+        Ok(()) => [true, false],
+        Err(mut spawned) => {
+            drop(spawned.take_receipts());
+            [false, session.take_over(spawned).is_ok()]
+        }
+    }
+}
+
+// Lets the session read, and spawn one, which retires. It is taken over once its receipt was taken.
 fn spawn_and_take_over<L: Round, R: Wait>(
     rt: &R,
     alloc: Global,
     store: &SharedStore<L, CellPayload>,
     session: &mut Session<L>,
 ) -> Option<[bool; 2]> {
-    let label = Label::read_text(b"r")?;
-    let mut spawned = session.spawn(rt, store, label, draft(alloc)?).ok()?;
-    let _retired = spawned.call(rt, store, Command::Retire).ok()?;
-    let Err(mut spawned) = session.take_over(spawned) else {
-        return Some([true, false]);
-    };
-    drop(spawned.take_receipts());
-    Some([false, session.take_over(spawned).is_ok()])
+    if !is_answered(rt, store, session, READ) {
+        return None;
+    }
+    let mut spawned = spawn_by(rt, alloc, store, session)?;
+    let retired = is_answered(rt, store, &mut spawned, Command::Retire);
+    let taken_over = take_over_twice(session, spawned);
+    retired.then_some(taken_over)
 }
 
 // Lets the first session make a vertex, takes the part with it, and lets it go on to another part.
@@ -77,14 +86,12 @@ fn cut<L: Round, R: Wait>(
     let _name = make(rt, alloc, store, session)?.ok()?;
     let first = keeper.take_journal(rt, store);
     let receipts = session.take_receipts();
-    let _read = session.call(rt, store, READ).ok()?;
-    let taken_over = spawn_and_take_over(rt, alloc, store, session)?;
+    let taken_over = spawn_and_take_over(rt, alloc, store, session);
     let second = keeper.take_journal(rt, store);
     let matches = [
         receipts_match(&first, 0, &receipts),
         receipts_match(&second, 0, &receipts),
     ];
-    let _read = session.call(rt, store, READ).ok()?;
     Some(TakenInParts {
         parts: [first, second],
         matches,
@@ -92,17 +99,41 @@ fn cut<L: Round, R: Wait>(
     })
 }
 
+// Cuts the journal twice, and lets the first session read behind that.
+fn cut_and_read<L: Round, R: Wait>(
+    rt: &R,
+    alloc: Global,
+    store: &SharedStore<L, CellPayload>,
+    keeper: &mut Keeper<L>,
+    sessions: &mut [Session<L>],
+) -> Option<TakenInParts>
+    requires in_parts { L.start.in_parts ≡ true }
+{
+    let session = sessions.first_mut()?;
+    let cut = cut(rt, alloc, store, keeper, session)?;
+    is_answered(rt, store, session, READ).then_some(cut)
+}
+
 // Closes the store, once the first session holds no receipt of a part any more. Answers why it isn't closed before.
 fn close_at_last<L: Round>(
     store: SharedStore<L, CellPayload>,
     sessions: Vec<Session<L>>,
 ) -> Option<(CloseFault, Store<CellPayload>)> {
+    close_without_receipts(close(store, sessions).err()?)
+}
+
+// Closes what wasn't closed, without the first session's receipts.
+fn close_without_receipts<L: Round>(
+    refused: CloseRefused<L, CellPayload>,
+) -> Option<(CloseFault, Store<CellPayload>)> {
     let CloseRefused {
         store,
         mut sessions,
         why,
-    } = close(store, sessions).err()?;
-    drop(sessions.get_mut(0)?.take_receipts());
+    } = refused;
+    if let Some(first) = sessions.first_mut() {
+        drop(first.take_receipts());
+    }
     Some((why, closed(store, sessions)?))
 }
 
@@ -119,6 +150,25 @@ fn pass_in_a_row(alloc: Global, parts: &[Journal; 2], store: &Store<CellPayload>
     Some(first && second && rest)
 }
 
+fn look_at(
+    alloc: Global,
+    cut: Option<&TakenInParts>,
+    closed: Option<&(CloseFault, Store<CellPayload>)>,
+) -> Option<SeenOfParts> {
+    let cut = cut?;
+    let (why_not_closed, store) = closed?;
+    Some(SeenOfParts {
+        places: [places(&cut.parts[0]), places(&cut.parts[1])],
+        matches: cut.matches,
+        taken_over: cut.taken_over?,
+        why_not_closed: *why_not_closed,
+        entries: (store.journal().len(), store.journal().start()),
+        alone: audit(alloc, store.opening(), cut.parts[1].entries()),
+        in_a_row: pass_in_a_row(alloc, &cut.parts, store)?,
+    })
+}
+
+// Cuts and closes the store, and looks at what comes of it.
 fn seen_of_shared<L: Round, R: Wait>(
     rt: &R,
     alloc: Global,
@@ -131,17 +181,12 @@ fn seen_of_shared<L: Round, R: Wait>(
         mut sessions,
         mut keeper,
     } = shared;
-    let cut = cut(rt, alloc, &store, &mut keeper, sessions.get_mut(0)?)?;
-    let (why_not_closed, store) = close_at_last(store, sessions)?;
-    Some(SeenOfParts {
-        places: [places(&cut.parts[0]), places(&cut.parts[1])],
-        matches: cut.matches,
-        taken_over: cut.taken_over,
-        why_not_closed,
-        entries: (store.journal().len(), store.journal().start()),
-        alone: audit(alloc, store.opening(), cut.parts[1].entries()),
-        in_a_row: pass_in_a_row(alloc, &cut.parts, &store)?,
-    })
+    let cut = cut_and_read(rt, alloc, &store, &mut keeper, &mut sessions);
+    let closed = close_at_last(store, sessions);
+    let seen = look_at(alloc, cut.as_ref(), closed.as_ref());
+    drop(closed);
+    drop(cut);
+    seen
 }
 
 fn seen_of_store<L: Round, R: Wait>(

@@ -1,6 +1,6 @@
 //! A session that another one spawned, on a thread of its own.
 
-use crate::sessions::opened::{draft, opening_of};
+use crate::sessions::opened::{opening_of, spawn_by};
 use crate::sessions::story::{Seen, Story, seen_of};
 use std::alloc::Global;
 use std::sync::Wait;
@@ -9,7 +9,6 @@ use std::thread::{Threads, join};
 use tg_journal::{AuditFault, Journal, audit};
 use tg_model::{Command, Reply};
 use tg_payload::CellPayload;
-use tg_rights::Label;
 use tg_shared::{CloseFault, Round, Session, SharedStore};
 use tg_store::{ApplyFault, Kind};
 
@@ -92,9 +91,7 @@ fn spawn<L: Round, R: Wait>(
     store: &SharedStore<L, CellPayload>,
     sessions: &mut Vec<Session<L>>,
 ) -> Option<()> {
-    let label = Label::read_text(b"rw")?;
-    let draft = draft(alloc)?;
-    let fresh = sessions.get_mut(0)?.spawn(rt, store, label, draft).ok()?;
+    let fresh = spawn_by(rt, alloc, store, sessions.first_mut()?)?;
     sessions.push(fresh).ok()
 }
 
@@ -112,6 +109,35 @@ fn work_at_once<L: Round + Send + Sync, R: Threads + Wait + Sync>(
     )
 }
 
+// Lets the new session work on a thread while the second collects, and then the first read.
+fn work_and_read<L: Round + Send + Sync, R: Threads + Wait + Sync>(
+    rt: &R,
+    store: &SharedStore<L, CellPayload>,
+    first: &mut Session<L>,
+    second: &Session<L>,
+    new: &mut Session<L>,
+) -> Told {
+    let name = new.worker();
+    let (worked, collected) = work_at_once(rt, store, new, second);
+    let read = reads_zero(rt, store, first, name);
+    Told {
+        name,
+        worked,
+        read: collected && read,
+    }
+}
+
+// Lets the last session work on a thread while the second collects, and then the first read.
+fn work_among<L: Round + Send + Sync, R: Threads + Wait + Sync>(
+    rt: &R,
+    store: &SharedStore<L, CellPayload>,
+    sessions: &mut [Session<L>],
+) -> Option<Told> {
+    let (new, others) = sessions.split_last_mut()?;
+    let (first, others) = others.split_first_mut()?;
+    Some(work_and_read(rt, store, first, others.first()?, new))
+}
+
 /// Lets the first session spawn one, which works on a thread while the second collects; and then read.
 pub(crate) fn spawn_and_work<L: Round + Send + Sync, R: Threads + Wait + Sync>(
     rt: &R,
@@ -120,15 +146,7 @@ pub(crate) fn spawn_and_work<L: Round + Send + Sync, R: Threads + Wait + Sync>(
     sessions: &mut Vec<Session<L>>,
 ) -> Option<Told> {
     spawn(rt, alloc, store, sessions)?;
-    let (new, others) = sessions.split_last_mut()?;
-    let name = new.worker();
-    let (worked, collected) = work_at_once(rt, store, new, others.get(1)?);
-    let read = reads_zero(rt, store, others.get_mut(0)?, name);
-    Some(Told {
-        name,
-        worked,
-        read: collected && read,
-    })
+    work_among(rt, store, sessions)
 }
 
 /// What is seen, once the store is closed.

@@ -55,13 +55,13 @@ fn tell<L: Round + Send + Sync, R: Threads + Wait + Sync>(
     store: &SharedStore<L, CellPayload>,
     sessions: &mut Vec<Session<L>>,
 ) -> Option<Told> {
-    Some(match story {
-        Story::Collect(by) => Told::Left(left_by_each(rt, alloc, store, sessions, by)?),
-        Story::MakeAndAsk => Told::Asked(make_and_ask(rt, alloc, store, sessions)?),
-        Story::TakeTurns => Told::Made(use_in_turn(rt, alloc, store, sessions)?),
-        Story::SpawnAndWork => Told::Spawned(spawn_and_work(rt, alloc, store, sessions)?),
-        Story::WorkOnTwoThreads => Told::Good(work_by_both(rt, store, sessions)?),
-    })
+    match story {
+        Story::Collect(by) => left_by_each(rt, alloc, store, sessions, by).map(Told::Left),
+        Story::MakeAndAsk => make_and_ask(rt, alloc, store, sessions).map(Told::Asked),
+        Story::TakeTurns => use_in_turn(rt, alloc, store, sessions).map(Told::Made),
+        Story::SpawnAndWork => spawn_and_work(rt, alloc, store, sessions).map(Told::Spawned),
+        Story::WorkOnTwoThreads => work_by_both(rt, store, sessions).map(Told::Good),
+    }
 }
 
 // What is seen of the store once it is closed, which it wasn't without the last session, for this reason.
@@ -71,18 +71,14 @@ fn look_at(
     why_not_closed: CloseFault,
     store: &Store<CellPayload>,
 ) -> Option<Seen> {
-    Some(match told? {
-        Told::Left(left) => Seen::Left(left),
-        Told::Asked(asked) => Seen::Labels(labels_of(store, asked)),
-        Told::Made(made) => Seen::Turns(turns_of(alloc, made, why_not_closed, store.journal())?),
-        Told::Spawned(told) => Seen::Spawned(spawned_of(
-            alloc,
-            told,
-            why_not_closed,
-            store.journal(),
-        )?),
-        Told::Good(good) => Seen::Writes(writes_of(alloc, good, store.journal())?),
-    })
+    let journal = store.journal();
+    match told? {
+        Told::Left(left) => Some(Seen::Left(left)),
+        Told::Asked(asked) => Some(Seen::Labels(labels_of(store, asked))),
+        Told::Made(made) => turns_of(alloc, made, why_not_closed, journal).map(Seen::Turns),
+        Told::Spawned(told) => spawned_of(alloc, told, why_not_closed, journal).map(Seen::Spawned),
+        Told::Good(good) => writes_of(alloc, good, journal).map(Seen::Writes),
+    }
 }
 
 /// What is seen of the story in a store of two workers with this opening.

@@ -7,11 +7,11 @@ use Rattle.tg_entries.proofs.write.write_edge.Goals as goal
 pub returns : goal.returns
 returns g c =
     let s = g.K.Sink in
-    writes_then (s.taken c.args.sink.now) (s.taken c.write_edge_words.new.sink) (s.taken c.put_all.new.sink) (s.failures c.args.sink.now) (s.failures c.write_edge_words.new.sink) (s.failures c.put_all.new.sink)
-    (line_text (line.Edge c.args.edge)) (codes "\n") c.put_all.result c.in_ok-write_edge_words.ensures c.put_all.ensures
+    writes_then (s.taken c.args.sink.now) (s.taken c.write_line.new.sink) (s.taken c.put_all.new.sink) (s.failures c.args.sink.now) (s.failures c.write_line.new.sink) (s.failures c.put_all.new.sink)
+    (line_text (line.Edge c.args.edge)) (codes "\n") c.put_all.result c.in_ok-write_line.ensures c.put_all.ensures
 
-pub returns-in_err-write_edge_words : goal.returns-in_err-write_edge_words
-returns-in_err-write_edge_words g c =
+pub returns-in_err-write_line : goal.returns-in_err-write_line
+returns-in_err-write_line g c =
     let s = g.K.Sink in
-    writes_cut_first (s.taken c.args.sink.now) (s.taken c.write_edge_words.new.sink) (s.failures c.args.sink.now) (s.failures c.write_edge_words.new.sink)
-    (line_text (line.Edge c.args.edge)) (codes "\n") c.from_residual.result c.from_residual.ensures.0 c.in_err-write_edge_words.ensures
+    writes_cut_first (s.taken c.args.sink.now) (s.taken c.write_line.new.sink) (s.failures c.args.sink.now) (s.failures c.write_line.new.sink)
+    (line_text (line.Edge c.args.edge)) (codes "\n") c.from_residual.result c.from_residual.ensures.0 c.in_err-write_line.ensures

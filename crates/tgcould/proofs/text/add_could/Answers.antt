@@ -1,11 +1,7 @@
-use Rattle.std.proofs.Common.{◌≡◌, ◌∙◌, ℕ, List, [], ◌∷◌, ◌++◌, sym, ap, subst, append_assoc, OnOk, map, Bool, false, length, ◌==◌, if◌then◌else◌}
-use Rattle.std.specs.Fmt.{decimal}
+use Rattle.std.proofs.Common.{◌≡◌, ◌∙◌, ℕ, List, ◌++◌, sym, ap, subst, append_assoc, OnOk, Bool, false, length, ◌==◌, if◌then◌else◌}
 use Rattle.std.specs.Prelude.{codes}
-use Rattle.std.proofs.Common.{Bor}
-use Rattle.std.specs.List.{flat_map, join_with_byte}
-use Rattle.tg_rights.specs.RightSet.{text_of}
-use Rattle.tgcould.specs.Texts.{turn_text, wanting_text, more_text}
-use Rattle.tgcould.proofs.TextLaws.{words_join, grew, grew_thrice}
+use Rattle.std.specs.List.{flat_map}
+use Rattle.tgcould.specs.Texts.{turn_text}
 use Rattle.tgcould.proofs.text.add_could.Goals as goal
 
 pub returns : goal.returns

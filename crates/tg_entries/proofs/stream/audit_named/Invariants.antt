@@ -1,5 +1,0 @@
-use Rattle.tg_entries.proofs.ReadLaws.{IsAt}
-use Rattle.tg_entries.proofs.stream.audit_named.Given as goal
-
-abbrev pub invariant-loop-number : goal.invariant-loop-number
-invariant-loop-number g l = IsAt (g.R.Read.remaining l.fn.reader) (g.R.Read.remaining l.reader) l.audit
