@@ -12,17 +12,19 @@ as it stands there. An amount is asked for
   - by the end of a range, since a loop or a chain over it may grow something each time;
   - by a `while` that compares by `<`: what it is compared with, where something grows in it and no `len()` does. Another `while` and a `loop` in
     which something grows stand in a named place, but `while let Some(..) = call`, which goes on while something is handed out.
-In a loop a growth asks for one, and no loop in which something grows stands in another one. No list is asked for room by its own length. What
-makes elements of nothing (MAKERS) isn't called, no type is an iterator, no function that takes an amount is handed on as a value, and one in which
-something grows doesn't call itself.
+So that nothing is multiplied, in a loop a growth asks for one, a function in which something grows by more than one is called only where it stands
+in REPEATED, and no loop in which something grows stands in another one; a closure with a parameter counts as a loop. No list is asked for room by
+its own length. What makes elements of nothing (MAKERS) isn't called, no type is an iterator or an allocator, no function that takes an amount is
+handed on as a value, and one in which something grows doesn't call itself.
 
-What remains: a function that grows something by what is there may be called in a loop over what is there, so products are found over calls by
-nothing. Where a call's function can't be told by its name, all of that name are held."""
+Functions are told apart by their names, the types before them, how many arguments there are and which crates a crate stands on: where that leaves
+several, each of them is held. A method with a name of the kit's (BY_ONE) is taken for the kit's. What remains: how often a loop that stands in NAMED
+goes round, and what a call of REPEATED takes each time, no rule says."""
 import re
 from copy import copy
 from dataclasses import dataclass
 
-from sources import before_angles, head, level, owner_of, past_angles
+from sources import arms, before_angles, head, level, owner_of, past_angles
 
 # A number of at most so many stands for itself: a buffer of 64 KiB, and no more than a run can have.
 MOST = 1 << 16
@@ -70,29 +72,81 @@ NAMED = {
     ("tg_could/src/walks.rt", "hand_on", "start"): "a place in the list",
     # Loops that end where there is no more.
     ("tg_could/src/search.rt", "spread", "NONE"): "a step that was found each",
-    ("tg_could/src/trial.rt", "has_all", "NONE"): "an edge of a vertex each",
     ("tg_could/src/walks.rt", "search", "u64::MAX"): "an edge along a path each",
     ("tg_entries/src/stream.rt", "audit_named", "u64::MAX"): "a line of the reader each",
     ("tg_plain/src/script.rt", "read", "u64::MAX"): "a line of the input each",
     ("tg_evac/src/copies.rt", "scan", "while next<claimer.len()"): "a cell that was won each",
     ("tg_evac/src/from_roots.rt", "walk_each", "loop"): "a root each",
     ("tg_graph/src/followed.rt", "follow_rows", "while i<rows.len()"): "an indexed row each",
-    ("tg_graph/src/rows.rt", "find_spot", "loop"): "a cell of the row each",
     ("tg_graph/src/rows.rt", "edges_of", "loop"): "a cell of the row each",
     ("tg_graph/src/rows.rt", "places_of", "loop"): "a cell of the row each",
     ("tg_journal/src/live/sweep.rt", "reached", "while next<names.len()"): "a vertex that is reached each",
     ("tg_store/src/store/picture.rt", "edges_reached", "while next<found.vertices.len()"): "a vertex that is reached each",
-    ("tg_graph/src/followed.rt", "forget_unnoted", "while let Some(number)=row.noted.next(from)"): "a cell that was noted each",
     ("tg_graph/src/settle.rt", "add_indexed", "while let Some(number)=row.noted.next(from)"): "a cell that was noted each",
     ("tg_script/src/opening.rt", "read_edges", "while let Some(line)=script.next(source, sink)?"): "a line each",
     ("tg_script/src/whole.rt", "read_commands", "while let Some(line)=script.next(source, sink)?"): "a line each",
     ("tg_script/src/run_script.rt", "run_commands", "loop"): "a line each",
     ("tg_text/src/sink.rt", "put_all", "while!rest.is_empty()"): "a part of the bytes each",
     ("tg_text/src/stock.rt", "gather_boxes", "while!rest.is_empty()"): "an item of the text each",
-    ("tg_shared/src/session.rt", "audit_all", "audit_all"): "a session each",
-    ("tg_weave/src/weaving.rt", "sessions_of", "append(&mut spawned)"): "the sessions that were spawned by each",
-    ("deputy/src/errands.rt", "read_and_collect", "collect(rt, store, Kind::Full)"): "a collection of the store",
     ("tg_could/src/walks.rt", "hand_on", "for at in start..end"): "nothing grows there: another function has the name of one that is called",
+}
+
+# In which loops a call grows something by more than one: the file, the function, the calls. Each takes what is its own of what the loop goes
+# through, an entry's text or a row's edges, or gives back what it took.
+REPEATED = {
+    "deputy/src/errands.rt": {"read_and_collect": "is_done"},
+    "deputy/src/opening.rt": {"cells": "cell"},
+    "service/src/client.rt": {"work": "command", "work_and_leave": "make"},
+    "service/src/main.rt": {"serve_clients": "tell_document"},
+    "stand_in/src/opening.rt": {"cells": "cell"},
+    "tg_c/src/opening.rt": {"drafts_in": "new"},
+    "tg_could/src/enough.rt": {"needs": "is_enough"},
+    "tg_could/src/plan.rt": {"go": "begin hand_on names_of"},
+    "tg_could/src/search.rt": {"spread": "enter leave", "start": "put"},
+    "tg_could/src/walks.rt": {"hand_on": "hand_on_at", "search": "leave", "walks": "search"},
+    "tg_could/src/who.rt": {"add_actors": "put", "of": "put"},
+    "tg_entries/src/history.rt": {"write_edges": "write_edge", "write_entries": "write_entry", "write_workers": "write_worker"},
+    "tg_entries/src/stream.rt": {"audit_named": "line"},
+    "tg_entries/src/write.rt": {"write_more": "write_number", "write_others": "write_other"},
+    "tg_evac/src/from_roots.rt": {"walk_each": "scan"},
+    "tg_evac/src/notes.rt": {"note_block": "note_young", "note_blocks": "note_block", "note_roots": "note_root"},
+    "tg_graph/src/followed.rt": {"follow_rows": "follow_row_at", "mark_noted": "mark_next"},
+    "tg_graph/src/opening.rt": {"add_edges": "add_row", "add_row": "add_some"},
+    "tg_graph/src/rows.rt": {"edges_of": "push_edges", "places_of": "push_names"},
+    "tg_graph/src/settle.rt": {"add_indexed": "add_named", "named_by_rows": "add_row"},
+    "tg_index/src/lib.rt": {"of_row": "reserve"},
+    "tg_journal/src/auditor.rt": {"feed": "replay sweep_where_due"},
+    "tg_journal/src/live.rt": {"opened_values": "copy"},
+    "tg_journal/src/live/sweep.rt": {"reached": "add_targets row"},
+    "tg_model/src/graph.rt": {"open": "copy"},
+    "tg_model/src/graph/picture.rt": {"edges_of": "add_row listing"},
+    "tg_parallel/src/many.rt": {"all_joined": "joined", "start_all": "start"},
+    "tg_parallel/src/work.rt": {"work": "copy_chunk"},
+    "tg_payload/src/draft.rt": {"values_of": "copy"},
+    "tg_plain/src/run.rt": {"of": "take"},
+    "tg_program/src/making.rt": {"new_drafts": "new"},
+    "tg_script/src/drafts.rt": {"drafts_of": "new"},
+    "tg_script/src/run_script.rt": {"run_commands": "next run_line"},
+    "tg_shared/src/closing.rt": {"all_match": "matches_since"},
+    "tg_store/src/store/picture.rt": {"edges_reached": "follow_row"},
+    "tg_text/src/reply.rt": {"write_edges": "write_edge", "write_values": "write_value"},
+    "tg_text/src/sink.rt": {"put_all": "put", "put_texts": "put_all"},
+    "tg_text/src/stock.rt": {"gather_boxes": "push_boxes"},
+    "tg_threads/src/threads.rt": {"start_all": "start"},
+    "tg_threads/src/worker.rt": {"run_tasks": "run_task"},
+    "tg_weave/src/telling.rt": {"tell_lines": "tell"},
+    "tg_weave/src/weaving.rt": {"sessions_of": "append"},
+    "tgcould/src/ask.rt": {"add_names": "add_vertex put", "tell_what": "add_rights add_vertex put what", "what": "ask", "who": "add_unless_never"},
+    "tgcould/src/main.rt": {"add_answers": "put tell"},
+    "tgcould/src/options.rt": {"supposed_of": "read_edge"},
+    "tgcould/src/text.rt": {"add_turns": "add_turn", "add_words": "add_word"},
+    "tgdot/src/draft.rt": {"pad": "add"},
+    "tgdot/src/drawing.rt": {"write_edges": "write_edge", "write_run": "take", "write_vertices": "write_vertex"},
+    "tgdot/src/frame.rt": {"widen_edges": "widen_edge", "widen_vertices": "widen_vertex"},
+    "tgdot/src/picture.rt": {"write_edges": "add add_ends write_edge", "write_vertices": "add add_number write_room write_vertex"},
+    "tgdot/src/reach.rt": {"fill": "add_targets"},
+    "tgdot/src/shot.rt": {"write_note": "add", "write_value": "add add_number"},
+    "tgdot/src/steps.rt": {"show_lines": "show take"},
 }
 
 # The types of which a range is one.
@@ -117,6 +171,7 @@ class Function:
     start: int
     end: int
     hands_range: bool
+    is_of_trait: bool
 
     @property
     def crate(self):
@@ -133,6 +188,7 @@ class Call:
     at: int
     arguments: list
     is_of_self: bool
+    has_closure: bool
 
 
 def functions_of(source):
@@ -145,12 +201,25 @@ def functions_of(source):
         body = next((i for i in level(source, shut + 1, len(words)) if words[i] in ("{", ";")), None)
         if body is None or words[body] == ";":
             continue
-        names = [parameter(words, *part) for part in parts(source, opened + 1, shut)]
+        names = [parameter(words, *part) for part in parameters(source, opened + 1, shut)]
         is_method = names[:1] == ["self"]
         around = (head(source, start) for start in source.around(at))
-        owner = next((owner_of(said) for said in around if {"impl", "trait"} & set(said)), "")
-        hands_range = bool(RANGES & {word.strip("<>") for word in words[shut:body]})
-        yield Function(source, words[at + 1], owner, is_method, names[is_method:], body, source.shut[body], hands_range)
+        said = next((said for said in around if {"impl", "trait"} & set(said)), [])
+        owner, is_of_trait = owner_of(said) if said else "", "for" in said or "trait" in said
+        hands_range = bool(RANGES & set(words[shut:body]))
+        yield Function(source, words[at + 1], owner, is_method, names[is_method:], body, source.shut[body], hands_range, is_of_trait)
+
+
+def parameters(source, start, end):
+    """The parameters between brackets: a comma in angle brackets ends none."""
+    first, depth = start, 0
+    for at in level(source, start, end):
+        depth += (source.words[at] == "<") - (source.words[at] == ">")
+        if source.words[at] == "," and depth == 0:
+            yield first, at
+            first = at + 1
+    if first < end:
+        yield first, end
 
 
 def parameter(words, start, end):
@@ -182,7 +251,8 @@ def calls_in(function):
         if words[name].isidentifier() and words[name] not in KEYWORDS:
             arguments = list(parts(source, at + 1, source.shut[at]))
             is_of_self = words[name - 2:name] == ["self", "."]
-            yield Call(function, words[name], before(words, name), at, arguments, is_of_self)
+            has_closure = "|" in words[at:source.shut[at]]
+            yield Call(function, words[name], before(words, name), at, arguments, is_of_self, has_closure)
 
 
 def before(words, name):
@@ -281,12 +351,16 @@ def for_loop(function, at):
 
 
 def loops_in(function):
-    """Where each loop begins, and where its body is opened and shut."""
+    """Where each loop begins, and where its body is opened and shut. A closure with a parameter counts as one, since a chain calls it each time."""
     source, words = function.source, function.source.words
     for at, word in words_of(function):
         if word in ("while", "loop") or word == "for" and for_loop(function, at):
             opened = next(i for i in level(source, at, function.end) if words[i] == "{")
             yield at, opened, source.shut[opened]
+        elif word == "|" and words[at - 1] in ("(", ",", "=", "move") and words[at + 1] != "|":
+            opened = next((i for i in range(at + 1, function.end) if words[i] in ("|", ";", "{")), at)
+            shut = source.shut[source.around(at)[0]]
+            yield at, opened, next((i for i in level(source, opened + 1, shut) if words[i] in (",", ";")), shut)
 
 
 def closure(words, at):
@@ -309,11 +383,13 @@ def pattern_of(function, arrow):
 
 
 class Amounts:
-    """The functions of a tree, and which of their parameters are amounts."""
+    """The functions of a tree, and which of their parameters are amounts. `below` has the crates on which each stands."""
 
-    def __init__(self, sources):
+    def __init__(self, sources, below):
+        self.below = below
         self.functions, self.by_name, self.calls, self.constants = [], {}, {}, {}
-        self.amounts, self.waiting, self.found, self.growing, self.met, self.answering = set(), [], [], set(), set(), []
+        self.amounts, self.waiting, self.found, self.met, self.answering = set(), [], [], set(), []
+        self.growing, self.growing_much = set(), set()
         self.add(sources)
 
     def with_source(self, source):
@@ -321,7 +397,7 @@ class Amounts:
         other = copy(self)
         other.functions, other.found = list(self.functions), []
         other.by_name, other.calls, other.constants = ({key: list(it) for key, it in kept.items()} for kept in (self.by_name, self.calls, self.constants))
-        other.amounts, other.growing, other.met = set(self.amounts), set(self.growing), set(self.met)
+        other.amounts, other.growing, other.growing_much, other.met = set(self.amounts), set(self.growing), set(self.growing_much), set(self.met)
         other.add([source])
         return other
 
@@ -350,6 +426,8 @@ class Amounts:
             self.hold_ranges(it)
             self.hold_loops(it)
             self.hold_size(it)
+            if it.is_method and it.name in BY_ONE - BY_MORE and it in self.growing_much:
+                self.fault(it, it.start - 1, it.start, f"{it.name} grows something by more than one:")
         self.follow()
         for it in fresh:
             self.hold_values(it)
@@ -366,6 +444,10 @@ class Amounts:
 
     def is_of(self, call, function):
         """Whether a call may be one of this function."""
+        is_seen = function.is_of_trait or function.crate in self.below[call.function.crate] | {call.function.crate}
+        handed = len(function.parameters) + (function.is_method and call.before != ".")
+        if not is_seen or len(call.arguments) != handed and not call.has_closure:
+            return False
         named = self.by_name[function.name]
         if call.before == ".":
             is_near = call.is_of_self and any(it.owner == call.function.owner for it in named)
@@ -390,23 +472,48 @@ class Amounts:
                 self.constants.setdefault(words[at + 1], []).append((source, equal + 1, end))
 
     def note_growing(self, fresh, calls):
-        """Notes in which functions something grows: by the kit, or by a call of one of these."""
-        grown = {call.function for call in calls if call.before and (call.name in BY_ONE or call.name in AMOUNT_AT)}
-        grown |= {call.function for call in calls if (call.before, call.name) == ("Box", "new")}
-        grown |= {call.function for call in calls if self.growing & set(self.callees(call))}
+        """Notes in which functions something grows, and in which by more than one: by the kit, in a loop, or by a call of one of these."""
+        grown = {call.function for call in calls if is_growth(call) or self.grown_by(call, self.growing)}
         grown |= {it for it in fresh if any(word in GROWING_MACROS and it.source.words[i + 1] == "!" for i, word in words_of(it))}
-        waiting = list(grown - self.growing)
-        self.growing |= grown
+        self.spread(self.growing, grown)
+        much = {call.function for call in calls if self.grows_much(call)}
+        much |= {it for it in fresh if any(self.value(it.source, *part) is None for part in lists_made(it))}
+        self.spread(self.growing_much, much)
+
+    def spread(self, noted, found):
+        """Notes these functions, and those that call them."""
+        waiting = list(found - noted)
+        noted |= found
         while waiting:
             function = waiting.pop()
             for call in self.calls.get(function.name, []):
-                if call.function not in self.growing and self.is_of(call, function):
-                    self.growing.add(call.function)
+                if call.function not in noted and self.grown_by(call, {function}):
+                    noted.add(call.function)
                     waiting.append(call.function)
 
+    def grown_by(self, call, functions):
+        """Whether a call is one of these functions; a method with a name of the kit's is the kit's."""
+        is_of_kit = call.before == "." and (call.name in BY_ONE or call.name in GROWN_BY and call.arguments)
+        return not is_of_kit and any(it in functions for it in self.callees(call))
+
+    def grows_much(self, call):
+        """Whether a call makes its function one in which something grows by more than one."""
+        if self.grown_by(call, self.growing_much) or (self.grows(call) and is_repeated(call)):
+            return True
+        if not is_growth(call) or call.name not in BY_MORE:
+            return False
+        at = self.amount_at(call)
+        return at is None or self.value(call.function.source, *call.arguments[at]) is None
+
+    def amount_at(self, call):
+        """Which argument of a call of the kit is an amount, or nothing."""
+        if call.name not in AMOUNT_AT or not call.before or call.before[0].islower():
+            return None
+        at = AMOUNT_AT[call.name] + (call.before != "." and call.name in GROWN_BY)
+        return at if at < len(call.arguments) else None
+
     def grows(self, call):
-        is_of_kit = call.before and (call.name in BY_ONE or call.name in AMOUNT_AT) or (call.before, call.name) == ("Box", "new")
-        return is_of_kit or any(it in self.growing for it in self.callees(call))
+        return is_growth(call) or self.grown_by(call, self.growing)
 
     def value(self, source, start, end):
         """The number that an expression of constants is, or nothing."""
@@ -454,6 +561,10 @@ class Amounts:
                 self.fault(function, start, end, "a number past any use is asked for:")
         elif words[start] in ("if", "{"):
             self.hold_branches(function, start, end, seen)
+        elif words[start] == "match":
+            opened = next(i for i in level(source, start, end) if words[i] == "{")
+            for _, arrow, shut in arms(source, opened):
+                self.hold(function, arrow + 1, shut, seen)
         elif last is not None:
             self.hold_parts(function, start, end, last, seen)
         elif end - start == 1 and words[start].isidentifier() and not CONSTANT.fullmatch(words[start]):
@@ -493,7 +604,10 @@ class Amounts:
             self.hold(function, *part, (*seen, name))
 
     def need(self, function, index):
-        if (function, index) not in self.amounts and function not in self.answering:
+        answering = next((needed for it, needed in self.answering if it is function), None)
+        if answering is not None:
+            answering.add(index)
+        elif (function, index) not in self.amounts:
             self.amounts.add((function, index))
             self.waiting.append((function, index))
 
@@ -515,11 +629,10 @@ class Amounts:
         elif words[opened - 2] == "::" and name == "from" and words[opened - 3] in KIT_NUMBERS:
             self.hold(function, *arguments[0], seen)
         elif (answer := self.answer(function, opened)) is not None:
-            for part in arguments:
-                self.hold(function, *part, seen)
-            self.answering.append(answer[0])
+            self.answering.append((answer[0], set()))
             self.hold(*answer)
-            self.answering.pop()
+            for index in self.answering.pop()[1]:
+                self.hold(function, *arguments[index], seen)
         else:
             self.fault(function, start, end, "what a call answers is asked for:")
 
@@ -527,7 +640,8 @@ class Amounts:
         """The expression that a call answers, where its function is one expression; its parameters are held as this call's arguments."""
         named = [it for call in calls_in(function) if call.at == opened for it in self.callees(call)]
         found = [(it, *part) for it in named for part in parts(it.source, it.start + 1, it.end, ";")]
-        return found[0] if len(named) == len(found) == 1 and found[0][0] not in self.answering else None
+        is_met = any(it in named for it, _ in self.answering)
+        return found[0] if len(named) == len(found) == 1 and not is_met else None
 
     def hold_least(self, function, one, other, seen):
         """Holds one of two to be allowed."""
@@ -548,10 +662,8 @@ class Amounts:
     def hold_call_of_kit(self, call):
         if call.name in MAKERS or (call.before, call.name) == (".", "allocate"):
             self.fault(call.function, call.at - 1, call.at, "what makes elements of nothing is called:")
-        if call.name not in AMOUNT_AT or not call.before or call.before[0].islower():
-            return
-        at = AMOUNT_AT[call.name] + (call.before != "." and call.name in GROWN_BY)
-        if at < len(call.arguments):
+        at = self.amount_at(call)
+        if at is not None:
             self.hold(call.function, *call.arguments[at])
             self.hold_other(call, at)
 
@@ -590,10 +702,10 @@ class Amounts:
                     self.found.append(f"crates/{source.place}:{source.lines[start]}: an array is past any use: {compact(source.words[start:shut + 1])}")
 
     def hold_iterators(self, source):
-        """No type of the tree is an iterator: its elements could come from nowhere."""
+        """No type of the tree is an iterator, whose elements could come from nowhere, nor an allocator, which could refuse."""
         for at, word in enumerate(source.words):
-            if word.endswith("Iterator") and source.words[at + 1] == "for":
-                self.found.append(f"crates/{source.place}:{source.lines[at]}: {source.words[at + 2]} is an iterator")
+            if (word.endswith("Iterator") or word == "Allocator") and source.words[at + 1] == "for":
+                self.found.append(f"crates/{source.place}:{source.lines[at]}: {source.words[at + 2]} is an iterator or an allocator")
 
     def hold_texts(self, source):
         """What is written into a text has no width that is an argument, or that is long."""
@@ -604,11 +716,9 @@ class Amounts:
 
     def hold_ranges(self, function):
         source, words = function.source, function.source.words
+        for part in lists_made(function):
+            self.hold(function, *part)
         for at, word in words_of(function):
-            if words[at:at + 3] == ["vec", "!", "["]:
-                found = list(parts(source, at + 3, source.shut[at + 2], ";"))
-                if len(found) == 3:
-                    self.hold(function, *found[2])
             if word not in ("..", "..=") or words[at - 1] in (",", "{") or not (function in self.growing or function.hands_range):
                 continue
             opened = source.around(at)[0]
@@ -626,13 +736,21 @@ class Amounts:
         grown = [call for call in calls_in(function) if self.grows(call)]
         for at, opened, shut in loops:
             inside = [call for call in grown if opened < call.at < shut]
-            if inside and words[at] != "for":
+            if inside and words[at] not in ("for", "|"):
                 self.hold_condition(function, at, opened)
             if inside and any(outer < at < end for _, outer, end in loops):
                 self.fault(function, at, opened, "something grows in a loop within a loop,")
             for call in inside:
-                if call.before and call.arguments and call.name in BY_MORE:
-                    self.fault(function, call.at - 1, function.source.shut[call.at] + 1, "more than one is asked for in a loop:")
+                if call.name in BY_MORE and is_growth(call) or self.grown_by(call, self.growing_much):
+                    self.hold_repeated(call)
+
+    def hold_repeated(self, call):
+        """What grows by more than one in a loop is named."""
+        function = call.function
+        if call.name in REPEATED.get(function.source.place, {}).get(function.name, "").split():
+            self.met.add((function.source.place, function.name, call.name))
+        else:
+            self.found.append(f"crates/{function.source.place}:{function.source.lines[call.at]}: more than one is asked for in a loop: {call.name}, in {function.name}")
 
     def hold_condition(self, function, at, opened):
         """Holds what a loop that isn't a `for` goes up to."""
@@ -652,7 +770,27 @@ class Amounts:
 
     def unmet(self):
         """The named places that aren't there."""
-        return [f"crates/{place}: {name} has no more: {said}" for place, name, said in NAMED if (place, name, said) not in self.met]
+        named = [*NAMED, *((place, name, call) for place, its in REPEATED.items() for name, calls in its.items() for call in calls.split())]
+        return [f"crates/{place}: {name} has no more: {said}" for place, name, said in named if (place, name, said) not in self.met]
+
+
+def is_growth(call):
+    """Whether a call is one of the kit's by which something grows."""
+    is_own = call.name == "collect" and len(call.arguments) != 1
+    return bool(call.before) and not is_own and (call.name in BY_ONE or call.name in AMOUNT_AT) or (call.before, call.name) == ("Box", "new")
+
+
+def is_repeated(call):
+    return any(opened < call.at < shut for _, opened, shut in loops_in(call.function))
+
+
+def lists_made(function):
+    """The amount of each `vec![in alloc; value; amount]`."""
+    source, words = function.source, function.source.words
+    for at, word in words_of(function):
+        if words[at:at + 3] == ["vec", "!", "["]:
+            found = list(parts(source, at + 3, source.shut[at + 2], ";"))
+            yield from found[2:3]
 
 
 def words_of(function):
