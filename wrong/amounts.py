@@ -11,35 +11,23 @@ as it stands there. An amount is asked for
   - by a growth of the kit that takes one (AMOUNT_AT), by `vec![in alloc; value; amount]`, and by an array's type or value;
   - by the end of a range, since a loop or a chain over it may grow something each time;
   - by a `while` that compares by `<`: what it is compared with, where something grows in it and no `len()` does. Another `while` and a `loop` in
-    which something grows stand in a named place, but `while let Some(..) = call`, which goes on while something is handed out.
+    which something grows stand in a named place.
 So that nothing is multiplied, in a loop a growth asks for one, a function in which something grows by more than one is called only where it stands
 in REPEATED, and no loop in which something grows stands in another one; a closure with a parameter counts as a loop. No list is asked for room by
 its own length. What makes elements of nothing (MAKERS) isn't called, no type is an iterator or an allocator, no function that takes an amount is
 handed on as a value, and one in which something grows doesn't call itself.
 
-Functions are told apart by their names, the types before them, how many arguments there are and which crates a crate stands on: where that leaves
-several, each of them is held. A method with a name of the kit's (BY_ONE) is taken for the kit's. What remains: how often a loop that stands in NAMED
-goes round, and what a call of REPEATED takes each time, no rule says."""
+Which function a call is of is told by its words (growths.py): where these leave several, each of them is held. What remains: how often a loop that
+stands in NAMED goes round, and what a call of REPEATED takes each time, no rule says."""
 import re
 from copy import copy
-from dataclasses import dataclass
 
-from sources import arms, before_angles, head, level, owner_of, past_angles
+from calls import bound_to, calls_in, lists_made, loops_in, operator, parts, trimmed, words_of
+from growths import AMOUNT_AT, BY_MORE, BY_ONE, CONSTANT, GROWN_BY, KIT_NUMBERS, Tree, is_growth
+from sources import arms, compact, level
 
 # A number of at most so many stands for itself: a buffer of 64 KiB, and no more than a run can have.
 MOST = 1 << 16
-
-# The calls of the kit that take an amount, and where it stands: of functions of a type, and of methods.
-MADE_WITH = {"with_capacity": 1, "with_capacity_and_hasher": 1, "from_elem": 2, "vacant": 2}
-GROWN_BY = {name: 0 for name in ("reserve", "reserve_exact", "try_reserve", "try_reserve_exact", "resize", "resize_with", "try_resize_with")}
-AMOUNT_AT = MADE_WITH | GROWN_BY
-
-# What grows by one, or by what is there.
-BY_ONE = {"push", "push_str", "push_back", "push_front", "insert", "insert_mut", "shift_insert", "entry", "append", "split_off", "clone"}
-BY_ONE |= {"extend", "extend_from_slice", "collect", "try_collect", "to_vec", "to_string"}
-# What grows by more than one at once.
-BY_MORE = set(AMOUNT_AT) | {"append", "extend", "extend_from_slice", "collect", "try_collect", "to_vec", "clone"}
-GROWING_MACROS = {"vec", "format"}
 
 # What makes elements of nothing, and what is asked for otherwise.
 MAKERS = {"repeat", "repeat_n", "repeat_with", "from_fn", "successors", "cycle", "flat_map", "stack_size"}
@@ -149,285 +137,38 @@ REPEATED = {
     "tgdot/src/steps.rt": {"show_lines": "show take"},
 }
 
-# The types of which a range is one.
-RANGES = {"Range", "RangeInclusive", "RangeFrom", "Iterator", "IntoIterator", "impl", "dyn"}
-
-KEYWORDS = {"if", "while", "match", "return", "in", "for", "let", "move", "as", "else", "fn", "break", "loop", "Some", "Ok", "Err"}
-KIT_NUMBERS = {"u8", "u16", "u32", "u64", "usize", "i64"}
-CONSTANT = re.compile(r"[A-Z][A-Z0-9_]*")
-NUMBER = re.compile(r"(0x[0-9a-fA-F_]+|0b[01_]+|[0-9][0-9_]*?)(?:_?[iu](?:8|16|32|64|128|size))?")
-RANKS = (("|",), ("^",), ("&",), ("<<", ">>"), ("+", "-"), ("*", "/", "%"))
-
-
-@dataclass(eq=False)
-class Function:
-    """A function: the names of its parameters but `self`, and where its body begins and ends."""
-
-    source: object
-    name: str
-    owner: str
-    is_method: bool
-    parameters: list
-    start: int
-    end: int
-    hands_range: bool
-    is_of_trait: bool
-
-    @property
-    def crate(self):
-        return self.source.crate
-
-
-@dataclass(eq=False)
-class Call:
-    """A call: what stands before its name ('.', a type, a module or nothing), and where each argument begins and ends."""
-
-    function: Function
-    name: str
-    before: str
-    at: int
-    arguments: list
-    is_of_self: bool
-    has_closure: bool
-
-
-def functions_of(source):
-    words = source.words
-    for at, word in enumerate(words):
-        if word != "fn" or not words[at + 1].isidentifier():
-            continue
-        opened = at + 2 if words[at + 2] == "(" else past_angles(words, at + 2)
-        shut = source.shut[opened]
-        body = next((i for i in level(source, shut + 1, len(words)) if words[i] in ("{", ";")), None)
-        if body is None or words[body] == ";":
-            continue
-        names = [parameter(words, *part) for part in parameters(source, opened + 1, shut)]
-        is_method = names[:1] == ["self"]
-        around = (head(source, start) for start in source.around(at))
-        said = next((said for said in around if {"impl", "trait"} & set(said)), [])
-        owner, is_of_trait = owner_of(said) if said else "", "for" in said or "trait" in said
-        hands_range = bool(RANGES & set(words[shut:body]))
-        yield Function(source, words[at + 1], owner, is_method, names[is_method:], body, source.shut[body], hands_range, is_of_trait)
-
-
-def parameters(source, start, end):
-    """The parameters between brackets: a comma in angle brackets ends none."""
-    first, depth = start, 0
-    for at in level(source, start, end):
-        depth += (source.words[at] == "<") - (source.words[at] == ">")
-        if source.words[at] == "," and depth == 0:
-            yield first, at
-            first = at + 1
-    if first < end:
-        yield first, end
-
-
-def parameter(words, start, end):
-    """The name of a parameter, or nothing where it is a pattern."""
-    colon = words.index(":", start, end) if ":" in words[start:end] else end
-    names = [word for word in words[start:colon] if word.isidentifier() and word != "mut"]
-    return "self" if "self" in names else names[0] if len(names) == 1 else ""
-
-
-def parts(source, start, end, between=","):
-    """The parts of a list: where each begins and ends."""
-    first = start
-    for at in level(source, start, end):
-        if source.words[at] == between:
-            yield first, at
-            first = at + 1
-    if first < end:
-        yield first, end
-
-
-def calls_in(function):
-    source, words = function.source, function.source.words
-    for at in range(function.start, function.end):
-        if words[at] != "(":
-            continue
-        name = at - 1
-        if words[name] == ">" and (opened := before_angles(words, name)) is not None and words[opened - 1] == "::":
-            name = opened - 2
-        if words[name].isidentifier() and words[name] not in KEYWORDS:
-            arguments = list(parts(source, at + 1, source.shut[at]))
-            is_of_self = words[name - 2:name] == ["self", "."]
-            has_closure = "|" in words[at:source.shut[at]]
-            yield Call(function, words[name], before(words, name), at, arguments, is_of_self, has_closure)
-
-
-def before(words, name):
-    """What stands before the name of a call: '.', or the last name of its path."""
-    if words[name - 1] != "::":
-        return "." if words[name - 1] == "." else ""
-    at = name - 2
-    if words[at] == ">" and (opened := before_angles(words, at)) is not None:
-        at = opened - 1 - (words[opened - 1] == "::")
-    return words[at]
-
-
-def trimmed(source, start, end):
-    """An expression without what stands around it: brackets, `as`, `?`, `&`, `*`."""
-    words = source.words
-    while end - start > 1:
-        if words[start] == "(" and source.shut[start] == end - 1 and not is_list(source, start):
-            start, end = start + 1, end - 1
-        elif words[end - 2] == "as":
-            end -= 2
-        elif words[end - 1] == "?":
-            end -= 1
-        elif words[start] in ("&", "*") and operator(source, start, end) is None:
-            start += 1
-        else:
-            break
-    return start, end
-
-
-def is_list(source, start):
-    return any(source.words[at] == "," for at in level(source, start + 1, source.shut[start]))
-
-
-def operator(source, start, end):
-    """The operator that is done last: where it stands, which it is, and how many words it has."""
-    words, found = source.words, []
-    for at in level(source, start, end):
-        last = words[at - 1]
-        is_behind = at > start and (last.isidentifier() and last not in KEYWORDS or last[0].isdigit() or last in (")", "]", "?"))
-        if is_behind and words[at] in ("<", ">") and words[at + 1] == words[at]:
-            found.append((at, words[at] * 2, 2))
-        elif is_behind and words[at] in tuple("|^&+-*/%"):
-            found.append((at, words[at], 1))
-    ranked = ([it for it in found if it[1] in rank] for rank in RANKS)
-    return next((rank[-1] for rank in ranked if rank), None)
-
-
-def compact(words):
-    """Words as they stand in a line."""
-    said = ""
-    for word in words:
-        is_apart = said and (said[-1].isalnum() or said[-1] in "_,") and (word[0].isalnum() or word[0] == "_")
-        said += f" {word}" if is_apart else word
-    return said
-
-
-def bound_to(function, name):
-    """The expressions to which a name is bound in a function, and whether it is bound or changed otherwise."""
-    source, words = function.source, function.source.words
-    simple, is_otherwise = [], False
-    for at in range(function.start, function.end):
-        if words[at] == "let":
-            equal = next(i for i in level(source, at, function.end) if words[i] in ("=", ";"))
-            pattern = words[at + 1:equal]
-            pattern = pattern[:pattern.index(":")] if ":" in pattern else pattern
-            if [word for word in pattern if word != "mut"] == [name]:
-                simple += [(equal + 1, end_of(source, equal, function.end))] if words[equal] == "=" else []
-            else:
-                is_otherwise |= name in pattern
-        elif words[at] == "for":
-            loop = for_loop(function, at)
-            if loop and name in words[at + 1:loop[0]]:
-                dots = [i for i in level(source, *loop) if words[i] in ("..", "..=")]
-                is_otherwise |= words[at + 1:loop[0]] != [name] or not dots
-                simple += [(dots[0] + 1, loop[1])] if dots else []
-        elif words[at] == name and words[at - 1] not in (".", "::"):
-            if words[at + 1] == "=":
-                simple.append((at + 2, end_of(source, at, function.end)))
-            is_otherwise |= words[at + 2:at + 3] == ["="] and words[at + 1] in tuple("+*|^")
-            is_otherwise |= words[at - 2:at] == ["&", "mut"]
-        is_otherwise |= words[at] == "|" and name in closure(words, at) or words[at] == "=>" and name in pattern_of(function, at)
-    return simple, is_otherwise
-
-
-def end_of(source, at, end):
-    return next((i for i in level(source, at, end) if source.words[i] == ";"), end)
-
-
-def for_loop(function, at):
-    """Where the `in` of a loop stands, and where its body is opened."""
-    words, source = function.source.words, function.source
-    place = next((i for i in level(source, at, function.end) if words[i] in ("in", "{", ";")), None)
-    if place is None or words[place] != "in":
-        return None
-    return place, next(i for i in level(source, place, function.end) if words[i] == "{")
-
-
-def loops_in(function):
-    """Where each loop begins, and where its body is opened and shut. A closure with a parameter counts as one, since a chain calls it each time."""
-    source, words = function.source, function.source.words
-    for at, word in words_of(function):
-        if word in ("while", "loop") or word == "for" and for_loop(function, at):
-            opened = next(i for i in level(source, at, function.end) if words[i] == "{")
-            yield at, opened, source.shut[opened]
-        elif word == "|" and words[at - 1] in ("(", ",", "=", "move") and words[at + 1] != "|":
-            opened = next((i for i in range(at + 1, function.end) if words[i] in ("|", ";", "{")), at)
-            shut = source.shut[source.around(at)[0]]
-            yield at, opened, next((i for i in level(source, opened + 1, shut) if words[i] in (",", ";")), shut)
-
-
-def closure(words, at):
-    """The words between the bars of a closure that begins here."""
-    if words[at - 1] not in ("(", ",", "=", "move"):
-        return []
-    shut = next((i for i in range(at + 1, len(words)) if words[i] in ("|", ";", "{")), at)
-    return words[at + 1:shut]
-
-
-def pattern_of(function, arrow):
-    """The words of the pattern before an arrow that stand in brackets, where names are bound."""
-    words, at, opens = function.source.words, arrow - 1, {shut: start for start, shut in function.source.shut.items()}
-    said = []
-    while words[at] not in (",", "{", ";") and words[at] != "=>":
-        start = opens.get(at, at)
-        said += words[start:at + 1]
-        at = start - 1
-    return said[:said.index("if")] if "if" in said else said
-
 
 class Amounts:
-    """The functions of a tree, and which of their parameters are amounts. `below` has the crates on which each stands."""
+    """The rule, over a tree: `found` has what is wrong."""
 
     def __init__(self, sources, below):
-        self.below = below
-        self.functions, self.by_name, self.calls, self.constants = [], {}, {}, {}
+        self.tree = Tree(below)
         self.amounts, self.waiting, self.found, self.met, self.answering = set(), [], [], set(), []
-        self.growing, self.growing_much = set(), set()
         self.add(sources)
 
     def with_source(self, source):
         """The same tree with one source more, and only its faults."""
         other = copy(self)
-        other.functions, other.found = list(self.functions), []
-        other.by_name, other.calls, other.constants = ({key: list(it) for key, it in kept.items()} for kept in (self.by_name, self.calls, self.constants))
-        other.amounts, other.growing, other.growing_much, other.met = set(self.amounts), set(self.growing), set(self.growing_much), set(self.met)
+        other.tree, other.amounts, other.met, other.found = self.tree.copied(), set(self.amounts), set(self.met), []
         other.add([source])
         return other
 
     def add(self, sources):
         """Takes sources in, and holds them to the rule."""
-        fresh = [it for source in sources for it in functions_of(source)]
-        for source in sources:
-            self.note_constants(source)
-        calls = [call for it in fresh for call in calls_in(it)]
-        for it in fresh:
-            self.by_name.setdefault(it.name, []).append(it)
-        for call in calls:
-            self.calls.setdefault(call.name, []).append(call)
-        self.functions += fresh
-        self.note_growing(fresh, calls)
+        fresh, calls = self.tree.take_in(sources)
         for source in sources:
             self.hold_arrays(source)
-            self.hold_iterators(source)
+            self.hold_types(source)
             self.hold_texts(source)
         for call in calls:
             self.hold_call_of_kit(call)
             self.hold_recursion(call)
-            for function, index in self.amounts & {(it, i) for it in self.callees(call) for i in range(len(it.parameters))}:
+            for function, index in self.amounts & {(it, i) for it in self.tree.callees(call) for i in range(len(it.parameters))}:
                 self.hold_argument(call, function, index)
         for it in fresh:
             self.hold_ranges(it)
             self.hold_loops(it)
-            self.hold_size(it)
-            if it.is_method and it.name in BY_ONE - BY_MORE and it in self.growing_much:
-                self.fault(it, it.start - 1, it.start, f"{it.name} grows something by more than one:")
+            self.hold_method(it)
         self.follow()
         for it in fresh:
             self.hold_values(it)
@@ -436,105 +177,9 @@ class Amounts:
         """Holds each call of a function whose parameter turned out to be an amount."""
         while self.waiting:
             function, index = self.waiting.pop()
-            for call in self.calls.get(function.name, []):
-                if self.is_of(call, function):
+            for call in self.tree.calls.get(function.name, []):
+                if self.tree.is_of(call, function):
                     self.hold_argument(call, function, index)
-
-    # The names of the tree.
-
-    def is_of(self, call, function):
-        """Whether a call may be one of this function."""
-        is_seen = function.is_of_trait or function.crate in self.below[call.function.crate] | {call.function.crate}
-        handed = len(function.parameters) + (function.is_method and call.before != ".")
-        if not is_seen or len(call.arguments) != handed and not call.has_closure:
-            return False
-        named = self.by_name[function.name]
-        if call.before == ".":
-            is_near = call.is_of_self and any(it.owner == call.function.owner for it in named)
-            return function.is_method and (not is_near or function.owner == call.function.owner)
-        if call.before == "Self":
-            return function.owner == call.function.owner
-        if call.before == "" or call.before[0].islower():
-            near = [it for it in named if not it.owner and it.crate == call.function.crate]
-            return function in near if near else not function.owner
-        # (a letter is a type that is a parameter)
-        return function.owner == call.before or len(call.before) == 1
-
-    def callees(self, call):
-        return [it for it in self.by_name.get(call.name, []) if self.is_of(call, it)]
-
-    def note_constants(self, source):
-        words = source.words
-        for at, word in enumerate(words):
-            if word in ("const", "static") and CONSTANT.fullmatch(words[at + 1]) and words[at + 2] == ":":
-                end = end_of(source, at, len(words))
-                equal = next((i for i in level(source, at, end) if words[i] == "="), end)
-                self.constants.setdefault(words[at + 1], []).append((source, equal + 1, end))
-
-    def note_growing(self, fresh, calls):
-        """Notes in which functions something grows, and in which by more than one: by the kit, in a loop, or by a call of one of these."""
-        grown = {call.function for call in calls if is_growth(call) or self.grown_by(call, self.growing)}
-        grown |= {it for it in fresh if any(word in GROWING_MACROS and it.source.words[i + 1] == "!" for i, word in words_of(it))}
-        self.spread(self.growing, grown)
-        much = {call.function for call in calls if self.grows_much(call)}
-        much |= {it for it in fresh if any(self.value(it.source, *part) is None for part in lists_made(it))}
-        self.spread(self.growing_much, much)
-
-    def spread(self, noted, found):
-        """Notes these functions, and those that call them."""
-        waiting = list(found - noted)
-        noted |= found
-        while waiting:
-            function = waiting.pop()
-            for call in self.calls.get(function.name, []):
-                if call.function not in noted and self.grown_by(call, {function}):
-                    noted.add(call.function)
-                    waiting.append(call.function)
-
-    def grown_by(self, call, functions):
-        """Whether a call is one of these functions; a method with a name of the kit's is the kit's."""
-        is_of_kit = call.before == "." and (call.name in BY_ONE or call.name in GROWN_BY and call.arguments)
-        return not is_of_kit and any(it in functions for it in self.callees(call))
-
-    def grows_much(self, call):
-        """Whether a call makes its function one in which something grows by more than one."""
-        if self.grown_by(call, self.growing_much) or (self.grows(call) and is_repeated(call)):
-            return True
-        if not is_growth(call) or call.name not in BY_MORE:
-            return False
-        at = self.amount_at(call)
-        return at is None or self.value(call.function.source, *call.arguments[at]) is None
-
-    def amount_at(self, call):
-        """Which argument of a call of the kit is an amount, or nothing."""
-        if call.name not in AMOUNT_AT or not call.before or call.before[0].islower():
-            return None
-        at = AMOUNT_AT[call.name] + (call.before != "." and call.name in GROWN_BY)
-        return at if at < len(call.arguments) else None
-
-    def grows(self, call):
-        return is_growth(call) or self.grown_by(call, self.growing)
-
-    def value(self, source, start, end):
-        """The number that an expression of constants is, or nothing."""
-        words = source.words
-        start, end = trimmed(source, start, end)
-        if (last := operator(source, start, end)) is not None:
-            at, which, width = last
-            left, right = self.value(source, start, at), self.value(source, at + width, end)
-            return None if left is None or right is None else calculated(which, left, right)
-        if end - start == 1 and words[start][0] == "'":
-            return 0
-        if end - start == 1 and (number := NUMBER.fullmatch(words[start])):
-            return int(number[1].replace("_", ""), 0)
-        if end > start and CONSTANT.fullmatch(words[end - 1]) and not KIT_NUMBERS & set(words[start:end]):
-            named = self.constants.get(words[end - 1], [])
-            near = [it for it in named if it[0].crate == source.crate]
-            values = [self.value(*it) for it in near or named]
-            return None if None in values else max(values, default=None)
-        return None
-
-    # The rule.
 
     def fault(self, function, start, end, what):
         said = compact(function.source.words[start:end])
@@ -555,7 +200,7 @@ class Amounts:
         start, end = trimmed(source, start, end)
         if self.is_named(function, start, end):
             return
-        value, last = self.value(source, start, end), operator(source, start, end)
+        value, last = self.tree.value(source, start, end), operator(source, start, end)
         if value is not None:
             if value > MOST:
                 self.fault(function, start, end, "a number past any use is asked for:")
@@ -638,7 +283,7 @@ class Amounts:
 
     def answer(self, function, opened):
         """The expression that a call answers, where its function is one expression; its parameters are held as this call's arguments."""
-        named = [it for call in calls_in(function) if call.at == opened for it in self.callees(call)]
+        named = [it for call in calls_in(function) if call.at == opened for it in self.tree.callees(call)]
         found = [(it, *part) for it in named for part in parts(it.source, it.start + 1, it.end, ";")]
         is_met = any(it in named for it, _ in self.answering)
         return found[0] if len(named) == len(found) == 1 and not is_met else None
@@ -652,8 +297,6 @@ class Amounts:
             told.append(self.found)
         self.found = kept + (told[0] if all(told) else [])
 
-    # What asks for an amount.
-
     def hold_argument(self, call, function, index):
         at = index + (function.is_method and call.before != ".")
         if at < len(call.arguments):
@@ -662,7 +305,7 @@ class Amounts:
     def hold_call_of_kit(self, call):
         if call.name in MAKERS or (call.before, call.name) == (".", "allocate"):
             self.fault(call.function, call.at - 1, call.at, "what makes elements of nothing is called:")
-        at = self.amount_at(call)
+        at = self.tree.amount_at(call)
         if at is not None:
             self.hold(call.function, *call.arguments[at])
             self.hold_other(call, at)
@@ -679,7 +322,7 @@ class Amounts:
 
     def hold_recursion(self, call):
         is_near = call.before != "." or call.is_of_self
-        if is_near and call.function in self.callees(call) and call.function in self.growing:
+        if is_near and call.function in self.tree.callees(call) and call.function in self.tree.growing:
             self.fault(call.function, call.at - 1, call.at, "a function in which something grows calls itself:")
 
     def hold_values(self, function):
@@ -698,10 +341,11 @@ class Amounts:
         for start, shut in source.shut.items():
             if source.words[start] == "[" and source.words[start - 1] != "!":
                 found = list(parts(source, start + 1, shut, ";"))
-                if len(found) == 2 and (self.value(source, *found[1]) or 0) > MOST:
-                    self.found.append(f"crates/{source.place}:{source.lines[start]}: an array is past any use: {compact(source.words[start:shut + 1])}")
+                if len(found) == 2 and (self.tree.value(source, *found[1]) or 0) > MOST:
+                    said = compact(source.words[start:shut + 1])
+                    self.found.append(f"crates/{source.place}:{source.lines[start]}: an array is past any use: {said}")
 
-    def hold_iterators(self, source):
+    def hold_types(self, source):
         """No type of the tree is an iterator, whose elements could come from nowhere, nor an allocator, which could refuse."""
         for at, word in enumerate(source.words):
             if (word.endswith("Iterator") or word == "Allocator") and source.words[at + 1] == "for":
@@ -719,7 +363,7 @@ class Amounts:
         for part in lists_made(function):
             self.hold(function, *part)
         for at, word in words_of(function):
-            if word not in ("..", "..=") or words[at - 1] in (",", "{") or not (function in self.growing or function.hands_range):
+            if word not in ("..", "..=") or words[at - 1] in (",", "{") or not (function in self.tree.growing or function.hands_range):
                 continue
             opened = source.around(at)[0]
             if words[opened] == "[" or words[opened] == "(" and words[opened - 1] in OF_SLICES:
@@ -733,7 +377,7 @@ class Amounts:
     def hold_loops(self, function):
         """A loop in which something grows goes on no further than what is there, and grows it by one each time."""
         words, loops = function.source.words, list(loops_in(function))
-        grown = [call for call in calls_in(function) if self.grows(call)]
+        grown = [call for call in calls_in(function) if self.tree.grows(call)]
         for at, opened, shut in loops:
             inside = [call for call in grown if opened < call.at < shut]
             if inside and words[at] not in ("for", "|"):
@@ -741,7 +385,7 @@ class Amounts:
             if inside and any(outer < at < end for _, outer, end in loops):
                 self.fault(function, at, opened, "something grows in a loop within a loop,")
             for call in inside:
-                if call.name in BY_MORE and is_growth(call) or self.grown_by(call, self.growing_much):
+                if call.name in BY_MORE and is_growth(call) or self.tree.grown_by(call, self.tree.growing_much):
                     self.hold_repeated(call)
 
     def hold_repeated(self, call):
@@ -750,7 +394,8 @@ class Amounts:
         if call.name in REPEATED.get(function.source.place, {}).get(function.name, "").split():
             self.met.add((function.source.place, function.name, call.name))
         else:
-            self.found.append(f"crates/{function.source.place}:{function.source.lines[call.at]}: more than one is asked for in a loop: {call.name}, in {function.name}")
+            where = f"crates/{function.source.place}:{function.source.lines[call.at]}"
+            self.found.append(f"{where}: more than one is asked for in a loop: {call.name}, in {function.name}")
 
     def hold_condition(self, function, at, opened):
         """Holds what a loop that isn't a `for` goes up to."""
@@ -762,55 +407,15 @@ class Amounts:
         else:
             self.hold(function, less + 1, opened)
 
-    def hold_size(self, function):
-        """A size of the tree is one of a type that is known to have it."""
+    def hold_method(self, function):
+        """A size of the tree is one of a type that is known to have it, and what has the name of a growth of the kit by one grows by one."""
         is_size = function.is_method and not function.parameters
         if is_size and function.owner not in SIZES.get(function.name, {function.owner}):
             self.fault(function, function.start - 1, function.start, f"{function.owner} isn't known to have the size {function.name}:")
+        if function.is_method and function.name in BY_ONE - BY_MORE and function in self.tree.growing_much:
+            self.fault(function, function.start - 1, function.start, f"{function.name} grows something by more than one:")
 
     def unmet(self):
         """The named places that aren't there."""
         named = [*NAMED, *((place, name, call) for place, its in REPEATED.items() for name, calls in its.items() for call in calls.split())]
         return [f"crates/{place}: {name} has no more: {said}" for place, name, said in named if (place, name, said) not in self.met]
-
-
-def is_growth(call):
-    """Whether a call is one of the kit's by which something grows."""
-    is_own = call.name == "collect" and len(call.arguments) != 1
-    return bool(call.before) and not is_own and (call.name in BY_ONE or call.name in AMOUNT_AT) or (call.before, call.name) == ("Box", "new")
-
-
-def is_repeated(call):
-    return any(opened < call.at < shut for _, opened, shut in loops_in(call.function))
-
-
-def lists_made(function):
-    """The amount of each `vec![in alloc; value; amount]`."""
-    source, words = function.source, function.source.words
-    for at, word in words_of(function):
-        if words[at:at + 3] == ["vec", "!", "["]:
-            found = list(parts(source, at + 3, source.shut[at + 2], ";"))
-            yield from found[2:3]
-
-
-def words_of(function):
-    """Where each word of a body stands, and the word."""
-    return ((at, function.source.words[at]) for at in range(function.start, function.end))
-
-
-def calculated(which, left, right):
-    match which:
-        case "+":
-            return left + right
-        case "-":
-            return left - right
-        case "*":
-            return left * right
-        case "<<":
-            return left << min(right, 64)
-        case ">>":
-            return left >> right
-        case "/" | "%":
-            return left
-        case _:
-            return max(left, right)

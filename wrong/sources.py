@@ -152,3 +152,12 @@ def owner_of(said):
 def function(source, at):
     """The function around a place."""
     return next((source.words[i + 1] for i in range(at, -1, -1) if source.words[i] == "fn" and source.words[i + 1] != "("), "")
+
+
+def compact(words):
+    """Words as they stand in a line."""
+    said = ""
+    for word in words:
+        is_apart = said and (said[-1].isalnum() or said[-1] in "_,") and (word[0].isalnum() or word[0] == "_")
+        said += f" {word}" if is_apart else word
+    return said
