@@ -23,7 +23,7 @@ import re
 from copy import copy
 
 from calls import bound_to, calls_in, lists_made, loops_in, operator, parts, trimmed, words_of
-from growths import AMOUNT_AT, BY_MORE, BY_ONE, CONSTANT, GROWN_BY, KIT_NUMBERS, Tree, is_growth
+from growths import AMOUNT_AT, BY_MORE, BY_ONE, CONSTANT, KIT_NUMBERS, Tree, is_growth
 from sources import arms, compact, level
 
 # A number of at most so many stands for itself: a buffer of 64 KiB, and no more than a run can have.
