@@ -337,13 +337,15 @@ class Amounts:
                 self.fault(function, at, at + 1, "a function that takes an amount is handed on:")
 
     def hold_arrays(self, source):
-        """The length of an array, its own and that of those around it."""
+        """The length of an array is a small number, also where it has no bytes."""
         for start, shut in source.shut.items():
-            if source.words[start] == "[" and source.words[start - 1] != "!":
-                found = list(parts(source, start + 1, shut, ";"))
-                if len(found) == 2 and (self.tree.value(source, *found[1]) or 0) > MOST:
-                    said = compact(source.words[start:shut + 1])
-                    self.found.append(f"crates/{source.place}:{source.lines[start]}: an array is past any use: {said}")
+            if source.words[start] != "[" or source.words[start - 1] == "!":
+                continue
+            found = list(parts(source, start + 1, shut, ";"))
+            length = self.tree.value(source, *found[1]) if len(found) == 2 else 0
+            if length is None or length > MOST:
+                said = compact(source.words[start:shut + 1])
+                self.found.append(f"crates/{source.place}:{source.lines[start]}: an array is past any use: {said}")
 
     def hold_types(self, source):
         """No type of the tree is an iterator, whose elements could come from nowhere, nor an allocator, which could refuse."""

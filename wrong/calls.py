@@ -173,8 +173,10 @@ def bound_to(function, name):
         elif words[at] == name and words[at - 1] not in (".", "::"):
             if words[at + 1] == "=":
                 simple.append((at + 2, end_of(source, at, function.end)))
-            is_otherwise |= words[at + 2:at + 3] == ["="] and words[at + 1] in tuple("+*|^")
+            is_otherwise |= words[at + 2:at + 3] == ["="] and words[at + 1] in tuple("+*|^") or words[at + 1:at + 4] == ["<", "<", "="]
             is_otherwise |= words[at - 2:at] == ["&", "mut"]
+        elif words[at] == "(" and words[source.shut[at] + 1:source.shut[at] + 2] == ["="]:
+            is_otherwise |= name in words[at:source.shut[at]]
         is_otherwise |= words[at] == "|" and name in closure(words, at) or words[at] == "=>" and name in pattern_of(function, at)
     return simple, is_otherwise
 
