@@ -12,13 +12,14 @@ as it stands there. An amount is asked for
   - by the end of a range, since a loop or a chain over it may grow something each time;
   - by a `while` that compares by `<`: what it is compared with, where something grows in it and no `len()` does. Another `while` and a `loop` in
     which something grows stand in a named place.
-So that nothing is multiplied, in a loop a growth asks for one, a function in which something grows by more than one is called only where it stands
-in REPEATED, and no loop in which something grows stands in another one; a closure with a parameter counts as a loop. No list is asked for room by
-its own length. What makes elements of nothing (MAKERS) isn't called, no type is an iterator or an allocator, no function that takes an amount is
-handed on as a value, and one in which something grows doesn't call itself.
+So that nothing is multiplied, in a loop a growth asks for one, and a function in which something grows by more than one is called only where
+that stands in wrong/repeated: there it takes what is its own of what the loop goes through, an entry's text or a row's edges, or gives back what
+it took. No loop in which something grows stands in another one; a closure with a parameter counts as a loop. No list is asked for room by its own
+length. What makes elements of nothing (MAKERS) isn't called, no type is an iterator or an allocator, no function that takes an amount is handed on
+as a value, and one in which something grows doesn't call itself.
 
 Which function a call is of is told by its words (growths.py): where these leave several, each of them is held. What remains: how often a loop that
-stands in NAMED goes round, and what a call of REPEATED takes each time, no rule says."""
+stands in NAMED goes round, and what a call in wrong/repeated takes each time, no rule says."""
 import re
 from copy import copy
 
@@ -79,70 +80,13 @@ NAMED = {
     ("tg_could/src/walks.rt", "hand_on", "for at in start..end"): "nothing grows there: another function has the name of one that is called",
 }
 
-# In which loops a call grows something by more than one: the file, the function, the calls. Each takes what is its own of what the loop goes
-# through, an entry's text or a row's edges, or gives back what it took.
-REPEATED = {
-    "deputy/src/errands.rt": {"read_and_collect": "is_done"},
-    "deputy/src/opening.rt": {"cells": "cell"},
-    "service/src/client.rt": {"work": "command", "work_and_leave": "make"},
-    "service/src/main.rt": {"serve_clients": "tell_document"},
-    "stand_in/src/opening.rt": {"cells": "cell"},
-    "tg_c/src/opening.rt": {"drafts_in": "new"},
-    "tg_could/src/enough.rt": {"needs": "is_enough"},
-    "tg_could/src/plan.rt": {"go": "begin hand_on names_of"},
-    "tg_could/src/search.rt": {"spread": "enter leave", "start": "put"},
-    "tg_could/src/walks.rt": {"hand_on": "hand_on_at", "search": "leave", "walks": "search"},
-    "tg_could/src/who.rt": {"add_actors": "put", "of": "put"},
-    "tg_entries/src/history.rt": {"write_edges": "write_edge", "write_entries": "write_entry", "write_workers": "write_worker"},
-    "tg_entries/src/stream.rt": {"audit_named": "line"},
-    "tg_entries/src/write.rt": {"write_more": "write_number", "write_others": "write_other"},
-    "tg_evac/src/from_roots.rt": {"walk_each": "scan"},
-    "tg_evac/src/notes.rt": {"note_block": "note_young", "note_blocks": "note_block", "note_roots": "note_root"},
-    "tg_graph/src/followed.rt": {"follow_rows": "follow_row_at", "mark_noted": "mark_next"},
-    "tg_graph/src/opening.rt": {"add_edges": "add_row", "add_row": "add_some"},
-    "tg_graph/src/rows.rt": {"edges_of": "push_edges", "places_of": "push_names"},
-    "tg_graph/src/settle.rt": {"add_indexed": "add_named", "named_by_rows": "add_row"},
-    "tg_index/src/lib.rt": {"of_row": "reserve"},
-    "tg_journal/src/auditor.rt": {"feed": "replay sweep_where_due"},
-    "tg_journal/src/live.rt": {"opened_values": "copy"},
-    "tg_journal/src/live/sweep.rt": {"reached": "add_targets row"},
-    "tg_model/src/graph.rt": {"open": "copy"},
-    "tg_model/src/graph/picture.rt": {"edges_of": "add_row listing"},
-    "tg_parallel/src/many.rt": {"all_joined": "joined", "start_all": "start"},
-    "tg_parallel/src/work.rt": {"work": "copy_chunk"},
-    "tg_payload/src/draft.rt": {"values_of": "copy"},
-    "tg_plain/src/run.rt": {"of": "take"},
-    "tg_program/src/making.rt": {"new_drafts": "new"},
-    "tg_script/src/drafts.rt": {"drafts_of": "new"},
-    "tg_script/src/run_script.rt": {"run_commands": "next run_line"},
-    "tg_shared/src/closing.rt": {"all_match": "matches_since"},
-    "tg_store/src/store/picture.rt": {"edges_reached": "follow_row"},
-    "tg_text/src/reply.rt": {"write_edges": "write_edge", "write_values": "write_value"},
-    "tg_text/src/sink.rt": {"put_all": "put", "put_texts": "put_all"},
-    "tg_text/src/stock.rt": {"gather_boxes": "push_boxes"},
-    "tg_threads/src/threads.rt": {"start_all": "start"},
-    "tg_threads/src/worker.rt": {"run_tasks": "run_task"},
-    "tg_weave/src/telling.rt": {"tell_lines": "tell"},
-    "tg_weave/src/weaving.rt": {"sessions_of": "append"},
-    "tgcould/src/ask.rt": {"add_names": "add_vertex put", "tell_what": "add_rights add_vertex put what", "what": "ask", "who": "add_unless_never"},
-    "tgcould/src/main.rt": {"add_answers": "put tell"},
-    "tgcould/src/options.rt": {"supposed_of": "read_edge"},
-    "tgcould/src/text.rt": {"add_turns": "add_turn", "add_words": "add_word"},
-    "tgdot/src/draft.rt": {"pad": "add"},
-    "tgdot/src/drawing.rt": {"write_edges": "write_edge", "write_run": "take", "write_vertices": "write_vertex"},
-    "tgdot/src/frame.rt": {"widen_edges": "widen_edge", "widen_vertices": "widen_vertex"},
-    "tgdot/src/picture.rt": {"write_edges": "add add_ends write_edge", "write_vertices": "add add_number write_room write_vertex"},
-    "tgdot/src/reach.rt": {"fill": "add_targets"},
-    "tgdot/src/shot.rt": {"write_note": "add", "write_value": "add add_number"},
-    "tgdot/src/steps.rt": {"show_lines": "show take"},
-}
-
 
 class Amounts:
-    """The rule, over a tree: `found` has what is wrong."""
+    """The rule, over a tree: `found` has what is wrong, and `repeated` the file, the function and the call of each that grows something by more
+    than one in a loop; those in `may` may."""
 
-    def __init__(self, sources, below):
-        self.tree = Tree(below)
+    def __init__(self, sources, below, may):
+        self.tree, self.may, self.repeated = Tree(below), may, set()
         self.amounts, self.waiting, self.found, self.met, self.answering = set(), [], [], set(), []
         self.add(sources)
 
@@ -150,6 +94,7 @@ class Amounts:
         """The same tree with one source more, and only its faults."""
         other = copy(self)
         other.tree, other.amounts, other.met, other.found = self.tree.copied(), set(self.amounts), set(self.met), []
+        other.repeated = set(self.repeated)
         other.add([source])
         return other
 
@@ -391,11 +336,10 @@ class Amounts:
                     self.hold_repeated(call)
 
     def hold_repeated(self, call):
-        """What grows by more than one in a loop is named."""
+        """What grows by more than one in a loop is noted."""
         function = call.function
-        if call.name in REPEATED.get(function.source.place, {}).get(function.name, "").split():
-            self.met.add((function.source.place, function.name, call.name))
-        else:
+        self.repeated.add((function.source.place, function.name, call.name))
+        if (function.source.place, function.name, call.name) not in self.may:
             where = f"crates/{function.source.place}:{function.source.lines[call.at]}"
             self.found.append(f"{where}: more than one is asked for in a loop: {call.name}, in {function.name}")
 
@@ -419,5 +363,21 @@ class Amounts:
 
     def unmet(self):
         """The named places that aren't there."""
-        named = [*NAMED, *((place, name, call) for place, its in REPEATED.items() for name, calls in its.items() for call in calls.split())]
-        return [f"crates/{place}: {name} has no more: {said}" for place, name, said in named if (place, name, said) not in self.met]
+        gone = [*(it for it in NAMED if it not in self.met), *sorted(self.may - self.repeated)]
+        return [f"crates/{place}: {name} has no more: {said}" for place, name, said in gone]
+
+
+def read_repeated(path):
+    """The file, the function and the call of each line of wrong/repeated."""
+    found = set()
+    for line in path.read_text().splitlines():
+        where, _, calls = line.partition(":")
+        found |= {(*where.split(), call) for call in calls.split()}
+    return found
+
+
+def write_repeated(path, repeated):
+    calls = {}
+    for place, name, call in sorted(repeated):
+        calls.setdefault(f"{place} {name}", []).append(call)
+    path.write_text("".join(f"{where}: {' '.join(its)}\n" for where, its in calls.items()))
