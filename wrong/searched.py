@@ -3,6 +3,7 @@ import hashlib
 import math
 import os
 import re
+from dataclasses import dataclass
 from functools import lru_cache
 
 from taken import functions_as_they_are
@@ -26,6 +27,15 @@ class Ground:
 
     def sum_of(self, body):
         return hashlib.sha256("\0".join(sorted(self.parts_of(body))).encode()).hexdigest()
+
+    def answers_of(self, body):
+        """A sum over what a refusal by answers rests on besides: the answers to the goals of the functions that are checked."""
+        texts = [self.sum_of(body)]
+        for function in functions_as_they_are(self.source(body.crate)):
+            if any(function.is_named(it) for it in body.functions):
+                proof = f"{self.top}/crates/{body.crate}/proofs/{function.path.replace('::', '/')}"
+                texts += [read(f"{proof}/{file}.antt") for file in ("Answers", "Invariants")]
+        return hashlib.sha256("\0".join(texts).encode()).hexdigest()
 
     def parts_of(self, body):
         """The texts that the refusal rests on: the body's file; the functions that are checked, with the invariants of their loops; the contracts of
@@ -142,20 +152,40 @@ def declared(source, is_own):
     return found
 
 
+@dataclass
+class Noted:
+    """What the refusal of a body rested on when it was last searched, the seconds that the search took, and what it rested on when it was last told by
+    answers. Where the seconds aren't known the search counts as long."""
+
+    searched: str = ""
+    seconds: float = math.inf
+    answered: str = "-"
+
+    def line(self, name):
+        seconds = "-" if self.seconds == math.inf else f"{self.seconds:.1f}"
+        return " ".join([name, self.searched, seconds, *([self.answered] if self.answered != "-" else [])]) + "\n"
+
+
 def noted(top):
-    """What the refusal of each body rested on when it was last searched, and the seconds that the search took; no number of them where that isn't known,
-    so that it counts as long."""
-    path = f"{top}/wrong/searched"
+    """What is noted of each body."""
+    path, found = f"{top}/wrong/searched", {}
     if not os.path.exists(path):
-        return {}
+        return found
     with open(path, encoding="utf-8") as lines:
-        return {name: (known, math.inf if took == "-" else float(took)) for name, known, took in (line.split() for line in lines)}
+        for name, searched, seconds, *answered in (line.split() for line in lines):
+            found[name] = Noted(searched, math.inf if seconds == "-" else float(seconds), *answered)
+    return found
 
 
-def write_noted(top, found, names):
-    """Notes what was found beside what other runs noted of these names. Of one that is as it was the seconds stay, too, where they are known."""
+def write_noted(top, found, answered, names):
+    """Notes what was searched, and what was told by answers, beside what other runs noted of these names. Of a search that is as it was the seconds stay,
+    too, where they are known."""
     kept = {name: it for name, it in noted(top).items() if name in names}
-    kept.update({name: it for name, it in found.items() if it[0] != kept.get(name, ("",))[0] or kept[name][1] == math.inf})
+    for name, it in found.items():
+        known = kept.get(name, Noted())
+        if it.searched != known.searched or known.seconds == math.inf:
+            kept[name] = Noted(it.searched, it.seconds, known.answered)
+    for name, rests_on in answered.items():
+        kept[name].answered = rests_on
     with open(f"{top}/wrong/searched", "w", encoding="utf-8") as out:
-        for name, (known, took) in sorted(kept.items()):
-            out.write(f"{name} {known} {'-' if took == math.inf else f'{took:.1f}'}\n")
+        out.writelines(it.line(name) for name, it in sorted(kept.items()))
