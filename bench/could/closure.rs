@@ -6,6 +6,7 @@ use std::io::{BufRead, Write};
 
 const LETTERS: [char; 3] = ['t', 'g', 'r'];
 const QUESTIONS: usize = 12;
+const APART: [usize; 2] = [1, 1000];
 
 struct Draw(u64);
 
@@ -18,9 +19,11 @@ impl Draw {
     }
 }
 
-// rows[c][x]: the vertices over which x has the letter c, a bit each
+// rows[c][x]: the vertices over which x has the letter c, a bit each. Names are written so far apart: those between are
+// of vertices without edges, so that the program beside it numbers those that there are.
 #[derive(Clone)]
 struct Graph {
+    apart: usize,
     made: usize,
     limit: usize,
     subjects: BTreeSet<usize>,
@@ -34,11 +37,11 @@ struct Question {
     y: usize,
 }
 
-fn drawn(draw: &mut Draw) -> Graph {
+fn drawn(draw: &mut Draw, apart: usize) -> Graph {
     let made = 2 + draw.below(4) as usize;
     let limit = made + if draw.below(4) == 0 { draw.below(4) as usize } else { 1000 };
     let density = [15, 25, 40, 60][draw.below(4) as usize];
-    let mut graph = Graph { made, limit, subjects: BTreeSet::new(), silent: BTreeSet::new(), rows: [vec![0; made], vec![0; made], vec![0; made]] };
+    let mut graph = Graph { apart, made, limit, subjects: BTreeSet::new(), silent: BTreeSet::new(), rows: [vec![0; made], vec![0; made], vec![0; made]] };
     let most = draw.below(made as u64 + 1);
     for x in 0..made {
         if draw.below(made as u64) < most {
@@ -73,24 +76,34 @@ fn text(graph: &Graph, x: usize, y: usize) -> String {
     "rtg".chars().filter(|c| held.contains(*c)).collect()
 }
 
+// A name as it is written, where so many were made at first; and back.
+fn written(apart: usize, made: usize, name: usize) -> usize {
+    if name < made { name * apart } else { made * apart + name - made }
+}
+
+fn read(apart: usize, made: usize, name: usize) -> usize {
+    if name < made * apart { name / apart } else { name + made - made * apart }
+}
+
 fn write(out: &mut impl Write, graph: &Graph, asked: &[Question]) {
-    writeln!(out, "graph {} {}", graph.made, graph.limit).unwrap();
+    let name = |x: usize| written(graph.apart, graph.made, x);
+    writeln!(out, "graph {} {}", name(graph.made), name(graph.limit)).unwrap();
     for x in &graph.subjects {
-        writeln!(out, "subject {x}").unwrap();
+        writeln!(out, "subject {}", name(*x)).unwrap();
     }
     for x in &graph.silent {
-        writeln!(out, "silent {x}").unwrap();
+        writeln!(out, "silent {}", name(*x)).unwrap();
     }
     for x in 0..graph.made {
         for y in 0..graph.made {
             let rights = text(graph, x, y);
             if !rights.is_empty() {
-                writeln!(out, "edge {x} {y} {rights}").unwrap();
+                writeln!(out, "edge {} {} {rights}", name(x), name(y)).unwrap();
             }
         }
     }
     for q in asked {
-        writeln!(out, "? {} {} {}", q.x, LETTERS[q.letter], q.y).unwrap();
+        writeln!(out, "? {} {} {}", name(q.x), LETTERS[q.letter], name(q.y)).unwrap();
     }
 }
 
@@ -155,7 +168,7 @@ impl Graph {
     // One turn by the rules. Whether it was served.
     fn turn(&mut self, first: usize, line: &str) -> bool {
         let words: Vec<&str> = line.split(' ').collect();
-        let name = |at: usize| words[at].parse::<usize>().unwrap();
+        let name = |at: usize| read(self.apart, first, words[at].parse::<usize>().unwrap());
         let x = name(0);
         if !self.subjects.contains(&x) || (x < first && self.silent.contains(&x)) {
             return false;
@@ -224,8 +237,8 @@ fn main() {
     let graphs: usize = args[2].parse().unwrap();
     if args.len() == 3 {
         let mut out = std::io::BufWriter::new(std::io::stdout().lock());
-        for _ in 0..graphs {
-            let graph = drawn(&mut draw);
+        for at in 0..graphs {
+            let graph = drawn(&mut draw, APART[at % 2]);
             let asked = questions(&mut draw, &graph);
             write(&mut out, &graph, &asked);
         }
@@ -234,7 +247,7 @@ fn main() {
     let mut lines = std::io::BufReader::new(std::fs::File::open(&args[3]).unwrap()).lines().map(|line| line.unwrap());
     let (mut never, mut yes, mut wanting, mut longest, mut most) = (0, 0, 0, 0, 0);
     for at in 0..graphs {
-        let graph = drawn(&mut draw);
+        let graph = drawn(&mut draw, APART[at % 2]);
         let asked = questions(&mut draw, &graph);
         let (closed, first_objects) = graph.closed();
         for q in &asked {

@@ -31,17 +31,32 @@ fn picture(vertices: u64, edges: u64, seed: u64) -> Vec<Edge> {
         .collect()
 }
 
-struct Chains {
-    first: Vec<u32>,
-    next: Vec<u32>,
+// The vertex at the other end four times, two more for take, one more for grant; and the next link of the same vertex.
+#[derive(Clone, Copy)]
+struct Link {
+    packed: u32,
+    next: u32,
 }
 
-impl Chains {
-    fn of(vertices: usize, names: impl Iterator<Item = u64>) -> Chains {
-        let mut first = vec![NONE; vertices];
-        let replaced = |(at, name): (usize, u64)| std::mem::replace(&mut first[name as usize], at as u32);
-        let next = names.enumerate().map(replaced).collect();
-        Chains { first, next }
+struct Links {
+    first: Vec<u32>,
+    links: Vec<Link>,
+}
+
+impl Links {
+    fn with_room(vertices: usize, room: usize) -> Links {
+        Links { first: vec![NONE; vertices], links: Vec::with_capacity(room) }
+    }
+
+    fn add(&mut self, vertex: u64, end: u64, rights: u8) {
+        let packed = (end as u32) << 2 | u32::from(rights & T != 0) << 1 | u32::from(rights & G != 0);
+        let next = std::mem::replace(&mut self.first[vertex as usize], self.links.len() as u32);
+        self.links.push(Link { packed, next });
+    }
+
+    fn of(&self, vertex: u64) -> impl Iterator<Item = Link> + '_ {
+        let first = self.links.get(self.first[vertex as usize] as usize).copied();
+        std::iter::successors(first, |link| self.links.get(link.next as usize).copied())
     }
 }
 
@@ -65,9 +80,36 @@ impl Search<'_> {
         }
     }
 
-    fn spread(&mut self, vertices: usize) {
-        let holders = Chains::of(vertices, self.edges.iter().map(|edge| edge.from));
-        let targets = Chains::of(vertices, self.edges.iter().map(|edge| edge.to));
+    fn enter(&mut self, holders: &Links, vertex: u64) {
+        for link in holders.of(vertex) {
+            self.put(u64::from(link.packed >> 2), false);
+        }
+    }
+
+    // Goes back along take edges alone. Whether this leads to nobody who acts.
+    fn go_back(&mut self, takers: &Links) -> bool {
+        let mut at = 0;
+        while let Some(step) = self.steps.get(at).copied() {
+            at += 1;
+            if ((step / 2) as usize) < SUBJECTS {
+                return false;
+            }
+            self.enter(takers, u64::from(step / 2));
+        }
+        true
+    }
+
+    fn spread(&mut self, vertices: usize, takers: &Links) {
+        let mut granters = Links::with_room(vertices, self.edges.len());
+        let mut targets = Links::with_room(vertices, self.edges.len());
+        for edge in self.edges {
+            if edge.rights & (T | G) != 0 {
+                targets.add(edge.from, edge.to, edge.rights);
+            }
+            if edge.rights & G != 0 {
+                granters.add(edge.to, edge.from, edge.rights);
+            }
+        }
         let mut at = 0;
         while let Some(step) = self.steps.get(at).copied() {
             at += 1;
@@ -75,26 +117,20 @@ impl Search<'_> {
             if (vertex as usize) < SUBJECTS {
                 self.put(vertex, !forward);
             }
-            let mut next = if forward { holders.first[vertex as usize] } else { NONE };
-            while next != NONE {
-                let edge = self.edges[next as usize];
-                if edge.rights & T != 0 {
-                    self.put(edge.to, true);
-                }
-                if edge.rights & G != 0 {
-                    self.put(edge.to, false);
-                }
-                next = holders.next[next as usize];
+            if !forward {
+                self.enter(takers, vertex);
+                continue;
             }
-            let wanted = if forward { G } else { T };
-            next = targets.first[vertex as usize];
-            while next != NONE {
-                let edge = self.edges[next as usize];
-                if edge.rights & wanted != 0 {
-                    self.put(edge.from, false);
+            for link in targets.of(vertex) {
+                let end = u64::from(link.packed >> 2);
+                if link.packed & 2 != 0 {
+                    self.put(end, true);
                 }
-                next = targets.next[next as usize];
+                if link.packed & 1 != 0 {
+                    self.put(end, false);
+                }
             }
+            self.enter(&granters, vertex);
         }
     }
 }
@@ -102,12 +138,18 @@ impl Search<'_> {
 // Whether x could hold read over y.
 fn could(edges: &[Edge], vertices: usize, x: u64, y: u64) -> bool {
     let mut search = Search { edges, marks: vec![0; vertices / 32 + 1], steps: Vec::new() };
+    let mut takers = Links::with_room(vertices, edges.len());
     for edge in edges {
+        if edge.rights & T != 0 {
+            takers.add(edge.to, edge.from, edge.rights);
+        }
         if edge.to == y && edge.rights & R != 0 {
             search.put(edge.from, false);
         }
     }
-    search.spread(vertices);
+    if !search.go_back(&takers) {
+        search.spread(vertices, &takers);
+    }
     let given = |edge: &Edge| edge.to == x && edge.rights & G != 0 && search.is_in(edge.from, true);
     let held = |edge: &Edge| edge.from == x && edge.to == y && edge.rights & R != 0;
     x != y && ((x as usize) < SUBJECTS && search.is_in(x, false) || edges.iter().any(|edge| given(edge) || held(edge)))

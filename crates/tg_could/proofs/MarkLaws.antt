@@ -1,8 +1,9 @@
 -- Marks that each edge and each subject of a picture fits part its graph.
-use Rattle.std.proofs.Common.{◌≡◌, ◌⊎◌, inl, inr, ⊎_elim, ℕ, ◌<◌, ◌≤◌, length, ◌==◌, ◌&&◌, Bool, true, false, cond, List, [], ◌∷◌, refl, sym, ap, ◌∙◌, subst, arith}
-use Rattle.std.specs.List.{All, Contains}
+use Rattle.std.proofs.Common.{◌≡◌, ◌⊎◌, inl, inr, ⊎_elim, ℕ, ◌+◌, ◌<◌, ◌≤◌, length, slice_index_or, ◌==◌, ◌&&◌, Bool, true, false, cond, List, [], ◌∷◌, refl, sym, ap, ◌∙◌, subst, arith}
+use Rattle.std.specs.List.{All, AllWithin, Contains}
 use Rattle.std.proofs.lemmas.Bool.{eqb-true, and_parts, false≢true}
-use Rattle.std.proofs.lemmas.List.Elements.{All-head, All-tail, All-contains}
+use Rattle.std.proofs.lemmas.List.{get_or_default}
+use Rattle.std.proofs.lemmas.List.Elements.{All-head, All-tail, All-contains, AllWithin-more}
 use Rattle.tg_rights.specs.RightSet.{RightSet, has, union, no_rights}
 use Rattle.tg_rights.specs.RightLaws.{has-union, has-no_rights}
 use Rattle.tg_rights.specs.declared.Right.{Right}
@@ -134,6 +135,13 @@ module _ (s : Sides) (x : ℕ) (r : Right) (y : ℕ) where
     without = λ h. parts.without (there x y r h);
     not_given = λ a h. parts.not_given a (there a x G h);
   }
+
+-- one subject more of a list that is another
+pub one-more : (P : ℕ → Type 0) (items subjects : List ℕ) (i d : ℕ) → items ≡ subjects → i < length items → AllWithin P subjects 0 i → P (slice_index_or items i d) → AllWithin P subjects 0 (i + 1)
+one-more P items subjects i d same low all here =
+    subst (λ (l : List ℕ). AllWithin P l 0 (i + 1)) same
+    (AllWithin-more P items 0 i (subst (λ (l : List ℕ). AllWithin P l 0 i) (sym same) all)
+    (λ e. subst P (get_or_default items i d e low) here))
 
 module _ (silent : List ℕ) (p : Shown) (g : ProtectionGraph) (picture : IsPictureOf p g) where
   -- what stands on the graph stands on the picture

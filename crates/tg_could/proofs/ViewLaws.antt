@@ -11,42 +11,45 @@ use Rattle.tg_model.specs.Opened.{label_in}
 use Rattle.tg_model.specs.Picture.{Holds, Shown, IsPictureOf}
 use Rattle.tg_could.specs.Turns.{NeverHolds}
 use Rattle.tg_could.specs.Separation.{Sides, MayAdd, Walks, IsEven}
-use Rattle.tg_could.specs.View.{word_of, is_within, meets, IsOfOne, Joins, IsIn, IsGathered, IsPlaced, IsCheckedOn, sides_by, bound_of}
+use Rattle.tg_could.specs.Names.{number_in}
+use Rattle.tg_could.specs.View.{word_of, word_at, is_within, meets, IsOfOne, Joins, JoinsEntry, IsIn, IsEntered, Stands, IsGathered, AreGathered, IsPlaced, IsCheckedOn, sides_by, bound_of}
+use Rattle.tg_could.specs.declared.entries.Entry.{Entry}
 use Rattle.tg_could.specs.declared.incoming.Incoming.{Incoming}
 use Rattle.tg_could.specs.declared.islands.Islands.{Islands}
+use Rattle.tg_could.specs.declared.names.Names.{Names}
 use Rattle.tg_could.specs.declared.view.Facts.{Facts}
 use Rattle.tg_could.proofs.MarkLaws.{IsNot, none_holds, Parts-edges, pictured-never, pictured-same, pictured-alone}
 use Rattle.tg_could.proofs.ToldLaws.{keeps-walks}
 use Rattle.tg_could.proofs.WordLaws.{within-trans, within-more, meets-down, meets-up, bridged-on, bridged-back, single-alike}
 
--- what was gathered over y
-abbrev pub AreGathered : Incoming → List ℕ → ℕ → Right → ℕ → ℕ → Type 0
-AreGathered incoming words x r y word =
-    AllWithin (IsGathered words x r word) incoming.holders.items (bound_of incoming y).0 (bound_of incoming y).1
-
-module _ (islands : Islands) (incoming : Incoming) (x : ℕ) (r : Right) (y gathered : ℕ) (are : AreGathered incoming islands.reached.items x r y gathered) (edge : Edge) (is_in : IsIn incoming edge) where
-  abbrev words : List ℕ
-  words = islands.reached.items
-
+module _ (names : Names) (islands : Islands) (incoming : Incoming) (x : ℕ) (r : Right) (y gathered : ℕ) (are : AreGathered incoming islands.reached.items (number_in names x) r (number_in names y) gathered) (edge : Edge) (stands : Stands names islands incoming edge) where
   -- who holds the right by an edge isn't x, and its word is counted
-  pub of_edge : edge.to ≡ y → has edge.label r ≡ true → (edge.from ≢ x) × (is_within (word_of words edge.from) gathered ≡ true)
+  pub of_edge : edge.to ≡ y → has edge.label r ≡ true → (number_in names edge.from ≢ number_in names x) × (is_within (word_at names islands edge.from) gathered ≡ true)
   of_edge at_y is =
-      let d : ℕ × RightSet = (edge.from, edge.label) in
-      let h = is_in.holder d in
-      subst (λ (v : ℕ). (v ≢ x) × (is_within (word_of words v) gathered ≡ true)) h.0
-      (are is_in.place d
-      (subst (λ (v : ℕ). (bound_of incoming v).0 ≤ is_in.place) at_y is_in.first)
-      (subst (λ (v : ℕ). is_in.place < (bound_of incoming v).1) at_y is_in.end)
-      (ap (λ (m : RightSet). has m r) h.1 ∙ is))
+      let d : ℕ × RightSet = (stands.entry.from, stands.entry.label) in
+      let h = stands.is_in.holder d in
+      let target : stands.entry.to ≡ number_in names y = stands.is.0 ∙ ap (number_in names) at_y in
+      subst (λ (v : ℕ). (v ≢ number_in names x) × (is_within (word_of islands.reached.items v) gathered ≡ true)) (h.0 ∙ stands.is.1)
+      (are stands.is_in.place d
+      (subst (λ (v : ℕ). (bound_of incoming v).0 ≤ stands.is_in.place) target stands.is_in.first)
+      (subst (λ (v : ℕ). stands.is_in.place < (bound_of incoming v).1) target stands.is_in.end)
+      (ap (λ (m : RightSet). has m r) (h.1 ∙ stands.is.2) ∙ is))
 
   pub gathered-not : IsNot x r y edge
-  gathered-not at_x at_y is = (of_edge at_y is).0 at_x
+  gathered-not at_x at_y is = (of_edge at_y is).0 (ap (number_in names) at_x)
 
-  module _ (joins : Joins islands edge) (word : ℕ) (more : (a : ℕ) → is_within a gathered ≡ true → is_within a word ≡ true) (not_granted : meets (word_of islands.granted.items x) word ≡ false) where
-    walks : Walks (sides_by words word) edge
+  -- the words count the edge too
+  joins : Joins islands (number_in names edge.from) (number_in names edge.to) edge.label
+  joins =
+      subst (λ (from : ℕ). Joins islands from (number_in names edge.to) edge.label) stands.is.1
+      (subst (λ (to : ℕ). Joins islands stands.entry.from to edge.label) stands.is.0
+      (subst (Joins islands stands.entry.from stands.entry.to) stands.is.2 stands.joins))
+
+  module _ (word : ℕ) (more : (a : ℕ) → is_within a gathered ≡ true → is_within a word ≡ true) (not_granted : meets (word_of islands.granted.items (number_in names x)) word ≡ false) where
+    walks : Walks (sides_by names islands word) edge
     walks =
-        let from = word_of words edge.from in
-        let to = word_of words edge.to in
+        let from = word_at names islands edge.from in
+        let to = word_at names islands edge.to in
         record {
           take_on = λ is f. meets-up from to word (joins.take is) f;
           take_back = λ is f. within-trans from to word (joins.take is) f;
@@ -54,21 +57,21 @@ module _ (islands : Islands) (incoming : Incoming) (x : ℕ) (r : Right) (y gath
           grant_back = λ is f. bridged-back from to word (joins.grant is) f;
         }
 
-    pub joined-fits : MayAdd (sides_by words word) x r y edge.from edge.to edge.label
+    pub joined-fits : MayAdd (sides_by names islands word) x r y edge.from edge.to edge.label
     joined-fits = record {
-      keeps = keeps-walks (sides_by words word) r y edge walks (λ is at_y. more (word_of words edge.from) (of_edge at_y is).1);
+      keeps = keeps-walks (sides_by names islands word) r y edge walks (λ is at_y. more (word_at names islands edge.from) (of_edge at_y is).1);
       not_held = gathered-not;
       not_granted = λ at_x is f.
           false≢true
-          (sym (meets-down (word_of words edge.from) (word_of islands.granted.items edge.to) word (joins.granted is)
-          (subst (λ (v : ℕ). meets (word_of islands.granted.items v) word ≡ false) (sym at_x) not_granted)) ∙ f);
+          (sym (meets-down (word_at names islands edge.from) (word_of islands.granted.items (number_in names edge.to)) word (joins.granted is)
+          (subst (λ (v : ℕ). meets (word_of islands.granted.items (number_in names v)) word ≡ false) (sym at_x) not_granted)) ∙ f);
     }
 
-module _ (silent : List ℕ) (p : Shown) (g : ProtectionGraph) (picture : IsPictureOf p g) (view : Facts) (checked : IsCheckedOn silent p view) (x : ℕ) (r : Right) (y gathered : ℕ) (are : AreGathered view.incoming view.islands.reached.items x r y gathered) where
+module _ (silent : List ℕ) (p : Shown) (g : ProtectionGraph) (picture : IsPictureOf p g) (view : Facts) (checked : IsCheckedOn silent p view) (x : ℕ) (r : Right) (y gathered : ℕ) (are : AreGathered view.incoming view.islands.reached.items (number_in view.names x) r (number_in view.names y) gathered) where
   gathered-lacks : ¬ Holds (label_in p.edges) x r y
   gathered-lacks =
       none_holds x r y p.edges
-      (λ k d inside. gathered-not view.islands view.incoming x r y gathered are (slice_index_or p.edges k d) (checked.incoming k d inside))
+      (λ k d inside. gathered-not view.names view.islands view.incoming x r y gathered are (slice_index_or p.edges k d) (checked.edges k d inside))
 
   pub viewed-same : x ≡ y → NeverHolds silent g x r y
   viewed-same same = pictured-same silent p g picture x r y same gathered-lacks
@@ -80,15 +83,15 @@ module _ (silent : List ℕ) (p : Shown) (g : ProtectionGraph) (picture : IsPict
       All-contains (λ v. v ≡ y) view.actors.items (slice_index_or p.subjects k d) alone (checked.actors k d inside acts).is)
       gathered-lacks
 
-  module _ (word : ℕ) (more : (a : ℕ) → is_within a gathered ≡ true → is_within a word ≡ true) (not_granted : meets (word_of view.islands.granted.items x) word ≡ false) (placed : All (IsPlaced view x y word) view.actors.items) where
+  module _ (word : ℕ) (more : (a : ℕ) → is_within a gathered ≡ true → is_within a word ≡ true) (not_granted : meets (word_of view.islands.granted.items (number_in view.names x)) word ≡ false) (placed : All (IsPlaced view x y word) view.actors.items) where
     abbrev s : Sides
-    s = sides_by view.islands.reached.items word
+    s = sides_by view.names view.islands word
 
     even : (v : ℕ) → Contains view.actors.items v → IsEven s p x y v
     even v acts =
         let is = All-contains (IsPlaced view x y word) view.actors.items v placed acts in
         record {
-          alike = single-alike (word_of view.islands.reached.items v) word (All-contains (IsOfOne view.islands) view.actors.items v checked.single acts).power;
+          alike = single-alike (word_at view.names view.islands v) word (All-contains (IsOfOne view.names view.islands) view.actors.items v checked.single acts).power;
           not_x = is.not_x;
           y_may_come = λ comes. is.y_may_come (omega (arith, comes.0, checked.made), omega (arith, comes.1, checked.limit));
           x_may_come = λ comes. is.x_may_come (omega (arith, comes.0, checked.made), omega (arith, comes.1, checked.limit));
@@ -100,7 +103,21 @@ module _ (silent : List ℕ) (p : Shown) (g : ProtectionGraph) (picture : IsPict
         (λ k d inside acts. even (slice_index_or p.subjects k d) (checked.actors k d inside acts).is)
         (Parts-edges s x r y p.edges
         (λ k d inside.
-        joined-fits view.islands view.incoming x r y gathered are (slice_index_or p.edges k d) (checked.incoming k d inside) (checked.edges k d inside) word more not_granted))
+        joined-fits view.names view.islands view.incoming x r y gathered are (slice_index_or p.edges k d) (checked.edges k d inside) word more not_granted))
+
+-- ---- checks
+
+-- each edge that has an entry stands as all entries do
+pub entered-stand : (names : Names) (islands : Islands) (incoming : Incoming) (entries : List Entry) (edges : List Edge) → All (IsEntered names entries) edges → All (JoinsEntry islands) entries → All (IsIn incoming) entries → All (Stands names islands incoming) edges
+entered-stand names islands incoming entries edges entered joined in_parts k d inside =
+    let none : Entry = record { to = 0; from = 0; label = (slice_index_or edges k d).label } in
+    let is = entered k d inside in
+    record {
+      entry = slice_index_or entries is.place none;
+      is = is.is none;
+      joins = joined is.place none is.inside;
+      is_in = in_parts is.place none is.inside;
+    }
 
 -- ---- loops
 

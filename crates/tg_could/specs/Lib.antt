@@ -1,4 +1,5 @@
 pub mod Turns
+pub mod Names
 pub mod Separation
 pub mod Trial
 pub mod Answered

@@ -5,13 +5,14 @@ use Rattle.tg_rights.specs.declared.Right.{Right}
 use Rattle.tg_rights.specs.declared.Right.TheVariants.{G}
 use Rattle.tg_model.specs.declared.edge.Edge.{Edge}
 use Rattle.tg_model.specs.Picture.{Shown}
+use Rattle.tg_could.specs.Names.{number_in}
 use Rattle.tg_could.specs.Separation.{Sides, Walks, ComesLater}
 use Rattle.tg_could.specs.declared.what.What.{What}
 use Rattle.tg_could.specs.declared.what.Listed.{Listed}
 
 -- the rights over a name that are told
 abbrev pub rights_over : Listed → ℕ → RightSet
-rights_over listed name = slice_index_or listed.rights.items name no_rights
+rights_over listed name = slice_index_or listed.rights.items (number_in listed.names name) no_rights
 
 -- the right over y isn't told, nor are rights over names that aren't made yet, where y is one and isn't x
 pub record IsUnlisted (listed : Listed) (x made limit : ℕ) (right : Right) (y : ℕ) : Type 0 where

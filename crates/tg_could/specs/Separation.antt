@@ -9,6 +9,7 @@ use Rattle.tg_model.specs.Graph.{ProtectionGraph}
 use Rattle.tg_model.specs.declared.edge.Edge.{Edge}
 use Rattle.tg_model.specs.Picture.{Holds, Shown}
 use Rattle.tg_could.specs.Turns.{Acts, MayCome}
+use Rattle.tg_could.specs.Names.{number_in}
 use Rattle.tg_could.specs.declared.separation.Separation.{Separation}
 use Rattle.tg_could.specs.declared.separation.Place.{Place}
 
@@ -55,13 +56,13 @@ pub record Separates (silent : ℕ → Type 0) (s : Sides) (x : ℕ) (right : Ri
 
 -- ---- as marks
 
--- a name whose bit is set
+-- a number whose bit is set
 unfoldable pub is_marked : List ℕ → ℕ → Bool
-is_marked words name = bit_and (slice_index_or words (name / 64) 0 / 2 ^ (name % 64)) 1 == 1
+is_marked words number = bit_and (slice_index_or words (number / 64) 0 / 2 ^ (number % 64)) 1 == 1
 
--- the two bits of a name, with those of the names behind it above them
+-- the two bits of a number, with those of the numbers behind it above them
 unfoldable pub pair_in : List ℕ → ℕ → ℕ
-pair_in words name = slice_index_or words (name / 32) 0 / 2 ^ (name % 32 * 2)
+pair_in words number = slice_index_or words (number / 32) 0 / 2 ^ (number % 32 * 2)
 
 -- the upper of the two is set
 unfoldable pub is_first : ℕ → Bool
@@ -74,15 +75,15 @@ is_second pair = bit_and pair 1 == 1
 -- the sides that the two bits of each name stand for
 abbrev pub sides_of : Separation → Sides
 sides_of m = record {
-  forward = λ v. is_first (pair_in m.pairs.words.items v);
-  back = λ v. is_second (pair_in m.pairs.words.items v);
+  forward = λ v. is_first (pair_in m.pairs.words.items (number_in m.names v));
+  back = λ v. is_second (pair_in m.pairs.words.items (number_in m.names v));
 }
 
 -- the sides that they stand for where a search went back from x: whom it didn't reach
 abbrev pub sides_against : Separation → Sides
 sides_against m = record {
-  forward = λ v. not (is_second (pair_in m.pairs.words.items v));
-  back = λ v. not (is_first (pair_in m.pairs.words.items v));
+  forward = λ v. not (is_second (pair_in m.pairs.words.items (number_in m.names v)));
+  back = λ v. not (is_first (pair_in m.pairs.words.items (number_in m.names v)));
 }
 
 -- take and grant lead out of neither set, between vertices in these

@@ -1,17 +1,21 @@
 -- What is told at once of everybody, or of everything.
-use Rattle.std.specs.Prelude.{◌≡◌, ◌≢◌, ℕ, ◌<◌, ◌≤◌, true}
+use Rattle.std.specs.Prelude.{◌≡◌, ◌≢◌, ℕ, ◌<◌, ◌≤◌, Bool, true}
 use Rattle.tg_rights.specs.RightSet.{has}
 use Rattle.tg_rights.specs.declared.Right.{Right}
 use Rattle.tg_rights.specs.declared.Right.TheVariants.{G}
 use Rattle.tg_model.specs.declared.edge.Edge.{Edge}
 use Rattle.tg_model.specs.Picture.{Shown}
+use Rattle.tg_could.specs.Names.{number_in}
 use Rattle.tg_could.specs.Separation.{Sides, Walks, ComesLater, is_marked}
 use Rattle.tg_could.specs.declared.who.Who.{Who}
 use Rattle.tg_could.specs.declared.who.Told.{Told}
 
 -- a name is told
+abbrev pub is_told : Told → ℕ → Bool
+is_told told x = is_marked told.marks.words.items (number_in told.names x)
+
 abbrev pub IsTold : Told → ℕ → Type 0
-IsTold told x = is_marked told.marks.words.items x ≡ true
+IsTold told x = is_told told x ≡ true
 
 -- x isn't told, nor are names that aren't made yet, where x is one and isn't y
 pub record IsUntold (told : Told) (y made limit x : ℕ) : Type 0 where

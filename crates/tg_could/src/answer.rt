@@ -6,7 +6,7 @@ ghost use Rattle.tg_could.specs.Separation.{ComesLater};
 ghost use Rattle.tg_could.specs.Answered.{IsAnswer, IsShort};
 
 use crate::plan::turns_to;
-use crate::search::search;
+use crate::search::{Found, search};
 use crate::separation::{Separation, comes_later};
 use crate::witness::replay;
 use std::alloc::{AllocError, Global};
@@ -52,10 +52,25 @@ pub fn could_hold(
     if found.sides.parts(picture, silent, x, right, y) {
         return Ok(Answer::Never(found.sides));
     }
-    let planned = turns_to(alloc, picture, &found, x, right, y)?;
+    tell_turns(alloc, picture, silent, &found, x, right, y)
+}
+
+// The turns that the search leads to, where they lead there. Fails only when out of memory.
+fn tell_turns(
+    alloc: Global,
+    picture: &Picture,
+    silent: &[u64],
+    found: &Found,
+    x: u64,
+    right: Right,
+    y: u64,
+) -> Result<Answer, AllocError>
+    ensures { IfOk result (λ answer. (g : ProtectionGraph) → IsPictureOf picture.now g → IsAnswer silent.now g x right y answer) }
+{
+    let rows = found.rows(alloc, picture, x)?;
+    let planned = turns_to(alloc, picture, found, rows.copy(alloc)?, x, right, y)?;
     let names = planned.made.saturating_sub(picture.limit());
     let turns = planned.turns;
-    let rows = found.rows;
     let leads = replay(
         alloc,
         picture,

@@ -1,9 +1,10 @@
-//! The edges at each vertex, as chains through a list of edges. Nothing is believed of them: who follows one looks at
-//! the edge.
+//! The edges from each vertex, as chains through a list of edges and those that came since. Nothing is believed of
+//! them: who follows one looks at the edge.
+use crate::names::Names;
 use std::alloc::{AllocError, Global};
-use tg_model::Edge;
+use tg_model::Picture;
 
-/// Behind the last edge of a chain, and the place of an edge past the most that are numbered, 2^32 - 1.
+/// Behind the last link of a chain, and the place of an edge past the most that are numbered, 2^32 - 1.
 pub(crate) const NONE: u32 = u32::MAX;
 
 /// The number as a place, `NONE` where it is past the last.
@@ -11,63 +12,79 @@ pub(crate) fn place(at: usize) -> u32 {
     u32::try_from(at).unwrap_or(NONE)
 }
 
-/// For each vertex the place of an edge at it, and for each edge the place of the next one at the same vertex.
+/// The place of an edge, and of the next link of the same vertex.
+#[derive(Clone, Copy, Debug, Drop)]
+pub(crate) struct Chained {
+    pub(crate) edge: u32,
+    pub(crate) next: u32,
+}
+
+/// For each vertex the place of its last link, all links, and how many edges there are. Vertices that came since have
+/// the numbers behind those of the picture.
 #[derive(Drop)]
 pub(crate) struct Chains {
+    names: Names,
+    made: u64,
     first: Vec<u32>,
-    next: Vec<u32>,
+    links: Vec<Chained>,
+    edges: usize,
 }
 
 impl Chains {
-    /// The edges from each vertex. Fails only when out of memory.
-    pub(crate) fn of_holders(
-        alloc: Global,
-        made: usize,
-        edges: &[Edge],
-    ) -> Result<Chains, AllocError> {
-        let mut chains = Chains::none(alloc, made, edges.len())?;
-        for (at, edge) in edges.iter().enumerate() {
-            chains.put(at, edge.from);
+    /// All edges of a picture. Fails only when out of memory.
+    pub(crate) fn of(alloc: Global, picture: &Picture) -> Result<Chains, AllocError> {
+        let mut chains = Chains::none(alloc, Names::of(alloc, picture)?, picture.made())?;
+        for (at, edge) in picture.edges().iter().enumerate() {
+            let number = chains.names.number(edge.from);
+            chains.put(place(at), number)?;
         }
+        chains.end_list(picture.edges().len());
         Ok(chains)
     }
 
-    /// No chain has an edge, of so many. Fails only when out of memory.
-    pub(crate) fn none(alloc: Global, made: usize, edges: usize) -> Result<Chains, AllocError> {
+    /// No chain has an edge; so many vertices were made. Fails only when out of memory.
+    pub(crate) fn none(alloc: Global, names: Names, made: u64) -> Result<Chains, AllocError> {
+        let first = vec![in alloc; NONE; names.len()]?;
         Ok(Chains {
-            first: vec![in alloc; NONE; made]?,
-            next: vec![in alloc; NONE; edges]?,
+            names,
+            made,
+            first,
+            links: Vec::new(alloc),
+            edges: 0,
         })
     }
 
     /// The same chains in memory of their own. Fails only when out of memory.
     pub(crate) fn copy(&self, alloc: Global) -> Result<Chains, AllocError> {
         Ok(Chains {
+            names: self.names.copy(alloc)?,
+            made: self.made,
             first: Vec::from_slice(alloc, self.first.as_slice())?,
-            next: Vec::from_slice(alloc, self.next.as_slice())?,
+            links: Vec::from_slice(alloc, self.links.as_slice())?,
+            edges: self.edges,
         })
     }
 
-    /// Puts the edge at a place of the list in front of a vertex's others.
-    pub(crate) fn put(&mut self, at: usize, vertex: u64) {
-        if let Some(next) = self.next.get_mut(at)
-            && let Some(first) = self.first.get_mut(vertex as usize)
-        {
-            *next = *first;
-            *first = place(at);
+    /// Puts an edge in front of the others from the vertex with a number. Fails only when out of memory.
+    pub(crate) fn put(&mut self, edge: u32, number: u64) -> Result<(), AllocError> {
+        let at = place(self.links.len());
+        if let Some(first) = self.first.get_mut(number as usize) {
+            self.links.push(Chained { edge, next: *first })?;
+            *first = at;
         }
+        Ok(())
     }
 
-    /// Puts an edge behind the list in front of a vertex's others. Fails only when out of memory.
+    /// So many edges are those of the list.
+    pub(crate) fn end_list(&mut self, edges: usize) {
+        self.edges = edges;
+    }
+
+    /// Puts an edge behind all others in front of the others from a vertex. Fails only when out of memory.
     pub(crate) fn add(&mut self, vertex: u64) -> Result<(), AllocError> {
-        let at = place(self.next.len());
-        match self.first.get_mut(vertex as usize) {
-            Some(first) => {
-                self.next.push(*first)?;
-                *first = at;
-            }
-            None => self.next.push(NONE)?,
-        }
+        let number = self.number(vertex);
+        self.put(place(self.edges), number)?;
+        self.edges = self.edges.saturating_add(1);
         Ok(())
     }
 
@@ -77,13 +94,24 @@ impl Chains {
         Ok(())
     }
 
-    /// The place of a vertex's first edge, `NONE` where it has none.
+    /// The place of a vertex's first link, `NONE` where it has none.
     pub(crate) fn first(&self, vertex: u64) -> u32 {
-        self.first.get(vertex as usize).copied().unwrap_or(NONE)
+        self.first
+            .get(self.number(vertex) as usize)
+            .copied()
+            .unwrap_or(NONE)
     }
 
-    /// The place of the edge behind this one, `NONE` where there is none.
-    pub(crate) fn next(&self, at: u32) -> u32 {
-        self.next.get(at as usize).copied().unwrap_or(NONE)
+    /// The link at a place.
+    pub(crate) fn at(&self, place: u32) -> Option<Chained> {
+        self.links.get(place as usize).copied()
+    }
+
+    // The number of a vertex of the picture, or of one that came since.
+    fn number(&self, vertex: u64) -> u64 {
+        if vertex < self.made {
+            return self.names.number(vertex);
+        }
+        (vertex - self.made).saturating_add(self.names.len() as u64)
     }
 }

@@ -1,17 +1,18 @@
 //! Islands: those who act, joined where one can hand on to another what it gets.
 ghost use Rattle.std.specs.Prelude.{◌≡◌, IsTrue};
 ghost use Rattle.std.specs.List.{All};
-ghost use Rattle.tg_could.specs.View.{Joins, IsOfOne};
+ghost use Rattle.tg_could.specs.View.{JoinsEntry, IsOfOne, word_of as word_in};
 
+use crate::entries::Entry;
+use crate::names::Names;
 use crate::separation::{has, leads};
 use crate::walks::{bit_of, walks};
 use crate::words::{add, are_bridged, is_single, is_within, meets, word_of};
 use std::alloc::{AllocError, Global};
-use tg_model::{Edge, Picture};
 use tg_rights::Right;
 
-/// For each vertex the islands from which a walk of take edges leads to it, and those from which one leads to one that
-/// has grant over it: a bit for each island.
+/// For each number the islands from which a walk of take edges leads to its vertex, and those from which one leads to
+/// one that has grant over it: a bit for each island.
 #[derive(Drop)]
 pub(crate) struct Islands {
     pub(crate) reached: Vec<u64>,
@@ -22,37 +23,23 @@ impl Islands {
     /// The islands of those who act, of whom the first 64 count. Fails only when out of memory.
     pub(crate) fn of(
         alloc: Global,
-        picture: &Picture,
+        names: &Names,
+        entries: &[Entry],
         actors: &[u64],
     ) -> Result<Islands, AllocError> {
-        let edges = picture.edges();
-        let made = picture.made() as usize;
-        let mut reached = walks(alloc, edges, made, actors)?;
-        let joined = joined(alloc, edges, actors, reached.as_slice())?;
-        for word in reached.iter_mut() {
-            if *word != 0 {
-                *word = island_word(joined.as_slice(), *word);
-            }
-        }
-        let mut granted = vec![in alloc; 0; made]?;
-        for edge in edges {
-            if !has(edge.label, Right::G) {
-                continue;
-            }
-            let word = word_of(reached.as_slice(), edge.from);
-            if word != 0 {
-                add(&mut granted, edge.to, word);
-            }
-        }
+        let mut reached = walks(alloc, names, entries, actors)?;
+        let joined = joined(alloc, names, entries, actors, reached.as_slice())?;
+        tell_islands(joined.as_slice(), &mut reached);
+        let granted = granted_by(alloc, names.len(), entries, reached.as_slice())?;
         Ok(Islands { reached, granted })
     }
 
     /// Whether each of these is of one island.
-    pub(crate) fn are_single(&self, actors: &[u64]) -> bool
-        ensures { IsTrue result → All (IsOfOne self.now) actors.now }
+    pub(crate) fn are_single(&self, names: &Names, actors: &[u64]) -> bool
+        ensures { IsTrue result → All (IsOfOne names.now self.now) actors.now }
     {
         for actor in actors {
-            if !self.is_of_one(*actor) {
+            if !self.is_of_one(names, *actor) {
                 return false;
             }
         }
@@ -60,18 +47,32 @@ impl Islands {
     }
 
     // Whether a vertex is of one island.
-    fn is_of_one(&self, name: u64) -> bool
-        ensures { IsTrue result → IsOfOne self.now name }
+    fn is_of_one(&self, names: &Names, name: u64) -> bool
+        ensures { IsTrue result → IsOfOne names.now self.now name }
     {
-        is_single(word_of(self.reached.as_slice(), name))
+        is_single(self.word(names.number(name)))
+    }
+
+    /// The word of a number: from which islands a walk leads to its vertex.
+    pub(crate) fn word(&self, number: u64) -> u64
+        ensures { result ≡ word_in self.now.reached.items number }
+    {
+        word_of(self.reached.as_slice(), number)
+    }
+
+    /// The word of the islands of which one has grant over the vertex with a number.
+    pub(crate) fn granted(&self, number: u64) -> u64
+        ensures { result ≡ word_in self.now.granted.items number }
+    {
+        word_of(self.granted.as_slice(), number)
     }
 
     /// Whether the words count each of these edges, and none joins two islands.
-    pub(crate) fn are_joined(&self, edges: &[Edge]) -> bool
-        ensures { IsTrue result → All (Joins self.now) edges.now }
+    pub(crate) fn are_joined(&self, entries: &[Entry]) -> bool
+        ensures { IsTrue result → All (JoinsEntry self.now) entries.now }
     {
-        for edge in edges {
-            if !self.is_joined(edge) {
+        for entry in entries {
+            if !self.is_joined(entry) {
                 return false;
             }
         }
@@ -79,20 +80,20 @@ impl Islands {
     }
 
     // The same of one edge.
-    fn is_joined(&self, edge: &Edge) -> bool
-        ensures { IsTrue result → Joins self.now edge.now }
+    fn is_joined(&self, entry: &Entry) -> bool
+        ensures { IsTrue result → JoinsEntry self.now entry.now }
     {
-        let take = has(edge.label, Right::T);
-        let grant = has(edge.label, Right::G);
+        let take = has(entry.label, Right::T);
+        let grant = has(entry.label, Right::G);
         if !take && !grant {
             return true;
         }
-        let from = word_of(self.reached.as_slice(), edge.from);
+        let from = self.word(u64::from(entry.from));
         if from == 0 {
             return true;
         }
-        let to = word_of(self.reached.as_slice(), edge.to);
-        let granted = word_of(self.granted.as_slice(), edge.to);
+        let to = self.word(u64::from(entry.to));
+        let granted = self.granted(u64::from(entry.to));
         if !leads(take, true, is_within(from, to)) {
             return false;
         }
@@ -103,10 +104,40 @@ impl Islands {
     }
 }
 
+// Makes words of islands of words of those who act.
+fn tell_islands(joined: &[u64], reached: &mut Vec<u64>) {
+    for word in reached.iter_mut() {
+        if *word != 0 {
+            *word = island_word(joined, *word);
+        }
+    }
+}
+
+// For each number the islands of which one has grant over its vertex. Fails only when out of memory.
+fn granted_by(
+    alloc: Global,
+    count: usize,
+    entries: &[Entry],
+    reached: &[u64],
+) -> Result<Vec<u64>, AllocError> {
+    let mut granted = vec![in alloc; 0; count]?;
+    for entry in entries {
+        if !has(entry.label, Right::G) {
+            continue;
+        }
+        let word = word_of(reached, u64::from(entry.from));
+        if word != 0 {
+            add(&mut granted, u64::from(entry.to), word);
+        }
+    }
+    Ok(granted)
+}
+
 // For each who acts the word of all who are of one island with it. Fails only when out of memory.
 fn joined(
     alloc: Global,
-    edges: &[Edge],
+    names: &Names,
+    entries: &[Entry],
     actors: &[u64],
     reached: &[u64],
 ) -> Result<Vec<u64>, AllocError> {
@@ -115,17 +146,17 @@ fn joined(
         joined.push(bit_of(at))?;
     }
     for actor in actors {
-        join(&mut joined, word_of(reached, *actor));
+        join(&mut joined, word_of(reached, names.number(*actor)));
     }
-    for edge in edges {
-        if !has(edge.label, Right::G) {
+    for entry in entries {
+        if !has(entry.label, Right::G) {
             continue;
         }
-        let from = word_of(reached, edge.from);
+        let from = word_of(reached, u64::from(entry.from));
         if from == 0 {
             continue;
         }
-        let to = word_of(reached, edge.to);
+        let to = word_of(reached, u64::from(entry.to));
         if to != 0 {
             join(&mut joined, from | to);
         }

@@ -1,43 +1,43 @@
-//! Sets of names, a bit for each, and two sets of names, two bits for each.
+//! Sets of numbers, a bit for each, and two sets of numbers, two bits for each.
 ghost use Rattle.std.specs.Prelude.{◌≡◌};
 ghost use Rattle.tg_could.specs.Separation.{is_marked, pair_in, is_first, is_second};
 
 use std::alloc::{AllocError, Global};
 
-// How many names have their bits in one word.
+// How many numbers have their bits in one word.
 const BITS: u64 = 64;
 
-/// A set of names: each that is in it has its bit set. Names past the last word are in none.
+/// A set of numbers: each that is in it has its bit set. Numbers past the last word are in none.
 #[derive(Drop)]
 pub(crate) struct Marks {
     words: Vec<u64>,
 }
 
 impl Marks {
-    /// A set for so many names, which none is in. Fails only when out of memory.
-    pub(crate) fn none(alloc: Global, made: usize) -> Result<Marks, AllocError> {
-        let words = made.div_ceil(BITS as usize);
+    /// A set for so many numbers, which none is in. Fails only when out of memory.
+    pub(crate) fn none(alloc: Global, count: usize) -> Result<Marks, AllocError> {
+        let words = count.div_ceil(BITS as usize);
         Ok(Marks {
             words: vec![in alloc; 0; words]?,
         })
     }
 
-    /// Whether a name is in the set.
+    /// Whether a number is in the set.
     #[tactic(auto, unfolding(crate::specs::Separation::is_marked))]
-    pub(crate) fn has(&self, name: u64) -> bool
-        ensures { result ≡ is_marked self.now.words.items name }
+    pub(crate) fn has(&self, number: u64) -> bool
+        ensures { result ≡ is_marked self.now.words.items number }
     {
-        match self.words.get((name / BITS) as usize) {
-            Some(word) => *word >> (name % BITS) & 1 == 1,
+        match self.words.get((number / BITS) as usize) {
+            Some(word) => *word >> (number % BITS) & 1 == 1,
             None => false,
         }
     }
 
-    /// Puts a name into the set. Whether it wasn't there.
-    pub(crate) fn put(&mut self, name: u64) -> bool {
-        match self.words.get_mut((name / BITS) as usize) {
+    /// Puts a number into the set. Whether it wasn't there.
+    pub(crate) fn put(&mut self, number: u64) -> bool {
+        match self.words.get_mut((number / BITS) as usize) {
             Some(word) => {
-                let bit = 1 << (name % BITS);
+                let bit = 1 << (number % BITS);
                 let new = *word & bit == 0;
                 *word |= bit;
                 new
@@ -47,41 +47,41 @@ impl Marks {
     }
 }
 
-// How many names have their two bits in one word.
+// How many numbers have their two bits in one word.
 const PAIRS: u64 = 32;
 
-/// Two sets of names: of each name a bit for the second set, and above it one for the first. Names past the last word
-/// are in none.
+/// Two sets of numbers: of each number a bit for the second set, and above it one for the first. Numbers past the last
+/// word are in none.
 #[derive(Drop)]
 pub(crate) struct Pairs {
     words: Vec<u64>,
 }
 
 impl Pairs {
-    /// Sets for so many names, which none is in. Fails only when out of memory.
-    pub(crate) fn none(alloc: Global, made: usize) -> Result<Pairs, AllocError> {
-        let words = made.div_ceil(PAIRS as usize);
+    /// Sets for so many numbers, which none is in. Fails only when out of memory.
+    pub(crate) fn none(alloc: Global, count: usize) -> Result<Pairs, AllocError> {
+        let words = count.div_ceil(PAIRS as usize);
         Ok(Pairs {
             words: vec![in alloc; 0; words]?,
         })
     }
 
-    /// The two bits of a name, with those of the names behind it above them.
+    /// The two bits of a number, with those of the numbers behind it above them.
     #[tactic(auto, unfolding(crate::specs::Separation::pair_in))]
-    pub(crate) fn pair(&self, name: u64) -> u64
-        ensures { result ≡ pair_in self.now.words.items name }
+    pub(crate) fn pair(&self, number: u64) -> u64
+        ensures { result ≡ pair_in self.now.words.items number }
     {
-        match self.words.get((name / PAIRS) as usize) {
-            Some(word) => *word >> (name % PAIRS * 2),
+        match self.words.get((number / PAIRS) as usize) {
+            Some(word) => *word >> (number % PAIRS * 2),
             None => 0,
         }
     }
 
-    /// Puts a name into one of the sets. Whether it wasn't there.
-    pub(crate) fn put(&mut self, name: u64, first: bool) -> bool {
-        match self.words.get_mut((name / PAIRS) as usize) {
+    /// Puts a number into one of the sets. Whether it wasn't there.
+    pub(crate) fn put(&mut self, number: u64, first: bool) -> bool {
+        match self.words.get_mut((number / PAIRS) as usize) {
             Some(word) => {
-                let bit = 1 << (name % PAIRS * 2 + u64::from(first));
+                let bit = 1 << (number % PAIRS * 2 + u64::from(first));
                 let new = *word & bit == 0;
                 *word |= bit;
                 new
@@ -91,7 +91,7 @@ impl Pairs {
     }
 }
 
-/// Whether the two bits of a name are those of one in the first set.
+/// Whether the two bits of a number are those of one in the first set.
 #[tactic(auto, unfolding(crate::specs::Separation::is_first))]
 pub(crate) fn is_in_first(pair: u64) -> bool
     ensures { result ≡ is_first pair }
@@ -99,7 +99,7 @@ pub(crate) fn is_in_first(pair: u64) -> bool
     pair >> 1 & 1 == 1
 }
 
-/// Whether the two bits of a name are those of one in the second set.
+/// Whether the two bits of a number are those of one in the second set.
 #[tactic(auto, unfolding(crate::specs::Separation::is_second))]
 pub(crate) fn is_in_second(pair: u64) -> bool
     ensures { result ≡ is_second pair }

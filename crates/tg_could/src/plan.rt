@@ -1,5 +1,6 @@
 //! Turns that are to lead to a right, tried on the graph of a picture. Nothing has to be believed of them: they are
 //! replayed.
+use crate::chains::Chains;
 use crate::search::{Found, Step};
 use crate::separation::{comes_later, has};
 use crate::trial::Trial;
@@ -46,6 +47,15 @@ enum End {
 pub(crate) struct Planned {
     pub(crate) turns: Vec<(u64, Deed)>,
     pub(crate) made: u64,
+}
+
+// How far a way was gone: the steps since the last who acts, who acted before, and the mailbox that is handed on.
+#[derive(Drop)]
+struct Way {
+    stretch: Vec<Step>,
+    before: Option<u64>,
+    last: Option<u64>,
+    mailbox: u64,
 }
 
 // The turns so far, and the graph behind them.
@@ -240,8 +250,19 @@ impl<'a> Plan<'a> {
         let down = names_of(self.alloc, stretch, 0, turn)?;
         let mut up = names_of(self.alloc, stretch, turn, stretch.len())?;
         up.reverse();
+        self.mailbox_between(down.as_slice(), &mut up, p, q)
+    }
+
+    // The same, where p walks down to the last of one list, and q up to the last of the other.
+    fn mailbox_between(
+        &mut self,
+        down: &[u64],
+        up: &mut Vec<u64>,
+        p: u64,
+        q: u64,
+    ) -> Result<u64, AllocError> {
         let (Some(a), Some(b)) = (down.last().copied(), up.last().copied()) else {
-            self.along(down.as_slice())?;
+            self.along(down)?;
             let new = self.create(q, both())?;
             self.take(p, q, new, both())?;
             return Ok(new);
@@ -253,7 +274,7 @@ impl<'a> Plan<'a> {
             self.take(q, p, new, both())?;
             return Ok(new);
         }
-        self.along(down.as_slice())?;
+        self.along(down)?;
         self.along(up.as_slice())?;
         if self.has_all(a, b, single(Right::G)) {
             self.meet(p, a, b, q)
@@ -324,38 +345,66 @@ impl<'a> Plan<'a> {
         self.grant(holder, x, over, single(right))
     }
 
-    // Goes along the way from one who acts to the next, with one mailbox that is handed on, and then to x.
-    fn go(&mut self, path: &[Step], x: u64, end: End) -> Result<(), AllocError> {
-        let mut stretch: Vec<Step> = Vec::new(self.alloc);
-        let mut before = None;
-        let mut last = None;
-        let mut mailbox = 0;
-        for step in path {
-            if last == Some(step.vertex) {
-                continue;
-            }
-            stretch.push(*step)?;
-            if !self.found.acts(step.vertex) {
-                continue;
-            }
-            if last.is_some() {
-                self.hand_on(stretch.as_slice(), mailbox)?;
-            } else {
-                let mut walk = names_of(self.alloc, stretch.as_slice(), 0, stretch.len())?;
-                walk.reverse();
-                mailbox = self.begin(walk.as_slice())?;
-            }
-            before = last;
-            last = Some(step.vertex);
-            stretch.clear();
-            stretch.push(*step)?;
+    // Leads the right to x along a path, unless x holds it.
+    fn lead(&mut self, path: &[Step], x: u64, end: End) -> Result<(), AllocError> {
+        let (Some(first), Some(last)) = (path.first().copied(), path.last().copied()) else {
+            return Ok(());
+        };
+        let Goal { right, over, .. } = self.goal;
+        if self.has_all(x, over, single(right)) {
+            return Ok(());
         }
+        self.goal.source = first.vertex;
+        self.make_names(x, last.vertex, first.vertex)?;
+        let mut way = Way {
+            stretch: Vec::new(self.alloc),
+            before: None,
+            last: None,
+            mailbox: 0,
+        };
+        for step in path {
+            self.go(&mut way, *step)?;
+        }
+        self.arrive(&way, x, end)
+    }
+
+    // Goes one step, from one who acts to the next, with one mailbox that is handed on.
+    fn go(&mut self, way: &mut Way, step: Step) -> Result<(), AllocError> {
+        let vertex = step.vertex;
+        if way.last == Some(vertex) {
+            return Ok(());
+        }
+        way.stretch.push(step)?;
+        if !self.found.acts(vertex) {
+            return Ok(());
+        }
+        if way.last.is_some() {
+            self.hand_on(way.stretch.as_slice(), way.mailbox)?;
+        } else {
+            way.mailbox = self.set_out(way.stretch.as_slice())?;
+        }
+        way.before = way.last;
+        way.last = Some(vertex);
+        way.stretch.clear();
+        way.stretch.push(step)?;
+        Ok(())
+    }
+
+    // The first who acts begins, at the end of a stretch.
+    fn set_out(&mut self, stretch: &[Step]) -> Result<u64, AllocError> {
+        let mut walk = names_of(self.alloc, stretch, 0, stretch.len())?;
+        walk.reverse();
+        self.begin(walk.as_slice())
+    }
+
+    // The last who acts hands the right to x, or is x.
+    fn arrive(&mut self, way: &Way, x: u64, end: End) -> Result<(), AllocError> {
         if matches!(end, End::Itself) {
             let Goal { right, over, .. } = self.goal;
-            return self.take(x, mailbox, over, single(right));
+            return self.take(x, way.mailbox, over, single(right));
         }
-        let walk = names_of(self.alloc, stretch.as_slice(), 0, stretch.len())?;
-        self.end(walk.as_slice(), before, x, mailbox)
+        let walk = names_of(self.alloc, way.stretch.as_slice(), 0, way.stretch.len())?;
+        self.end(walk.as_slice(), way.before, x, way.mailbox)
     }
 }
 
@@ -397,11 +446,13 @@ fn path_to(alloc: Global, found: &Found, x: u64, end: End) -> Result<Vec<Step>, 
     }
 }
 
-/// Turns after which x is to hold the right over y, by what the search has found. Fails only when out of memory.
+/// Turns after which x is to hold the right over y, by what the search has found; `rows` are the edges from x and from
+/// whom it found. Fails only when out of memory.
 pub(crate) fn turns_to(
     alloc: Global,
     picture: &Picture,
     found: &Found,
+    rows: Chains,
     x: u64,
     right: Right,
     y: u64,
@@ -415,18 +466,12 @@ pub(crate) fn turns_to(
             over: y,
             source: y,
         },
-        trial: Trial::new(alloc, picture, found.rows.copy(alloc)?, u64::MAX)?,
+        trial: Trial::new(alloc, picture, rows, u64::MAX)?,
         turns: Vec::new(alloc),
     };
     if let Some(end) = end_of(picture, found, x) {
         let path = path_to(alloc, found, x, end)?;
-        if let (Some(first), Some(last)) = (path.first().copied(), path.last().copied())
-            && !plan.has_all(x, y, single(right))
-        {
-            plan.goal.source = first.vertex;
-            plan.make_names(x, last.vertex, first.vertex)?;
-            plan.go(path.as_slice(), x, end)?;
-        }
+        plan.lead(path.as_slice(), x, end)?;
     }
     Ok(Planned {
         turns: plan.turns,

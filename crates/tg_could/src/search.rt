@@ -1,7 +1,10 @@
 //! The search: who may come to hold a right, and on which way. What it finds is checked (`Separation::parts`,
-//! `lead_there`), so that nothing has to be believed of it. Each edge is looked at four times at most.
+//! `lead_there`), so that nothing has to be believed of it. It goes back along take edges first, and looks at all
+//! others only where this leads to one who acts.
 use crate::chains::{Chains, NONE, place};
+use crate::links::{Links, number_of};
 use crate::marks::Marks;
+use crate::names::Names;
 use crate::separation::{Separation, comes_later, has, is_silent};
 use std::alloc::{AllocError, Global};
 use tg_model::{Edge, Picture};
@@ -14,47 +17,63 @@ pub(crate) struct Step {
     pub(crate) forward: bool,
 }
 
-// A step as it is kept, in 8 bytes: the vertex twice, and one more where it was put into the first set; and the place
-// of the step that led there, `NONE` where the search began.
+// A step as it is kept, in 8 bytes: the number of the vertex twice, and one more where it was put into the first set;
+// and the place of the step that led there, `NONE` where the search began.
 #[derive(Clone, Copy, Debug, Drop)]
 struct Kept {
     packed: u32,
     before: u32,
 }
 
-/// What the search has found: the sets, its steps in order, and who acts; and the edges from each vertex.
+/// What the search has found: the sets, its steps in order, and who acts.
 #[derive(Drop)]
 pub(crate) struct Found {
     pub(crate) sides: Separation,
-    pub(crate) rows: Chains,
     steps: Vec<Kept>,
     acting: Marks,
 }
 
-impl Kept {
-    // None for a vertex past the most that are numbered, 2^31 - 1.
-    fn of(vertex: u64, forward: bool, before: u32) -> Option<Kept> {
-        let twice = vertex.checked_mul(2)?;
-        match u32::try_from(twice | u64::from(forward)) {
-            Ok(packed) => Some(Kept { packed, before }),
-            Err(_) => None,
-        }
-    }
+// The edges with take or grant at each vertex: from those that have grant over it, and to those over which it has one
+// of both.
+#[derive(Drop)]
+struct Ways {
+    granters: Links,
+    targets: Links,
+}
 
-    fn step(self) -> Step {
-        Step {
-            vertex: u64::from(self.packed / 2),
-            forward: self.packed % 2 == 1,
+impl Ways {
+    // Adds an edge where it has take or grant. Fails only when out of memory.
+    fn add(&mut self, names: &Names, edge: &Edge) -> Result<(), AllocError> {
+        let grant = has(edge.label, Right::G);
+        if !grant && !has(edge.label, Right::T) {
+            return Ok(());
         }
+        let from = names.number(edge.from);
+        let to = names.number(edge.to);
+        self.targets.add(from, to, edge.label)?;
+        if grant {
+            self.granters.add(to, from, edge.label)?;
+        }
+        Ok(())
     }
 }
 
-// Adds the edge at a place of the list to the chains of its two vertices. To its target it leads where it has take or
-// grant.
-fn add_edge(rows: &mut Chains, columns: &mut Chains, at: usize, edge: &Edge) {
-    rows.put(at, edge.from);
-    if has(edge.label, Right::T) || has(edge.label, Right::G) {
-        columns.put(at, edge.to);
+impl Kept {
+    // None for a number past the most that are kept.
+    fn of(number: u64, forward: bool, before: u32) -> Option<Kept> {
+        let number = number_of(number)?;
+        Some(Kept {
+            packed: number << 1 | u32::from(forward),
+            before,
+        })
+    }
+
+    fn number(self) -> u32 {
+        self.packed >> 1
+    }
+
+    fn is_forward(self) -> bool {
+        self.packed & 1 == 1
     }
 }
 
@@ -68,18 +87,10 @@ pub(crate) fn search(
     y: u64,
 ) -> Result<Found, AllocError> {
     let mut found = Found::start(alloc, picture, silent)?;
-    let edges = picture.edges();
-    let mut columns = Chains::none(alloc, picture.made() as usize, edges.len())?;
     if comes_later(picture, y) {
         found.put_actors(picture, false)?;
     }
-    for (at, edge) in edges.iter().enumerate() {
-        add_edge(&mut found.rows, &mut columns, at, edge);
-        if edge.to == y && has(edge.label, right) {
-            found.put(edge.from, false, NONE)?;
-        }
-    }
-    found.spread(edges, &columns)?;
+    found.search(alloc, picture.edges(), right, y)?;
     Ok(found)
 }
 
@@ -92,74 +103,147 @@ pub(crate) fn search_back(
     x: u64,
 ) -> Result<Found, AllocError> {
     let mut found = Found::start(alloc, picture, silent)?;
-    let edges = picture.edges();
-    let mut columns = Chains::none(alloc, picture.made() as usize, edges.len())?;
     if comes_later(picture, x) {
         found.put_actors(picture, true)?;
     }
     if found.acts(x) {
-        found.put(x, true, NONE)?;
+        found.put_name(x, true)?;
     }
-    for (at, edge) in edges.iter().enumerate() {
-        add_edge(&mut found.rows, &mut columns, at, edge);
-        if edge.to == x && has(edge.label, Right::G) {
-            found.put(edge.from, false, NONE)?;
-        }
-    }
-    found.spread(edges, &columns)?;
+    found.search(alloc, picture.edges(), Right::G, x)?;
     Ok(found)
 }
 
 impl Found {
     // No vertex is in a set.
     fn start(alloc: Global, picture: &Picture, silent: &[u64]) -> Result<Found, AllocError> {
-        let made = picture.made() as usize;
-        let mut acting = Marks::none(alloc, made)?;
+        let names = Names::of(alloc, picture)?;
+        let mut acting = Marks::none(alloc, names.len())?;
         for subject in picture.subjects() {
             if !is_silent(silent, picture.made(), *subject) {
-                acting.put(*subject);
+                acting.put(names.number(*subject));
             }
         }
         Ok(Found {
-            sides: Separation::none(alloc, made)?,
-            rows: Chains::none(alloc, made, picture.edges().len())?,
+            sides: Separation::none(alloc, names)?,
             steps: Vec::new(alloc),
             acting,
         })
+    }
+
+    // No vertex has a link; there is room for so many. Fails only when out of memory.
+    fn no_links(&self, alloc: Global, room: usize) -> Result<Links, AllocError> {
+        Links::with_room(alloc, self.sides.names().len(), room)
+    }
+
+    // Searches from those who have a right over a vertex too.
+    fn search(
+        &mut self,
+        alloc: Global,
+        edges: &[Edge],
+        right: Right,
+        over: u64,
+    ) -> Result<(), AllocError> {
+        let mut takers = self.no_links(alloc, edges.len())?;
+        for edge in edges {
+            self.begin_at(&mut takers, edge, right, over)?;
+        }
+        self.finish(alloc, edges, &takers)
+    }
+
+    // Puts the holder of an edge into the second set, where it has the right over the vertex; and links the target of one
+    // that has take to its holder.
+    fn begin_at(
+        &mut self,
+        takers: &mut Links,
+        edge: &Edge,
+        right: Right,
+        over: u64,
+    ) -> Result<(), AllocError> {
+        if edge.to == over && has(edge.label, right) {
+            self.put_name(edge.from, false)?;
+        }
+        if !has(edge.label, Right::T) {
+            return Ok(());
+        }
+        let names = self.sides.names();
+        takers.add(names.number(edge.to), names.number(edge.from), edge.label)
     }
 
     // Puts everybody who acts into one of the sets.
     fn put_actors(&mut self, picture: &Picture, forward: bool) -> Result<(), AllocError> {
         for subject in picture.subjects() {
             if self.acts(*subject) {
-                self.put(*subject, forward, NONE)?;
+                self.put_name(*subject, forward)?;
             }
         }
         Ok(())
     }
 
-    // Goes on from each step to what its vertex leads to, until nothing is new.
-    fn spread(&mut self, edges: &[Edge], columns: &Chains) -> Result<(), AllocError> {
+    // Goes on from all steps, until nothing is new.
+    fn finish(&mut self, alloc: Global, edges: &[Edge], takers: &Links) -> Result<(), AllocError> {
+        if self.go_back(takers)? {
+            return Ok(());
+        }
+        let ways = self.ways(alloc, edges)?;
+        self.spread(takers, &ways)
+    }
+
+    // Goes back along take edges from each step. Whether these are all: none leads to one who acts.
+    fn go_back(&mut self, takers: &Links) -> Result<bool, AllocError> {
         for at in 0..NONE {
             let Some(kept) = self.steps.get(at as usize).copied() else {
                 break;
             };
-            let step = kept.step();
-            if self.acts(step.vertex) {
-                self.put(step.vertex, !step.forward, at)?;
+            if kept.is_forward() || self.acting.has(u64::from(kept.number())) {
+                return Ok(false);
             }
-            if step.forward {
-                self.leave(edges, at, step.vertex)?;
+            self.enter(takers, at, kept.number())?;
+        }
+        Ok(true)
+    }
+
+    // The edges with grant to each vertex, and those with take or grant from each. Fails only when out of memory.
+    fn ways(&self, alloc: Global, edges: &[Edge]) -> Result<Ways, AllocError> {
+        let mut ways = Ways {
+            granters: self.no_links(alloc, edges.len())?,
+            targets: self.no_links(alloc, edges.len())?,
+        };
+        for edge in edges {
+            ways.add(self.sides.names(), edge)?;
+        }
+        Ok(ways)
+    }
+
+    // Goes on from each step to what its vertex leads to, until nothing is new.
+    fn spread(&mut self, takers: &Links, ways: &Ways) -> Result<(), AllocError> {
+        for at in 0..NONE {
+            let Some(kept) = self.steps.get(at as usize).copied() else {
+                break;
+            };
+            let number = u64::from(kept.number());
+            if self.acting.has(number) {
+                self.put(number, !kept.is_forward(), at)?;
             }
-            self.enter(edges, columns, at, step)?;
+            if kept.is_forward() {
+                self.leave(&ways.targets, at, kept.number())?;
+                self.enter(&ways.granters, at, kept.number())?;
+            } else {
+                self.enter(takers, at, kept.number())?;
+            }
         }
         Ok(())
     }
 
-    // Puts a vertex into a set.
-    fn put(&mut self, vertex: u64, forward: bool, before: u32) -> Result<(), AllocError> {
-        if self.sides.put(vertex, forward)
-            && let Some(kept) = Kept::of(vertex, forward, before)
+    // Puts the vertex with a name into a set, where the search begins.
+    fn put_name(&mut self, name: u64, forward: bool) -> Result<(), AllocError> {
+        let number = self.sides.names().number(name);
+        self.put(number, forward, NONE)
+    }
+
+    // Puts the vertex with a number into a set.
+    fn put(&mut self, number: u64, forward: bool, before: u32) -> Result<(), AllocError> {
+        if self.sides.put(number, forward)
+            && let Some(kept) = Kept::of(number, forward, before)
         {
             self.steps.push(kept)?;
         }
@@ -167,48 +251,59 @@ impl Found {
     }
 
     // Goes along the edges from a vertex of the first set.
-    fn leave(&mut self, edges: &[Edge], at: u32, vertex: u64) -> Result<(), AllocError> {
-        let mut next = self.rows.first(vertex);
-        for _ in 0..edges.len() {
-            let Some(edge) = edges.get(next as usize) else {
+    fn leave(&mut self, targets: &Links, at: u32, number: u32) -> Result<(), AllocError> {
+        let mut next = targets.first(number);
+        for _ in 0..targets.len() {
+            let Some(link) = targets.at(next) else {
                 break;
             };
-            if has(edge.label, Right::T) {
-                self.put(edge.to, true, at)?;
+            let end = u64::from(link.end());
+            if link.has_take() {
+                self.put(end, true, at)?;
             }
-            if has(edge.label, Right::G) {
-                self.put(edge.to, false, at)?;
+            if link.has_grant() {
+                self.put(end, false, at)?;
             }
-            next = self.rows.next(next);
+            next = link.next();
         }
         Ok(())
     }
 
     // Goes back along the edges to a vertex.
-    fn enter(
-        &mut self,
-        edges: &[Edge],
-        columns: &Chains,
-        at: u32,
-        step: Step,
-    ) -> Result<(), AllocError> {
-        let wanted = if step.forward { Right::G } else { Right::T };
-        let mut next = columns.first(step.vertex);
-        for _ in 0..edges.len() {
-            let Some(edge) = edges.get(next as usize) else {
+    fn enter(&mut self, holders: &Links, at: u32, number: u32) -> Result<(), AllocError> {
+        let mut next = holders.first(number);
+        for _ in 0..holders.len() {
+            let Some(link) = holders.at(next) else {
                 break;
             };
-            if has(edge.label, wanted) {
-                self.put(edge.from, false, at)?;
-            }
-            next = columns.next(next);
+            self.put(u64::from(link.end()), false, at)?;
+            next = link.next();
         }
         Ok(())
     }
 
     /// Whether a vertex is one who acts.
-    pub(crate) fn acts(&self, vertex: u64) -> bool {
-        self.acting.has(vertex)
+    pub(crate) fn acts(&self, name: u64) -> bool {
+        self.acting.has(self.sides.names().number(name))
+    }
+
+    /// The edges from x and from all vertices in a set. Fails only when out of memory.
+    pub(crate) fn rows(
+        &self,
+        alloc: Global,
+        picture: &Picture,
+        x: u64,
+    ) -> Result<Chains, AllocError> {
+        let names = self.sides.names();
+        let mut rows = Chains::none(alloc, names.copy(alloc)?, picture.made())?;
+        for (at, edge) in picture.edges().iter().enumerate() {
+            let number = names.number(edge.from);
+            if edge.from == x || self.sides.has_number(number) {
+                rows.put(place(at), number)?;
+            }
+        }
+        rows.end_list(picture.edges().len());
+        Ok(rows)
     }
 
     /// The steps that led to a vertex in a set, the first one first; none where it isn't in it. Fails only when out of
@@ -219,22 +314,26 @@ impl Found {
         vertex: u64,
         forward: bool,
     ) -> Result<Vec<Step>, AllocError> {
+        let names = self.sides.names();
         let mut path = Vec::new(alloc);
-        let mut next = self.place(vertex, forward);
+        let mut next = self.place(names.number(vertex), forward);
         for _ in 0..self.steps.len() {
             let Some(kept) = self.steps.get(next as usize).copied() else {
                 break;
             };
-            path.push(kept.step())?;
+            path.push(Step {
+                vertex: names.name(u64::from(kept.number())),
+                forward: kept.is_forward(),
+            })?;
             next = kept.before;
         }
         path.reverse();
         Ok(path)
     }
 
-    // The place of the step that put a vertex into a set, `NONE` where none did.
-    fn place(&self, vertex: u64, forward: bool) -> u32 {
-        let Some(wanted) = Kept::of(vertex, forward, NONE) else {
+    // The place of the step that put the vertex with a number into a set, `NONE` where none did.
+    fn place(&self, number: u64, forward: bool) -> u32 {
+        let Some(wanted) = Kept::of(number, forward, NONE) else {
             return NONE;
         };
         let end = self

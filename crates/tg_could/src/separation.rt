@@ -10,13 +10,15 @@ ghost use Rattle.tg_could.specs.Turns.{NeverHolds};
 ghost use Rattle.tg_could.specs.Separation.{MayAdd, Parts, Stays, sides_of, sides_against, place_in, ComesLater, IsEven, IsIdle, AreApart, Suits};
 
 use crate::marks::{Pairs, is_in_first, is_in_second};
+use crate::names::Names;
 use std::alloc::{AllocError, Global};
 use tg_model::{Edge, MAX_WORKERS, Picture};
 use tg_rights::{Label, Right, Rights};
 
-/// Why x never holds a right: two sets of names, two bits for each name.
+/// Why x never holds a right: two sets of names, two bits for each name that the picture shows.
 #[derive(Drop)]
 pub struct Separation {
+    names: Names,
     pairs: Pairs,
 }
 
@@ -138,32 +140,36 @@ fn are_fit(edge: &Edge, from: Place, to: Place, x: u64, right: Right, y: u64) ->
 }
 
 impl Separation {
-    /// Sets on so many names, which no name is in. Fails only when out of memory.
-    pub(crate) fn none(alloc: Global, made: usize) -> Result<Separation, AllocError> {
-        Ok(Separation {
-            pairs: Pairs::none(alloc, made)?,
-        })
+    /// Sets of these names, which none is in. Fails only when out of memory.
+    pub(crate) fn none(alloc: Global, names: Names) -> Result<Separation, AllocError> {
+        let pairs = Pairs::none(alloc, names.len())?;
+        Ok(Separation { names, pairs })
+    }
+
+    /// The numbers of names.
+    pub(crate) fn names(&self) -> &Names {
+        &self.names
     }
 
     /// Whether a name is in the first set.
     pub(crate) fn is_forward(&self, name: u64) -> bool
         ensures { result ≡ (sides_of self.now).forward name }
     {
-        is_in_first(self.pairs.pair(name))
+        is_in_first(self.pairs.pair(self.names.number(name)))
     }
 
     /// Whether a name is in the second set.
     pub(crate) fn is_back(&self, name: u64) -> bool
         ensures { result ≡ (sides_of self.now).back name }
     {
-        is_in_second(self.pairs.pair(name))
+        is_in_second(self.pairs.pair(self.names.number(name)))
     }
 
     /// In which of the sets a name is.
     pub(crate) fn place(&self, name: u64) -> Place
         ensures { result ≡ place_in (sides_of self.now) name }
     {
-        let pair = self.pairs.pair(name);
+        let pair = self.pairs.pair(self.names.number(name));
         Place {
             forward: is_in_first(pair),
             back: is_in_second(pair),
@@ -174,16 +180,22 @@ impl Separation {
     pub(crate) fn place_against(&self, name: u64) -> Place
         ensures { result ≡ place_in (sides_against self.now) name }
     {
-        let pair = self.pairs.pair(name);
+        let pair = self.pairs.pair(self.names.number(name));
         Place {
             forward: !is_in_second(pair),
             back: !is_in_first(pair),
         }
     }
 
-    /// Puts a name into one of the sets. Whether it wasn't there.
-    pub(crate) fn put(&mut self, name: u64, forward: bool) -> bool {
-        self.pairs.put(name, forward)
+    /// Whether the name with a number is in one of the sets.
+    pub(crate) fn has_number(&self, number: u64) -> bool {
+        let pair = self.pairs.pair(number);
+        is_in_first(pair) || is_in_second(pair)
+    }
+
+    /// Puts the name with a number into one of the sets. Whether it wasn't there.
+    pub(crate) fn put(&mut self, number: u64, forward: bool) -> bool {
+        self.pairs.put(number, forward)
     }
 
     // Whether an edge leads out of neither set, and x is neither its holder nor its gift.
@@ -232,13 +244,27 @@ impl Separation {
         ensures { IsTrue result →
             All (λ v. ¬ (Contains silent.now v × (v < picture.now.made)) → IsEven (sides_of self.now) picture.now x y v) picture.now.subjects }
     {
-        let made = picture.made();
         for subject in picture.subjects() {
-            if !is_silent(silent, made, *subject) && !self.is_even(picture, x, y, *subject) {
+            if !self.is_even_or_silent(picture, silent, x, y, *subject) {
                 return false;
             }
         }
         true
+    }
+
+    // Whether a subject is silent, or even.
+    fn is_even_or_silent(
+        &self,
+        picture: &Picture,
+        silent: &[u64],
+        x: u64,
+        y: u64,
+        subject: u64,
+    ) -> bool
+        ensures { IsTrue result →
+            ¬ (Contains silent.now subject × (subject < picture.now.made)) → IsEven (sides_of self.now) picture.now x y subject }
+    {
+        is_silent(silent, picture.made(), subject) || self.is_even(picture, x, y, subject)
     }
 
     /// Whether x never holds the right over y, as far as the two sets show it: after no list of turns of the active
@@ -269,11 +295,17 @@ pub(crate) fn is_alone(picture: &Picture, silent: &[u64], y: u64) -> bool
     if (picture.subjects().len() as u64) < MAX_WORKERS {
         return false;
     }
-    let made = picture.made();
     for subject in picture.subjects() {
-        if !is_silent(silent, made, *subject) && *subject != y {
+        if !is_or_is_silent(picture, silent, *subject, y) {
             return false;
         }
     }
     true
+}
+
+// Whether a subject is silent, or is y.
+fn is_or_is_silent(picture: &Picture, silent: &[u64], subject: u64, y: u64) -> bool
+    ensures { IsTrue result → ¬ (Contains silent.now subject × (subject < picture.now.made)) → subject ≡ y }
+{
+    is_silent(silent, picture.made(), subject) || subject == y
 }

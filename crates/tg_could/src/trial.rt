@@ -93,16 +93,19 @@ impl Trial {
             HoldsOver label from to rights }
     {
         let mut found = Rights::empty();
-        let mut place = self.rows.first(from);
+        let mut next = self.rows.first(from);
         for _ in 0..NONE {
-            let Some(edge) = self.edge(edges, place) else {
+            let Some(link) = self.rows.at(next) else {
+                break;
+            };
+            let Some(edge) = self.edge(edges, link.edge) else {
                 break;
             };
             found = found.union(rights_between(edge, from, to));
             if found.contains(rights) {
                 return true;
             }
-            place = self.rows.next(place);
+            next = link.next;
         }
         false
     }

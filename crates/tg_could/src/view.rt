@@ -1,5 +1,5 @@
 //! All questions of one picture at once.
-ghost use Rattle.std.specs.Prelude.{◌≡◌, ◌↔◌, ◌<◌, ◌≤◌, true, ℕ, List, length, IfOk, IsTrue};
+ghost use Rattle.std.specs.Prelude.{◌≡◌, ◌↔◌, ◌<◌, ◌≤◌, true, ℕ, List, length, IfOk, IfSome, IsTrue};
 ghost use Rattle.std.specs.List.{All, Contains};
 ghost use Rattle.tg_rights.specs.declared.Right.{Right as TheRight};
 ghost use Rattle.tg_model.specs.Graph.{ProtectionGraph};
@@ -7,15 +7,17 @@ ghost use Rattle.tg_model.specs.declared.opening.TheConstants.{MAX_WORKERS};
 ghost use Rattle.tg_model.specs.Picture.{Shown, IsPictureOf};
 ghost use Rattle.tg_could.specs.declared.chance.Chance.TheVariants.{Never};
 ghost use Rattle.tg_could.specs.Turns.{NeverHolds};
-ghost use Rattle.tg_could.specs.View.{IsViewOf, IsCheckedOn, IsPlaced, IsListed, is_within as within};
+ghost use Rattle.tg_could.specs.View.{AreGathered, IsViewOf, IsCheckedOn, IsPlaced, IsListed, Stands, is_within as within};
 
 use crate::chance::Chance;
+use crate::entries::{Entries, Entry};
 use crate::incoming::Incoming;
 use crate::islands::Islands;
+use crate::names::Names;
 use crate::separation::is_silent;
-use crate::words::{is_within, meets, word_of};
+use crate::words::{is_within, meets};
 use std::alloc::{AllocError, Global};
-use tg_model::{MAX_WORKERS, Picture};
+use tg_model::{Edge, MAX_WORKERS, Picture};
 use tg_rights::Right;
 
 /// What could come about on a picture, of all questions at once, as of the moment of [`View::open`].
@@ -29,6 +31,7 @@ pub struct View {
 /// be are active.
 #[derive(Drop)]
 struct Facts {
+    names: Names,
     actors: Vec<u64>,
     islands: Islands,
     incoming: Incoming,
@@ -39,23 +42,17 @@ struct Facts {
 
 impl View {
     /// Makes ready for all questions of a picture, where the silent ones take no turns: for each vertex two words of 64
-    /// bits, and the edges by their targets. Time and memory are in proportion to the picture. Names and edges count by
-    /// 32 bits: where one is past them, all is told as `Perhaps`. Fails only when out of memory.
+    /// bits, and the edges by their targets. Time and memory are in proportion to the picture. Vertices and edges count
+    /// by 32 bits: where there are more, all is told as `Perhaps`. Fails only when out of memory.
     pub fn open(alloc: Global, picture: &Picture, silent: &[u64]) -> Result<View, AllocError>
         ensures { IfOk result (λ view. IsViewOf silent.now picture.now view) }
     {
-        let actors = actors_of(alloc, picture, silent)?;
-        let sorted = Incoming::of(alloc, picture.made() as usize, picture.edges())?;
-        let islands = Islands::of(alloc, picture, actors.as_slice())?;
-        let facts = Facts {
-            actors,
-            islands,
-            incoming: sorted.incoming,
-            is_full: is_full(picture),
-            made: picture.made(),
-            limit: picture.limit(),
-        };
-        let is_shown = facts.is_checked(picture, silent, sorted.places.as_slice());
+        let names = Names::of(alloc, picture)?;
+        let entries = Entries::of(alloc, &names, picture.edges())?;
+        let list = entries.list.as_slice();
+        let mut places = vec![in alloc; 0; list.len()]?;
+        let facts = Facts::of(alloc, picture, silent, names, list, &mut places)?;
+        let is_shown = facts.is_checked(picture, silent, &entries, places.as_slice());
         Ok(View { facts, is_shown })
     }
 
@@ -74,13 +71,38 @@ impl View {
 }
 
 impl Facts {
-    // The same, of facts that were checked.
+    // The facts of a picture, by its entries, of which each is told its place. Nothing is believed of them. Fails only
+    // when out of memory.
+    fn of(
+        alloc: Global,
+        picture: &Picture,
+        silent: &[u64],
+        names: Names,
+        entries: &[Entry],
+        places: &mut Vec<u32>,
+    ) -> Result<Facts, AllocError> {
+        let count = names.len();
+        let actors = actors_of(alloc, picture, silent)?;
+        let islands = Islands::of(alloc, &names, entries, actors.as_slice())?;
+        let incoming = Incoming::of(alloc, count, entries, places)?;
+        Ok(Facts {
+            names,
+            actors,
+            islands,
+            incoming,
+            is_full: is_full(picture),
+            made: picture.made(),
+            limit: picture.limit(),
+        })
+    }
+
+    // What a view tells, of facts that were checked.
     fn could(&self, x: u64, right: Right, y: u64) -> Chance
         ensures { (silent : List ℕ) (shown : Shown) (g : ProtectionGraph) →
             IsCheckedOn silent shown self.now → IsPictureOf shown g → result ≡ Never → NeverHolds silent g x right y }
     {
-        let reached = self.islands.reached.as_slice();
-        let Some(gathered) = self.incoming.gather(reached, x, right, y) else {
+        let number = self.names.number(x);
+        let Some(gathered) = self.gather(number, right, self.names.number(y)) else {
             return Chance::Perhaps;
         };
         if x == y {
@@ -90,7 +112,7 @@ impl Facts {
             return Chance::Never;
         }
         let word = self.with_later(gathered, y);
-        if meets(word_of(self.islands.granted.as_slice(), x), word) {
+        if meets(self.islands.granted(number), word) {
             return Chance::Perhaps;
         }
         if !self.are_placed(x, y, word) {
@@ -99,12 +121,25 @@ impl Facts {
         Chance::Never
     }
 
+    // The union of the words of those who hold a right over y; none where x is one of them. Both are told by number.
+    fn gather(&self, x: u64, right: Right, y: u64) -> Option<u64>
+        ensures { IfSome result (AreGathered self.now.incoming self.now.islands.reached.items x right y) }
+    {
+        self.incoming
+            .gather(self.islands.reached.as_slice(), x, right, y)
+    }
+
     // Whether the facts are those of a picture.
-    fn is_checked(&self, picture: &Picture, silent: &[u64], places: &[u32]) -> bool
+    fn is_checked(
+        &self,
+        picture: &Picture,
+        silent: &[u64],
+        entries: &Entries,
+        places: &[u32],
+    ) -> bool
         ensures { IsTrue result → IsCheckedOn silent.now picture.now self.now }
     {
         let actors = self.actors.as_slice();
-        let edges = picture.edges();
         if !are_same(self.made, picture.made(), self.limit, picture.limit()) {
             return false;
         }
@@ -114,13 +149,24 @@ impl Facts {
         if !are_listed(actors, picture, silent) {
             return false;
         }
-        if !self.islands.are_single(actors) {
+        if !self.islands.are_single(&self.names, actors) {
             return false;
         }
-        if !self.islands.are_joined(edges) {
+        self.have_all(picture.edges(), entries, places)
+    }
+
+    // Whether each of these edges has an entry, which the words count, and whose holder stands at its place.
+    fn have_all(&self, edges: &[Edge], entries: &Entries, places: &[u32]) -> bool
+        ensures { IsTrue result → All (Stands self.now.names self.now.islands self.now.incoming) edges.now }
+    {
+        let list = entries.list.as_slice();
+        if !entries.have_all(&self.names, edges) {
             return false;
         }
-        self.incoming.has_all(edges, places)
+        if !self.islands.are_joined(list) {
+            return false;
+        }
+        self.incoming.has_all(list, places)
     }
 
     // Whether as many subjects as may be are active on a picture, where it is kept so.
@@ -171,7 +217,7 @@ impl Facts {
     fn is_placed(&self, x: u64, y: u64, word: u64, actor: u64) -> bool
         ensures { IsTrue result → IsPlaced self.now x y word actor }
     {
-        if is_within(word_of(self.islands.reached.as_slice(), actor), word) {
+        if is_within(self.islands.word(self.names.number(actor)), word) {
             return actor != x && !self.comes_later(x);
         }
         !self.comes_later(y)
@@ -213,13 +259,19 @@ fn are_listed(actors: &[u64], picture: &Picture, silent: &[u64]) -> bool
     ensures { IsTrue result →
         All (λ v. ¬ (Contains silent.now v × (v < picture.now.made)) → IsListed actors.now v) picture.now.subjects }
 {
-    let made = picture.made();
     for subject in picture.subjects() {
-        if !is_silent(silent, made, *subject) && !is_listed(actors, *subject) {
+        if !is_listed_or_silent(actors, picture, silent, *subject) {
             return false;
         }
     }
     true
+}
+
+// Whether a subject is silent, or listed.
+fn is_listed_or_silent(actors: &[u64], picture: &Picture, silent: &[u64], subject: u64) -> bool
+    ensures { IsTrue result → ¬ (Contains silent.now subject × (subject < picture.now.made)) → IsListed actors.now subject }
+{
+    is_silent(silent, picture.made(), subject) || is_listed(actors, subject)
 }
 
 // Whether a name is listed.

@@ -3,36 +3,30 @@
 //! back from the last one, each knot hands its bits on when it has all. Only what is walked to is looked at. Nothing is
 //! believed of it: what it finds is checked.
 use crate::chains::NONE;
+use crate::entries::Entry;
 use crate::links::{Link, Links, number_of};
+use crate::names::Names;
 use crate::separation::has;
 use crate::words::{add, word_of};
 use std::alloc::{AllocError, Global};
-use tg_model::Edge;
 use tg_rights::Right;
 
-/// For each vertex a word of those of `actors` who walk to it, of whom the first 64 count. Fails only when out of
+/// For each number a word of those of `actors` who walk to its vertex, of whom the first 64 count. Fails only when out of
 /// memory.
 pub(crate) fn walks(
     alloc: Global,
-    edges: &[Edge],
-    made: usize,
+    names: &Names,
+    entries: &[Entry],
     actors: &[u64],
 ) -> Result<Vec<u64>, AllocError> {
-    let takes = takes_of(alloc, made, edges)?;
-    let mut words = vec![in alloc; 0; made]?;
-    let mut walk = Walk {
-        numbers: vec![in alloc; 0; made]?,
-        count: 0,
-        path: Vec::new(alloc),
-        open: Vec::new(alloc),
-        left: Vec::new(alloc),
-        starts: Vec::new(alloc),
-    };
+    let count = names.len();
+    let takes = takes_of(alloc, count, entries)?;
+    let mut words = vec![in alloc; 0; count]?;
+    let mut walk = Walk::new(alloc, count)?;
     for (at, actor) in actors.iter().enumerate() {
-        add(&mut words, *actor, bit_of(at));
-        if let Some(vertex) = number_of(*actor) {
-            walk.search(&takes, vertex)?;
-        }
+        let number = names.number(*actor);
+        add(&mut words, number, bit_of(at));
+        walk.begin(&takes, number)?;
     }
     walk.hand_on(&takes, &mut words);
     Ok(words)
@@ -47,11 +41,11 @@ pub(crate) fn bit_of(at: usize) -> u64 {
 }
 
 // The take edges from each vertex. Fails only when out of memory.
-fn takes_of(alloc: Global, made: usize, edges: &[Edge]) -> Result<Links, AllocError> {
-    let mut takes = Links::with_room(alloc, made, 0)?;
-    for edge in edges {
-        if has(edge.label, Right::T) {
-            takes.add(edge.from, edge.to, edge.label)?;
+fn takes_of(alloc: Global, count: usize, entries: &[Entry]) -> Result<Links, AllocError> {
+    let mut takes = Links::with_room(alloc, count, entries.len())?;
+    for entry in entries {
+        if has(entry.label, Right::T) {
+            takes.add(u64::from(entry.from), u64::from(entry.to), entry.label)?;
         }
     }
     Ok(takes)
@@ -79,6 +73,26 @@ struct Walk {
 }
 
 impl Walk {
+    // Nobody was come to. Fails only when out of memory.
+    fn new(alloc: Global, count: usize) -> Result<Walk, AllocError> {
+        Ok(Walk {
+            numbers: vec![in alloc; 0; count]?,
+            count: 0,
+            path: Vec::new(alloc),
+            open: Vec::new(alloc),
+            left: Vec::new(alloc),
+            starts: Vec::new(alloc),
+        })
+    }
+
+    // Goes from the vertex with a number, where it is one of those that are kept.
+    fn begin(&mut self, takes: &Links, number: u64) -> Result<(), AllocError> {
+        match number_of(number) {
+            Some(vertex) => self.search(takes, vertex),
+            None => Ok(()),
+        }
+    }
+
     // Goes from a vertex to all that it walks to, but for those that were come to.
     fn search(&mut self, takes: &Links, vertex: u32) -> Result<(), AllocError> {
         if self.number(vertex) != 0 {

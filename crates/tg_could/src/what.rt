@@ -1,16 +1,17 @@
 //! What someone could ever come to hold.
-ghost use Rattle.std.specs.Prelude.{◌≡◌, ◌↔◌, ◌<◌, ℕ, IfOk, IsTrue, slice_index_or};
+ghost use Rattle.std.specs.Prelude.{◌≡◌, ◌↔◌, ◌<◌, ℕ, IfOk, IsTrue};
 ghost use Rattle.std.specs.List.{All, Contains};
-ghost use Rattle.tg_rights.specs.RightSet.{no_rights, has as has_right};
+ghost use Rattle.tg_rights.specs.RightSet.{has as has_right};
 ghost use Rattle.tg_rights.specs.declared.Right.{Right as TheRight};
 ghost use Rattle.tg_model.specs.Graph.{ProtectionGraph};
 ghost use Rattle.tg_model.specs.Picture.{IsPictureOf};
 ghost use Rattle.tg_could.specs.declared.chance.Chance.TheVariants.{Never};
 ghost use Rattle.tg_could.specs.Turns.{NeverHolds};
 ghost use Rattle.tg_could.specs.Separation.{sides_against};
-ghost use Rattle.tg_could.specs.Listed.{IsUnlisted, IsLeftOut, ListsEdge, ListsActor};
+ghost use Rattle.tg_could.specs.Listed.{IsUnlisted, IsLeftOut, ListsEdge, ListsActor, rights_over};
 
 use crate::chance::Chance;
+use crate::names::Names;
 use crate::search::{Found, search_back};
 use crate::separation::{Separation, are_not_all, comes_later, has, is_silent, leads, stays};
 use std::alloc::{AllocError, Global};
@@ -30,6 +31,7 @@ pub struct What {
 /// The rights over each vertex that are told, and whether all are over those that aren't made yet.
 #[derive(Drop)]
 struct Listed {
+    names: Names,
     rights: Vec<Rights>,
     later: bool,
 }
@@ -76,27 +78,34 @@ pub fn what_could(
 impl Listed {
     // What x holds, and what is held by those whose rights it may get. Fails only when out of memory.
     fn of(alloc: Global, picture: &Picture, found: &Found, x: u64) -> Result<Listed, AllocError> {
-        let mut rights = vec![in alloc; Rights::empty(); picture.made() as usize]?;
+        let names = found.sides.names().copy(alloc)?;
+        let mut listed = Listed {
+            rights: vec![in alloc; Rights::empty(); names.len()]?,
+            names,
+            later: goes_on(picture, found),
+        };
         for edge in picture.edges() {
-            if edge.from != x && (edge.to == x || !found.sides.is_forward(edge.from)) {
-                continue;
-            }
-            if let Some(over) = rights.get_mut(edge.to as usize) {
-                *over = over.union(edge.label.rights());
-            }
+            listed.add(found, edge, x);
         }
-        let mut later = false;
-        for subject in picture.subjects() {
-            later = later || found.acts(*subject) && found.sides.is_forward(*subject);
+        Ok(listed)
+    }
+
+    // Lists the rights of an edge, where it is one from x, or from somebody else whose rights x may get.
+    fn add(&mut self, found: &Found, edge: &Edge, x: u64) {
+        if edge.from != x && (edge.to == x || !found.sides.is_forward(edge.from)) {
+            return;
         }
-        Ok(Listed { rights, later })
+        let number = self.names.number(edge.to);
+        if let Some(over) = self.rights.get_mut(number as usize) {
+            *over = over.union(edge.label.rights());
+        }
     }
 
     // The rights over a name that are told.
     fn over(&self, name: u64) -> Rights
-        ensures { result ≡ slice_index_or self.now.rights.items name no_rights }
+        ensures { result ≡ rights_over self.now name }
     {
-        match self.rights.get(name as usize) {
+        match self.rights.get(self.names.number(name) as usize) {
             Some(rights) => *rights,
             None => Rights::empty(),
         }
@@ -104,7 +113,7 @@ impl Listed {
 
     // Whether a right over a name is told.
     fn has(&self, right: Right, name: u64) -> bool
-        ensures { result ≡ has_right (slice_index_or self.now.rights.items name no_rights) right }
+        ensures { result ≡ has_right (rights_over self.now name) right }
     {
         self.over(name).contains(Rights::of(right))
     }
@@ -155,13 +164,27 @@ impl Listed {
         ensures { IsTrue result →
             All (λ v. ¬ (Contains silent.now v × (v < picture.now.made)) → ListsActor (sides_against sides.now) self.now picture.now x v) picture.now.subjects }
     {
-        let made = picture.made();
         for subject in picture.subjects() {
-            if !is_silent(silent, made, *subject) && !self.has_actor(sides, picture, x, *subject) {
+            if !self.has_actor_or_silent(sides, picture, silent, x, *subject) {
                 return false;
             }
         }
         true
+    }
+
+    // The same of one subject.
+    fn has_actor_or_silent(
+        &self,
+        sides: &Separation,
+        picture: &Picture,
+        silent: &[u64],
+        x: u64,
+        subject: u64,
+    ) -> bool
+        ensures { IsTrue result → ¬ (Contains silent.now subject × (subject < picture.now.made)) →
+            ListsActor (sides_against sides.now) self.now picture.now x subject }
+    {
+        is_silent(silent, picture.made(), subject) || self.has_actor(sides, picture, x, subject)
     }
 
     // The same of one who acts.
@@ -177,4 +200,14 @@ impl Listed {
         }
         self.later
     }
+}
+
+// Whether the search led to one who acts.
+fn goes_on(picture: &Picture, found: &Found) -> bool {
+    for subject in picture.subjects() {
+        if found.acts(*subject) && found.sides.is_forward(*subject) {
+            return true;
+        }
+    }
+    false
 }

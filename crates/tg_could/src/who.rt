@@ -6,10 +6,11 @@ ghost use Rattle.tg_model.specs.Picture.{IsPictureOf};
 ghost use Rattle.tg_could.specs.declared.chance.Chance.TheVariants.{Never};
 ghost use Rattle.tg_could.specs.Turns.{NeverHolds};
 ghost use Rattle.tg_could.specs.Separation.{sides_of};
-ghost use Rattle.tg_could.specs.Told.{IsLeftOut, IsUntold, TellsHolder, TellsOf, TellsActor};
+ghost use Rattle.tg_could.specs.Told.{IsLeftOut, IsUntold, TellsHolder, TellsOf, TellsActor, is_told};
 
 use crate::chance::Chance;
 use crate::marks::Marks;
+use crate::names::Names;
 use crate::search::{Found, search};
 use crate::separation::{Separation, comes_later, has, is_alone, is_silent, leads, stays};
 use std::alloc::{AllocError, Global};
@@ -29,6 +30,7 @@ pub struct Who {
 /// Who is told, and whether those are who aren't made yet.
 #[derive(Drop)]
 struct Told {
+    names: Names,
     marks: Marks,
     later: bool,
 }
@@ -39,7 +41,7 @@ impl Who {
     pub fn of(&self, name: u64) -> Chance
         ensures { (result ≡ Never) ↔ IsLeftOut self.now name }
     {
-        if !self.is_shown || self.told.marks.has(name) {
+        if !self.is_shown || self.told.has(name) {
             return Chance::Perhaps;
         }
         if self.told.later && self.made <= name && name < self.limit && name != self.over {
@@ -84,27 +86,49 @@ impl Told {
         right: Right,
         y: u64,
     ) -> Result<Told, AllocError> {
+        let names = found.sides.names().copy(alloc)?;
+        let marks = Marks::none(alloc, names.len())?;
         let mut told = Told {
-            marks: Marks::none(alloc, picture.made() as usize)?,
+            names,
+            marks,
             later: false,
         };
-        let alone = is_alone(picture, silent, y);
-        for edge in picture.edges() {
-            if edge.to == y && has(edge.label, right) {
-                told.marks.put(edge.from);
-            }
-            if !alone
-                && edge.to != y
-                && has(edge.label, Right::G)
-                && found.sides.is_forward(edge.from)
-            {
-                told.marks.put(edge.to);
-            }
-        }
-        if !alone {
+        told.add_holders(picture, right, y);
+        if !is_alone(picture, silent, y) {
+            told.add_given(picture, found, y);
             told.add_actors(picture, found, y);
         }
         Ok(told)
+    }
+
+    // Each who holds the right.
+    fn add_holders(&mut self, picture: &Picture, right: Right, y: u64) {
+        for edge in picture.edges() {
+            if edge.to == y && has(edge.label, right) {
+                self.put(edge.from);
+            }
+        }
+    }
+
+    // Each to whom one who may hold the right can grant.
+    fn add_given(&mut self, picture: &Picture, found: &Found, y: u64) {
+        for edge in picture.edges() {
+            if edge.to != y && has(edge.label, Right::G) && found.sides.is_forward(edge.from) {
+                self.put(edge.to);
+            }
+        }
+    }
+
+    // Whether a name is told.
+    fn has(&self, name: u64) -> bool
+        ensures { result ≡ is_told self.now name }
+    {
+        self.marks.has(self.names.number(name))
+    }
+
+    // Tells a name.
+    fn put(&mut self, name: u64) {
+        self.marks.put(self.names.number(name));
     }
 
     // Each who acts and may come to hold the right.
@@ -115,7 +139,7 @@ impl Told {
             }
             self.later = true;
             if *subject != y {
-                self.marks.put(*subject);
+                self.put(*subject);
             }
         }
     }
@@ -149,11 +173,7 @@ impl Told {
         ensures { IsTrue result → All (TellsHolder self.now right y) edges.now }
     {
         for edge in edges {
-            if !leads(
-                edge.to == y,
-                has(edge.label, right),
-                self.marks.has(edge.from),
-            ) {
+            if !leads(edge.to == y, has(edge.label, right), self.has(edge.from)) {
                 return false;
             }
         }
@@ -178,7 +198,7 @@ impl Told {
     {
         let from = sides.place(edge.from);
         let grant = has(edge.label, Right::G);
-        let told = edge.to == y || self.marks.has(edge.to);
+        let told = edge.to == y || self.has(edge.to);
         if !stays(edge.label, from, sides.place(edge.to)) {
             return false;
         }
@@ -193,13 +213,27 @@ impl Told {
         ensures { IsTrue result →
             All (λ v. ¬ (Contains silent.now v × (v < picture.now.made)) → TellsActor (sides_of sides.now) self.now picture.now y v) picture.now.subjects }
     {
-        let made = picture.made();
         for subject in picture.subjects() {
-            if !is_silent(silent, made, *subject) && !self.has_actor(sides, picture, y, *subject) {
+            if !self.has_actor_or_silent(sides, picture, silent, y, *subject) {
                 return false;
             }
         }
         true
+    }
+
+    // The same of one subject.
+    fn has_actor_or_silent(
+        &self,
+        sides: &Separation,
+        picture: &Picture,
+        silent: &[u64],
+        y: u64,
+        subject: u64,
+    ) -> bool
+        ensures { IsTrue result → ¬ (Contains silent.now subject × (subject < picture.now.made)) →
+            TellsActor (sides_of sides.now) self.now picture.now y subject }
+    {
+        is_silent(silent, picture.made(), subject) || self.has_actor(sides, picture, y, subject)
     }
 
     // The same of one who acts.
@@ -211,7 +245,7 @@ impl Told {
             return false;
         }
         if back {
-            return self.later && (subject == y || self.marks.has(subject));
+            return self.later && (subject == y || self.has(subject));
         }
         !comes_later(picture, y)
     }

@@ -6,7 +6,7 @@ use Rattle.tg_could.proofs.islands.Islands.are_single.Goals as goal
 
 pub loop-actor-preserved : goal.loop-actor-preserved
 loop-actor-preserved c =
-    let P : ℕ → Type 0 = IsOfOne c.args.self.now in
+    let P : ℕ → Type 0 = IsOfOne c.args.names.now c.args.self.now in
     AllWithin-more P c.args.actors.now 0 c.loop-actor.actor-index c.loop-actor.invariant
     (λ d. subst P (get_or_default c.args.actors.now c.loop-actor.actor-index _ d c.loop-actor-test.true) (c.is_of_one.ensures c.if-not-is_of_one.false))
 

@@ -1,7 +1,7 @@
 use Rattle.std.proofs.Common.{◌∙◌, ◌<◌, subst, ℕ, List}
 use Rattle.std.specs.List.{All, Contains}
 use Rattle.tg_model.specs.declared.edge.Edge.{Edge}
-use Rattle.tg_could.specs.View.{IsListed, IsOfOne, Joins, IsIn}
+use Rattle.tg_could.specs.View.{IsListed, IsOfOne, Stands}
 use Rattle.tg_could.proofs.view.Facts.is_checked.Goals as goal
 
 pub returns : goal.returns
@@ -14,10 +14,9 @@ returns c t =
           subst (λ (l : List ℕ). All (λ v. ¬ (Contains c.args.silent.now v × (v < p.made)) → IsListed l v) p.subjects) c.as_slice-actors.ensures.value
           (c.are_listed.ensures c.if-not-are_listed.false);
       single =
-          subst (λ (l : List ℕ). All (IsOfOne f.islands) l) c.as_slice-actors.ensures.value
+          subst (λ (l : List ℕ). All (IsOfOne f.names f.islands) l) c.as_slice-actors.ensures.value
           (c.are_single.ensures c.if-not-are_single.false);
-      edges = subst (λ (es : List Edge). All (Joins f.islands) es) c.edges-edges.ensures (c.are_joined.ensures c.if-not-are_joined.false);
-      incoming = subst (λ (es : List Edge). All (IsIn f.incoming) es) c.edges-edges.ensures (c.has_all.ensures t);
+      edges = subst (λ (es : List Edge). All (Stands f.names f.islands f.incoming) es) c.edges.ensures (c.have_all.ensures t);
       full = c.is_full_as.ensures c.if-not-is_full_as.false;
       made = same.0 ∙ c.made.ensures;
       limit = same.1 ∙ c.limit.ensures;
