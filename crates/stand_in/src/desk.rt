@@ -166,14 +166,28 @@ fn furnished<P: Payload>(
 ) -> Result<Desk<P>, StoreFault>
     requires untaken { All (λ e. e.to ≢ OWNER) opening.edges }
 {
-    let _ = opening.workers();
-    let mut store = Store::open(alloc, opening, limits, drafts)?;
+    let mut store = opened(alloc, opening, limits, drafts)?;
     let names = furnish(&mut store, rights, thing, stand_in)?;
     Ok(Desk {
         store,
         thing: names.0,
         stand_in: names.1,
     })
+}
+
+// A store of this opening. Nobody may take from its owner.
+fn opened<P: Payload>(
+    alloc: Global,
+    opening: Opening,
+    limits: Limits,
+    drafts: Vec<Draft<P>>,
+) -> Result<Store<P>, StoreFault>
+    requires untaken { All (λ e. e.to ≢ OWNER) opening.edges }
+    ensures { IfOk result (λ store. IsUntaken OWNER (graph_of_store store)) }
+{
+    let _ = opening.workers();
+    let store = Store::open(alloc, opening, limits, drafts)?;
+    Ok(store)
 }
 
 // Has the owner make the thing and what stands in for it. Their names.

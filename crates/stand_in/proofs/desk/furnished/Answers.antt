@@ -1,24 +1,8 @@
--- Where nobody may take from the owner, both that it makes are its own alone.
-use Rattle.std.proofs.Common.{◌≡◌, ◌<◌, ◌≤◌, ℕ, sym, subst, arith}
-use Rattle.tg_model.specs.Graph.{ProtectionGraph}
-use Rattle.tg_model.specs.Opened.{start_of}
-use Rattle.tg_store.specs.Store.{graph_of_store}
-use Rattle.stand_in.specs.declared.desk.TheConstants.{OWNER}
-use Rattle.stand_in.specs.Alone.{IsUntaken}
-use Rattle.stand_in.proofs.AloneLaws.{untaken-start}
+-- Both that the owner makes are its own alone.
 use Rattle.stand_in.proofs.desk.furnished.Goals as goal
 
-first_made : (workers : ℕ) → 1 ≤ workers → 0 < workers
-first_made workers some = omega (arith, some)
-
 pub furnish-requires : goal.furnish-requires
-furnish-requires g c =
-    let plan = c.args.opening in
-    let start : graph_of_store c.in_ok-store.store ≡ start_of plan = c.in_ok-store.ensures.start in
-    record {
-      untaken = subst (λ (h : ProtectionGraph). IsUntaken OWNER h) (sym start)
-          (untaken-start OWNER plan (first_made plan.workers c.workers.ensures.plan.workers.0) c.requires.untaken);
-    }
+furnish-requires g c = record { untaken = c.in_ok-store.ensures }
 
 pub invariant_of-result : goal.invariant_of-result
 invariant_of-result g c = c.in_ok-names.ensures
