@@ -56,7 +56,7 @@ impl Links {
 
     fn of(&self, vertex: u64) -> impl Iterator<Item = Link> + '_ {
         let first = self.links.get(self.first[vertex as usize] as usize).copied();
-        std::iter::successors(first, |link| self.links.get(link.next as usize).copied())
+        std::iter::successors(first, move |link| self.links.get(link.next as usize).copied())
     }
 }
 
