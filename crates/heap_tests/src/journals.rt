@@ -200,7 +200,7 @@ fn enter(alloc: Global, journal: &mut Journal, said: Said) -> Result<(), AllocEr
 // What the audit finds in the journal, given that memory is ample.
 fn found_in(alloc: Global, journal: &Journal) -> Result<Option<u64>, Fail> {
     match audit(alloc, &opening(alloc)?, journal.entries()) {
-        Ok(()) => Ok(None),
+        Ok(_) => Ok(None),
         Err(AuditFault::BadEntry { at }) => Ok(Some(at)),
         Err(AuditFault::OutOfMemory) => Err(Fail::from(AllocError)),
     }

@@ -3,7 +3,7 @@
 use crate::sessions::opened::{store_with, wanted};
 use std::alloc::Global;
 use std::test::Fail;
-use tg_journal::{AuditFault, AuditStopped, Auditor, Entry, Journal, audit};
+use tg_journal::{AuditFault, AuditStopped, Audited, Auditor, Entry, Journal, audit};
 use tg_model::{Command, Deed, Reply};
 use tg_payload::CellPayload;
 use tg_store::Store;
@@ -16,7 +16,7 @@ struct SeenOfCut {
     // how many entries it holds at the end
     held: usize,
     // what an audit of the second part alone says
-    alone: Result<(), AuditFault>,
+    alone: Result<u64, AuditFault>,
     // What an audit says that is fed the first part and then the second, the second with another first reply, or what
     // the store holds.
     fed: [Result<(), AuditStopped>; 3],
@@ -116,7 +116,7 @@ fn look_at(
     Some(SeenOfCut {
         places: [places(first), places(second), places(held)],
         held: held.entries().len(),
-        alone: audit(alloc, store.opening(), second.entries()),
+        alone: audit(alloc, store.opening(), second.entries()).map(Audited::entries),
         fed: [
             fed(alloc, store, first, second.entries())?,
             fed(alloc, store, first, altered)?,

@@ -9,7 +9,7 @@ use std::marker::Brand;
 use std::sync::Wait;
 use std::sync::ledger::Blank;
 use std::test::Fail;
-use tg_journal::{AuditFault, Auditor, Journal, audit};
+use tg_journal::{AuditFault, Audited, Auditor, Journal, audit};
 use tg_model::Command;
 use tg_payload::CellPayload;
 use tg_shared::{
@@ -34,7 +34,7 @@ struct SeenOfParts {
     // how many entries it made, and from which place on it holds them
     entries: (u64, u64),
     // what an audit of the second part alone says, and whether both parts and the rest pass, one after the other
-    alone: Result<(), AuditFault>,
+    alone: Result<u64, AuditFault>,
     in_a_row: bool,
 }
 
@@ -163,7 +163,7 @@ fn look_at(
         taken_over: cut.taken_over?,
         why_not_closed: *why_not_closed,
         entries: (store.journal().len(), store.journal().start()),
-        alone: audit(alloc, store.opening(), cut.parts[1].entries()),
+        alone: audit(alloc, store.opening(), cut.parts[1].entries()).map(Audited::entries),
         in_a_row: pass_in_a_row(alloc, &cut.parts, store)?,
     })
 }

@@ -6,7 +6,7 @@ use std::alloc::Global;
 use std::sync::Wait;
 use std::test::Fail;
 use std::thread::{Threads, join};
-use tg_journal::{AuditFault, Journal, audit};
+use tg_journal::{AuditFault, Audited, Journal, audit};
 use tg_model::{Command, Reply};
 use tg_payload::CellPayload;
 use tg_shared::{CloseFault, Round, Session, SharedStore};
@@ -38,7 +38,7 @@ pub(crate) struct Spawned {
     told: Told,
     why_not_closed: CloseFault,
     entries: u64,
-    audited: Result<(), AuditFault>,
+    audited: Result<u64, AuditFault>,
 }
 
 // Whether the session holds nothing over anybody.
@@ -166,9 +166,12 @@ pub(crate) fn spawned_of(
 }
 
 // How many entries the journal has, and what an audit finds.
-fn seen_of_journal(alloc: Global, journal: &Journal) -> Option<(u64, Result<(), AuditFault>)> {
+fn seen_of_journal(alloc: Global, journal: &Journal) -> Option<(u64, Result<u64, AuditFault>)> {
     let kept = opening_of(alloc, Vec::new(alloc))?;
-    Some((journal.len(), audit(alloc, &kept, journal.entries())))
+    Some((
+        journal.len(),
+        audit(alloc, &kept, journal.entries()).map(Audited::entries),
+    ))
 }
 
 // A new subject has a name, holds nothing, and is no subject any more once it has retired; its vertex stays, and is
@@ -194,7 +197,7 @@ fn a_spawned_session(rt: HostRuntime) -> Result<(), Fail> {
         told,
         why_not_closed: CloseFault::SessionsMissing,
         entries: 13,
-        audited: Ok(()),
+        audited: Ok(200),
     };
     assert_eq!(rt; seen, wanted);
     Ok(())

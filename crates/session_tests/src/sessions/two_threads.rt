@@ -7,7 +7,7 @@ use std::process::Abort;
 use std::sync::Wait;
 use std::test::Fail;
 use std::thread::{Threads, join};
-use tg_journal::{AuditFault, Journal, audit};
+use tg_journal::{AuditFault, Audited, Journal, audit};
 use tg_model::{Command, Reply};
 use tg_payload::CellPayload;
 use tg_shared::{NoGate, Round, Session, SharedStore};
@@ -86,7 +86,7 @@ pub(crate) struct Served {
     good: (u64, u64),
     entries: u64,
     // what an audit finds that starts from the opening with rw
-    audited: Result<(), AuditFault>,
+    audited: Result<u64, AuditFault>,
 }
 
 /// Lets the first session and the last work.
@@ -105,7 +105,7 @@ pub(crate) fn writes_of(alloc: Global, good: (u64, u64), journal: &Journal) -> O
     Some(Served {
         good,
         entries: journal.len(),
-        audited: audit(alloc, &kept, journal.entries()),
+        audited: audit(alloc, &kept, journal.entries()).map(Audited::entries),
     })
 }
 
@@ -129,7 +129,7 @@ fn two_sessions_read_their_own_writes(rt: HostRuntime) -> Result<(), Fail> {
     let wanted = Served {
         good: (102, 102),
         entries: 200,
-        audited: Ok(()),
+        audited: Ok(200),
     };
     check(&rt, "rw", wanted)
 }
