@@ -108,7 +108,8 @@ fn payloads_of_the_four_laws(rt: HostRuntime) -> Result<(), Fail> {
     let cell = is_after(alloc, LawPayload::cell(7), (1, 2, 3), Law::Cell, &[3])?;
     let sum = is_after(alloc, LawPayload::sum(u64::MAX), (1, 2, 3), Law::Sum, &[5])?;
     let max = is_after(alloc, LawPayload::max(7), (5, 9, 8), Law::Max, &[9])?;
-    let log = is_after(alloc, LawPayload::log(alloc, 2), (1, 2, 3), Law::Log(2), &[2, 3])?;
+    let log = LawPayload::log(alloc, 2);
+    let log = is_after(alloc, log, (1, 2, 3), Law::Log(2), &[2, 3])?;
     assert_eq!(rt; [cell, sum, max, log], [true; 4]);
     Ok(())
 }
