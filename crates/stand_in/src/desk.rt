@@ -166,7 +166,21 @@ fn furnished<P: Payload>(
 ) -> Result<Desk<P>, StoreFault>
     requires untaken { All (λ e. e.to ≢ OWNER) opening.edges }
 {
-    let mut store = opened(alloc, opening, limits, drafts)?;
+    match opened(alloc, opening, limits, drafts) {
+        Ok(store) => desk_of(store, rights, thing, stand_in),
+        Err(fault) => Err(fault),
+    }
+}
+
+// The desk of a store in which the owner makes both.
+fn desk_of<P: Payload>(
+    mut store: Store<P>,
+    rights: Label,
+    thing: Draft<P>,
+    stand_in: Draft<P>,
+) -> Result<Desk<P>, StoreFault>
+    requires untaken { IsUntaken OWNER (graph_of_store store) }
+{
     let names = furnish(&mut store, rights, thing, stand_in)?;
     Ok(Desk {
         store,

@@ -1,5 +1,6 @@
 -- What a feed of an audit came to.
-use Rattle.std.proofs.Common.{◌≡◌, ◌∙◌, ◌≤◌, ◌<◌, ◌+◌, ◌-◌, ℕ, true, false, List, refl, sym, ap, subst, length, take, drop, take_all, length-drop, arith}
+use mathlib.Core.Bool.{true≢false}
+use Rattle.std.proofs.Common.{◌≡◌, ◌∙◌, ◌≤◌, ◌<◌, ◌+◌, ◌-◌, ◌⊎◌, ℕ, Bool, true, false, List, Result, Ok, Err, inl, inr, refl, sym, ap, subst, length, take, drop, take_all, length-drop, arith}
 use Rattle.std.proofs.lemmas.List.{drop-drop, take-append-drop}
 use Rattle.tg_model.specs.Graph.{ProtectionGraph}
 use Rattle.tg_journal.specs.declared.auditor.AuditStopped.{AuditStopped}
@@ -11,12 +12,48 @@ use Rattle.tg_journal.specs.Live.{graph_kept}
 use Rattle.tg_journal.proofs.HistoryLaws.{IsFirstBad-not_legal, IsLegal-cut}
 use Rattle.tg_c.specs.declared.auditor.audit.Audit.{Audit}
 use Rattle.tg_c.specs.Audits.{GoesOn, IsEnded, part_of}
+use Rattle.tg_c.specs.declared.refusal.CallRefusal.{CallRefusal}
+use Rattle.tg_c.specs.declared.refusal.CallRefusal.TheVariants as refusal
 
 -- what is held behind a place is all behind it
 pub held_behind : (entries : List Entry) (first at : ℕ) → first ≤ at → drop (at - first) (drop first entries) ≡ drop at entries
 held_behind entries first at before =
     let sum : first + (at - first) ≡ at = omega (arith, before) in
     drop-drop (at - first) first entries ∙ ap (λ n. drop n entries) sum
+
+-- a place that doesn't stand before the first one that is told, nor behind the last
+pub not_before : (told first at : ℕ) → told ≡ first → told ≤ at → first ≤ at
+not_before told first at is before = omega (arith, is, before)
+
+pub not_behind : (told last at : ℕ) → told ≡ last → at ≤ told → at ≤ last
+not_behind told last at is behind = omega (arith, is, behind)
+
+pub is_held : (first at last : ℕ) → first ≤ at → at ≤ last → (at < first) ⊎ (last < at) → ⊥
+is_held first at last before behind (inl low) = omega (arith, low, before)
+is_held first at last before behind (inr high) = omega (arith, high, behind)
+
+-- what is held behind so many is taken whole
+pub all_behind : (held : List Entry) (passed : ℕ) → take (length held - passed) (drop passed held) ≡ drop passed held
+all_behind held passed = take_all (length held - passed) (drop passed held) (omega (arith, length-drop passed held))
+
+-- two answers that aren't the same
+pub ok_is_no_refusal : (answer : Result ℕ CallRefusal) (count : ℕ) (why : CallRefusal) → answer ≡ Ok count → answer ≡ Err why → ⊥
+ok_is_no_refusal answer count why served is = cc (served, is)
+
+pub want_is_no_place : (answer : Result ℕ CallRefusal) → answer ≡ Err refusal.OutOfMemory → answer ≡ Err refusal.BadPlace → ⊥
+want_is_no_place answer want is = cc (want, is)
+
+pub want_is_no_entry : (answer : Result ℕ CallRefusal) → answer ≡ Err refusal.OutOfMemory → answer ≡ Err refusal.BadEntry → ⊥
+want_is_no_entry answer want is = cc (want, is)
+
+pub entry_is_no_place : (answer : Result ℕ CallRefusal) → answer ≡ Err refusal.BadEntry → answer ≡ Err refusal.BadPlace → ⊥
+entry_is_no_place answer entry is = cc (entry, is)
+
+pub entry_is_no_want : (answer : Result ℕ CallRefusal) → answer ≡ Err refusal.BadEntry → answer ≡ Err refusal.OutOfMemory → ⊥
+entry_is_no_want answer entry is = cc (entry, is)
+
+pub not_both : (b : Bool) → b ≡ true → b ≡ false → ⊥
+not_both b is other = true≢false (sym is ∙ other)
 
 module _ (g : ProtectionGraph) (old new : Audit) (entries fed : List Entry) (is : fed ≡ drop old.at entries) (inside : old.at ≤ length entries) where
   -- all of it passed

@@ -1,8 +1,5 @@
--- Both that the owner makes are its own alone.
+-- Nobody may take from the owner of the store that is opened.
 use Rattle.stand_in.proofs.desk.furnished.Goals as goal
 
-pub furnish-requires : goal.furnish-requires
-furnish-requires g c = record { untaken = c.in_ok-store.ensures }
-
-pub invariant_of-result : goal.invariant_of-result
-invariant_of-result g c = c.in_ok-names.ensures
+pub desk_of-requires : goal.desk_of-requires
+desk_of-requires g c = record { untaken = c.in-Ok.ensures }
