@@ -1,5 +1,6 @@
 //! A client, from its spawn to its last line.
 
+use anyhow::Context;
 use std::alloc::Global;
 use std::sync::Wait;
 use tg_model::Command;
@@ -16,6 +17,13 @@ pub struct Leave {
     pub given_up: u64,
     pub after: u64,
     pub refused: Option<ApplyFault>,
+}
+
+/// A client whose session went off with it, and its document.
+#[derive(Clone, Copy, Debug)]
+pub struct Silent {
+    pub client: u64,
+    pub document: u64,
 }
 
 /// A draft of a sum that begins with 0, which is what every vertex stores.
@@ -76,6 +84,23 @@ fn spawn<L: Round, R: Wait + AllocGlobal>(
     let name = session.worker();
     clients.push(session)?;
     Ok(name)
+}
+
+/// Welcomes a client that makes a note and then hangs: its session never comes back.
+pub fn welcome_and_lose<L: Round, R: Wait + AllocGlobal>(
+    rt: &R,
+    store: &SharedStore<L, SumPayload>,
+    service: &mut Session<L>,
+    clients: &mut Vec<Session<L>>,
+    rights: Label,
+) -> anyhow::Result<Silent> {
+    let document = welcome(rt, store, service, clients, rights)?;
+    let mut hung = clients.pop().context("a client is missing")?;
+    make(rt, store, &mut hung, rights)?;
+    Ok(Silent {
+        client: hung.worker(),
+        document,
+    })
 }
 
 /// Adds 1 to the document, twenty times.

@@ -1,16 +1,20 @@
 //! An example: a service whose clients come and go.
 //!
-//! The service spawns three clients and hands each a document. They write at once, each on a thread of its own, and
+//! The service spawns four clients and hands each a document. Three write at once, each on a thread of its own, and
 //! meanwhile one of them leaves: it gives up all that it has, and retires. What it alone had a right over goes, though
 //! the service still has rights over the client; what it wrote to its document stays.
+//!
+//! The fourth client hangs, and its session with it. When the others are done its document still says 0, so the keeper
+//! of the shared store ends it: it holds nothing any more, and the store is had back without its session.
 #![tactic(auto)]
 
+ghost use Rattle.std.specs.Prelude.{◌≡◌, true};
 ghost use Rattle.tg_shared.specs.Sessions.{MayShare};
 
 mod client;
 
 use anyhow::{Context, Error, Result};
-use client::{Leave, welcome, work, work_and_leave, zero};
+use client::{Leave, Silent, welcome, welcome_and_lose, work, work_and_leave, zero};
 use std::alloc::Global;
 use std::marker::Brand;
 use std::sync::Wait;
@@ -20,8 +24,8 @@ use tg_journal::audit;
 use tg_model::{Command, Opening, Reply};
 use tg_payload::{Draft, SumPayload, values_of};
 use tg_rights::Label;
-use tg_shared::{Round, Session, Shared, SharedStore, close};
-use tg_store::{Limits, Store, StoreFault};
+use tg_shared::{Keeper, Round, Session, Shared, SharedStore, reclaim};
+use tg_store::{Kind, Limits, Store, StoreFault};
 
 fn main(rt: HostRuntime) -> Result<()> {
     let store = open_store(rt.alloc())?;
@@ -42,32 +46,35 @@ fn opening_of(alloc: Global, drafts: &[Draft<SumPayload>]) -> Result<Opening, St
     Ok(Opening::new(1, Vec::new(alloc), values, 12)?)
 }
 
-// Shares the store, serves, closes and audits.
+// Shares the store, serves, has it back and audits.
 fn share<L: Round + Send + Sync, R: Threads + Wait + Sync + Print + AllocGlobal>(
     rt: &R,
     blank: Blank,
     store: Store<SumPayload>,
 ) -> Result<()>
     requires shareable { MayShare L.name L.parts L.start blank store }
+    requires may_end { L.start.may_end ≡ true }
 {
     match SharedStore::<L, SumPayload>::new(rt.alloc(), blank, store) {
-        Ok(shared) => serve_and_close(rt, shared),
+        Ok(shared) => serve_and_reclaim(rt, shared),
         Err(_) => Err(StoreFault::OutOfMemory.into()),
     }
 }
 
-// Serves, closes with all sessions, and audits the journal.
-fn serve_and_close<L: Round + Send + Sync, R: Threads + Wait + Sync + Print + AllocGlobal>(
+// Serves, has the store back with all sessions but the one that hangs, and audits the journal.
+fn serve_and_reclaim<L: Round + Send + Sync, R: Threads + Wait + Sync + Print + AllocGlobal>(
     rt: &R,
     shared: Shared<L, SumPayload>,
-) -> Result<()> {
+) -> Result<()>
+    requires may_end { L.start.may_end ≡ true }
+{
     let Shared {
         store,
         mut sessions,
-        ..
+        mut keeper,
     } = shared;
-    serve(rt, &store, &mut sessions)?;
-    let store = close(store, sessions).map_err(|refused| refused.why)?;
+    serve(rt, &store, &mut keeper, &mut sessions)?;
+    let store = reclaim(store, sessions).map_err(|refused| refused.why)?;
     let entries = audited(rt.alloc(), &store);
     drop(store);
     println!(rt; "audit ok, {} entries", entries?)?;
@@ -84,29 +91,36 @@ fn audited(alloc: Global, store: &Store<SumPayload>) -> Result<u64, StoreFault> 
 fn serve<L: Round + Send + Sync, R: Threads + Wait + Sync + Print + AllocGlobal>(
     rt: &R,
     store: &SharedStore<L, SumPayload>,
+    keeper: &mut Keeper<L>,
     sessions: &mut Vec<Session<L>>,
-) -> Result<()> {
+) -> Result<()>
+    requires may_end { L.start.may_end ≡ true }
+{
     let mut service = sessions.pop().context("no session")?;
-    let served = serve_clients(rt, store, &mut service, sessions);
+    let served = serve_clients(rt, store, keeper, &mut service, sessions);
     sessions.push(service)?;
     served
 }
 
-// Lets three clients come, work, and one of them leave, and tells what came of it.
+// Lets three clients come, work, and one of them leave, and a fourth that hangs. Tells what came of it.
 fn serve_clients<L: Round + Send + Sync, R: Threads + Wait + Sync + Print + AllocGlobal>(
     rt: &R,
     store: &SharedStore<L, SumPayload>,
+    keeper: &mut Keeper<L>,
     service: &mut Session<L>,
     clients: &mut Vec<Session<L>>,
-) -> Result<()> {
+) -> Result<()>
+    requires may_end { L.start.may_end ≡ true }
+{
     let rights = Label::read_text(b"rwg").context("bad label")?;
     let documents = welcome_three(rt, store, service, clients, rights)?;
+    let fourth = welcome_and_lose(rt, store, service, clients, rights)?;
     let left = work_at_once(rt, store, clients, documents, rights)?;
     tell_leave(rt, left)?;
     for document in documents {
         tell_document(rt, store, service, document)?;
     }
-    Ok(())
+    end_if_silent(rt, store, keeper, service, fourth)
 }
 
 fn welcome_three<L: Round, R: Wait + AllocGlobal>(
@@ -182,4 +196,37 @@ fn tell_document<L: Round, R: Wait + Print>(
         println!(rt; "document {target} says {:?}", values.as_slice())?;
     }
     Ok(())
+}
+
+// Ends the client if it hangs: if its document still says 0 when the others are done.
+fn end_if_silent<L: Round, R: Wait + Print>(
+    rt: &R,
+    store: &SharedStore<L, SumPayload>,
+    keeper: &mut Keeper<L>,
+    service: &mut Session<L>,
+    silent: Silent,
+) -> Result<()>
+    requires may_end { L.start.may_end ≡ true }
+{
+    let Silent { client, document } = silent;
+    if says_zero(rt, store, service, document)? {
+        let given_up = keeper.end(rt, store, client)?;
+        let left = service.collect(rt, store, Kind::Full)?;
+        println!(rt; "client {client} hangs, and is ended: it gives up {given_up} edges")?;
+        println!(rt; "{left} vertices after it")?;
+    }
+    Ok(())
+}
+
+// Whether nothing was written to the document.
+fn says_zero<L: Round, R: Wait>(
+    rt: &R,
+    store: &SharedStore<L, SumPayload>,
+    service: &mut Session<L>,
+    target: u64,
+) -> Result<bool> {
+    match service.call(rt, store, Command::Read { target })? {
+        Reply::Values(values) => Ok(matches!(values.as_slice(), [0])),
+        _ => Ok(false),
+    }
 }

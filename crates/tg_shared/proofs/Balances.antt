@@ -13,7 +13,7 @@ use Rattle.tg_model.specs.declared.reply.Reply.{Reply}
 use Rattle.tg_model.specs.declared.reply.Reply.TheVariants.{Name}
 use Rattle.tg_model.specs.Graph.{ProtectionGraph, IsSound}
 use Rattle.tg_model.specs.Rules.{answer_of}
-use Rattle.tg_model.specs.Opened.{Plan, start_of}
+use Rattle.tg_model.specs.Opened.{Plan, IsPlan, start_of}
 use Rattle.tg_model.proofs.SoundLaws.{le-step-made}
 use Rattle.tg_model.proofs.SubjectLaws.{few_from_rising, made-spawned}
 use Rattle.tg_journal.specs.declared.entry.Entry.{Entry}
@@ -80,6 +80,16 @@ part_left s start sessions total rest parts held faithful =
     let most = made-opened s.opening s.entries faithful.plan in
     omega (arith, most, held.cut, held.enough, held.made)
 
+-- and where it made a subject, one more than that
+pub parts_left : (old new : StoreState) (start sessions total rest parts worker name : ℕ) (label : RightSet) (law : Law) (state : List ℕ) → IsBalanced old start sessions total rest parts → IsFaithful old
+    → Enters old new worker (Spawn label law state) (Name name) → answer_of (graph_of_store old) worker (Spawn label law state) ≡ Name name → new.opening ≡ old.opening → 2 ≤ rest
+parts_left old new start sessions total rest parts worker name label law state held faithful entry answer opening =
+    let grows = ap (λ (g : ProtectionGraph). g.made) (graph-entered old new worker (Spawn label law state) (Name name) opening entry) in
+    let one_more = made-spawned (graph_of_store old) worker label law state name answer in
+    let most = made-opened new.opening new.entries (subst IsPlan (sym opening) faithful.plan) in
+    let limit = ap (λ (p : Plan). p.limit) opening in
+    omega (arith, most, limit, grows, one_more, held.cut, held.enough, held.made)
+
 -- one entry more, which made a subject; and one part less for its session
 pub balanced_spawned : (old new : StoreState) (start sessions total next rest left parts worker name : ℕ) (label : RightSet) (law : Law) (state : List ℕ) → IsBalanced old start sessions total rest parts
     → Enters old new worker (Spawn label law state) (Name name) → answer_of (graph_of_store old) worker (Spawn label law state) ≡ Name name → new.opening ≡ old.opening → next ≡ total + 1 → left + 1 ≡ rest
@@ -123,7 +133,7 @@ active_made s faithful =
     let sound : IsSound (graph_of_store s) = IsSound-opened s.opening s.entries faithful.plan faithful.legal in
     few_from_rising (graph_of_store s).subjects (graph_of_store s).made sound.rising sound.subjects_made
 
-not_both : (b : Bool) → b ≡ true → b ≡ false → ⊥
+pub not_both : (b : Bool) → b ≡ true → b ≡ false → ⊥
 not_both b is isnt = cc
 
 -- none was handed out since the start by what hands out none
@@ -181,7 +191,7 @@ grown start s on =
     omega (arith, length-take (length start.entries) s.entries)
 
 -- a store that was just shared goes on
-pub goes_on_start : (start : SharedStart) (s : StoreState) → shared_as start.in_parts s ≡ start → s.handed ≤ length s.entries → GoesOn start s
+pub goes_on_start : (start : SharedStart) (s : StoreState) → shared_as start.in_parts start.may_end s ≡ start → s.handed ≤ length s.entries → GoesOn start s
 goes_on_start start s is within = record {
   opening = ap (λ (b : SharedStart). b.opening) is;
   earlier = subst (λ (es : List Entry). take (length es) s.entries ≡ es) (ap (λ (b : SharedStart). b.entries) is) (take-length s.entries);
@@ -192,15 +202,16 @@ goes_on_start start s is within = record {
 
 -- ---- what a collection leaves
 
-abbrev pub locked_as : StoreState → ℕ → LockedState
-locked_as store sessions = record { store = store; sessions = sessions }
+abbrev pub locked_as : StoreState → ℕ → ℕ → LockedState
+locked_as store sessions entered = record { store = store; sessions = sessions; entered = entered }
 
-pub kept_locked : {T E : Type 0} (old new : StoreState) (sessions : ℕ) (before : LockedState) (result : Result T E) → locked_as old sessions ≡ before → KeepsHistory old new result
-    → KeepsLocked before (locked_as new sessions) result
-kept_locked old new sessions before result same history =
-    subst (λ (b : LockedState). KeepsLocked b (locked_as new sessions) result) same
+pub kept_locked : {T E : Type 0} (old new : StoreState) (sessions entered : ℕ) (before : LockedState) (result : Result T E) → locked_as old sessions entered ≡ before → KeepsHistory old new result
+    → KeepsLocked before (locked_as new sessions entered) result
+kept_locked old new sessions entered before result same history =
+    subst (λ (b : LockedState). KeepsLocked b (locked_as new sessions entered) result) same
     (record {
       history = history;
-      refused = on_err_weaker result (λ (is : new ≡ old). ap (λ (s : StoreState). locked_as s sessions) is) history.refused;
+      refused = on_err_weaker result (λ (is : new ≡ old). ap (λ (s : StoreState). locked_as s sessions entered) is) history.refused;
       sessions = refl;
+      entered = refl;
     })

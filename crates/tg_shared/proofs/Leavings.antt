@@ -1,15 +1,15 @@
 -- The entries by which a worker leaves: their receipts, and what they make of the balance behind the lock.
-use Rattle.std.proofs.Common.{◌≡◌, ◌∙◌, ℕ, ◌+◌, ◌≤◌, Bool, true, cond, List, [], ◌∷◌, ◌++◌, length, length-append, map, append_assoc, drop, refl, sym, ap, subst, arith}
+use Rattle.std.proofs.Common.{◌≡◌, ◌∙◌, ℕ, ◌+◌, ◌<◌, ◌≤◌, Bool, true, cond, List, [], ◌∷◌, ◌++◌, length, length-append, map, append_assoc, drop, refl, sym, ap, subst, arith}
 use Rattle.std.specs.Prelude.{take}
 use Rattle.std.proofs.lemmas.List.{length-map, length-take, take-append-le, drop-append-le}
 use Rattle.std.proofs.lemmas.List.Sums.{sum_by-append, sum_by-cons}
 use Rattle.tg_rights.specs.RightSet.{RightSet}
-use Rattle.tg_model.specs.Graph.{ProtectionGraph, IsSubject, listing_of}
+use Rattle.tg_model.specs.Graph.{ProtectionGraph, IsSound, IsSubject, listing_of}
 use Rattle.tg_model.specs.Opened.{Plan, start_of}
 use Rattle.tg_model.proofs.SubjectLaws.{is_without}
 use Rattle.tg_journal.specs.declared.entry.Entry.{Entry}
-use Rattle.tg_journal.specs.History.{IsLegal}
-use Rattle.tg_journal.proofs.HistoryLaws.{IsLegal-cut}
+use Rattle.tg_journal.specs.History.{IsLegal, graph_after}
+use Rattle.tg_journal.proofs.HistoryLaws.{IsLegal-cut, IsSound-opened, graph_after-append, no_subject-after}
 use Rattle.tg_store.specs.Leaving.{HasLeft, leaving, removal, retiring}
 use Rattle.tg_store.specs.Store.{StoreState, IsFaithful, graph_of_store}
 use Rattle.tg_shared.specs.Receipts.{receipt_of, receipts_from}
@@ -57,6 +57,15 @@ legal_more old new es entries opening faithful =
 pub gone_left : (old new : StoreState) (x : ℕ) → HasLeft x old new → ¬ IsSubject (graph_of_store new) x
 gone_left old new x left here =
     ((is_without (graph_of_store old).subjects x x).0 (subst (λ (g : ProtectionGraph). IsSubject g x) left.graph here)).1 refl
+
+-- and never is one again
+pub stays_away : (old new later : StoreState) (x : ℕ) (es : List Entry) → IsFaithful old → IsSubject (graph_of_store old) x → HasLeft x old new → later.opening ≡ new.opening → later.entries ≡ new.entries ++ es → ¬ IsSubject (graph_of_store later) x
+stays_away old new later x es faithful here left opening entries again =
+    let sound : IsSound (graph_of_store old) = IsSound-opened old.opening old.entries faithful.plan faithful.legal in
+    let low : x < (graph_of_store new).made = subst (λ (g : ProtectionGraph). x < g.made) (sym left.graph) (sound.subjects_made x here) in
+    let graph : graph_of_store later ≡ graph_after (graph_of_store new) es =
+    (λ i. graph_after (start_of (opening i)) (entries i)) ∙ graph_after-append (start_of new.opening) new.entries es in
+    no_subject-after (graph_of_store new) es x low (gone_left old new x left) (subst (λ (g : ProtectionGraph). IsSubject g x) graph again)
 
 pub length_leaving : (g : ProtectionGraph) (x : ℕ) → length (leaving g x) ≡ length (listing_of g.label g.made x) + 1
 length_leaving g x =

@@ -20,7 +20,7 @@ use Rattle.tg_graph.specs.Heap.{nursery_of}
 use Rattle.tg_graph.specs.Spots.{LacksCellsFor}
 use Rattle.tg_space.specs.declared.kind.Kind.{Kind}
 use Rattle.tg_store.specs.Collecting.{IsSwept, KeepsHistory}
-use Rattle.tg_store.specs.Leaving.{leaving}
+use Rattle.tg_store.specs.Leaving.{HasLeft, leaving}
 use Rattle.tg_store.specs.declared.fault.CreateFault.{CreateFault}
 use Rattle.tg_store.specs.declared.fault.CreateFault.TheVariants as fault
 use Rattle.tg_store.specs.declared.fault.CreateRefused.{CreateRefused}
@@ -45,36 +45,45 @@ pub record MayNote (session : SessionState) (state : List ℕ) : Type 0 where
   pub room : 0 < session.spare
   pub copy : session.copy ≡ state
 
--- What is behind the lock: the store, and how many sessions were made.
+-- What is behind the lock: the store, how many sessions were made, and how many entries the keeper made for workers that he ended.
 pub record LockedState : Type 0 where
   pub store : StoreState
   pub sessions : ℕ
+  pub entered : ℕ
 
 -- What a store was when it was shared: its opening, the entries that its journal had, how many of them were handed out, and its
--- limits; and whether the journal may be handed out in parts while it is shared.
+-- limits; whether the journal may be handed out in parts while it is shared, and whether its keeper may end workers.
 pub record SharedStart : Type 0 where
   pub opening : Plan
   pub entries : List Entry
   pub handed : ℕ
   pub limits : BlockLimits
   pub in_parts : Bool
+  pub may_end : Bool
 
-abbrev pub shared_as : Bool → StoreState → SharedStart
-shared_as in_parts s = record { opening = s.opening; entries = s.entries; handed = s.handed; limits = s.heap.table.limits; in_parts = in_parts }
+abbrev pub shared_as : Bool → Bool → StoreState → SharedStart
+shared_as in_parts may_end s = record { opening = s.opening; entries = s.entries; handed = s.handed; limits = s.heap.table.limits; in_parts = in_parts; may_end = may_end }
 
--- the start of a store whose journal stays whole, and of one whose journal is handed out in parts
+-- the start of a store whose journal stays whole, and of one whose journal is handed out in parts; nobody ends a worker of these
 abbrev pub start_of_store : StoreState → SharedStart
-start_of_store s = shared_as false s
+start_of_store s = shared_as false false s
 
 abbrev pub start_in_parts : StoreState → SharedStart
-start_in_parts s = shared_as true s
+start_in_parts s = shared_as true false s
+
+-- the same of a store whose keeper may end workers
+abbrev pub start_with_ends : StoreState → SharedStart
+start_with_ends s = shared_as false true s
+
+abbrev pub start_in_parts_with_ends : StoreState → SharedStart
+start_in_parts_with_ends s = shared_as true true s
 
 -- A store may be shared with a blank by the round that has this name, so many parts and this start: the blank is the round's, it has
 -- one part more than vertices may be made, and the round starts from the store.
 pub record MayShare (ledger whole : ℕ) (first : SharedStart) (blank : Blank) (store : StoreState) : Type 0 where
   pub name : blank.name ≡ ledger
   pub parts : (blank.parts ≡ whole) × (blank.parts ≡ store.opening.limit + 1)
-  pub start : shared_as first.in_parts store ≡ first
+  pub start : shared_as first.in_parts first.may_end store ≡ first
 
 -- ---- how many sessions were made
 
@@ -118,6 +127,13 @@ AtSome start holds = (s : StoreState) × GoesOn start s × IsFaithful s × holds
 -- out of the first.
 abbrev pub LeavesAtSome : SharedStart → Kind → ℕ → Type 0
 LeavesAtSome start kind number = AtSome start (λ old. AtSome start (λ new. (new.entries ≡ old.entries) × IsSwept kind old new number))
+
+-- The keeper ended a worker, which gave up so many edges: of two stores that may have been behind the lock, the worker left the
+-- first, and this made the second of it.
+abbrev pub EndsAtSome : SharedStart → ℕ → ℕ → Type 0
+EndsAtSome start worker count =
+    AtSome start (λ old. AtSome start (λ new. HasLeft worker old new
+    × (count ≡ length (listing_of (graph_of_store old).label (graph_of_store old).made worker))))
 
 -- ---- what a call does
 
@@ -195,11 +211,12 @@ pub record MayRefuseAtSome {P T : Type 0} (start : SharedStart) (deed : Deed) (v
       IsAllowed (graph_of_store s) old.worker deed × LacksCellsFor s.heap.table (nursery_space (nursery_of s.heap old.worker)) 1 old.worker (graph_of_store s).made))
   pub handed_back : IfErr result (λ refused. refused.draft ≡ value)
 
--- What a collection leaves behind the lock: what it leaves of the store, the number of sessions, and where it is refused, all.
+-- What a collection leaves behind the lock: what it leaves of the store, both numbers, and where it is refused, all.
 pub record KeepsLocked {T E : Type 0} (old new : LockedState) (result : Result T E) : Type 0 where
   pub history : KeepsHistory old.store new.store result
   pub refused : OnErr result (new ≡ old)
   pub sessions : new.sessions ≡ old.sessions
+  pub entered : new.entered ≡ old.entered
 
 -- a session as it is made: it never had a receipt, took no other over, and entered no retire
 abbrev pub IsFresh : SessionState → Type 0
@@ -247,6 +264,16 @@ handed_of sessions = sum_by (λ s. s.handed) sessions
 -- for how many sessions they stand
 abbrev pub parts_of : List SessionState → ℕ
 parts_of sessions = sum_by (λ s. s.parts) sessions
+
+-- What is found of so many entries, where there were so many when the store was shared, so many sessions were made, and the keeper
+-- made so many entries for workers that he ended.
+pub record AddsUp (start entries made entered : ℕ) (sessions : List SessionState) : Type 0 where
+  -- the sessions stand for no more than were made
+  pub within : parts_of sessions ≤ made
+  -- no entry is counted twice
+  pub least : start + entered + handed_of sessions + count_of sessions ≤ entries
+  -- and each is counted, where no session is missing
+  pub count : parts_of sessions ≡ made → entries ≡ start + entered + handed_of sessions + count_of sessions
 
 -- the place from which on a store holds the entries that were made since it was shared
 abbrev pub held_from : SharedStart → StoreState → ℕ

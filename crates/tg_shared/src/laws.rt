@@ -1,7 +1,7 @@
 //! What receipts say of a history. A function here does nothing: what it ensures is the law.
-ghost use Rattle.std.specs.Prelude.{◌≡◌, ◌≢◌, ◌≤◌, ◌+◌, ℕ, List, drop, false, length, take};
+ghost use Rattle.std.specs.Prelude.{◌≡◌, ◌≢◌, ◌≤◌, ◌+◌, ◌++◌, ℕ, List, drop, false, length, take};
 ghost use Rattle.std.specs.List.{All, AllPairs, Contains};
-ghost use Rattle.tg_model.specs.Graph.{IsReachable, ProtectionGraph};
+ghost use Rattle.tg_model.specs.Graph.{IsReachable, IsSubject, ProtectionGraph};
 ghost use Rattle.tg_graph.specs.Heap.{content_of};
 ghost use Rattle.tg_space.specs.declared.kind.Kind.{Kind};
 ghost use Rattle.tg_journal.specs.declared.entry.Entry.{Entry};
@@ -11,7 +11,8 @@ ghost use Rattle.tg_journal.specs.Journal.{Entries};
 ghost use Rattle.tg_shared.specs.Receipts.{AreParts, MatchParts, ReceiptsMatch, all_receipts};
 ghost use Rattle.tg_shared.specs.Sessions.{AreSharedOut, AtSome, GoesOn, KeptInParts, LeavesAtSome, MayClose, SessionState, SharedStart, count_of, held_from, parts_of};
 ghost use Rattle.tg_space.specs.declared.kind.Kind.TheVariants.{Full};
-ghost use Rattle.tg_store.specs.Store.{IsCountOf, StoreState, graph_of_store};
+ghost use Rattle.tg_store.specs.Leaving.{HasLeft};
+ghost use Rattle.tg_store.specs.Store.{IsCountOf, IsFaithful, StoreState, graph_of_store};
 
 /// The entry of each receipt that matches a legal history was answered by the rules, on the graph after all entries
 /// before it; and among these are the entries of all earlier receipts. So what a session reads stands after all that it
@@ -57,6 +58,13 @@ pub fn a_whole_journal_is_held()
 /// Sessions that took no other over stand for as many as they are.
 pub fn each_stands_for_itself()
     ensures { (sessions : List SessionState) → All (λ s. s.parts ≡ 1) sessions → parts_of sessions ≡ length sessions }
+{}
+
+/// Who has left a store as its subject, by its own session or ended by the keeper, is no subject of the store again,
+/// whatever entries come behind it. So each later call of its session is answered that there is no such worker.
+pub fn who_left_stays_away()
+    ensures { (old new later : StoreState) (worker : ℕ) (entries : List Entry) → IsFaithful old → IsSubject (graph_of_store old) worker → HasLeft worker old new →
+        later.opening ≡ new.opening → later.entries ≡ new.entries ++ entries → ¬ IsSubject (graph_of_store later) worker }
 {}
 
 /// What a collection of a session answers is how many vertices a store has that may have been behind the lock, and

@@ -30,6 +30,10 @@
 //! join the parts). One that is done goes into another ([`Session::take_over`]). Of a store that is shared whole
 //! nothing is handed out before it is closed.
 //!
+//! A client may hang, and its session with it. The keeper ends its worker by its name, where the store was shared so
+//! ([`Keeper::end`]): what was entered for it counts behind the lock. And a store is had back though a session is lost
+//! ([`reclaim`]): then the receipts that came are no more than the entries.
+//!
 //! The book is that of a ledger ([`std::sync::ledger`]). That there are as many receipts as entries, where a close
 //! succeeds, is told by 'Why the count is known at the close' in docs/ARCHITECTURE.md.
 //!
@@ -56,5 +60,5 @@ pub use locked::Locked;
 pub use receipt::{Receipt, receipts_match};
 pub use round::Round;
 pub use session::Session;
-pub use shared::{CloseRefused, Shared, SharedRefused, SharedStore, close};
+pub use shared::{CloseRefused, Shared, SharedRefused, SharedStore, close, reclaim};
 pub use tg_helpers::{Gate, HelpersFault, NoGate};

@@ -1,5 +1,5 @@
 //! The value behind the lock, and what each call does to it.
-ghost use Rattle.std.specs.Prelude.{◌≡◌, ◌≢◌, ◌↔◌, ◌⊎◌, ◌<◌, ◌≤◌, ◌+◌, ◌^◌, Err, Some, true, IfOk, IfErr, IsErrAnd, OnOk, OnErr, length};
+ghost use Rattle.std.specs.Prelude.{◌≡◌, ◌≢◌, ◌↔◌, ◌⊎◌, ◌<◌, ◌≤◌, ◌+◌, ◌^◌, Err, Some, false, true, IfOk, IfErr, IsErrAnd, OnOk, OnErr, length};
 ghost use Rattle.tg_subjects.specs.Subjects.{names_of};
 ghost use Rattle.tg_shared.specs.Sessions.{AreFresh, reply_entered};
 
@@ -16,27 +16,31 @@ use tg_store::{ApplyFault, CreateFault, CreateRefused, Kind, RoomFault, Store};
 use tg_subjects::Subject;
 
 /// What is behind the lock: the store, the book that counts its entries since it was shared, and the parts of the
-/// ledger that no session has. Each call is one call of the store, with its contract, and makes at most one receipt.
+/// ledger that no session has. Each call is one call of the store, with its contract; one of a session makes a receipt
+/// of each entry.
 ///
-/// Contracts see a `LockedState`: the store, and how many sessions were made.
+/// Contracts see a `LockedState`: the store, how many sessions were made, and how many entries the keeper made for
+/// workers that he ended.
 #[derive(Drop)]
 pub struct Locked<L: Round, P: Payload> {
     pub(crate) store: Store<P>,
     pub(crate) start: u64,
     pub(crate) sessions: u64,
+    // Of these entries no session has a receipt: the rest of the ledger has them as its amount.
+    pub(crate) entered: u64,
     pub(crate) book: Book<L>,
     pub(crate) rest: Share<L>,
 }
 
 impl<L: Round, P: Payload> Model for Locked<L, P> {
-    ghost use Rattle.std.specs.Prelude.{◌≡◌, length};
+    ghost use Rattle.std.specs.Prelude.{◌≡◌, false, length};
     ghost use Rattle.tg_shared.specs.Sessions.{GoesOn, IsBalanced, LockedState, sessions_made};
 
     ghost Value = { LockedState };
 
-    ghost view = { λ a. record { store = a.store; sessions = a.sessions } };
+    ghost view = { λ a. record { store = a.store; sessions = a.sessions; entered = a.entered } };
 
-    ghost invariant = { λ a. IsBalanced a.store (length L.start.entries) a.sessions a.book.total a.rest.parts L.parts × (a.start ≡ length L.start.entries) × (a.rest.amount ≡ 0) × GoesOn L.start a.store × (a.sessions ≡ sessions_made L.start a.store.entries) };
+    ghost invariant = { λ a. IsBalanced a.store (length L.start.entries) a.sessions a.book.total a.rest.parts L.parts × (a.start ≡ length L.start.entries) × ((a.rest.amount ≡ a.entered) × (L.start.may_end ≡ false → a.entered ≡ 0)) × GoesOn L.start a.store × (a.sessions ≡ sessions_made L.start a.store.entries) };
 }
 
 impl<L: Round, P: Payload> Locked<L, P> {
@@ -52,13 +56,13 @@ impl<L: Round, P: Payload> Locked<L, P> {
     ghost use Rattle.tg_store.specs.Leaving.{HasLeft, leaving};
     ghost use Rattle.tg_store.specs.Made.{IsMadeFor, MayRefuse};
     ghost use Rattle.tg_store.specs.Room.{LacksRoomToCollect};
-    ghost use Rattle.tg_store.specs.Store.{HandsOut, HasFewBlocks, IsFaithful, StandsFor, graph_of_store};
+    ghost use Rattle.tg_store.specs.Store.{HandsOut, HasFewBlocks, IsFaithful, IsUnchanged, StandsFor, graph_of_store};
     ghost use Rattle.tg_shared.specs.Sessions.{AddsReceipts, AreFresh, GoesOn, IsFresh, KeepsLocked, MayNote, MayShare, Records, RecordsNothing, sessions_made, subjects_at};
 
     /// The store. What holds whenever the lock is free is told here: the store's own promise, that its journal is a
     /// legal history of its opening and its heap stands for the graph after it; and it is the store that was shared,
     /// gone on: with its opening and its limits, and with all entries from before. One session was made for each
-    /// subject that it had then, and one for each that was made since.
+    /// subject that it had then, and one for each that was made since. No worker was ended where its start lets nobody.
     pub fn store(&self) -> &Store<P>
         ensures same { result.now ≡ self.now.store }
         ensures faithful { IsFaithful self.now.store }
@@ -66,10 +70,26 @@ impl<L: Round, P: Payload> Locked<L, P> {
         ensures grown { length L.start.entries ≤ length self.now.store.entries }
         ensures sessions { self.now.sessions ≡ sessions_made L.start self.now.store.entries }
         ensures started { length (subjects_at L.start) ≤ self.now.sessions }
+        ensures none_ended { L.start.may_end ≡ false → self.now.entered ≡ 0 }
     {
         // It tells that the store is faithful.
         let _ = self.store.journal();
         &self.store
+    }
+
+    /// How many sessions were made. So many are there, if none is missing: each stands for itself and for those that it
+    /// took over.
+    pub fn sessions(&self) -> u64
+        ensures { result ≡ self.now.sessions }
+    {
+        self.sessions
+    }
+
+    /// How many entries the keeper made for workers that he ended: no session has a receipt of these.
+    pub fn entered(&self) -> u64
+        ensures { result ≡ self.now.entered }
+    {
+        self.entered
     }
 
     /// Shares a store: the value to be locked, and a session for each subject of the graph that the store stands for.
@@ -84,6 +104,7 @@ impl<L: Round, P: Payload> Locked<L, P> {
         ensures store { IfOk result (λ opened. opened.0.store ≡ store) }
         ensures sessions { (g : ProtectionGraph) → StandsFor store g → IfOk result (λ opened. AreFresh g.subjects opened.1.items) }
         ensures number { IfOk result (λ opened. opened.0.sessions ≡ length opened.1.items) }
+        ensures none_ended { IfOk result (λ opened. opened.0.entered ≡ 0) }
         ensures handed_back { IfErr result (λ refused. refused ≡ store) }
     {
         let (book, mut rest) = blank.open::<L>();
@@ -95,6 +116,7 @@ impl<L: Round, P: Payload> Locked<L, P> {
             store,
             start,
             sessions: sessions.len() as u64,
+            entered: 0,
             book,
             rest,
         };
@@ -117,6 +139,7 @@ impl<L: Round, P: Payload> Locked<L, P> {
         ensures handed { self.new.store.handed ≡ self.old.store.handed }
         ensures limits { self.new.store.heap.table.limits ≡ self.old.store.heap.table.limits }
         ensures sessions { self.new.sessions ≡ self.old.sessions }
+        ensures entered { self.new.entered ≡ self.old.entered }
     {
         let at = self.store.journal().len();
         let worker = session.worker();
@@ -151,6 +174,7 @@ impl<L: Round, P: Payload> Locked<L, P> {
         ensures no_workers_full { IfErr result (λ refused. refused.why ≢ CreateFault.WorkersFull) }
         ensures refused { IfErr result (λ refused. refused.why ≢ CreateFault.VerticesFull → RecordsNothing self.old.store self.new.store session.old session.new) }
         ensures sessions { self.new.sessions ≡ self.old.sessions }
+        ensures entered { self.new.entered ≡ self.old.entered }
     {
         let at = self.store.journal().len();
         let worker = session.worker();
@@ -204,6 +228,7 @@ impl<L: Round, P: Payload> Locked<L, P> {
         ensures refused { IfErr result (λ refused. refused.why ≢ CreateFault.VerticesFull → refused.why ≢ CreateFault.WorkersFull → RecordsNothing self.old.store self.new.store session.old session.new) }
         ensures one_more { OnOk result (self.new.sessions ≡ self.old.sessions + 1) }
         ensures no_more_sessions { OnErr result (self.new.sessions ≡ self.old.sessions) }
+        ensures entered { self.new.entered ≡ self.old.entered }
     {
         let at = self.store.journal().len();
         let worker = session.worker();
@@ -250,6 +275,7 @@ impl<L: Round, P: Payload> Locked<L, P> {
         ensures never_full { result ≢ Err ApplyFault.HeapFull }
         ensures refused { OnErr result (RecordsNothing self.old.store self.new.store session.old session.new) }
         ensures sessions { self.new.sessions ≡ self.old.sessions }
+        ensures entered { self.new.entered ≡ self.old.entered }
     {
         let at = self.store.journal().len();
         let worker = session.worker();
@@ -259,6 +285,34 @@ impl<L: Round, P: Payload> Locked<L, P> {
         // It tells that the store is faithful, and that the journal's places are numbers.
         let _ = self.store.journal().len();
         session.note_leaving(&mut self.book, at, &row);
+        Ok(count)
+    }
+
+    /// Ends a worker, whose session may be anywhere, by one call of the store: it gives up each edge that it has, by
+    /// rising name, and retires. Answers how many edges these were. Each of these entries is counted here, and no
+    /// session has a receipt of it; the worker's own is answered that there is no such worker from then on.
+    ///
+    /// Room for all entries is made first: 80 bytes for each edge, and 16 for its listing. `NoSuchWorker` is answered
+    /// exactly where no worker has the name; else `OutOfMemory` alone. What is behind the lock is then as it was, and
+    /// nothing is refused on the way.
+    pub fn end(&mut self, worker: u64) -> Result<u64, ApplyFault>
+        requires may_end { L.start.may_end ≡ true }
+        ensures left { OnOk result (HasLeft worker self.old.store self.new.store) }
+        ensures count { (g : ProtectionGraph) → StandsFor self.old.store g → IfOk result (λ count. count ≡ length (listing_of g.label g.made worker)) }
+        ensures entered { IfOk result (λ count. self.new.entered ≡ self.old.entered + (count + 1)) }
+        ensures no_such_worker { (g : ProtectionGraph) → StandsFor self.old.store g → (result ≡ Err ApplyFault.NoSuchWorker) ↔ (¬ IsSubject g worker) }
+        ensures never_full { result ≢ Err ApplyFault.HeapFull }
+        ensures refused { OnErr result (IsUnchanged self.old.store self.new.store × (self.new.entered ≡ self.old.entered)) }
+        ensures sessions { self.new.sessions ≡ self.old.sessions }
+    {
+        let count = self.store.leave(worker)?;
+        // It tells that the store is faithful, and that the journal's places are numbers.
+        let _ = self.store.journal().len();
+        let entries = count + 1;
+        self.book.add(&mut self.rest, entries);
+        // It tells that so many entries were made, so their number is one.
+        self.book.audit(&mut self.rest);
+        self.entered += entries;
         Ok(count)
     }
 
@@ -287,6 +341,7 @@ impl<L: Round, P: Payload> Locked<L, P> {
         ensures start { result.start ≡ self.old.store.handed }
         ensures handed_out { HandsOut self.old.store self.new.store }
         ensures sessions { self.new.sessions ≡ self.old.sessions }
+        ensures entered { self.new.entered ≡ self.old.entered }
     {
         self.store.take_journal()
     }

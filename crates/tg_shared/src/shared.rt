@@ -1,5 +1,5 @@
 //! The store behind its lock, from sharing it to closing it.
-ghost use Rattle.std.specs.Prelude.{◌≡◌, ◌<◌, ◌≤◌, ◌+◌, IfOk, IfErr, IsErrAnd, drop, length};
+ghost use Rattle.std.specs.Prelude.{◌≡◌, ◌<◌, ◌≤◌, ◌+◌, false, IfOk, IfErr, IsErrAnd, drop, length};
 ghost use Rattle.tg_store.specs.Store.{IsFaithful};
 ghost use Rattle.tg_shared.specs.Sessions.{AreFresh, AreSharedOut, AtSome, GoesOn, MayClose, count_of, handed_of, held_from, parts_of, sessions_made, subjects_at};
 
@@ -51,7 +51,8 @@ impl<L: Round, P: Payload> SharedStore<L, P> {
     /// for. The blank is spent, and has to have one part more than vertices may be made. Fails only when out of memory.
     ///
     /// The round's start says whether the journal stays whole (`start_of_store`), or may be handed out in parts while
-    /// it is shared (`start_in_parts`).
+    /// it is shared (`start_in_parts`); and whether the keeper may end workers (`start_with_ends`,
+    /// `start_in_parts_with_ends`).
     pub fn new(
         alloc: Global,
         blank: Blank,
@@ -80,6 +81,7 @@ impl<L: Round, P: Payload> SharedStore<L, P> {
         ensures gone_on { GoesOn L.start result.store }
         ensures sessions { result.sessions ≡ sessions_made L.start result.store.entries }
         ensures started { length (subjects_at L.start) ≤ result.sessions }
+        ensures none_ended { L.start.may_end ≡ false → result.entered ≡ 0 }
     {
         let SharedStore { locked } = self;
         let locked = locked.into_inner();
@@ -102,15 +104,19 @@ impl<L: Round, P: Payload> SharedStore<L, P> {
 /// some journal that may have been behind the lock, and that has grown by as many entries at least as they have
 /// receipts. A caller who wants to know of the very journal takes the two calls. Store and sessions then come back.
 /// Takes no memory, and no lock is waited for.
+///
+/// Where the keeper may end workers, the journal may have grown by more than there are receipts: by what he entered for
+/// them, which is told by the two calls.
 pub fn close<L: Round, P: Payload>(
     store: SharedStore<L, P>,
     sessions: Vec<Session<L>>,
 ) -> Result<Store<P>, CloseRefused<L, P>>
     ensures matching { IfOk result (λ store. MayClose store.entries (held_from L.start store) sessions.items) }
-    ensures count { IfOk result (λ store. length store.entries ≡ length L.start.entries + handed_of sessions.items + count_of sessions.items) }
-    ensures shared_out { IfOk result (λ store. length L.start.entries + handed_of sessions.items ≡ held_from L.start store →
+    ensures at_least { IfOk result (λ store. length L.start.entries + handed_of sessions.items + count_of sessions.items ≤ length store.entries) }
+    ensures count { L.start.may_end ≡ false → IfOk result (λ store. length store.entries ≡ length L.start.entries + handed_of sessions.items + count_of sessions.items) }
+    ensures shared_out { L.start.may_end ≡ false → IfOk result (λ store. length L.start.entries + handed_of sessions.items ≡ held_from L.start store →
         AreSharedOut (drop (held_from L.start store) store.entries) sessions.items) }
-    ensures none_handed { IfOk result (λ store. handed_of sessions.items ≡ 0 → held_from L.start store ≡ length L.start.entries) }
+    ensures none_handed { L.start.may_end ≡ false → IfOk result (λ store. handed_of sessions.items ≡ 0 → held_from L.start store ≡ length L.start.entries) }
     ensures faithful { IfOk result IsFaithful }
     ensures gone_on { IfOk result (GoesOn L.start) }
     ensures all { IfOk result (λ store. parts_of sessions.items ≡ sessions_made L.start store.entries) }
@@ -127,20 +133,58 @@ pub fn close<L: Round, P: Payload>(
             let _ = store.journal();
             Ok(store)
         }
-        Err(refused) => {
-            let LockedRefused {
-                locked,
-                sessions,
-                why,
-            } = refused;
-            let store = SharedStore {
-                locked: Mutex::new(locked),
-            };
-            Err(CloseRefused {
-                store,
-                sessions,
-                why,
-            })
+        Err(refused) => Err(back_behind_its_lock(refused)),
+    }
+}
+
+/// Takes a store back whose sessions may be lost, where the receipts of those given back are right: each matches the
+/// journal, and no two sessions are of one worker. The journal has then grown by as many entries at least as these have
+/// receipts (`at_least`), and by exactly as many where none is missing and no worker was ended. It is
+/// [`SharedStore::into_locked`] and [`Locked::reclaim`] in a row, and the store that was shared, gone on.
+///
+/// `ReceiptMismatch` is answered only where the sessions may not close with some journal that may have been behind the
+/// lock, as [`close`] does, and nothing else. Store and sessions then come back. A lost session can't act any more: it
+/// wants the shared store, which is gone. Takes no memory, and no lock is waited for.
+pub fn reclaim<L: Round, P: Payload>(
+    store: SharedStore<L, P>,
+    sessions: Vec<Session<L>>,
+) -> Result<Store<P>, CloseRefused<L, P>>
+    ensures matching { IfOk result (λ store. MayClose store.entries (held_from L.start store) sessions.items) }
+    ensures within { IfOk result (λ store. parts_of sessions.items ≤ sessions_made L.start store.entries) }
+    ensures at_least { IfOk result (λ store. length L.start.entries + handed_of sessions.items + count_of sessions.items ≤ length store.entries) }
+    ensures count { L.start.may_end ≡ false → IfOk result (λ store. parts_of sessions.items ≡ sessions_made L.start store.entries →
+        length store.entries ≡ length L.start.entries + handed_of sessions.items + count_of sessions.items) }
+    ensures faithful { IfOk result IsFaithful }
+    ensures gone_on { IfOk result (GoesOn L.start) }
+    ensures mismatch { IfErr result (λ refused. (refused.why ≡ CloseFault.ReceiptMismatch) × AtSome L.start (λ s.
+        (length L.start.entries + count_of sessions.items ≤ length s.entries) × (¬ MayClose s.entries (held_from L.start s) sessions.items))) }
+    ensures handed_back { IfErr result (λ refused. refused.sessions.items ≡ sessions.items) }
+{
+    let locked = store.into_locked();
+    match locked.reclaim(sessions) {
+        Ok(store) => {
+            // It tells that the store is faithful.
+            let _ = store.journal();
+            Ok(store)
         }
+        Err(refused) => Err(back_behind_its_lock(refused)),
+    }
+}
+
+// What was handed in, behind its lock again.
+fn back_behind_its_lock<L: Round, P: Payload>(refused: LockedRefused<L, P>) -> CloseRefused<L, P>
+    ensures { (result.sessions.items ≡ refused.sessions.items) × (result.why ≡ refused.why) }
+{
+    let LockedRefused {
+        locked,
+        sessions,
+        why,
+    } = refused;
+    CloseRefused {
+        store: SharedStore {
+            locked: Mutex::new(locked),
+        },
+        sessions,
+        why,
     }
 }

@@ -1,5 +1,5 @@
 //! A whole script, whose workers run their lines side by side.
-ghost use Rattle.std.specs.Prelude.{◌≡◌, ◌⊎◌, ◌+◌, ◌<◌, ◌≤◌, ℕ, List, [], Some, true, IfErr, IfOk, length};
+ghost use Rattle.std.specs.Prelude.{◌≡◌, ◌⊎◌, ◌+◌, ◌<◌, ◌≤◌, ℕ, List, [], Some, false, true, IfErr, IfOk, length};
 ghost use Rattle.std.specs.List.{All, range_with_len};
 ghost use Rattle.tg_model.specs.declared.value.Value.{Value};
 ghost use Rattle.tg_model.specs.Opened.{start_of};
@@ -222,6 +222,7 @@ fn share<L: Round + Send + Sync, P: Payload + Send, G: Turnstile + Sync, R: Thre
     lines: &[Line],
 ) -> Result<Raced<P>, RaceFault>
     requires shareable { MayShare L.name L.parts L.start blank store }
+    requires none_ended { L.start.may_end ≡ false }
     requires raceable { MayRace store.opening store.entries lines.now }
     ensures run { RunsRace helpers store.heap.table.limits.max_blocks store.opening stock.items lines.now result }
 {
@@ -244,6 +245,7 @@ fn run_shared<
     stock: Vec<Draft<P>>,
     lines: &[Line],
 ) -> Result<Raced<P>, RaceFault>
+    requires none_ended { L.start.may_end ≡ false }
     requires raceable { MayRace L.start.opening L.start.entries lines.now }
     requires fresh { AreFresh (range_with_len 0 L.start.opening.workers) shared.sessions.items }
     ensures run { RunsRace helpers L.start.limits.max_blocks L.start.opening stock.items lines.now result }
@@ -268,6 +270,7 @@ fn closed<L: Round, P: Payload>(
     sessions: Vec<Session<L>>,
 ) -> Result<Store<P>, RaceFault>
     requires new { L.start.entries ≡ [] }
+    requires none_ended { L.start.may_end ≡ false }
     requires none_handed { handed_of sessions.items ≡ 0 }
     ensures opening { IfOk result (λ store. store.opening ≡ L.start.opening) }
     ensures matching { IfOk result (λ store. MayClose store.entries 0 sessions.items) }

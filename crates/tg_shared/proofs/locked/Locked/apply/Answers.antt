@@ -93,6 +93,9 @@ returns-clause-limits g c = c.apply.ensures.limits ∙ ap (λ (b : LockedState).
 pub returns-clause-sessions : goal.returns-clause-sessions
 returns-clause-sessions g c = ap (λ (b : LockedState). b.sessions) c.self.view_is
 
+pub returns-clause-entered : goal.returns-clause-entered
+returns-clause-entered g c = ap (λ (b : LockedState). b.entered) c.self.view_is
+
 pub returns-in_err-reply-clause-no_such_worker : goal.returns-in_err-reply-clause-no_such_worker
 returns-in_err-reply-clause-no_such_worker g c =
     let given = err_from_is_err_and c.from_residual.result c.from_residual.ensures.1 in
@@ -113,7 +116,7 @@ returns-in_err-reply-clause-full g c =
     let told = c.in_err-reply.ensures.full graph here (came_as given.1 given.2 same) in
     let full : LockedState → ℕ → Type 0 = λ b w. Permits graph.label graph.value w c.args.command × AddsEdge c.args.command × LacksCellsToServe b.store.heap.table (nursery_of b.store.heap w) w c.args.command in
     subst (λ (b : LockedState). full b c.args.session.now.worker) c.self.view_is
-    (subst (λ (w : ℕ). full (record { store = c.self.inside.store; sessions = c.self.inside.sessions }) w) worker told)
+    (subst (λ (w : ℕ). full (record { store = c.self.inside.store; sessions = c.self.inside.sessions; entered = c.self.inside.entered }) w) worker told)
 
 pub invariant_of-self-2 : goal.invariant_of-self-2
 invariant_of-self-2 g c = (

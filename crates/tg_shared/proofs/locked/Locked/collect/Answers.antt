@@ -16,4 +16,4 @@ pub returns-clause-blocks : goal.returns-clause-blocks
 returns-clause-blocks g c = let new : StoreState = c.collect.new.self in subst (λ (b : LockedState). OnOk c.collect.result (HasFewBlocks c.args.kind 0 b.store.heap.table new.heap.table)) c.self.view_is c.collect.ensures.blocks
 
 pub returns-clause-kept : goal.returns-clause-kept
-returns-clause-kept g c = kept_locked c.self.inside.store c.collect.new.self c.self.inside.sessions c.args.self.now c.collect.result c.self.view_is c.collect.ensures.history
+returns-clause-kept g c = kept_locked c.self.inside.store c.collect.new.self c.self.inside.sessions c.self.inside.entered c.args.self.now c.collect.result c.self.view_is c.collect.ensures.history

@@ -16,4 +16,4 @@ pub returns-clause-blocks : goal.returns-clause-blocks
 returns-clause-blocks g c = let new : StoreState = c.collect_with.new.store in subst (λ (b : LockedState). OnOk c.collect_with.result (HasFewBlocks c.args.kind c.args.helpers b.store.heap.table new.heap.table)) c.self.view_is c.collect_with.ensures.blocks
 
 pub returns-clause-kept : goal.returns-clause-kept
-returns-clause-kept g c = kept_locked c.self.inside.store c.collect_with.new.store c.self.inside.sessions c.args.self.now c.collect_with.result c.self.view_is c.collect_with.ensures.history
+returns-clause-kept g c = kept_locked c.self.inside.store c.collect_with.new.store c.self.inside.sessions c.self.inside.entered c.args.self.now c.collect_with.result c.self.view_is c.collect_with.ensures.history

@@ -67,5 +67,8 @@ returns-in-Err-clause-refusals g c =
 pub returns-clause-sessions : goal.returns-clause-sessions
 returns-clause-sessions g c = ap (λ (b : LockedState). b.sessions) c.self.view_is
 
+pub returns-clause-entered : goal.returns-clause-entered
+returns-clause-entered g c = ap (λ (b : LockedState). b.entered) c.self.view_is
+
 pub returns-in-Err-clause-no_workers_full : goal.returns-in-Err-clause-no_workers_full
 returns-in-Err-clause-no_workers_full g c = c.create-created.ensures.no_workers_full

@@ -54,7 +54,7 @@ invariant_of-locked g c =
         made = omega (arith, active, names, number);
       },
       first,
-      c.in-Ok.ensures.rest.1,
+      (c.in-Ok.ensures.rest.1, λ _. refl),
       goes_on_start start c.args.store c.requires.shareable.start c.journal.ensures.within,
       (let e : c.len.result ≡ sessions_made start c.args.store.entries = omega (arith, number, names, at_start, made) in e),
     )

@@ -9,7 +9,7 @@ use Rattle.tg_store.specs.Made.{IsMadeFor, MayRefuse}
 use Rattle.tg_store.specs.Store.{Enters, StandsFor, StoreState, graph_of_store}
 use Rattle.tg_shared.specs.declared.session.Session.{Session}
 use Rattle.tg_shared.specs.Sessions.{LockedState, made_subject, reply_entered}
-use Rattle.tg_shared.proofs.Balances.{balanced_entered, balanced_spawned, goes_on_entered, grown, made_more, part_left}
+use Rattle.tg_shared.proofs.Balances.{balanced_entered, balanced_spawned, goes_on_entered, grown, made_more, part_left, parts_left}
 use Rattle.tg_shared.proofs.Refusals.{refusals_made, refusals_none, refusals_same}
 use Rattle.tg_shared.proofs.locked.Locked.spawn.Goals.{in-Some, in_default+in-Many-1, in_default+in-None-1}
 use Rattle.tg_shared.proofs.locked.Locked.spawn.Goals as goal
@@ -26,8 +26,11 @@ entered_as E fault.OutOfMemory reply is v w = let no : ⊥ = cc in absurd no
 within_word : (limit parts : ℕ) → limit ≤ 281474976710656 → parts ≡ limit + 1 → parts < 2 ^ 64
 within_word limit parts within are = omega (arith, within, are)
 
-nothing_left : (new old : ℕ) → new + 0 ≡ old → old ≡ 0 → new ≡ 0
-nothing_left new old left none = omega arith
+as_before : (new old entered : ℕ) → new + 0 ≡ old → old ≡ entered → new ≡ entered
+as_before new old entered left is = omega arith
+
+not_the_last : (rest : ℕ) → 2 ≤ rest → 1 ≡ rest → ⊥
+not_the_last rest more last = omega arith
 
 one_more : (sessions made next : ℕ) → sessions ≡ made → next ≡ made + 1 → sessions + 1 ≡ next
 one_more sessions made next is more = omega arith
@@ -38,6 +41,13 @@ as_many sessions made next is same = omega arith
 pub split_off-share-requires-clause-has_parts : goal.split_off-share-requires-clause-has_parts
 split_off-share-requires-clause-has_parts g c =
     part_left c.self.inside.store (length g.L.Round.start.entries) c.self.inside.sessions c.self.inside.book.total c.self.inside.rest.parts g.L.Ledger.parts c.self.invariant.0 c.journal.ensures.faithful
+
+pub split_off-share-requires-clause-left_backed : goal.split_off-share-requires-clause-left_backed
+split_off-share-requires-clause-left_backed g c = λ last.
+    absurd
+    (not_the_last c.self.inside.rest.parts
+    (parts_left c.self.inside.store c.spawn.new.self (length g.L.Round.start.entries) c.self.inside.sessions c.self.inside.book.total c.self.inside.rest.parts g.L.Ledger.parts c.worker-worker.result c.in-Ok.name c.args.label c.args.draft.law c.args.draft.state
+    c.self.invariant.0 c.journal.ensures.faithful c.in-Ok.ensures.entry (c.in-Ok.ensures.made.name (graph_of_store c.self.inside.store) refl) c.spawn.ensures.refusals.opening) last)
 
 pub new-requires : goal.new-requires
 new-requires g c =
@@ -53,7 +63,7 @@ invariant_of-self g c =
       balanced_spawned old new (length g.L.Round.start.entries) c.self.inside.sessions c.self.inside.book.total c.note.new.book.total c.self.inside.rest.parts c.split_off-share.new.self.parts g.L.Ledger.parts
           c.worker-worker.result c.in-Ok.name c.args.label c.args.draft.law c.args.draft.state c.self.invariant.0 entry (c.in-Ok.ensures.made.name (graph_of_store old) refl) c.spawn.ensures.refusals.opening c.note.ensures.book c.split_off-share.ensures.parts_left,
       c.self.invariant.1,
-      nothing_left c.split_off-share.new.self.amount c.self.inside.rest.amount c.split_off-share.ensures.amount_left c.self.invariant.2,
+      (as_before c.split_off-share.new.self.amount c.self.inside.rest.amount c.self.inside.entered c.split_off-share.ensures.amount_left c.self.invariant.2.0, c.self.invariant.2.1),
       goes_on_entered g.L.Round.start old new c.worker-worker.result deed (Reply.Name c.in-Ok.name) c.self.invariant.3 entry c.spawn.ensures.refusals.opening c.spawn.ensures.refusals.limits c.spawn.ensures.refusals.handed,
       one_more c.self.inside.sessions _ _ c.self.invariant.4 (made_more g.L.Round.start old new c.worker-worker.result deed (Reply.Name c.in-Ok.name) entry (grown g.L.Round.start old c.self.invariant.3)),
     )

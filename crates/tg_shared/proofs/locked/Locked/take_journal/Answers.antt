@@ -29,3 +29,6 @@ returns-clause-handed_out g c = subst (λ (b : LockedState). HandsOut b.store c.
 
 pub returns-clause-sessions : goal.returns-clause-sessions
 returns-clause-sessions g c = ap (λ (b : LockedState). b.sessions) c.self.view_is
+
+pub returns-clause-entered : goal.returns-clause-entered
+returns-clause-entered g c = ap (λ (b : LockedState). b.entered) c.self.view_is
