@@ -71,8 +71,8 @@ impl<L: Round, P: Payload> Locked<L, P> {
     /// The journal has then grown by as many entries at least as these have receipts and the keeper entered for workers
     /// that he ended; if none is missing, all that [`close`](Locked::close) says is so.
     ///
-    /// `ReceiptMismatch` is answered exactly where the sessions that are there may not close, and nothing else. What was
-    /// handed in then comes back. Takes no memory.
+    /// `ReceiptMismatch` is answered exactly where the sessions that are there may not close, and nothing else. What
+    /// was handed in then comes back. Takes no memory.
     pub fn reclaim(mut self, mut sessions: Vec<Session<L>>) -> Result<Store<P>, LockedRefused<L, P>>
         ensures store { IfOk result (λ store. store ≡ self.store) }
         ensures matching { OnOk result (MayClose self.store.entries (held_from L.start self.store) sessions.items) }

@@ -50,10 +50,11 @@ impl<L: Round> Keeper<L> {
 
     /// Ends a worker whose session is elsewhere, whether that comes back or not, by one call of
     /// [`Locked::end`](crate::Locked::end) under the lock: the worker gives up each edge that it has, by rising name,
-    /// and retires. Answers how many edges these were. Of two stores that may have been behind the lock, the shared one,
-    /// gone on, it left the first, and this made the second of it. From then on each call of its session answers that
-    /// there is no such worker; the receipts that it has stay right, and it is closed with as before, or the store is
-    /// had back without it ([`reclaim`](crate::reclaim)). The store has to be shared so that its keeper may end workers.
+    /// and retires. Answers how many edges these were. Of two stores that may have been behind the lock, the shared
+    /// one, gone on, it left the first, and this made the second of it. From then on each call of its session answers
+    /// that there is no such worker; the receipts that it has stay right, and it is closed with as before, or the store
+    /// is had back without it ([`reclaim`](crate::reclaim)). The store has to be shared so that its keeper may end
+    /// workers.
     ///
     /// Where it is refused, the worker holds what it held: of such a store there was no such worker, or memory was
     /// wanting. Nothing is refused on the way.

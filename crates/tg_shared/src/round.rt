@@ -8,8 +8,8 @@ use std::sync::ledger::Ledger;
 /// One shared store, from [`SharedStore::new`](crate::SharedStore::new) to [`close`](crate::close). Its parameter ties
 /// the sessions to the store. A function that shares a store is generic in it, and is called with `Brand`.
 pub trait Round: Ledger {
-    /// What the store was when it was shared; and whether until it is closed its journal may be handed out in parts, and
-    /// its keeper may end workers.
+    /// What the store was when it was shared; and whether until it is closed its journal may be handed out in parts,
+    /// and its keeper may end workers.
     ghost start: { SharedStart };
 }
 
