@@ -1,13 +1,14 @@
 -- What a walk over a heap from its active subjects finds on its way, and that at its end this is all that they reach.
-use Rattle.std.proofs.Common.{◌≡◌, ◌≢◌, ◌↔◌, ◌⊎◌, inl, inr, ⊎_elim, ℕ, zero, suc, ◌+◌, ◌<◌, ◌≤◌, ◌==◌, Bool, true, false, List, [], ◌∷◌, ◌++◌, length, get_or, map, replicate, set, take, refl, sym, ap, ◌∙◌, subst, arith}
+use Rattle.std.proofs.Common.{◌≡◌, ◌↔◌, ◌⊎◌, inl, inr, ⊎_elim, ℕ, ◌+◌, ◌<◌, ◌≤◌, ◌==◌, nat_eq, Bool, true, false, if◌then◌else◌, List, [], ◌∷◌, ◌++◌, length, get_or, map, take, refl, sym, ap, ◌∙◌, subst, arith}
 use Rattle.std.specs.List.{All, Contains, IsDistinct, list_any}
-use Rattle.std.proofs.lemmas.Bool.{cases_Bool, cases_eq, cases_lt, false≢true}
+use Rattle.std.proofs.lemmas.Bool.{cases_lt}
 use Rattle.std.proofs.lemmas.Cmp.{nat_eq_equiv}
-use Rattle.std.proofs.lemmas.List.{append-nil, append_assoc, get_or_append_left, get_or_default, get_or_past, get_or-map, get_or-set_other, get_or-set_same, length-append, length-map, map-append, take_all, take_more}
-use Rattle.std.proofs.lemmas.List.Elements.{All-nil, All-push, Contains-append_cases, Contains-append_left, Contains-append_right, Contains-push, Contains-push_cases}
+use Rattle.std.proofs.lemmas.List.{append-nil, append_assoc, get_or_append_left, get_or_default, get_or-map, length-append, length-map, map-append, take_all, take_more}
+use Rattle.std.proofs.lemmas.List.Elements.{All-contains, All-nil, All-push, Contains-append_cases, Contains-append_left, Contains-append_right, Contains-push, Contains-push_cases}
 use Rattle.std.proofs.lemmas.Map.Keys.{IsDistinct-from_apart, IsDistinct-push}
 use Rattle.std.proofs.lemmas.Map.Steps.{length-le_from_distinct_below}
 use Rattle.std.proofs.lemmas.Map.Views.{Contains-from_any, exact_unsigned_eq}
+use Rattle.indexmap.specs.IndexSet.{insert_key}
 use Rattle.tg_rights.specs.RightSet.{RightSet, is_none_held}
 use Rattle.tg_model.specs.declared.edge.Edge.{Edge}
 use Rattle.tg_model.specs.Graph.{HasEdge, listing_of}
@@ -24,47 +25,28 @@ use Rattle.tg_store.specs.declared.store.picture.Found.{Found}
 
 -- ---- one vertex more
 
--- a name that isn't among them passes no test
-none_any : (xs : List ℕ) (x : ℕ) → ¬ Contains xs x → list_any (λ y. x == y) xs ≡ false
-none_any xs x none =
-    ⊎_elim (λ t. absurd (none (Contains-from_any exact_unsigned_eq x xs t))) (λ f. f) (cases_Bool (list_any (λ y. x == y) xs))
-
 module _ (h : SpaceList) (old new : Found) (name : ℕ) (place : Place) (is : IsFoundIn h old) (vertices : new.vertices.items ≡ old.vertices.items ++ (name, place) ∷ []) where
   names_pushed : names_found new.vertices.items ≡ names_found old.vertices.items ++ name ∷ []
   names_pushed = ap names_found vertices ∙ map-append (λ (v : ℕ × Place). v.0) old.vertices.items ((name, place) ∷ [])
 
-  was_or_is : (x : ℕ) → Contains (names_found new.vertices.items) x → Contains (names_found old.vertices.items) x ⊎ (name ≡ x)
-  was_or_is x has = Contains-push_cases (names_found old.vertices.items) name x (subst (λ (xs : List ℕ). Contains xs x) names_pushed has)
-
-  pub still_found : (x : ℕ) → Contains (names_found old.vertices.items) x → Contains (names_found new.vertices.items) x
-  still_found x has = subst (λ (xs : List ℕ). Contains xs x) (sym names_pushed) (Contains-append_left (names_found old.vertices.items) (name ∷ []) x has)
-
   now_found : Contains (names_found new.vertices.items) name
   now_found = subst (λ (xs : List ℕ). Contains xs name) (sym names_pushed) (Contains-push (names_found old.vertices.items) name)
 
-  pub found_added : name < length old.marks.items → get_or old.marks.items name false ≡ false → IsVertexAt h name place → new.marks.items ≡ set old.marks.items name true → IsFoundIn h new
-  found_added low unmarked vertex marks = record {
-    marked = λ x. (
-      λ t. ⊎_elim
-          (λ (here : x ≡ name). subst (Contains (names_found new.vertices.items)) (sym here) now_found)
-          (λ (other : x ≢ name). still_found x ((is.marked x).0 (sym (mark_other x other) ∙ t)))
-          (cases_eq x name),
-      λ has. ⊎_elim
-          (λ (here : x ≡ name). ap (λ k. get_or new.marks.items k false) here ∙ mark_here)
-          (λ (other : x ≢ name). mark_other x other ∙ (is.marked x).1 (⊎_elim (λ was. was) (λ at. absurd (other (sym at))) (was_or_is x has)))
-          (cases_eq x name),
-    );
-    once = subst (IsDistinct (λ a b. a == b)) (sym names_pushed)
-        (IsDistinct-push nat_eq_equiv (names_found old.vertices.items) name is.once
-        (none_any (names_found old.vertices.items) name (λ has. false≢true (sym unmarked ∙ (is.marked name).1 has))));
-    placed = subst (All (λ (v : ℕ × Place). IsVertexAt h v.0 v.1)) (sym vertices) (All-push (λ (v : ℕ × Place). IsVertexAt h v.0 v.1) old.vertices.items (name, place) is.placed vertex);
-  }
-    where
-      mark_here : get_or new.marks.items name false ≡ true
-      mark_here = ap (λ (m : List Bool). get_or m name false) marks ∙ get_or-set_same old.marks.items name true false low
-
-      mark_other : (x : ℕ) → x ≢ name → get_or new.marks.items x false ≡ get_or old.marks.items x false
-      mark_other x other = ap (λ (m : List Bool). get_or m x false) marks ∙ get_or-set_other old.marks.items name x true false other
+  pub found_added : name < old.made → list_any (nat_eq name) old.names.keys ≡ false → IsVertexAt h name place → new.names.keys ≡ insert_key nat_eq old.names.keys name → new.made ≡ old.made → IsFoundIn h new
+  found_added low none vertex keys made =
+      let names = names_found old.vertices.items in
+      record {
+        named =
+            keys
+            ∙ ap (λ (b : Bool). if b then old.names.keys else old.names.keys ++ name ∷ []) none
+            ∙ ap (λ (xs : List ℕ). xs ++ name ∷ []) is.named
+            ∙ sym names_pushed;
+        below = subst (λ (n : ℕ). All (λ x. x < n) (names_found new.vertices.items)) (sym made)
+            (subst (All (λ x. x < old.made)) (sym names_pushed) (All-push (λ x. x < old.made) names name is.below low));
+        once = subst (IsDistinct (λ a b. a == b)) (sym names_pushed)
+            (IsDistinct-push nat_eq_equiv names name is.once (subst (λ (xs : List ℕ). list_any (nat_eq name) xs ≡ false) is.named none));
+        placed = subst (All (λ (v : ℕ × Place). IsVertexAt h v.0 v.1)) (sym vertices) (All-push (λ (v : ℕ × Place). IsVertexAt h v.0 v.1) old.vertices.items (name, place) is.placed vertex);
+      }
 
   pub finds_added : FindsMore old new (λ x. x ≡ name)
   finds_added = record {
@@ -75,44 +57,32 @@ module _ (h : SpaceList) (old new : Found) (name : ℕ) (place : Place) (is : Is
   }
 
 -- where it was found before
-pub finds_none : (h : SpaceList) (found : Found) (name : ℕ) → IsFoundIn h found → get_or found.marks.items name false ≡ true → FindsMore found found (λ x. x ≡ name)
-finds_none h found name is marked = record {
+pub finds_none : (h : SpaceList) (found : Found) (name : ℕ) → IsFoundIn h found → list_any (nat_eq name) found.names.keys ≡ true → FindsMore found found (λ x. x ≡ name)
+finds_none h found name is any = record {
   more = [];
   behind = sym (append-nil found.vertices.items);
   only = λ x none. absurd (Contains-none x none);
-  all = λ x at. subst (Contains (names_found found.vertices.items)) (sym at) ((is.marked name).0 marked);
+  all = λ x at. subst (Contains (names_found found.vertices.items)) (sym at)
+      (Contains-from_any exact_unsigned_eq name (names_found found.vertices.items) (subst (λ (xs : List ℕ). list_any (nat_eq name) xs ≡ true) is.named any));
 }
 
 -- nothing is found yet
-pub finds_nothing : (h : SpaceList) (found : Found) (made : ℕ) → found.vertices.items ≡ [] → found.marks.items ≡ replicate made false → IsFoundIn h found
-finds_nothing h found made vertices marks = record {
-  marked = λ x. (
-    λ t. absurd (false≢true (sym (unmarked x) ∙ t)),
-    λ has. absurd (Contains-none x (subst (λ (vs : List (ℕ × Place)). Contains (names_found vs) x) vertices has)),
-  );
+pub finds_nothing : (h : SpaceList) (found : Found) → found.vertices.items ≡ [] → found.names.keys ≡ [] → IsFoundIn h found
+finds_nothing h found vertices names = record {
+  named = names ∙ sym (ap names_found vertices);
+  below = subst (λ (vs : List (ℕ × Place)). All (λ x. x < found.made) (names_found vs)) (sym vertices) (All-nil (λ x. x < found.made));
   once = subst (λ (vs : List (ℕ × Place)). IsDistinct (λ a b. a == b) (names_found vs)) (sym vertices) (IsDistinct-from_apart (λ a b. a == b) [] (λ i j d lt low. absurd (omega (arith, low))));
   placed = subst (All (λ (v : ℕ × Place). IsVertexAt h v.0 v.1)) (sym vertices) (All-nil (λ (v : ℕ × Place). IsVertexAt h v.0 v.1));
 }
-  where
-    all_false : (n x : ℕ) → get_or (replicate n false) x false ≡ false
-    all_false zero x = refl
-    all_false (suc n) zero = refl
-    all_false (suc n) (suc x) = all_false n x
-
-    unmarked : (x : ℕ) → get_or found.marks.items x false ≡ false
-    unmarked x = ap (λ (m : List Bool). get_or m x false) marks ∙ all_false made x
 
 -- there are no more than names
-pub few_found : (h : SpaceList) (found : Found) → IsFoundIn h found → length found.vertices.items ≤ length found.marks.items
+pub few_found : (h : SpaceList) (found : Found) → IsFoundIn h found → length found.vertices.items ≤ found.made
 few_found h found is =
-    let few = length-le_from_distinct_below (names_found found.vertices.items) (length found.marks.items) is.once below in
+    let names = names_found found.vertices.items in
+    let few = length-le_from_distinct_below names found.made is.once
+    (λ q any. All-contains (λ x. x < found.made) names q is.below (Contains-from_any exact_unsigned_eq q names any)) in
     let long = length-map found.vertices.items (λ (v : ℕ × Place). v.0) in
     omega (arith, few, long)
-  where
-    below : (q : ℕ) → list_any (λ y. q == y) (names_found found.vertices.items) ≡ true → q < length found.marks.items
-    below q any =
-        let t = (is.marked q).1 (Contains-from_any exact_unsigned_eq q (names_found found.vertices.items) any) in
-        ⊎_elim (λ low. low) (λ past. absurd (false≢true (sym (get_or_past found.marks.items q false past) ∙ t))) (cases_lt q (length found.marks.items))
 
 -- ---- one row more
 
@@ -340,10 +310,6 @@ module _ (c : Content) (subjects : List ℕ) where
       all_found = Walk-within (Contains (names_found found.vertices.items)) walks.roots (λ a b has edge. walks.closed a b (walked_of a has) edge)
 
 -- ---- what is read
-
--- a mark that was read
-pub mark_is : (marks : List Bool) (x : ℕ) (mark : Bool) → x < length marks → mark ≡ get_or marks x mark → get_or marks x false ≡ mark
-mark_is marks x mark low is = get_or_default marks x false mark low ∙ sym is
 
 -- a vertex that was read
 pub vertex_at : (h : SpaceList) (found : Found) (n : ℕ) (v : ℕ × Place) → IsFoundIn h found → n < length found.vertices.items → v ≡ get_or found.vertices.items n v → IsVertexAt h v.0 v.1

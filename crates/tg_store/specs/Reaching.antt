@@ -1,5 +1,5 @@
 -- What a walk over a heap from its active subjects has found on its way.
-use Rattle.std.specs.Prelude.{◌≡◌, ◌↔◌, ◌==◌, ◌++◌, ◌<◌, ℕ, true, false, List, map, slice_index_or}
+use Rattle.std.specs.Prelude.{◌≡◌, ◌==◌, ◌++◌, ◌<◌, ℕ, List, map}
 use Rattle.std.specs.List.{All, Contains, IsDistinct}
 use Rattle.tg_rights.specs.RightSet.{RightSet}
 use Rattle.tg_model.specs.declared.edge.Edge.{Edge}
@@ -20,9 +20,10 @@ pub record AreBelow (c : Content) (made : ℕ) : Type 0 where
 abbrev pub names_found : List (ℕ × Place) → List ℕ
 names_found vertices = map (λ v. v.0) vertices
 
--- vertices of a heap, each once, and marks on exactly their names
+-- vertices of a heap, each once, with the set of their names, all below `made`
 pub record IsFoundIn (h : SpaceList) (found : Found) : Type 0 where
-  pub marked : (x : ℕ) → (slice_index_or found.marks.items x false ≡ true) ↔ Contains (names_found found.vertices.items) x
+  pub named : found.names.keys ≡ names_found found.vertices.items
+  pub below : All (λ x. x < found.made) (names_found found.vertices.items)
   pub once : IsDistinct (λ a b. a == b) (names_found found.vertices.items)
   pub placed : All (λ v. IsVertexAt h v.0 v.1) found.vertices.items
 
