@@ -42,27 +42,29 @@ SIZES = {
     "made": {"Graph", "Picture", "Trial"},
     "cells": {"Spaces", "Spot"},
     "workers": {"Opening"},
-    "number": {"Helpers"},
+    "number": {"Helpers", "Kept"},
 }
 
 # What isn't of these forms: the file and the function, the words, and why they may stand.
 NAMED = {
     ("tg_graph/src/indexed_row.rt", "reserve", "self.old_cells"): "how many of the row's cells lie in Old: no more than it has",
     ("tg_graph/src/followed.rt", "follow_row", "old"): "how many of the row's cells lie in Old now",
-    ("tg_store/src/store/picture.rt", "picture", "self.made"): "how many vertices were made",
     ("tg_threads/src/worker.rt", "run_tasks", "spawn_lines(tasks.as_slice())"): "how many of the lines may make a subject: a clause",
     ("tg_text/src/stock.rt", "gather_boxes", "count"): "how many boxes the text names, and each of its items: at most 100,000, a clause",
     ("tg_plain/src/run.rt", "open", "script.workers"): "how many workers there are: at most 64, as the words of the command line may say",
-    ("tg_program/src/making.rt", "serve_made", "start.settings.workers"): "the same",
+    ("tg_program/src/boxes.rt", "serve_with_boxes", "start.settings.workers"): "the same",
     ("tgdot/src/run.rt", "open", "script.workers"): "the same",
     ("tgdot/src/draft.rt", "pad", "first.saturating_add(columns)"): "the longest text of a kind that is drawn",
     ("tg_could/src/plan.rt", "make_names", "last.saturating_add(1)"): "a turn for each name up to the one that is asked about",
     ("tg_could/src/plan.rt", "mailbox", "turn"): "a place in the list, or its length",
     ("tg_could/src/walks.rt", "hand_on", "start"): "a place in the list",
+    ("tg_could/src/incoming.rt", "bounds_of", "bound.1"): "how many of the entries have this target, of those that there are",
     # Loops that end where there is no more.
+    ("tg_could/src/search.rt", "go_back", "NONE"): "a step that was found each",
+    ("tg_shared/src/session.rt", "audit_all", "audit_all"): "nothing grows there: a function that asks for memory has the name of one that is called",
     ("tg_could/src/search.rt", "spread", "NONE"): "a step that was found each",
     ("tg_could/src/walks.rt", "search", "u64::MAX"): "an edge along a path each",
-    ("tg_entries/src/stream.rt", "audit_named", "u64::MAX"): "a line of the reader each",
+    ("tg_entries/src/stream.rt", "audit_lines", "u64::MAX"): "a line of the reader each",
     ("tg_plain/src/script.rt", "read", "u64::MAX"): "a line of the input each",
     ("tg_evac/src/copies.rt", "scan", "while next<claimer.len()"): "a cell that was won each",
     ("tg_evac/src/from_roots.rt", "walk_each", "loop"): "a root each",
