@@ -71,7 +71,7 @@ impl Names {
     }
 }
 
-// The names of the subjects of a picture, and of both ends of its edges, each once, rising. Fails only when out of memory.
+// The names of a picture's subjects and of both ends of its edges, each once, rising. Fails only when out of memory.
 fn names_shown(alloc: Global, picture: &Picture) -> Result<Vec<u64>, AllocError> {
     let mut names = Vec::from_slice(alloc, picture.subjects())?;
     let mut last = None;

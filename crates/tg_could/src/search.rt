@@ -150,8 +150,8 @@ impl Found {
         self.finish(alloc, edges, &takers)
     }
 
-    // Puts the holder of an edge into the second set, where it has the right over the vertex; and links the target of one
-    // that has take to its holder.
+    // Puts the holder of an edge into the second set, where it has the right over the vertex; and links the target of
+    // one that has take to its holder.
     fn begin_at(
         &mut self,
         takers: &mut Links,

@@ -11,8 +11,8 @@ use crate::words::{add, word_of};
 use std::alloc::{AllocError, Global};
 use tg_rights::Right;
 
-/// For each number a word of those of `actors` who walk to its vertex, of whom the first 64 count. Fails only when out of
-/// memory.
+/// For each number a word of those of `actors` who walk to its vertex, of whom the first 64 count. Fails only when out
+/// of memory.
 pub(crate) fn walks(
     alloc: Global,
     names: &Names,
