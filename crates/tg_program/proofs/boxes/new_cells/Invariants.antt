@@ -6,4 +6,4 @@ use Rattle.tg_program.proofs.boxes.new_cells.Given as goal
 
 -- so many cells were made
 abbrev pub invariant-loop : goal.invariant-loop
-invariant-loop g l = map law_value l.cells.items ≡ replicate l.counter (value_of Cell)
+invariant-loop l = map law_value l.cells.items ≡ replicate l.counter (value_of Cell)

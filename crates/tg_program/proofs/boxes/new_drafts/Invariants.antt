@@ -4,4 +4,4 @@ use Rattle.tg_program.proofs.boxes.new_drafts.Given as goal
 
 -- the drafts of the first so many items were made
 abbrev pub invariant-loop-item : goal.invariant-loop-item
-invariant-loop-item g l = l.drafts.items ≡ map value_of (take l.item-index l.items)
+invariant-loop-item l = l.drafts.items ≡ map value_of (take l.item-index l.items)
