@@ -12,5 +12,5 @@ returns-in_err-audit-clause-fault g c =
     let none : store.handed ≡ 0 = omega (arith, c.start.ensures.start, c.journal-journal.ensures.start, c.if-start-gt0.false) in
     let all = c.entries.ensures ∙ (λ i. drop ((c.journal-journal.ensures.start ∙ none) i) (c.journal-journal.ensures.entries i)) in
     let want = fault_of_legal c.opening.result.now store.opening c.entries.result.now store.entries c.in_err-audit.field-0.0
-        c.opening.ensures all c.journal-journal.ensures.faithful.legal c.in_err-audit.ensures.fault in
+    c.opening.ensures all c.journal-journal.ensures.faithful.legal c.in_err-audit.ensures.fault in
     rw given.1 (inr (given.2 ∙ ap store_audit_fault_of want))
