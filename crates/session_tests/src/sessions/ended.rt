@@ -8,11 +8,11 @@ use std::marker::Brand;
 use std::sync::Wait;
 use std::sync::ledger::Blank;
 use std::test::Fail;
-use tg_journal::{AuditFault, audit};
+use tg_journal::Audited;
 use tg_model::Command;
 use tg_payload::CellPayload;
 use tg_shared::{CloseFault, Keeper, Locked, LockedRefused, Round, Session, Shared, SharedStore};
-use tg_store::{ApplyFault, Store};
+use tg_store::{ApplyFault, Store, StoreAuditFault};
 
 // What is seen of a worker that was ended.
 #[derive(Clone, Copy, PartialEq, Eq, Debug)]
@@ -33,7 +33,7 @@ struct SeenOfEnd {
     why_not_closed: Option<CloseFault>,
     // how many entries there are once it was had back, and what an audit finds
     entries: u64,
-    audited: Result<(), AuditFault>,
+    audited: Result<u64, StoreAuditFault>,
 }
 
 // Lets the session make a vertex, and ends its worker.
@@ -98,7 +98,7 @@ fn seen_of_shared<L: Round, R: Wait>(
         entered,
         why_not_closed,
         entries: store.journal().len(),
-        audited: audit(alloc, store.opening(), store.journal().entries()),
+        audited: store.audit(alloc).map(Audited::entries),
     })
 }
 
@@ -138,7 +138,7 @@ fn a_worker_is_ended(rt: HostRuntime) -> Result<(), Fail> {
             entered: 3,
             why_not_closed,
             entries: 4,
-            audited: Ok(()),
+            audited: Ok(4),
         };
         assert_eq!(rt;
             seen(&rt, rt.alloc(), is_lost),
