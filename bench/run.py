@@ -56,6 +56,12 @@ def appends_and_inspections():
     return ["--workers", "2", "--stock", "l6c"], lines
 
 
+def inspections():
+    """A worker looks again and again at another one's row of eight edges."""
+    lines = ["edge 0 1 l"] + ["1 create rwtg"] * 8 + ["0 inspect 1"] * 60_000
+    return ["--workers", "2", "--stock", "c8"], lines
+
+
 def takes():
     """A row of 2,000 edges is built by grants, and then 63 workers take from it, as often as a script has room for."""
     lines = [f"edge {k} 0 t" for k in range(1, 64)] + ["0 create tg"] + ["0 create r"] * 2_000
@@ -128,6 +134,7 @@ SCRIPTS = {
     "creates in 64 rows": creates_in_64_rows,
     "reads and writes": reads_and_writes,
     "appends and inspections": appends_and_inspections,
+    "inspections": inspections,
     "takes": takes,
     "holes": holes,
     "collections": collections,
