@@ -197,7 +197,7 @@ fn a_spawned_session(rt: HostRuntime) -> Result<(), Fail> {
         told,
         why_not_closed: CloseFault::SessionsMissing,
         entries: 13,
-        audited: Ok(200),
+        audited: Ok(13),
     };
     assert_eq!(rt; seen, wanted);
     Ok(())
