@@ -216,13 +216,13 @@ def one_request_is_refused():
 def a_collection_of_the_nurseries_is_refused():
     """The first collection makes 378 requests, of which one in the middle is refused, and the next one is made."""
     lines = creates(20_000, "rwtg") + ["minor", "minor", "full"]
-    return Script("--workers 1 --stock c20000", lines, refused=20_760)
+    return Script("--workers 1 --stock c20000", lines, refused=727)
 
 
 def a_collection_by_helpers_is_refused():
-    """The first collection makes 400 requests, of which one in the middle is refused, and the next one is made."""
+    """The first collection makes 399 requests, of which one in the middle is refused, and the next one is made."""
     lines = creates(20_000, "rwtg") + ["full", "full", "minor", "0 remove 7 rwtg", "full"]
-    return Script("--workers 1 --stock c20000", lines, (2,), refused=20_760)
+    return Script("--workers 1 --stock c20000", lines, (2,), refused=748)
 
 
 def a_session_of_25_calls():
