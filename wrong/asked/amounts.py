@@ -1,4 +1,5 @@
-"""What a growth is asked for: whether a body asks for more than there is, so as to be refused. wrong/wants runs it, and its head says the rule.
+"""What a growth is asked for: whether a body asks for more than there is, so as to be refused. wrong/wants runs it, and
+its head says the rule.
 
 An amount is allowed where it is
   - a number or a constant of at most MOST;
@@ -6,26 +7,29 @@ An amount is allowed where it is
   - a parameter: then each call of the function is asked for an amount there, in all crates;
   - a local: then it is what the local is bound to;
   - a sum, a difference, a quotient, the least or the greatest of these, or one of two branches.
-All else is a fault: a product, a shift, a field, what a call answers, what a pattern binds. It may stand in a named place (NAMED), word by word
-as it stands there. An amount is asked for
-  - by a growth of the kit that takes one (AMOUNT_AT), by `vec![in alloc; value; amount]`, and by an array's type or value;
+All else is a fault: a product, a shift, a field, what a call answers, what a pattern binds. It may stand in a named
+place (NAMED), word by word as it stands there. An amount is asked for
+  - by a growth of the kit that takes one (AMOUNT_AT), by `vec![in alloc; value; amount]`, and by an array's type or
+    value;
   - by the end of a range, since a loop or a chain over it may grow something each time;
-  - by a `while` that compares by `<`: what it is compared with, where something grows in it and no `len()` does. Another `while` and a `loop` in
-    which something grows stand in a named place.
-So that nothing is multiplied, in a loop a growth asks for one, and a function in which something grows by more than one is called only where
-that stands in wrong/repeated: there it takes what is its own of what the loop goes through, an entry's text or a row's edges, or gives back what
-it took. No loop in which something grows stands in another one; a closure with a parameter counts as a loop. No list is asked for room by its own
-length. What makes elements of nothing (MAKERS) isn't called, no type is an iterator or an allocator, no function that takes an amount is handed on
-as a value, and one in which something grows doesn't call itself.
+  - by a `while` that compares by `<`: what it is compared with, where something grows in it and no `len()` does.
+    Another `while` and a `loop` in which something grows stand in a named place.
+So that nothing is multiplied, in a loop a growth asks for one, and a function in which something grows by more than one
+is called only where that stands in wrong/repeated: there it takes what is its own of what the loop goes through, an
+entry's text or a row's edges, or gives back what it took. No loop in which something grows stands in another one; a
+closure with a parameter counts as a loop. No list is asked for room by its own length. What makes elements of nothing
+(MAKERS) isn't called, no type is an iterator or an allocator, no function that takes an amount is handed on as a value,
+and one in which something grows doesn't call itself.
 
-Which function a call is of is told by its words (growths.py): where these leave several, each of them is held. What remains: how often a loop that
-stands in NAMED goes round, and what a call in wrong/repeated takes each time, no rule says."""
+Which function a call is of is told by its words (growths.py): where these leave several, each of them is held. What
+remains: how often a loop that stands in NAMED goes round, and what a call in wrong/repeated takes each time, no rule
+says."""
 import re
 from copy import copy
 
-from calls import bound_to, calls_in, lists_made, loops_in, operator, parts, trimmed, words_of
-from growths import AMOUNT_AT, BY_MORE, BY_ONE, CONSTANT, KIT_NUMBERS, Tree, is_growth
-from sources import arms, compact, level
+from .calls import bound_to, calls_in, lists_made, loops_in, operator, parts, trimmed, words_of
+from .growths import AMOUNT_AT, BY_MORE, BY_ONE, CONSTANT, KIT_NUMBERS, Tree, is_growth
+from .sources import arms, compact, level
 
 # A number of at most so many stands for itself: a buffer of 64 KiB, and no more than a run can have.
 MOST = 1 << 16
@@ -47,21 +51,28 @@ SIZES = {
 
 # What isn't of these forms: the file and the function, the words, and why they may stand.
 NAMED = {
-    ("tg_graph/src/indexed_row.rt", "reserve", "self.old_cells"): "how many of the row's cells lie in Old: no more than it has",
+    ("tg_graph/src/indexed_row.rt", "reserve", "self.old_cells"):
+        "how many of the row's cells lie in Old: no more than it has",
     ("tg_graph/src/followed.rt", "follow_row", "old"): "how many of the row's cells lie in Old now",
-    ("tg_threads/src/worker.rt", "run_tasks", "spawn_lines(tasks.as_slice())"): "how many of the lines may make a subject: a clause",
-    ("tg_text/src/stock.rt", "gather_boxes", "count"): "how many boxes the text names, and each of its items: at most 100,000, a clause",
-    ("tg_plain/src/run.rt", "open", "script.workers"): "how many workers there are: at most 64, as the words of the command line may say",
+    ("tg_threads/src/worker.rt", "run_tasks", "spawn_lines(tasks.as_slice())"):
+        "how many of the lines may make a subject: a clause",
+    ("tg_text/src/stock.rt", "gather_boxes", "count"):
+        "how many boxes the text names, and each of its items: at most 100,000, a clause",
+    ("tg_plain/src/run.rt", "open", "script.workers"):
+        "how many workers there are: at most 64, as the words of the command line may say",
     ("tg_program/src/boxes.rt", "serve_with_boxes", "start.settings.workers"): "the same",
     ("tgdot/src/run.rt", "open", "script.workers"): "the same",
     ("tgdot/src/draft.rt", "pad", "first.saturating_add(columns)"): "the longest text of a kind that is drawn",
-    ("tg_could/src/plan.rt", "make_names", "last.saturating_add(1)"): "a turn for each name up to the one that is asked about",
+    ("tg_could/src/plan.rt", "make_names", "last.saturating_add(1)"):
+        "a turn for each name up to the one that is asked about",
     ("tg_could/src/plan.rt", "mailbox", "turn"): "a place in the list, or its length",
     ("tg_could/src/walks.rt", "hand_on", "start"): "a place in the list",
-    ("tg_could/src/incoming.rt", "bounds_of", "bound.1"): "how many of the entries have this target, of those that there are",
+    ("tg_could/src/incoming.rt", "bounds_of", "bound.1"):
+        "how many of the entries have this target, of those that there are",
     # Loops that end where there is no more.
     ("tg_could/src/search.rt", "go_back", "NONE"): "a step that was found each",
-    ("tg_shared/src/session.rt", "audit_all", "audit_all"): "nothing grows there: a function that asks for memory has the name of one that is called",
+    ("tg_shared/src/session.rt", "audit_all", "audit_all"):
+        "nothing grows there: a function that asks for memory has the name of one that is called",
     ("tg_could/src/search.rt", "spread", "NONE"): "a step that was found each",
     ("tg_could/src/walks.rt", "search", "u64::MAX"): "an edge along a path each",
     ("tg_entries/src/stream.rt", "audit_lines", "u64::MAX"): "a line of the reader each",
@@ -72,31 +83,35 @@ NAMED = {
     ("tg_graph/src/rows.rt", "edges_of", "loop"): "a cell of the row each",
     ("tg_graph/src/rows.rt", "places_of", "loop"): "a cell of the row each",
     ("tg_journal/src/live/sweep.rt", "reached", "while next<names.len()"): "a vertex that is reached each",
-    ("tg_store/src/store/picture.rt", "edges_reached", "while next<found.vertices.len()"): "a vertex that is reached each",
-    ("tg_graph/src/settle.rt", "add_indexed", "while let Some(number)=row.noted.next(from)"): "a cell that was noted each",
+    ("tg_store/src/store/picture.rt", "edges_reached", "while next<found.vertices.len()"):
+        "a vertex that is reached each",
+    ("tg_graph/src/settle.rt", "add_indexed", "while let Some(number)=row.noted.next(from)"):
+        "a cell that was noted each",
     ("tg_script/src/opening.rt", "read_edges", "while let Some(line)=script.next(source, sink)?"): "a line each",
     ("tg_script/src/whole.rt", "read_commands", "while let Some(line)=script.next(source, sink)?"): "a line each",
     ("tg_script/src/run_script.rt", "run_commands", "loop"): "a line each",
     ("tg_text/src/sink.rt", "put_all", "while!rest.is_empty()"): "a part of the bytes each",
     ("tg_text/src/stock.rt", "gather_boxes", "while!rest.is_empty()"): "an item of the text each",
-    ("tg_could/src/walks.rt", "hand_on", "for at in start..end"): "nothing grows there: another function has the name of one that is called",
+    ("tg_could/src/walks.rt", "hand_on", "for at in start..end"):
+        "nothing grows there: another function has the name of one that is called",
 }
 
 
 class Amounts:
-    """The rule, over a tree: `found` has what is wrong, and `repeated` the file, the function and the call of each that grows something by more
-    than one in a loop; those in `may` may."""
+    """The rule, over a tree: `found` has what is wrong, and `repeated` the file, the function and the call of each that
+    grows something by more than one in a loop; those in `may` may."""
 
     def __init__(self, sources, below, may):
         self.tree, self.may, self.repeated = Tree(below), may, set()
-        self.amounts, self.waiting, self.found, self.met, self.answering = set(), [], [], set(), []
+        self.amounts, self.waiting, self.answering = set(), [], []
+        self.found, self.met = [], set()
         self.add(sources)
 
     def with_source(self, source):
         """The same tree with one source more, and only its faults."""
         other = copy(self)
-        other.tree, other.amounts, other.met, other.found = self.tree.copied(), set(self.amounts), set(self.met), []
-        other.repeated = set(self.repeated)
+        other.tree, other.found = self.tree.copied(), []
+        other.amounts, other.met, other.repeated = set(self.amounts), set(self.met), set(self.repeated)
         other.add([source])
         return other
 
@@ -110,15 +125,16 @@ class Amounts:
         for call in calls:
             self.hold_call_of_kit(call)
             self.hold_recursion(call)
-            for function, index in self.amounts & {(it, i) for it in self.tree.callees(call) for i in range(len(it.parameters))}:
-                self.hold_argument(call, function, index)
-        for it in fresh:
-            self.hold_ranges(it)
-            self.hold_loops(it)
-            self.hold_method(it)
+            taken = {(callee, i) for callee in self.tree.callees(call) for i in range(len(callee.parameters))}
+            for callee, index in self.amounts & taken:
+                self.hold_argument(call, callee, index)
+        for function in fresh:
+            self.hold_ranges(function)
+            self.hold_loops(function)
+            self.hold_method(function)
         self.follow()
-        for it in fresh:
-            self.hold_values(it)
+        for function in fresh:
+            self.hold_values(function)
 
     def follow(self):
         """Holds each call of a function whose parameter turned out to be an amount."""
@@ -196,7 +212,7 @@ class Amounts:
             self.hold(function, *part, (*seen, name))
 
     def need(self, function, index):
-        answering = next((needed for it, needed in self.answering if it is function), None)
+        answering = next((needed for one, needed in self.answering if one is function), None)
         if answering is not None:
             answering.add(index)
         elif (function, index) not in self.amounts:
@@ -229,10 +245,11 @@ class Amounts:
             self.fault(function, start, end, "what a call answers is asked for:")
 
     def answer(self, function, opened):
-        """The expression that a call answers, where its function is one expression; its parameters are held as this call's arguments."""
-        named = [it for call in calls_in(function) if call.at == opened for it in self.tree.callees(call)]
-        found = [(it, *part) for it in named for part in parts(it.source, it.start + 1, it.end, ";")]
-        is_met = any(it in named for it, _ in self.answering)
+        """The expression that a call answers, where its function is one expression; its parameters are held as this
+        call's arguments."""
+        named = [callee for call in calls_in(function) if call.at == opened for callee in self.tree.callees(call)]
+        found = [(one, *part) for one in named for part in parts(one.source, one.start + 1, one.end, ";")]
+        is_met = any(one in named for one, _ in self.answering)
         return found[0] if len(named) == len(found) == 1 and not is_met else None
 
     def hold_least(self, function, one, other, seen):
@@ -275,7 +292,7 @@ class Amounts:
     def hold_values(self, function):
         """A function that takes an amount isn't handed on as a value."""
         words = function.source.words
-        names = {it.name for it, _ in self.amounts}
+        names = {taking.name for taking, _ in self.amounts}
         for at, word in words_of(function):
             is_path = words[at - 1] == "::" and words[at + 1] not in ("(", "::", "{")
             is_alone = words[at - 1] in ("(", ",") and words[at + 1] in (")", ",") and word not in function.parameters
@@ -295,10 +312,12 @@ class Amounts:
                 self.found.append(f"crates/{source.place}:{source.lines[start]}: an array is past any use: {said}")
 
     def hold_types(self, source):
-        """No type of the tree is an iterator, whose elements could come from nowhere, nor an allocator, which could refuse."""
+        """No type of the tree is an iterator, whose elements could come from nowhere, nor an allocator, which could
+        refuse."""
         for at, word in enumerate(source.words):
             if (word.endswith("Iterator") or word == "Allocator") and source.words[at + 1] == "for":
-                self.found.append(f"crates/{source.place}:{source.lines[at]}: {source.words[at + 2]} is an iterator or an allocator")
+                where = f"crates/{source.place}:{source.lines[at]}"
+                self.found.append(f"{where}: {source.words[at + 2]} is an iterator or an allocator")
 
     def hold_texts(self, source):
         """What is written into a text has no width that is an argument, or that is long."""
@@ -311,13 +330,16 @@ class Amounts:
         source, words = function.source, function.source.words
         for part in lists_made(function):
             self.hold(function, *part)
+        if not (function in self.tree.growing or function.hands_range):
+            return
         for at, word in words_of(function):
-            if word not in ("..", "..=") or words[at - 1] in (",", "{") or not (function in self.tree.growing or function.hands_range):
+            if word not in ("..", "..=") or words[at - 1] in (",", "{"):
                 continue
             opened = source.around(at)[0]
             if words[opened] == "[" or words[opened] == "(" and words[opened - 1] in OF_SLICES:
                 continue
-            end = next((i for i in level(source, at + 1, source.shut[opened]) if words[i] in ("{", ",", ";", "=>")), source.shut[opened])
+            shut = source.shut[opened]
+            end = next((i for i in level(source, at + 1, shut) if words[i] in ("{", ",", ";", "=>")), shut)
             if end > at + 1:
                 self.hold(function, at + 1, end)
             else:
@@ -356,16 +378,18 @@ class Amounts:
             self.hold(function, less + 1, opened)
 
     def hold_method(self, function):
-        """A size of the tree is one of a type that is known to have it, and what has the name of a growth of the kit by one grows by one."""
+        """A size of the tree is one of a type that is known to have it, and what has the name of a growth of the kit by
+        one grows by one."""
+        head = (function.start - 1, function.start)
         is_size = function.is_method and not function.parameters
         if is_size and function.owner not in SIZES.get(function.name, {function.owner}):
-            self.fault(function, function.start - 1, function.start, f"{function.owner} isn't known to have the size {function.name}:")
+            self.fault(function, *head, f"{function.owner} isn't known to have the size {function.name}:")
         if function.is_method and function.name in BY_ONE - BY_MORE and function in self.tree.growing_much:
-            self.fault(function, function.start - 1, function.start, f"{function.name} grows something by more than one:")
+            self.fault(function, *head, f"{function.name} grows something by more than one:")
 
     def unmet(self):
         """The named places that aren't there."""
-        gone = [*(it for it in NAMED if it not in self.met), *sorted(self.may - self.repeated)]
+        gone = [*(named for named in NAMED if named not in self.met), *sorted(self.may - self.repeated)]
         return [f"crates/{place}: {name} has no more: {said}" for place, name, said in gone]
 
 
@@ -382,4 +406,4 @@ def write_repeated(path, repeated):
     calls = {}
     for place, name, call in sorted(repeated):
         calls.setdefault(f"{place} {name}", []).append(call)
-    path.write_text("".join(f"{where}: {' '.join(its)}\n" for where, its in calls.items()))
+    path.write_text("".join(f"{where}: {' '.join(names)}\n" for where, names in calls.items()))

@@ -2,17 +2,18 @@
 import re
 from copy import copy
 
-from calls import calls_in, end_of, functions_of, lists_made, loops_in, operator, trimmed, words_of
-from sources import level
+from .calls import calls_in, end_of, functions_of, lists_made, loops_in, operator, trimmed, words_of
+from .sources import level
 
 # The calls of the kit that take an amount, and where it stands: of functions of a type, and of methods.
 MADE_WITH = {"with_capacity": 1, "with_capacity_and_hasher": 1, "from_elem": 2, "vacant": 2}
-GROWN_BY = {name: 0 for name in ("reserve", "reserve_exact", "try_reserve", "try_reserve_exact", "resize", "resize_with", "try_resize_with")}
+RESERVED_BY = ("reserve", "reserve_exact", "try_reserve", "try_reserve_exact")
+GROWN_BY = {name: 0 for name in (*RESERVED_BY, "resize", "resize_with", "try_resize_with")}
 AMOUNT_AT = MADE_WITH | GROWN_BY
 
 # What grows by one, or by what is there.
-BY_ONE = {"push", "push_str", "push_back", "push_front", "insert", "insert_mut", "shift_insert", "entry", "append", "split_off", "clone"}
-BY_ONE |= {"extend", "extend_from_slice", "collect", "try_collect", "to_vec", "to_string"}
+BY_ONE = {"push", "push_str", "push_back", "push_front", "insert", "insert_mut", "shift_insert", "entry", "append"}
+BY_ONE |= {"split_off", "clone", "extend", "extend_from_slice", "collect", "try_collect", "to_vec", "to_string"}
 # What grows by more than one at once.
 BY_MORE = set(AMOUNT_AT) | {"append", "extend", "extend_from_slice", "collect", "try_collect", "to_vec", "clone"}
 GROWING_MACROS = {"vec", "format"}
@@ -25,30 +26,33 @@ NUMBER = re.compile(r"(0x[0-9a-fA-F_]+|0b[01_]+|[0-9][0-9_]*?)(?:_?[iu](?:8|16|3
 class Tree:
     """The functions of a tree's sources and their calls. `below` has the crates on which each crate stands.
 
-    Functions are told apart by their names, the types before them, how many arguments there are and which crates a crate stands on: where that leaves
-    several, a call may be any of these. A method with a name of the kit's is taken for the kit's."""
+    Functions are told apart by their names, the types before them, how many arguments there are and which crates a
+    crate stands on: where that leaves several, a call may be any of these. A method with a name of the kit's is taken
+    for the kit's."""
 
     def __init__(self, below):
-        self.below, self.functions, self.by_name, self.calls, self.constants = below, [], {}, {}, {}
+        self.below, self.functions = below, []
+        self.by_name, self.calls, self.constants = {}, {}, {}
         self.growing, self.growing_much = set(), set()
 
     def copied(self):
         """The same tree, to which sources may be added."""
         other = copy(self)
-        other.functions, other.growing, other.growing_much = list(self.functions), set(self.growing), set(self.growing_much)
+        other.functions = list(self.functions)
+        other.growing, other.growing_much = set(self.growing), set(self.growing_much)
         other.by_name, other.calls, other.constants = (
-            {key: list(it) for key, it in kept.items()} for kept in (self.by_name, self.calls, self.constants)
+            {name: list(listed) for name, listed in kept.items()} for kept in (self.by_name, self.calls, self.constants)
         )
         return other
 
     def take_in(self, sources):
         """Takes sources in, and answers their functions and calls."""
-        fresh = [it for source in sources for it in functions_of(source)]
-        calls = [call for it in fresh for call in calls_in(it)]
+        fresh = [function for source in sources for function in functions_of(source)]
+        calls = [call for function in fresh for call in calls_in(function)]
         for source in sources:
             self.note_constants(source)
-        for it in fresh:
-            self.by_name.setdefault(it.name, []).append(it)
+        for function in fresh:
+            self.by_name.setdefault(function.name, []).append(function)
         for call in calls:
             self.calls.setdefault(call.name, []).append(call)
         self.functions += fresh
@@ -63,18 +67,18 @@ class Tree:
             return False
         named = self.by_name[function.name]
         if call.before == ".":
-            is_near = call.is_of_self and any(it.owner == call.function.owner for it in named)
+            is_near = call.is_of_self and any(one.owner == call.function.owner for one in named)
             return function.is_method and (not is_near or function.owner == call.function.owner)
         if call.before == "Self":
             return function.owner == call.function.owner
         if call.before == "" or call.before[0].islower():
-            near = [it for it in named if not it.owner and it.crate == call.function.crate]
+            near = [one for one in named if not one.owner and one.crate == call.function.crate]
             return function in near if near else not function.owner
         # (a letter is a type that is a parameter)
         return function.owner == call.before or len(call.before) == 1
 
     def callees(self, call):
-        return [it for it in self.by_name.get(call.name, []) if self.is_of(call, it)]
+        return [function for function in self.by_name.get(call.name, []) if self.is_of(call, function)]
 
     def note_constants(self, source):
         words = source.words
@@ -85,12 +89,15 @@ class Tree:
                 self.constants.setdefault(words[at + 1], []).append((source, equal + 1, end))
 
     def note_growing(self, fresh, calls):
-        """Notes in which functions something grows, and in which by more than one: by the kit, in a loop, or by a call of one of these."""
+        """Notes in which functions something grows, and in which by more than one: by the kit, in a loop, or by a call
+        of one of these."""
         grown = {call.function for call in calls if is_growth(call) or self.grown_by(call, self.growing)}
-        grown |= {it for it in fresh if any(word in GROWING_MACROS and it.source.words[i + 1] == "!" for i, word in words_of(it))}
+        grown |= {function for function in fresh if has_growing_macro(function)}
         self.spread(self.growing, grown)
         much = {call.function for call in calls if self.grows_much(call)}
-        much |= {it for it in fresh if any(self.value(it.source, *part) is None for part in lists_made(it))}
+        for function in fresh:
+            if any(self.value(function.source, *part) is None for part in lists_made(function)):
+                much.add(function)
         self.spread(self.growing_much, much)
 
     def spread(self, noted, found):
@@ -107,7 +114,7 @@ class Tree:
     def grown_by(self, call, functions):
         """Whether a call is one of these functions; a method with a name of the kit's is the kit's."""
         is_of_kit = call.before == "." and (call.name in BY_ONE or call.name in GROWN_BY and call.arguments)
-        return not is_of_kit and any(it in functions for it in self.callees(call))
+        return not is_of_kit and any(function in functions for function in self.callees(call))
 
     def grows_much(self, call):
         """Whether a call makes its function one in which something grows by more than one."""
@@ -142,16 +149,23 @@ class Tree:
             return int(number[1].replace("_", ""), 0)
         if end > start and CONSTANT.fullmatch(words[end - 1]) and not KIT_NUMBERS & set(words[start:end]):
             named = self.constants.get(words[end - 1], [])
-            near = [it for it in named if it[0].crate == source.crate]
-            values = [self.value(*it) for it in near or named]
+            near = [constant for constant in named if constant[0].crate == source.crate]
+            values = [self.value(*constant) for constant in near or named]
             return None if None in values else max(values, default=None)
         return None
 
 
+def has_growing_macro(function):
+    words = function.source.words
+    return any(word in GROWING_MACROS and words[at + 1] == "!" for at, word in words_of(function))
+
+
 def is_growth(call):
     """Whether a call is one of the kit's by which something grows."""
+    if (call.before, call.name) == ("Box", "new"):
+        return True
     is_own = call.name == "collect" and len(call.arguments) != 1
-    return bool(call.before) and not is_own and (call.name in BY_ONE or call.name in AMOUNT_AT) or (call.before, call.name) == ("Box", "new")
+    return bool(call.before) and not is_own and (call.name in BY_ONE or call.name in AMOUNT_AT)
 
 
 def is_repeated(call):

@@ -1,12 +1,14 @@
-"""The functions of a source, what they call, their loops, and to what their names are bound: told by the words alone."""
+"""The functions of a source, what they call, their loops, and to what their names are bound: told by the words
+alone."""
 from dataclasses import dataclass
 
-from sources import before_angles, head, level, owner_of, past_angles
+from .sources import before_angles, head, level, owner_of, past_angles
 
 # The types of which a range is one.
 RANGES = {"Range", "RangeInclusive", "RangeFrom", "Iterator", "IntoIterator", "impl", "dyn"}
 
-KEYWORDS = {"if", "while", "match", "return", "in", "for", "let", "move", "as", "else", "fn", "break", "loop", "Some", "Ok", "Err"}
+KEYWORDS = {"if", "while", "match", "return", "in", "for", "let", "move", "as", "else", "fn", "break", "loop"}
+KEYWORDS |= {"Some", "Ok", "Err"}
 RANKS = (("|",), ("^",), ("&",), ("<<", ">>"), ("+", "-"), ("*", "/", "%"))
 
 
@@ -31,7 +33,8 @@ class Function:
 
 @dataclass(eq=False)
 class Call:
-    """A call: what stands before its name ('.', a type, a module or nothing), and where each argument begins and ends."""
+    """A call: what stands before its name ('.', a type, a module or nothing), and where each argument begins and
+    ends."""
 
     function: Function
     name: str
@@ -58,7 +61,9 @@ def functions_of(source):
         said = next((said for said in around if {"impl", "trait"} & set(said)), [])
         owner, is_of_trait = owner_of(said) if said else "", "for" in said or "trait" in said
         hands_range = bool(RANGES & set(words[shut:body]))
-        yield Function(source, words[at + 1], owner, is_method, names[is_method:], body, source.shut[body], hands_range, is_of_trait)
+        own = names[is_method:]
+        end = source.shut[body]
+        yield Function(source, words[at + 1], owner, is_method, own, body, end, hands_range, is_of_trait)
 
 
 def parameters(source, start, end):
@@ -142,12 +147,13 @@ def operator(source, start, end):
     words, found = source.words, []
     for at in level(source, start, end):
         last = words[at - 1]
-        is_behind = at > start and (last.isidentifier() and last not in KEYWORDS or last[0].isdigit() or last in (")", "]", "?"))
+        is_name = last.isidentifier() and last not in KEYWORDS
+        is_behind = at > start and (is_name or last[0].isdigit() or last in (")", "]", "?"))
         if is_behind and words[at] in ("<", ">") and words[at + 1] == words[at]:
             found.append((at, words[at] * 2, 2))
         elif is_behind and words[at] in tuple("|^&+-*/%"):
             found.append((at, words[at], 1))
-    ranked = ([it for it in found if it[1] in rank] for rank in RANKS)
+    ranked = ([one for one in found if one[1] in rank] for rank in RANKS)
     return next((rank[-1] for rank in ranked if rank), None)
 
 
@@ -173,11 +179,13 @@ def bound_to(function, name):
         elif words[at] == name and words[at - 1] not in (".", "::"):
             if words[at + 1] == "=":
                 simple.append((at + 2, end_of(source, at, function.end)))
-            is_otherwise |= words[at + 2:at + 3] == ["="] and words[at + 1] in tuple("+*|^") or words[at + 1:at + 4] == ["<", "<", "="]
+            is_otherwise |= words[at + 2:at + 3] == ["="] and words[at + 1] in tuple("+*|^")
+            is_otherwise |= words[at + 1:at + 4] == ["<", "<", "="]
             is_otherwise |= words[at - 2:at] == ["&", "mut"]
         elif words[at] == "(" and words[source.shut[at] + 1:source.shut[at] + 2] == ["="]:
             is_otherwise |= name in words[at:source.shut[at]]
-        is_otherwise |= words[at] == "|" and name in closure(words, at) or words[at] == "=>" and name in pattern_of(function, at)
+        is_otherwise |= words[at] == "|" and name in closure(words, at)
+        is_otherwise |= words[at] == "=>" and name in pattern_of(function, at)
     return simple, is_otherwise
 
 
@@ -195,7 +203,8 @@ def for_loop(function, at):
 
 
 def loops_in(function):
-    """Where each loop begins, and where its body is opened and shut. A closure with a parameter counts as one, since a chain calls it each time."""
+    """Where each loop begins, and where its body is opened and shut. A closure with a parameter counts as one, since a
+    chain calls it each time."""
     source, words = function.source, function.source.words
     for at, word in words_of(function):
         if word in ("while", "loop") or word == "for" and for_loop(function, at):

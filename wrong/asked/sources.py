@@ -1,4 +1,4 @@
-"""What wrong/wants and wrong/amounts.py read: the tokens of a source that are code, and what stands in which bracket."""
+"""What wrong/wants and amounts.py read: the tokens of a source that are code, and what stands in which bracket."""
 import re
 
 TOKEN = re.compile(r"""\s+|//[^\n]*|"(?:\\.|[^"\\])*"|'(?:\\.[^']*|[^'\\])'|\w+|::|=>|->|==|!=|\.\.=?|.""", re.S)
@@ -151,7 +151,8 @@ def owner_of(said):
 
 def function(source, at):
     """The function around a place."""
-    return next((source.words[i + 1] for i in range(at, -1, -1) if source.words[i] == "fn" and source.words[i + 1] != "("), "")
+    words = source.words
+    return next((words[i + 1] for i in range(at, -1, -1) if words[i] == "fn" and words[i + 1] != "("), "")
 
 
 def compact(words):
