@@ -188,6 +188,10 @@ def names_in(text: str, between: str = ",") -> tuple[str, ...]:
     return tuple(name.strip() for name in text.split(between) if name.strip())
 
 
+def functions_in(text: str) -> tuple[str, ...] | None:
+    return names_in(text) or None
+
+
 def refusal_in(text: str) -> Refusal | None:
     function, _, clauses = text.rpartition(": ")
     return Refusal(function, names_in(clauses)) if function and names_in(clauses) else None
@@ -219,7 +223,7 @@ def finder_in(text: str) -> tuple[str, ...] | None:
 FIELDS = {
     "what": ("what", str, "TEXT"),
     "kind": ("kind", str, "TEXT"),
-    "check": ("functions", names_in, "FUNCTION, FUNCTION"),
+    "check": ("functions", functions_in, "'FUNCTION, FUNCTION'"),
     "refused": ("refused", refusal_in, "'FUNCTION: CLAUSE, CLAUSE'"),
     "public": ("public", public_in, "'FUNCTION of CRATE: CLAUSE, CLAUSE.FIELD'"),
     "aside": ("aside", answers_in, "'FILE: GOAL, GOAL; FILE'"),

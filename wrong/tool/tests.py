@@ -181,6 +181,7 @@ BAD_FILES = {
     f"{WHAT}file: src/words.rt\nold: left\n": ": lacks an edit",
     "what: a user suffers\n" + EDIT: ": lacks check, refused",
     f"check: pack\nwanted: proves\n{EDIT}": ": lacks what",
+    f"what: a user suffers\ncheck:\nrefused: pack: bits\n{EDIT}": ":2: check: none of 'FUNCTION, FUNCTION': ",
     f"what: a user suffers\ncheck: pack\nrefused: pack\n{EDIT}": (
         ":3: refused: none of 'FUNCTION: CLAUSE, CLAUSE': pack"
     ),
