@@ -60,10 +60,15 @@ class OutputOfTheKit(unittest.TestCase):
     def test_an_answer_that_does_not_show_its_goal_is_of_its_function(self):
         report = said("broken_answers")
         self.assertTrue(report.is_whole)
-        (function,) = report.of("words::with_place_4")
-        self.assertFalse(function.holds)
-        misfits = [(misfit.file, misfit.goal) for misfit in function.unfit]
-        self.assertEqual(misfits, [("words/with_place_4/Answers.antt", "returns")])
+        for name, goal in (("unpack", "returns-clause-packs"), ("with_place", "returns")):
+            (function,) = report.of(f"words::{name}")
+            misfits = [(misfit.file, misfit.goal) for misfit in function.unfit]
+            self.assertEqual((function.holds, misfits), (False, [(f"words/{name}/Answers.antt", goal)]))
+
+    def test_an_answer_that_names_what_is_gone_says_nothing_of_its_clause(self):
+        (function,) = said("gone_answers").of("Store::settle")
+        gone = [misfit.goal for misfit in function.gone]
+        self.assertEqual((function.unfit, gone), ([], ["invariant_of-self-2", "returns-clause-swept"]))
 
     def test_an_error_ends_a_check_before_it_is_whole(self):
         report = said("compile_error")
@@ -111,17 +116,25 @@ class ThreeWaysToBeRefused(unittest.TestCase):
         self.assertEqual(judged(body, said("holes")), (Outcome.NOT_JUDGED, "the check says nothing of words::pack"))
 
     def test_by_answers_just_those_that_it_breaks_have_to_fail(self):
-        file, broken = "words/with_place_4/Answers.antt", "words/with_place_4/Answers.antt: returns"
+        both = body_with(functions=("words::unpack", "words::with_place"), refused=Refusal("words::unpack", ("packs",)))
+        unpack = Answers("words/unpack/Answers.antt", ("returns-clause-packs",))
+        place = Answers("words/with_place/Answers.antt", ("returns",))
+        more = Answers(unpack.file, (*unpack.goals, "returns-clause-slot"))
+        unfit = "it breaks what doesn't show its goal any more"
         wanted = {
-            ("returns",): (Outcome.REFUSED, "by answers"),
-            ("returns", "field"): (Outcome.NOT_JUDGED, f"what it is to break holds: {file}: field"),
-            (): (Outcome.NOT_JUDGED, f"it breaks what doesn't show its goal any more: {broken}"),
+            (unpack, place): (Outcome.REFUSED, "by answers"),
+            (more, place): (Outcome.NOT_JUDGED, f"what it is to break holds: {unpack.file}: returns-clause-slot"),
+            (unpack,): (Outcome.NOT_JUDGED, f"{unfit}: {place}"),
+            (): (Outcome.NOT_JUDGED, f"{unfit}: {unpack}; {place}"),
         }
-        for goals, verdict in wanted.items():
-            breaks = (Answers(file, goals),) if goals else ()
-            refused = Refusal("words::with_place_4", ("ensures",))
-            body = body_with(functions=("words::with_place_4",), refused=refused, breaks=breaks)
-            self.assertEqual(judged(body, said("broken_answers")), verdict)
+        for breaks, verdict in wanted.items():
+            self.assertEqual(judged(replace(both, breaks=breaks), said("broken_answers")), verdict)
+
+    def test_an_answer_that_names_what_is_gone_refuses_no_body(self):
+        body = body_with(functions=("Store::settle",), refused=Refusal("Store::settle", ("swept",)))
+        outcome, told = judged(body, said("gone_answers"))
+        self.assertEqual(outcome, Outcome.NOT_JUDGED)
+        self.assertIn("store/Store/settle/Answers.antt: invariant_of-self-2: record ", told)
 
     def test_kept_it_only_has_to_compile(self):
         body = body_with(functions=("words::unpack_2",), refused=Refusal("words::unpack_2", ("bits",)), how=How.KEPT)
