@@ -60,7 +60,7 @@ class OutputOfTheKit(unittest.TestCase):
     def test_an_answer_that_does_not_show_its_goal_is_of_its_function(self):
         report = said("broken_answers")
         self.assertTrue(report.is_whole)
-        for name, goal in (("unpack", "returns-clause-packs"), ("with_place", "returns")):
+        for name, goal in (("pack_6", "returns-in-To-clause-reads"), ("unpack_10", "returns-clause-packs")):
             (function,) = report.of(f"words::{name}")
             misfits = [(misfit.file, misfit.goal) for misfit in function.unfit]
             self.assertEqual((function.holds, misfits), (False, [(f"words/{name}/Answers.antt", goal)]))
@@ -116,16 +116,16 @@ class ThreeWaysToBeRefused(unittest.TestCase):
         self.assertEqual(judged(body, said("holes")), (Outcome.NOT_JUDGED, "the check says nothing of words::pack"))
 
     def test_by_answers_just_those_that_it_breaks_have_to_fail(self):
-        both = body_with(functions=("words::unpack", "words::with_place"), refused=Refusal("words::unpack", ("packs",)))
-        unpack = Answers("words/unpack/Answers.antt", ("returns-clause-packs",))
-        place = Answers("words/with_place/Answers.antt", ("returns",))
+        both = body_with(functions=("words::pack_6", "words::unpack_10"), refused=Refusal("words::pack_6", ("reads",)))
+        pack = Answers("words/pack_6/Answers.antt", ("returns-in-To-clause-reads",))
+        unpack = Answers("words/unpack_10/Answers.antt", ("returns-clause-packs",))
         more = Answers(unpack.file, (*unpack.goals, "returns-clause-slot"))
         unfit = "it breaks what doesn't show its goal any more"
         wanted = {
-            (unpack, place): (Outcome.REFUSED, "by answers"),
-            (more, place): (Outcome.NOT_JUDGED, f"what it is to break holds: {unpack.file}: returns-clause-slot"),
-            (unpack,): (Outcome.NOT_JUDGED, f"{unfit}: {place}"),
-            (): (Outcome.NOT_JUDGED, f"{unfit}: {unpack}; {place}"),
+            (pack, unpack): (Outcome.REFUSED, "by answers"),
+            (pack, more): (Outcome.NOT_JUDGED, f"what it is to break holds: {unpack.file}: returns-clause-slot"),
+            (pack,): (Outcome.NOT_JUDGED, f"{unfit}: {unpack}"),
+            (): (Outcome.NOT_JUDGED, f"{unfit}: {pack}; {unpack}"),
         }
         for breaks, verdict in wanted.items():
             self.assertEqual(judged(replace(both, breaks=breaks), said("broken_answers")), verdict)
