@@ -50,7 +50,6 @@ pub mod laws;
 mod locked;
 mod receipt;
 mod round;
-mod same;
 mod session;
 mod shared;
 
