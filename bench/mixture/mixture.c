@@ -29,18 +29,36 @@ static void want(int it) {
     }
 }
 
-static uint32_t number(FILE *file) {
-    unsigned char b[4];
-    want(fread(b, 1, 4, file) == 4);
+/* The whole file, and what of it isn't read yet. */
+static const unsigned char *at, *end;
+
+static void take_file(const char *name) {
+    FILE *file = fopen(name, "rb");
+    want(file != NULL && !fseek(file, 0, SEEK_END));
+    long size = ftell(file);
+    unsigned char *bytes = malloc((size_t)size);
+    rewind(file);
+    want(bytes != NULL && fread(bytes, 1, (size_t)size, file) == (size_t)size && !fclose(file));
+    at = bytes;
+    end = bytes + size;
+}
+
+static const unsigned char *four(void) {
+    want(end - at >= 4);
+    at += 4;
+    return at - 4;
+}
+
+static uint32_t number(void) {
+    const unsigned char *b = four();
     return b[0] | (uint32_t)b[1] << 8 | (uint32_t)b[2] << 16 | (uint32_t)b[3] << 24;
 }
 
-static struct step step_of(FILE *file) {
-    unsigned char b[4];
-    want(fread(b, 1, 4, file) == 4);
+static struct step step_of(void) {
+    const unsigned char *b = four();
     struct step it = {b[0], b[1], b[2], 0, 0};
-    it.first = number(file);
-    it.second = number(file);
+    it.first = number();
+    it.second = number();
     return it;
 }
 
@@ -76,13 +94,13 @@ static tg_status apply(struct step it) {
     return status;
 }
 
-static void open_store(FILE *file, uint32_t workers, uint32_t count) {
+static void open_store(uint32_t workers, uint32_t count) {
     tg_edge *edges = calloc(count, sizeof *edges);
     tg_value *values = calloc(workers, sizeof *values);
     tg_limits limits = {1 << 24, 65536, 1 << 20};
     want(edges && values);
     for (uint32_t i = 0; i < count; i++) {
-        uint32_t from = number(file), to = number(file);
+        uint32_t from = number(), to = number();
         edges[i] = (tg_edge){from, to, TG_GRANT};
     }
     want(!tg_open(&store, values, workers, edges, count, &limits));
@@ -98,14 +116,13 @@ static double seconds(void) {
 
 int main(int count, char **words) {
     want(count >= 2);
-    FILE *file = fopen(words[1], "rb");
-    want(file != NULL);
-    uint32_t all = number(file), setup = number(file), workers = number(file), edges = number(file);
+    take_file(words[1]);
+    uint32_t all = number(), setup = number(), workers = number(), edges = number();
     uint32_t steps = count > 2 && !strcmp(words[2], "setup") ? setup : all;
-    open_store(file, workers, edges);
+    open_store(workers, edges);
     double start = seconds();
     for (uint32_t i = 0; i < steps; i++)
-        want(apply(step_of(file)) <= TG_DENIED);
+        want(apply(step_of()) <= TG_DENIED);
     struct mallinfo2 heap = mallinfo2();
     struct rusage used;
     getrusage(RUSAGE_SELF, &used);

@@ -1,9 +1,10 @@
 #!/usr/bin/env python3
 """run.py [LIVE] [COMMANDS] [--instructions]
 
-What a mixture of commands (mixture.py) costs through the library for C that bindings/check has built: 500,000 vertices and 1,000,000
-commands unless they are given. It prints what mixture.c prints, of the whole and of the making of the vertices alone; with
---instructions the millions of instructions, under valgrind. It wants a C compiler. bench/run.py runs mixtures as scripts."""
+What a mixture of commands (mixture.py) costs through the library for C that bindings/check has built, and in the plain program
+../boxed.rs (with rival.rs behind it): 500,000 vertices and 1,000,000 commands unless they are given. It prints what each of the two
+prints, of the whole and of the making of the vertices alone, whose sums over all answers have to be the same; with --instructions the
+millions of instructions, under valgrind. It wants a C compiler and rustc. bench/run.py runs mixtures as scripts."""
 import argparse
 import os
 import re
@@ -25,14 +26,24 @@ def built(folder):
     return program
 
 
+def rival(folder):
+    """The plain program, whose own main isn't called."""
+    program, text = folder / "rival", folder / "rival.rs"
+    plain = (HERE.parent / "boxed.rs").read_text().replace("\nfn main(", "\nfn run_script(")
+    text.write_text(plain + (HERE / "rival.rs").read_text())
+    subprocess.run(["rustc", "-O", "--edition", "2021", "-A", "dead_code", "-o", program, text], check=True)
+    return program
+
+
 def told(words, counted):
-    """What a run prints; or its millions of instructions."""
+    """What a run prints; or its millions of instructions, and the sum."""
     counter = ["valgrind", "--tool=cachegrind", "--cache-sim=no", "--cachegrind-out-file=/dev/null"] if counted else []
     run = subprocess.run([*counter, *words], capture_output=True, text=True)
     refs = re.search(r"I\s+refs:\s+([\d,]+)", run.stderr)
     if run.returncode or counted and not refs:
         sys.exit(f"mixture: status {run.returncode}: {run.stderr[-500:]}")
-    return f"{int(refs[1].replace(',', '')) / 1e6:.1f} million instructions" if counted else run.stdout.strip()
+    total = re.match(r"sum [0-9a-f]+", run.stdout)[0]
+    return f"{total}, {int(refs[1].replace(',', '')) / 1e6:.1f} million instructions" if counted else run.stdout.strip()
 
 
 def main():
@@ -42,10 +53,13 @@ def main():
     words.add_argument("--instructions", action="store_true")
     asked = words.parse_args()
     with tempfile.TemporaryDirectory() as folder:
-        program, steps = built(Path(folder)), Path(folder) / "steps"
+        programs, steps = [built(Path(folder)), rival(Path(folder))], Path(folder) / "steps"
         steps.write_bytes(Mixture(asked.live, asked.commands).bytes())
         for name, more in (("the vertices alone", ["setup"]), ("all", [])):
-            print(f"{name}: {told([program, steps, *more], asked.instructions)}", flush=True)
+            texts = [told([program, steps, *more], asked.instructions) for program in programs]
+            print(f"{name}: {texts[0]}; plain: {texts[1]}", flush=True)
+            if texts[0].split(",")[0] != texts[1].split(",")[0]:
+                sys.exit("mixture: the two gave different answers")
 
 
 if __name__ == "__main__":
