@@ -1,5 +1,5 @@
 //! Collections that succeed, by one thread and by several helpers, and heaps to collect.
-ghost use Rattle.std.specs.Prelude.{◌≡◌, ◌<◌, length};
+ghost use Rattle.std.specs.Prelude.{◌≡◌, ◌<◌, ◌≤◌, length};
 ghost use Rattle.tg_space.specs.Soundness.{AreSound};
 ghost use Rattle.tg_word.specs.Word.{IsPlace};
 
@@ -9,7 +9,6 @@ mod sound;
 use sound::are_sound;
 use std::alloc::{AllocError, Global};
 use std::sync::Wait;
-use std::test::Fail;
 use std::thread::Threads;
 use tg_block::{CHUNK_TAG, OBJECT_TAG, WORDS};
 use tg_evac::collect_one;
@@ -86,15 +85,21 @@ fn words_at(content: Content, number: u64) -> [u64; WORDS]
 }
 
 // A heap of such cells, whose spaces may have so many blocks each.
-fn heap_of(alloc: Global, content: Content, space_blocks: u64) -> Result<Spaces, Fail> {
-    let mut spaces = Spaces::new(alloc, 1, Limits::new(16, space_blocks)?)?;
+fn heap_of(alloc: Global, content: Content, space_blocks: u64) -> Option<Spaces> {
+    let limits = Limits::new(16, space_blocks).ok()?;
+    let mut spaces = Spaces::new(alloc, 1, limits).ok()?;
+    is_laid_out(&mut spaces, content).then_some(spaces)
+}
+
+// Gives each space a block and writes the cells. Whether there was room and memory for them.
+fn is_laid_out(spaces: &mut Spaces, content: Content) -> bool {
     for space in 0..3 {
-        if space < spaces.nurseries() + 2 {
-            spaces.add_block(space)?;
+        if space < spaces.nurseries() + 2 && spaces.add_block(space).is_err() {
+            return false;
         }
     }
-    fill(&mut spaces, content);
-    Ok(spaces)
+    fill(spaces, content);
+    true
 }
 
 // Writes the cells.
@@ -119,14 +124,14 @@ fn put_in_nursery(spaces: &mut Spaces, words: [u64; WORDS]) {
 }
 
 // The rows of the objects among so many first cells.
-fn rows_of(alloc: Global, content: Content, count: u64) -> Result<Vec<Root>, Fail> {
+fn rows_of(alloc: Global, content: Content, count: u64) -> Option<Vec<Root>> {
     let mut roots = Vec::new(alloc);
     for number in 0..count {
         if matches!(content, Content::Alone) || number % 4 < 2 {
-            roots.push(Root::Row(place_at(number)))?;
+            roots.push(Root::Row(place_at(number))).ok()?;
         }
     }
-    Ok(roots)
+    Some(roots)
 }
 
 // These roots in the order in which a seat takes them: eights of them, from the end.
@@ -173,54 +178,75 @@ fn have_same_words(one: &Forwarding, other: &Forwarding, cells: u64) -> bool
     true
 }
 
-fn by_helpers<R: Threads + Wait + Sync>(
+// Why a collection by so many helpers is refused.
+fn refusal_by<R: Threads + Wait + Sync>(
     rt: &R,
     alloc: Global,
     spaces: &Spaces,
     roots: &[Root],
     kind: Kind,
-) -> Result<(), HelpersFault>
-    requires { AreSound spaces.now.spaces roots.now }
+    helpers: u32,
+) -> Option<HelpersFault>
+    requires sound { AreSound spaces.now.spaces roots.now }
+    requires many { (1 ≤ helpers) × (helpers ≤ 8) }
 {
-    for helpers in [1, 2, 8] {
-        drop(collect_many(
-            rt,
-            alloc,
-            spaces,
-            roots,
-            kind,
-            helpers,
-            &NoGate,
-            Spare::none(alloc),
-        )?);
-    }
-    Ok(())
+    let spare = Spare::none(alloc);
+    collect_many(rt, alloc, spaces, roots, kind, helpers, &NoGate, spare).err()
 }
 
-// A sound heap is collected by one thread, at a seat, and by several helpers.
-fn collect_each_way<R: Threads + Wait + Sync>(
+// The same of one helper, two and eight.
+fn refusals<R: Threads + Wait + Sync>(
     rt: &R,
     alloc: Global,
     spaces: &Spaces,
     roots: &[Root],
     kind: Kind,
-) -> Result<(), Fail> {
+) -> [Option<HelpersFault>; 3]
+    requires { AreSound spaces.now.spaces roots.now }
+{
+    [
+        refusal_by(rt, alloc, spaces, roots, kind, 1),
+        refusal_by(rt, alloc, spaces, roots, kind, 2),
+        refusal_by(rt, alloc, spaces, roots, kind, 8),
+    ]
+}
+
+// The same, where the heap is sound and one thread collects it as a seat is served.
+fn refusals_each_way<R: Threads + Wait + Sync>(
+    rt: &R,
+    alloc: Global,
+    spaces: &Spaces,
+    roots: &[Root],
+    kind: Kind,
+) -> Option<[Option<HelpersFault>; 3]> {
     if !are_sound(spaces, roots) {
-        return Err(Fail::from("no sound heap"));
+        return None;
     }
     if !same_at_a_seat(alloc, spaces, roots, kind) {
-        return Err(Fail::from("another collection at a seat"));
+        return None;
     }
-    Ok(by_helpers(rt, alloc, spaces, roots, kind)?)
+    Some(refusals(rt, alloc, spaces, roots, kind))
+}
+
+// The same of the linked cells by their rows, with this remembered chunk where there is one.
+fn refusals_of_linked<R: Threads + Wait + Sync>(
+    rt: &R,
+    alloc: Global,
+    kind: Kind,
+    remembered: Option<u64>,
+) -> Option<[Option<HelpersFault>; 3]> {
+    let spaces = heap_of(alloc, Content::Linked, 16)?;
+    let mut roots = rows_of(alloc, Content::Linked, CELLS)?;
+    if let Some(number) = remembered {
+        roots.push(Root::Remembered(place_at(number))).ok()?;
+    }
+    refusals_each_way(rt, alloc, &spaces, &roots, kind)
 }
 
 // Rows, and for a nursery collection a remembered chunk of Old that refers to a young object.
 #[test]
-fn collections_succeed_where_there_is_room(rt: HostRuntime) -> Result<(), Fail> {
-    let alloc = rt.alloc();
-    let spaces = heap_of(alloc, Content::Linked, 16)?;
-    let mut roots = rows_of(alloc, Content::Linked, CELLS)?;
-    collect_each_way(&rt, alloc, &spaces, &roots, Kind::Full)?;
-    roots.push(Root::Remembered(place_at(22)))?;
-    collect_each_way(&rt, alloc, &spaces, &roots, Kind::Nursery)
+fn collections_succeed_where_there_is_room(rt: HostRuntime) {
+    let full = refusals_of_linked(&rt, rt.alloc(), Kind::Full, None);
+    let nursery = refusals_of_linked(&rt, rt.alloc(), Kind::Nursery, Some(22));
+    assert_eq!(rt; [full, nursery], [Some([None; 3]); 2]);
 }

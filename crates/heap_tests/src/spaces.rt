@@ -1,18 +1,15 @@
 //! The worked rows of words, nurseries, flat numbers and adoption.
 use std::alloc::Global;
-use std::test::Fail;
 use tg_nursery::allocate;
 use tg_rights::{Right, Rights};
 use tg_space::{Adoption, Kind, Limits, RoomFault, Space, Spaces};
 use tg_word::{Place, Slot, pack, unpack};
 
 // The spaces of two nurseries, with two blocks of two: 64 cells were allocated in nursery 0, and then one in nursery 1.
-fn filled(alloc: Global) -> Result<Spaces, Fail> {
-    let mut spaces = Spaces::new(alloc, 2, Limits::new(2, 2)?)?;
-    if !is_filled(&mut spaces) {
-        return Err(Fail::from("another place"));
-    }
-    Ok(spaces)
+fn filled(alloc: Global) -> Option<Spaces> {
+    let limits = Limits::new(2, 2).ok()?;
+    let mut spaces = Spaces::new(alloc, 2, limits).ok()?;
+    is_filled(&mut spaces).then_some(spaces)
 }
 
 // Allocates the cells, and tells whether each is the next of its nursery's first block.
@@ -80,39 +77,40 @@ fn word_vectors(rt: HostRuntime) {
             cell: 0,
         },
     };
-    assert!(rt; reads_as(0, Slot::Empty));
-    assert!(rt; reads_as(0x0000_0208_0000_c509, near));
-    assert!(rt; reads_as(0x0000_0307_ffff_ffff, last));
-    assert!(rt; reads_as(0x0000_0200_0000_0000, first));
+    let read = [
+        reads_as(0, Slot::Empty),
+        reads_as(0x0000_0208_0000_c509, near),
+        reads_as(0x0000_0307_ffff_ffff, last),
+        reads_as(0x0000_0200_0000_0000, first),
+    ];
+    assert_eq!(rt; read, [true; 4]);
 }
 
 #[test]
 fn words_off_the_layout(rt: HostRuntime) {
     // Not present; space 66; a bit above the present one. Then three words of a layout with four rights.
-    for word in [
-        0x0000_0000_0000_0001,
-        0x0000_0308_0000_0000,
-        0x0000_0600_0000_0000,
-        0x0000_0020_8000_0c59,
-        0x0000_0030_7fff_ffff,
-        0x0000_0020_0000_0000,
-    ] {
-        assert_eq!(rt; unpack(word), None);
-    }
+    let read = [
+        unpack(0x0000_0000_0000_0001),
+        unpack(0x0000_0308_0000_0000),
+        unpack(0x0000_0600_0000_0000),
+        unpack(0x0000_0020_8000_0c59),
+        unpack(0x0000_0030_7fff_ffff),
+        unpack(0x0000_0020_0000_0000),
+    ];
+    assert_eq!(rt; read, [None; 6]);
 }
 
 // What is answered for another cell of nursery 0 once it is full, and how many blocks there are then.
-fn next_of_full(alloc: Global) -> Result<(Option<Result<Place, RoomFault>>, u64), Fail> {
+fn next_of_full(alloc: Global) -> Option<(Option<Result<Place, RoomFault>>, u64)> {
     let mut spaces = filled(alloc)?;
     let next = next_cell(&mut spaces, 0);
-    Ok((next, spaces.blocks()))
+    Some((next, spaces.blocks()))
 }
 
 #[test]
-fn nurseries_fill_and_refuse(rt: HostRuntime) -> Result<(), Fail> {
-    let seen = next_of_full(rt.alloc())?;
-    assert_eq!(rt; seen, (Some(Err(RoomFault::HeapFull)), 2));
-    Ok(())
+fn nurseries_fill_and_refuse(rt: HostRuntime) {
+    let wanted = (Some(Err(RoomFault::HeapFull)), 2);
+    assert_eq!(rt; next_of_full(rt.alloc()), Some(wanted));
 }
 
 // Whether the place has the flat number 64, and that the place.
@@ -123,36 +121,42 @@ fn is_number_64(spaces: &Spaces, place: Place) -> (bool, bool) {
     )
 }
 
-fn is_number_64_of_filled(alloc: Global, place: Place) -> Result<(bool, bool), Fail> {
+fn is_number_64_of_filled(alloc: Global, place: Place) -> Option<(bool, bool)> {
     let spaces = filled(alloc)?;
-    Ok(is_number_64(&spaces, place))
+    Some(is_number_64(&spaces, place))
 }
 
 // The first cell of nursery 1, which stands behind the 64 of nursery 0.
 #[test]
-fn flat_numbers(rt: HostRuntime) -> Result<(), Fail> {
+fn flat_numbers(rt: HostRuntime) {
     let place = Place {
         space: 3,
         block: 0,
         cell: 0,
     };
-    assert_eq!(rt; is_number_64_of_filled(rt.alloc(), place)?, (true, true));
-    Ok(())
+    assert_eq!(rt;
+        is_number_64_of_filled(rt.alloc(), place),
+        Some((true, true))
+    );
 }
 
 // A space with one block.
-fn one_block(alloc: Global) -> Result<Space, Fail> {
+fn one_block(alloc: Global) -> Option<Space> {
     let mut space = Space::new(alloc);
-    space.add_block(alloc)?;
-    Ok(space)
+    space.add_block(alloc).ok()?;
+    Some(space)
 }
 
-// Adopts a block of Old, as a full collection does.
-fn adopt_one(alloc: Global, spaces: &mut Spaces) -> Result<(), Fail> {
-    let old = one_block(alloc)?;
+// Adopts a block of Old, as a full collection does. Whether it is adopted.
+fn adopts_one(alloc: Global, spaces: &mut Spaces) -> bool {
+    let Some(old) = one_block(alloc) else {
+        return false;
+    };
     let aged = Space::new(alloc);
     let left = Vec::new(alloc);
-    Ok(spaces.adopt(Kind::Full, Adoption { aged, old, left })?)
+    spaces
+        .adopt(Kind::Full, Adoption { aged, old, left })
+        .is_ok()
 }
 
 // Whether only Old has blocks, and it has one.
@@ -165,14 +169,12 @@ fn has_one_old_block(spaces: &Spaces) -> bool {
 }
 
 // Whether that is so of filled spaces that adopt one.
-fn has_one_once_adopted(alloc: Global) -> Result<bool, Fail> {
+fn has_one_once_adopted(alloc: Global) -> Option<bool> {
     let mut spaces = filled(alloc)?;
-    adopt_one(alloc, &mut spaces)?;
-    Ok(has_one_old_block(&spaces))
+    Some(adopts_one(alloc, &mut spaces) && has_one_old_block(&spaces))
 }
 
 #[test]
-fn full_adoption(rt: HostRuntime) -> Result<(), Fail> {
-    assert!(rt; has_one_once_adopted(rt.alloc())?);
-    Ok(())
+fn full_adoption(rt: HostRuntime) {
+    assert_eq!(rt; has_one_once_adopted(rt.alloc()), Some(true));
 }

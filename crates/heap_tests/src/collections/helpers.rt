@@ -3,10 +3,9 @@ ghost use Rattle.std.specs.Prelude.{◌≤◌};
 
 use super::sound::are_sound;
 use super::{CELLS, Content, heap_of, rows_of, same_at_a_seat};
-use std::alloc::{AllocError, Global};
+use std::alloc::Global;
 use std::sync::Wait;
 use std::sync::atomic::{AtomicU64, Ordering};
-use std::test::Fail;
 use std::thread;
 use std::thread::Threads;
 use tg_parallel::{Gate, HelpersFault, NoGate, collect_many};
@@ -21,41 +20,41 @@ struct Heap {
     rows: u64,
 }
 
-// Why a full collection of a sound heap by so many helpers, who pass the gate, is refused. One by a seat is as one by
-// one thread.
-fn refusal_of<R: Threads + Wait + Sync, G: Gate>(
+// Whether a full collection of a sound heap by so many helpers, who pass the gate, is made, or why it is refused. One
+// by a seat is as one by one thread.
+fn outcome_of<R: Threads + Wait + Sync, G: Gate>(
     rt: &R,
     alloc: Global,
     spaces: &Spaces,
     roots: &[Root],
     helpers: u32,
     gate: &G,
-) -> Result<Option<HelpersFault>, Fail>
+) -> Option<Result<(), HelpersFault>>
     requires { (1 ≤ helpers) × (helpers ≤ 8) }
 {
-    if !are_sound(spaces, roots) {
-        return Err(Fail::from("no sound heap"));
-    }
-    if !same_at_a_seat(alloc, spaces, roots, Kind::Full) {
-        return Err(Fail::from("another collection at a seat"));
+    if !are_sound(spaces, roots) || !same_at_a_seat(alloc, spaces, roots, Kind::Full) {
+        return None;
     }
     let spare = Spare::none(alloc);
-    Ok(collect_many(rt, alloc, spaces, roots, Kind::Full, helpers, gate, spare).err())
+    match collect_many(rt, alloc, spaces, roots, Kind::Full, helpers, gate, spare) {
+        Ok(_) => Some(Ok(())),
+        Err(why) => Some(Err(why)),
+    }
 }
 
 // The same of this heap.
-fn refusal<R: Threads + Wait + Sync, G: Gate>(
+fn outcome<R: Threads + Wait + Sync, G: Gate>(
     rt: &R,
     alloc: Global,
     heap: Heap,
     helpers: u32,
     gate: &G,
-) -> Result<Option<HelpersFault>, Fail>
+) -> Option<Result<(), HelpersFault>>
     requires { (1 ≤ helpers) × (helpers ≤ 8) }
 {
     let spaces = heap_of(alloc, heap.content, heap.space_blocks)?;
     let roots = rows_of(alloc, heap.content, heap.rows)?;
-    refusal_of(rt, alloc, &spaces, &roots, helpers, gate)
+    outcome_of(rt, alloc, &spaces, &roots, helpers, gate)
 }
 
 // A gate at which each of so many helpers waits at its first pass for all others, for so many turns, until one was
@@ -69,12 +68,12 @@ struct Meet {
 }
 
 impl Meet {
-    fn of(alloc: Global, helpers: u32) -> Result<Meet, AllocError> {
+    fn of(alloc: Global, helpers: u32) -> Option<Meet> {
         let mut passes = Vec::new(alloc);
         for _ in 0..helpers {
-            passes.push(AtomicU64::new(0))?;
+            passes.push(AtomicU64::new(0)).ok()?;
         }
-        Ok(Meet {
+        Some(Meet {
             passes,
             missed: AtomicU64::new(0),
         })
@@ -123,83 +122,116 @@ fn give_way() {
     }
 }
 
-// What helpers who met at a gate left: how often they passed it, whether one missed another, and why they were refused.
-#[derive(Clone, Copy)]
+// What helpers who met at a gate left: how often they passed it, whether one missed another, and what came of it.
+#[derive(Clone, Copy, PartialEq, Eq, Debug)]
 struct Met {
     passes: u64,
     is_missed: bool,
-    refusal: Option<HelpersFault>,
+    outcome: Result<(), HelpersFault>,
 }
 
 // A full collection of the heap by so many helpers who meet.
-fn met_on<R: Threads + Wait + Sync>(
-    rt: &R,
-    alloc: Global,
-    heap: Heap,
-    helpers: u32,
-) -> Result<Met, Fail>
+fn met_on<R: Threads + Wait + Sync>(rt: &R, alloc: Global, heap: Heap, helpers: u32) -> Option<Met>
     requires { (1 ≤ helpers) × (helpers ≤ 8) }
 {
     let gate = Meet::of(alloc, helpers)?;
-    let refusal = refusal(rt, alloc, heap, helpers, &gate)?;
-    Ok(Met {
+    let outcome = outcome(rt, alloc, heap, helpers, &gate)?;
+    Some(Met {
         passes: gate.passes(),
         is_missed: gate.is_missed(),
-        refusal,
+        outcome,
+    })
+}
+
+// What helpers who meet leave of all linked cells, by one, two, three and eight.
+fn met_on_linked<R: Threads + Wait + Sync>(rt: &R, alloc: Global) -> [Option<Met>; 4] {
+    let heap = Heap {
+        content: Content::Linked,
+        space_blocks: 16,
+        rows: CELLS,
+    };
+    [
+        met_on(rt, alloc, heap, 1),
+        met_on(rt, alloc, heap, 2),
+        met_on(rt, alloc, heap, 3),
+        met_on(rt, alloc, heap, 8),
+    ]
+}
+
+// All helpers met, passed the gate so often, and were served.
+fn served_with(passes: u64) -> Option<Met> {
+    Some(Met {
+        passes,
+        is_missed: false,
+        outcome: Ok(()),
     })
 }
 
 // Each object is named by several, which the helpers copy side by side. The gate is passed for each of twelve chunks of
 // roots, and once more by each helper.
 #[test]
-fn helpers_at_one_gate(rt: HostRuntime) -> Result<(), Fail> {
+fn helpers_at_one_gate(rt: HostRuntime) {
+    let wanted = [
+        served_with(13),
+        served_with(14),
+        served_with(15),
+        served_with(20),
+    ];
+    assert_eq!(rt; met_on_linked(&rt, rt.alloc()), wanted);
+}
+
+// Whether two helpers are refused in a heap that wants a block for each and may have one, where their passes are as
+// they should.
+fn is_one_refused<R: Threads + Wait + Sync>(rt: &R, alloc: Global) -> Option<bool> {
     let heap = Heap {
-        content: Content::Linked,
-        space_blocks: 16,
-        rows: CELLS,
+        content: Content::Alone,
+        space_blocks: 1,
+        rows: 64,
     };
-    for helpers in [1, 2, 3, 8] {
-        let met = met_on(&rt, rt.alloc(), heap, helpers)?;
-        assert_eq!(rt; met.refusal, None);
-        assert!(rt; !met.is_missed, "with {helpers}");
-        assert_eq!(rt; met.passes, 12 + u64::from(helpers));
+    let met = met_on(rt, alloc, heap, 2)?;
+    match (met.outcome, met.passes) {
+        (Err(HelpersFault::HeapFull), 9) => Some(true),
+        (Ok(()), 10) => Some(false),
+        _ => None,
     }
-    Ok(())
+}
+
+// Whether one of twenty such collections is refused, where all are as they should be.
+fn is_one_of_twenty_refused<R: Threads + Wait + Sync>(rt: &R, alloc: Global) -> Option<bool> {
+    let mut refused = 0u64;
+    for _ in 0..20 {
+        refused = refused.wrapping_add(u64::from(is_one_refused(rt, alloc)?));
+    }
+    Some(refused > 0)
 }
 
 // Each of two helpers needs a block, of which there may be one. Where one helper is refused for that, the other claims
 // all chunks that are left, and passes the gate once more at its end. Only where one helper is too late to claim a
 // chunk, neither is refused.
 #[test]
-fn a_refused_helper_stops_no_other(rt: HostRuntime) -> Result<(), Fail> {
-    let heap = Heap {
-        content: Content::Alone,
-        space_blocks: 1,
-        rows: 64,
-    };
-    let mut refused = 0u64;
-    for _ in 0..20 {
-        let met = met_on(&rt, rt.alloc(), heap, 2)?;
-        let is_refused = met.refusal == Some(HelpersFault::HeapFull);
-        assert!(rt; is_refused || met.refusal.is_none());
-        assert_eq!(rt; met.passes, if is_refused { 9 } else { 10 });
-        refused = refused.wrapping_add(u64::from(is_refused));
-    }
-    assert!(rt; refused > 0);
-    Ok(())
+fn a_refused_helper_stops_no_other(rt: HostRuntime) {
+    assert_eq!(rt; is_one_of_twenty_refused(&rt, rt.alloc()), Some(true));
 }
 
-// All cells are live, and Old may have a block less than they need.
-#[test]
-fn a_full_heap_is_refused(rt: HostRuntime) -> Result<(), Fail> {
+// What comes of a collection by so many helpers where all cells are live, and Old may have a block less than they need.
+fn outcome_of_full<R: Threads + Wait + Sync>(
+    rt: &R,
+    alloc: Global,
+    helpers: u32,
+) -> Option<Result<(), HelpersFault>>
+    requires { (1 ≤ helpers) × (helpers ≤ 8) }
+{
     let heap = Heap {
         content: Content::Alone,
         space_blocks: 2,
         rows: CELLS,
     };
-    for helpers in [1, 4] {
-        let refusal = refusal(&rt, rt.alloc(), heap, helpers, &NoGate)?;
-        assert_eq!(rt; refusal, Some(HelpersFault::HeapFull));
-    }
-    Ok(())
+    outcome(rt, alloc, heap, helpers, &NoGate)
+}
+
+#[test]
+fn a_full_heap_is_refused(rt: HostRuntime) {
+    let refused = Some(Err(HelpersFault::HeapFull));
+    assert_eq!(rt; outcome_of_full(&rt, rt.alloc(), 1), refused);
+    assert_eq!(rt; outcome_of_full(&rt, rt.alloc(), 4), refused);
 }
