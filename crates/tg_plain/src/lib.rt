@@ -2,8 +2,8 @@
 //!
 //! A [`Script`] is what standard input has, up to its first bad line, and what it runs on: workers, a limit of vertices
 //! and a stock. [`PlainRun::open`] is the graph with which it begins, [`PlainRun::take`] runs a line, and
-//! [`PlainRun::of`] runs all. [`read_options`] has the words of the command line that say what a script runs on, which
-//! each program here has beside its own.
+//! [`PlainRun::of`] runs all. [`read_words`] reads the words of a command line, and [`read_options`] those of them that
+//! say what a script runs on, which each program here has beside its own.
 //!
 //! What a reader has to believe stands in `specs/Lines`: which graph a line leaves, and how many boxes were taken.
 //! Nothing is proved of how standard input comes to lines but that each is what `tg_text` reads in its bytes.
@@ -15,6 +15,9 @@ mod run;
 mod script;
 
 pub use fault::PlainFault;
-pub use options::{Choice, PlainOptions, STOCK, VERTICES, WORKERS, add_args, read_options};
+pub use options::{
+    Choice, CommandLine, PlainOptions, STOCK, VERTICES, WORKERS, print_error, read_options,
+    read_words,
+};
 pub use run::{PlainRun, value_of};
 pub use script::{Script, ScriptLine};

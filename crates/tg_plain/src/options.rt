@@ -1,8 +1,10 @@
 //! The words of the command line that say what a script runs on.
 
 use clap::builder::ValueParser;
-use clap::{Arg, ArgAction, ArgMatches};
+use clap::{Arg, ArgAction, ArgMatches, Command, Error};
 use std::alloc::{AllocError, Global};
+use std::convert::AsStr;
+use std::io;
 use tg_model::{MAX_VERTICES, MAX_WORKERS};
 
 /// An option of a command line.
@@ -72,8 +74,52 @@ pub fn read_options<'a>(matches: &ArgMatches<'a>) -> PlainOptions<'a> {
     }
 }
 
-/// Adds options, as clap has them. Fails only when out of memory.
-pub fn add_args<'a>(
+/// A command line.
+#[derive(Clone, Copy)]
+pub struct CommandLine {
+    /// The name of the program.
+    pub name: &'static str,
+    /// What the program does: the front of its help.
+    pub about: &'static str,
+    /// What its help says behind the options.
+    pub manual: &'static str,
+    /// The options.
+    pub choices: &'static [Choice],
+}
+
+/// Reads the words, the first of which is the program's name: the options that are found in them. An `Err` is the text
+/// for the user, of the help as of a fault, or want of memory.
+pub fn read_words<'a, S: AsStr>(
+    alloc: Global,
+    line: &CommandLine,
+    words: &'a [S],
+) -> Result<ArgMatches<'a>, Error> {
+    command(alloc, line)?.try_get_matches_from(words)
+}
+
+/// Prints the text of an `Err` of [`read_words`]. The exit status.
+pub fn print_error<R: Print + Eprint>(rt: &R, error: &Error) -> io::Result<u8> {
+    error.print(rt)?;
+    Ok(error.exit_code() as u8)
+}
+
+// The command line, as clap has it.
+fn command<'a>(alloc: Global, line: &CommandLine) -> Result<Command<'a>, AllocError> {
+    let mut args = Vec::new(alloc);
+    add_args(&mut args, alloc, line.choices)?;
+    bare_command(alloc, line)?.args(args)
+}
+
+// The same, without its options.
+fn bare_command<'a>(alloc: Global, line: &CommandLine) -> Result<Command<'a>, AllocError> {
+    Command::new(alloc, line.name)
+        .about(line.about)
+        .after_help(line.manual)
+        .bin_name(line.name)
+}
+
+// Adds options, as clap has them.
+fn add_args<'a>(
     args: &mut Vec<Arg<'a>>,
     alloc: Global,
     choices: &[Choice],

@@ -142,13 +142,20 @@ fn listed(is_never: bool) -> Told {
 
 // Adds names, with a space between two.
 fn add_names(text: &mut Vec<u8>, made: u64, names: &[u64]) -> Result<(), AllocError> {
-    let mut space: &[u8] = b"";
+    let first = text.len();
     for name in names {
-        put(text, space)?;
+        add_space(text, first)?;
         add_vertex(text, made, *name)?;
-        space = b" ";
     }
     put(text, b"\n")
+}
+
+// Adds a space, unless the list that begins here is empty.
+fn add_space(text: &mut Vec<u8>, first: usize) -> Result<(), AllocError> {
+    if text.len() == first {
+        return Ok(());
+    }
+    put(text, b" ")
 }
 
 // Of all vertices and the next, those of whom it isn't shown that they never hold the right over y.
@@ -182,11 +189,22 @@ fn add_unless_never(
     if is_left_out(who, x) {
         return Ok(());
     }
-    if let Answer::Never(_) = ask(scene, x, right, y)? {
+    if is_never(scene, x, right, y)? {
         return Ok(());
     }
     names.push(x)?;
     Ok(())
+}
+
+// Whether it is shown that x never holds the right over y.
+fn is_never(scene: &Scene, x: u64, right: Right, y: u64) -> Result<bool, AllocError>
+    ensures { IfOk result (λ never. IsTrue never → IsNever scene.now.picture.now scene.now.silent.now x right y) }
+{
+    match ask(scene, x, right, y) {
+        Ok(Answer::Never(_)) => Ok(true),
+        Ok(_) => Ok(false),
+        Err(error) => Err(error),
+    }
 }
 
 // Whether x was left out where all were told of at once.
@@ -204,37 +222,33 @@ fn tell_what(text: &mut Vec<u8>, scene: &Scene, x: Vertex) -> Result<Told, Alloc
     let first = text.len();
     add_what(text, scene, name_of(scene, x))?;
     let is_never = text.len() == first;
-    if is_never {
-        put(text, b"nothing")?;
-    }
-    put(text, b"\n")?;
+    put(text, if is_never { b"nothing\n" } else { b"\n" })?;
     Ok(listed(is_never))
 }
 
 // Adds each vertex over which x could come to hold a right, with these rights, and a space between two.
 fn add_what(text: &mut Vec<u8>, scene: &Scene, x: u64) -> Result<(), AllocError> {
-    let made = scene.picture.made();
+    let first = text.len();
     let told = what_could(scene.alloc, scene.picture, scene.silent, x)?;
-    let mut space: &[u8] = b"";
-    for y in 0..=made {
+    for y in 0..=scene.picture.made() {
         let rights = what(scene, &told, x, y)?;
-        if !rights.is_empty() {
-            add_held(text, made, space, y, rights)?;
-            space = b" ";
-        }
+        add_held(text, first, scene.picture.made(), y, rights)?;
     }
     Ok(())
 }
 
-// Adds a vertex and rights over it, behind these bytes.
+// Adds a vertex and the rights over it, unless there are none, to the list that begins here.
 fn add_held(
     text: &mut Vec<u8>,
+    first: usize,
     made: u64,
-    space: &[u8],
     y: u64,
     rights: Rights,
 ) -> Result<(), AllocError> {
-    put(text, space)?;
+    if rights.is_empty() {
+        return Ok(());
+    }
+    add_space(text, first)?;
     add_vertex(text, made, y)?;
     add_rights(text, rights)
 }
@@ -246,7 +260,7 @@ fn what(scene: &Scene, told: &What, x: u64, y: u64) -> Result<Rights, AllocError
     for right in RIGHTS {
         let could = match told.of(right, y) {
             Chance::Never => false,
-            Chance::Perhaps => !matches!(ask(scene, x, right, y)?, Answer::Never(_)),
+            Chance::Perhaps => !is_never(scene, x, right, y)?,
         };
         if could {
             rights = rights.union(Rights::of(right));

@@ -4,9 +4,10 @@
 //! runs it on the plain graph, and `tg_could` answers of its picture; what is printed is that answer's text.
 //!
 //! The words of the command line are `options`' matter, what is asked `question`'s. `ask` asks it and tells the answer,
-//! whose texts are in `text`.
+//! whose texts are in `text`; `answers` has those to all questions.
 #![tactic(auto)]
 
+mod answers;
 mod ask;
 mod fault;
 mod help;
@@ -14,15 +15,16 @@ mod options;
 mod question;
 mod text;
 
-use ask::{Scene, Told, tell};
+use answers::{Answered, Answers};
+use ask::Scene;
+use clap::ArgMatches;
 use fault::AskFault;
-use options::{AskOptions, Asked, WordFault, read_words};
+use options::{AskOptions, Asked, BadValue, COMMAND_LINE};
 use std::alloc::{AllocError, Global};
-use std::env;
 use std::process::ExitCode;
-use text::put;
+use std::{env, io};
 use tg_model::{Edge, Picture};
-use tg_plain::{PlainRun, Script};
+use tg_plain::{PlainRun, Script, print_error, read_words};
 
 fn main(rt: HostRuntime) -> ExitCode {
     match obey(&rt) {
@@ -46,24 +48,16 @@ fn obey(rt: &HostRuntime) -> Result<u8, AskFault> {
 
 // Does what the words ask for. The exit status.
 fn obey_words(rt: &HostRuntime, words: &[String]) -> Result<u8, AskFault> {
-    match read_words(rt.alloc(), words) {
-        Ok(options) => answer(rt, rt.alloc(), &options),
-        Err(WordFault::Words(error)) => {
-            error.print(rt)?;
-            Ok(error.exit_code() as u8)
-        }
-        Err(WordFault::OutOfMemory) => Err(AskFault::OutOfMemory(AllocError)),
-        Err(
-            WordFault::Value {
-                option,
-                text,
-                reason,
-            },
-        ) => {
-            eprintln!(rt; "tgcould: --{option} '{text}': {reason}")?;
-            Err(AskFault::WasSaid)
-        }
+    match read_words(rt.alloc(), &COMMAND_LINE, words) {
+        Ok(matches) => answer_matches(rt, rt.alloc(), &matches),
+        Err(error) => Ok(print_error(rt, &error)?),
     }
+}
+
+// Does what these options ask for. The exit status.
+fn answer_matches(rt: &HostRuntime, alloc: Global, matches: &ArgMatches) -> Result<u8, AskFault> {
+    let options = AskOptions::of(alloc, matches);
+    answer(rt, alloc, &options)
 }
 
 // Answers the questions on the graph that the script on standard input leaves. The exit status.
@@ -72,11 +66,37 @@ fn answer<R: Print + Eprint + Input>(
     alloc: Global,
     options: &AskOptions,
 ) -> Result<u8, AskFault> {
-    if options.questions.is_empty() {
-        return Err(AskFault::NoQuestion);
-    }
+    check_values(rt, options)?;
     let mut script = Script::new(alloc, options.plain)?;
     answer_script(rt, options, &mut script)
+}
+
+// Says which value is none of its option's, where there is one.
+fn check_values<R: Eprint>(rt: &R, options: &AskOptions) -> Result<(), AskFault> {
+    match options.bad_value {
+        Some(bad) => Err(say_bad_value(rt, bad)),
+        None if options.is_short => Err(AskFault::OutOfMemory(AllocError)),
+        None if options.questions.is_empty() => Err(AskFault::NoQuestion),
+        None => Ok(()),
+    }
+}
+
+// Says why a value is none of its option's.
+fn say_bad_value<R: Eprint>(rt: &R, bad: BadValue) -> AskFault {
+    let BadValue {
+        option,
+        text,
+        reason,
+    } = bad;
+    said(eprintln!(rt; "tgcould: --{option} '{text}': {reason}"))
+}
+
+// Why the program ends once this was written.
+fn said(written: io::Result<()>) -> AskFault {
+    match written {
+        Ok(()) => AskFault::WasSaid,
+        Err(error) => AskFault::Stream(error),
+    }
 }
 
 // Answers them on the graph that these lines leave, once they are read.
@@ -114,29 +134,27 @@ fn answer_run<R: Print + Eprint>(
 fn check_names<R: Eprint>(rt: &R, options: &AskOptions, made: u64) -> Result<(), AskFault> {
     for name in options.silent.as_slice() {
         if *name >= made {
-            return say_unmade(rt, *name);
+            return Err(say_unmade(rt, *name));
         }
     }
     for edge in options.as_if.as_slice() {
         if edge.from.max(edge.to) >= made {
-            return say_end_unmade(rt, *edge);
+            return Err(say_end_unmade(rt, *edge));
         }
     }
     Ok(())
 }
 
 // Says that the script doesn't make who is to be silent.
-fn say_unmade<R: Eprint>(rt: &R, name: u64) -> Result<(), AskFault> {
-    eprintln!(rt; "tgcould: --silent {name}: the script makes no vertex {name}")?;
-    Err(AskFault::WasSaid)
+fn say_unmade<R: Eprint>(rt: &R, name: u64) -> AskFault {
+    said(eprintln!(rt; "tgcould: --silent {name}: the script makes no vertex {name}"))
 }
 
 // Says that the script doesn't make the greater end of an edge.
-fn say_end_unmade<R: Eprint>(rt: &R, edge: Edge) -> Result<(), AskFault> {
+fn say_end_unmade<R: Eprint>(rt: &R, edge: Edge) -> AskFault {
     let Edge { from, to, label } = edge;
     let name = from.max(to);
-    eprintln!(rt; "tgcould: --as-if '{from} {to} {label}': the script makes no vertex {name}")?;
-    Err(AskFault::WasSaid)
+    said(eprintln!(rt; "tgcould: --as-if '{from} {to} {label}': the script makes no vertex {name}"))
 }
 
 // The picture of the graph that a run leaves, with the edges that are supposed to be there.
@@ -155,83 +173,49 @@ fn answer_on<R: Print + Eprint>(
     questions: &[Asked],
     boxes: u64,
 ) -> Result<u8, AskFault> {
-    let mut text = Vec::new(scene.alloc);
-    let mut all_told = Vec::new(scene.alloc);
-    print_answers(rt, &mut text, &mut all_told, scene, questions)?;
-    note_all(rt, questions, &all_told, boxes)
-}
-
-// Prints the answers to the questions, and adds what was told of each.
-fn print_answers<R: Print>(
-    rt: &R,
-    text: &mut Vec<u8>,
-    all_told: &mut Vec<Told>,
-    scene: &Scene,
-    questions: &[Asked],
-) -> Result<(), AskFault> {
-    add_answers(text, all_told, scene, questions)?;
-    Ok(rt.write_all(text.as_slice())?)
+    let mut answers = Answers::new(scene.alloc);
+    answers.add_all(scene, questions)?;
+    rt.write_all(answers.text.as_slice())?;
+    Ok(note_all(rt, answers.all.as_slice(), boxes)?)
 }
 
 // Says of each answer on standard error what is to be said there. The exit status.
-fn note_all<R: Eprint>(
-    rt: &R,
-    questions: &[Asked],
-    all_told: &[Told],
-    boxes: u64,
-) -> Result<u8, AskFault> {
+fn note_all<R: Eprint>(rt: &R, answered: &[Answered], boxes: u64) -> io::Result<u8> {
     let mut status = 0;
-    for (asked, told) in questions.iter().zip(all_told) {
-        if note(rt, asked, told, boxes)? {
+    for answer in answered {
+        note(rt, answer, boxes)?;
+        if answer.is_breach() {
             status = 1;
         }
     }
     Ok(status)
 }
 
-// Adds the answers to the questions, and what was told of each.
-fn add_answers(
-    text: &mut Vec<u8>,
-    all_told: &mut Vec<Told>,
-    scene: &Scene,
-    questions: &[Asked],
-) -> Result<(), AllocError> {
-    let are_several = questions.len() > 1;
-    for asked in questions {
-        if are_several {
-            put(text, asked.text.as_bytes())?;
-            put(text, b": ")?;
-        }
-        all_told.push(tell(text, scene, asked.question)?)?;
-        if are_several {
-            put(text, b"\n")?;
-        }
+// Says on standard error how many boxes the lines of an answer want beside these, and whether what must never come
+// about could.
+fn note<R: Eprint>(rt: &R, answer: &Answered, boxes: u64) -> io::Result<()> {
+    let more = answer.told.made.saturating_sub(boxes);
+    if more > 0 {
+        say_stock(rt, answer.asked.text, more)?;
+    }
+    if answer.is_breach() {
+        return say_breach(rt, answer);
     }
     Ok(())
 }
 
-// Says on standard error how many boxes the lines of an answer want beside these, and whether what must never come
-// about could: this is the answer.
-fn note<R: Eprint>(rt: &R, asked: &Asked, told: &Told, boxes: u64) -> Result<bool, AskFault> {
-    if told.made > boxes {
-        let text = asked.text;
-        let more = told.made.saturating_sub(boxes);
-        eprintln!(rt; "tgcould: {text}: --stock must be longer by {more}")?;
-    }
-    if !asked.must_never || told.is_never {
-        return Ok(false);
-    }
-    say_not_never(rt, asked.text, told.is_open)?;
-    Ok(true)
+// Says on standard error that an answer's lines want so many boxes more.
+fn say_stock<R: Eprint>(rt: &R, text: &str, more: u64) -> io::Result<()> {
+    eprintln!(rt; "tgcould: {text}: --stock must be longer by {more}")
 }
 
 // Says on standard error that what must never come about could, or that it isn't shown that it never does.
-fn say_not_never<R: Eprint>(rt: &R, text: &str, is_open: bool) -> Result<(), AskFault> {
-    let reason = if is_open {
+fn say_breach<R: Eprint>(rt: &R, answer: &Answered) -> io::Result<()> {
+    let text = answer.asked.text;
+    let reason = if answer.told.is_open {
         "it isn't shown that it never comes about"
     } else {
         "it could come about"
     };
-    eprintln!(rt; "tgcould: --never '{text}': {reason}")?;
-    Ok(())
+    eprintln!(rt; "tgcould: --never '{text}': {reason}")
 }

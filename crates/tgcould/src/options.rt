@@ -3,13 +3,18 @@
 use crate::help;
 use crate::question::{Question, read_question};
 use clap::builder::ValueParser;
-use clap::{Arg, ArgAction, ArgMatches, Command, Error};
-use std::alloc::{AllocError, AllocFailed, Global};
-use std::convert::AsStr;
+use clap::{ArgAction, ArgMatches};
+use std::alloc::{AllocError, Global};
 use tg_model::Edge;
-use tg_plain::{Choice, PlainOptions, STOCK, VERTICES, WORKERS, add_args, read_options};
+use tg_plain::{Choice, CommandLine, PlainOptions, STOCK, VERTICES, WORKERS, read_options};
 use tg_reason::reason_of;
 use tg_text::{Line, read_line};
+
+const AS_IF: &str = "as-if";
+
+const ASK: &str = "ask";
+
+const NEVER: &str = "never";
 
 // The options: what a script runs on, who is trusted, edges that aren't there yet, and what is asked.
 const CHOICES: &[Choice] = &[
@@ -25,7 +30,7 @@ const CHOICES: &[Choice] = &[
         help: help::SILENT,
     },
     Choice {
-        name: "as-if",
+        name: AS_IF,
         action: ArgAction::Append,
         value: "'X Y RIGHTS'",
         parser: ValueParser::String,
@@ -33,7 +38,7 @@ const CHOICES: &[Choice] = &[
         help: help::AS_IF,
     },
     Choice {
-        name: "ask",
+        name: ASK,
         action: ArgAction::Append,
         value: "QUESTION",
         parser: ValueParser::String,
@@ -41,7 +46,7 @@ const CHOICES: &[Choice] = &[
         help: help::ASK,
     },
     Choice {
-        name: "never",
+        name: NEVER,
         action: ArgAction::Append,
         value: "QUESTION",
         parser: ValueParser::String,
@@ -49,6 +54,14 @@ const CHOICES: &[Choice] = &[
         help: help::NEVER,
     },
 ];
+
+/// The command line.
+pub const COMMAND_LINE: CommandLine = CommandLine {
+    name: "tgcould",
+    about: help::ABOUT,
+    manual: help::MANUAL,
+    choices: CHOICES,
+};
 
 // The most workers there are, so that each edge between two of them is one of the grammar.
 const ANY: u64 = u64::MAX;
@@ -64,6 +77,17 @@ pub struct Asked<'a> {
     pub must_never: bool,
 }
 
+/// A value that is none of its option's.
+#[derive(Clone, Copy)]
+pub struct BadValue<'a> {
+    /// The option.
+    pub option: &'static str,
+    /// The value, as it was written.
+    pub text: &'a str,
+    /// Why it is none.
+    pub reason: &'static str,
+}
+
 /// What the words ask for.
 #[derive(Drop)]
 pub struct AskOptions<'a> {
@@ -75,151 +99,93 @@ pub struct AskOptions<'a> {
     pub as_if: Vec<Edge>,
     /// The questions: first those to be answered, then those that must never come about.
     pub questions: Vec<Asked<'a>>,
+    /// The first value that is none of its option's.
+    pub bad_value: Option<BadValue<'a>>,
+    /// Whether memory was wanting for one of them.
+    pub is_short: bool,
 }
 
-/// Why the words ask for nothing that can be done.
-#[derive(Drop)]
-pub enum WordFault<'a> {
-    /// The words are none of the options, or ask for the help. What the user is told.
-    Words(Error),
-    /// There was no memory for them.
-    OutOfMemory,
-    /// The value of an option is none of its own, and why.
-    Value {
-        option: &'static str,
-        text: &'a str,
-        reason: &'static str,
-    },
-}
-
-impl<'a, T: Drop> From<AllocFailed<T>> for WordFault<'a> {
-    fn from(_error: AllocFailed<T>) -> WordFault<'a> {
-        WordFault::OutOfMemory
+impl<'a> AskOptions<'a> {
+    /// The options that were found in the words.
+    pub fn of(alloc: Global, matches: &ArgMatches<'a>) -> AskOptions<'a> {
+        let mut options = AskOptions {
+            plain: read_options(matches),
+            silent: Vec::new(alloc),
+            as_if: Vec::new(alloc),
+            questions: Vec::new(alloc),
+            bad_value: None,
+            is_short: false,
+        };
+        options.add_all(alloc, matches);
+        options
     }
-}
 
-impl<'a> From<AllocError> for WordFault<'a> {
-    fn from(_error: AllocError) -> WordFault<'a> {
-        WordFault::OutOfMemory
+    // Adds those that may come more than once.
+    fn add_all(&mut self, alloc: Global, matches: &ArgMatches<'a>) {
+        self.add_questions(matches, ASK, false);
+        self.add_questions(matches, NEVER, true);
+        self.add_silent(matches);
+        self.add_supposed(alloc, matches);
     }
-}
 
-/// Reads the words, the first of which is the program's name.
-pub fn read_words<'a, S: AsStr>(
-    alloc: Global,
-    words: &'a [S],
-) -> Result<AskOptions<'a>, WordFault<'a>> {
-    match command(alloc)?.try_get_matches_from(words) {
-        Ok(matches) => options_of(alloc, &matches),
-        Err(error) => Err(WordFault::Words(error)),
-    }
-}
-
-// The command line.
-fn command<'a>(alloc: Global) -> Result<Command<'a>, AllocError> {
-    let mut args = Vec::new(alloc);
-    add_args(&mut args, alloc, CHOICES)?;
-    with_options(alloc, args)
-}
-
-// The command line with these options.
-fn with_options<'a>(alloc: Global, options: Vec<Arg<'a>>) -> Result<Command<'a>, AllocError> {
-    Ok(
-        Command::new(alloc, "tgcould")
-            .about(help::ABOUT)
-            .after_help(help::MANUAL)
-            .args(options)?
-            .bin_name("tgcould")?,
-    )
-}
-
-// The options that were found in the words.
-fn options_of<'a>(
-    alloc: Global,
-    matches: &ArgMatches<'a>,
-) -> Result<AskOptions<'a>, WordFault<'a>> {
-    let mut options = AskOptions {
-        plain: read_options(matches),
-        silent: Vec::new(alloc),
-        as_if: Vec::new(alloc),
-        questions: Vec::new(alloc),
-    };
-    add_options(alloc, &mut options, matches)?;
-    Ok(options)
-}
-
-// Adds those that may come more than once.
-fn add_options<'a>(
-    alloc: Global,
-    options: &mut AskOptions<'a>,
-    matches: &ArgMatches<'a>,
-) -> Result<(), WordFault<'a>> {
-    add_questions(&mut options.questions, matches, "ask", false)?;
-    add_questions(&mut options.questions, matches, "never", true)?;
-    add_silent(&mut options.silent, matches)?;
-    add_supposed(alloc, &mut options.as_if, matches)
-}
-
-// Adds the questions of an option.
-fn add_questions<'a>(
-    questions: &mut Vec<Asked<'a>>,
-    matches: &ArgMatches<'a>,
-    option: &'static str,
-    must_never: bool,
-) -> Result<(), WordFault<'a>> {
-    for text in matches.get_strs(option).unwrap_or(&[]) {
-        match read_question(text) {
-            Ok(question) => questions.push(Asked {
-                text,
-                question,
-                must_never,
-            })?,
-            Err(reason) => {
-                return Err(WordFault::Value {
-                    option,
-                    text,
-                    reason,
-                });
+    // Adds the questions of an option.
+    fn add_questions(&mut self, matches: &ArgMatches<'a>, option: &'static str, must_never: bool) {
+        for text in matches.get_strs(option).unwrap_or(&[]) {
+            match read_question(text) {
+                Ok(question) => self.add_question(text, question, must_never),
+                Err(reason) => self.refuse(option, text, reason),
             }
         }
     }
-    Ok(())
-}
 
-// Adds who takes no turns.
-fn add_silent(silent: &mut Vec<u64>, matches: &ArgMatches) -> Result<(), AllocError> {
-    if let Some(names) = matches.get_many::<u64>("silent") {
-        for name in names {
-            if let Ok(name) = name {
-                silent.push(name)?;
-            }
-        }
-    }
-    Ok(())
-}
-
-// Adds the edges that are asked about as if they were there.
-fn add_supposed<'a>(
-    alloc: Global,
-    edges: &mut Vec<Edge>,
-    matches: &ArgMatches<'a>,
-) -> Result<(), WordFault<'a>> {
-    for text in matches.get_strs("as-if").unwrap_or(&[]) {
-        add_edge(alloc, edges, text)?;
-    }
-    Ok(())
-}
-
-// Adds the edge that the text is, as it stands in an edge line.
-fn add_edge<'a>(alloc: Global, edges: &mut Vec<Edge>, text: &'a str) -> Result<(), WordFault<'a>> {
-    let line = edge_line(alloc, text)?;
-    match edge_of(line.as_slice()) {
-        Ok(edge) => Ok(edges.push(edge)?),
-        Err(reason) => Err(WordFault::Value {
-            option: "as-if",
+    // Adds a question.
+    fn add_question(&mut self, text: &'a str, question: Question, must_never: bool) {
+        let asked = Asked {
             text,
-            reason,
-        }),
+            question,
+            must_never,
+        };
+        self.is_short |= self.questions.push(asked).is_err();
+    }
+
+    // Adds who takes no turns.
+    fn add_silent(&mut self, matches: &ArgMatches) {
+        if let Some(names) = matches.get_many::<u64>("silent") {
+            for name in names {
+                if let Ok(name) = name {
+                    self.is_short |= self.silent.push(name).is_err();
+                }
+            }
+        }
+    }
+
+    // Adds the edges that are asked about as if they were there.
+    fn add_supposed(&mut self, alloc: Global, matches: &ArgMatches<'a>) {
+        for text in matches.get_strs(AS_IF).unwrap_or(&[]) {
+            match edge_line(alloc, text) {
+                Ok(line) => self.add_edge(text, line.as_slice()),
+                Err(_) => self.is_short = true,
+            }
+        }
+    }
+
+    // Adds the edge that a line is, whose value this text is.
+    fn add_edge(&mut self, text: &'a str, line: &[u8]) {
+        match edge_of(line) {
+            Ok(edge) => self.is_short |= self.as_if.push(edge).is_err(),
+            Err(reason) => self.refuse(AS_IF, text, reason),
+        }
+    }
+
+    // Notes a value that is none of its option's, unless one was before.
+    fn refuse(&mut self, option: &'static str, text: &'a str, reason: &'static str) {
+        if self.bad_value.is_none() {
+            self.bad_value = Some(BadValue {
+                option,
+                text,
+                reason,
+            });
+        }
     }
 }
 

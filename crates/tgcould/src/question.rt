@@ -57,50 +57,52 @@ pub fn read_question(text: &str) -> Result<Question, &'static str> {
 
 // The question of three words.
 fn read_words(holder: &str, right: &str, over: &str) -> Result<Question, &'static str> {
-    if right == "*" {
+    if is_star(right) {
         return read_what(holder, over);
     }
-    if over == "*" {
+    if is_star(over) {
         return Err(NO_WORDS);
     }
-    if holder == "*" {
+    if is_star(holder) {
         return read_who(right, over);
     }
-    if holder == "new" && over == "new" {
+    if is_new(holder) && is_new(over) {
         return Err(BOTH_NEW);
     }
     read_hold(holder, right, over)
 }
 
+fn is_star(word: &str) -> bool {
+    word == "*"
+}
+
+fn is_new(word: &str) -> bool {
+    word == "new"
+}
+
 // Which rights the first word could come to hold, where the other is a star.
 fn read_what(holder: &str, over: &str) -> Result<Question, &'static str> {
-    if over != "*" || holder == "*" {
+    if is_star(holder) || !is_star(over) {
         return Err(NO_WORDS);
     }
-    Ok(Question::What {
-        x: read_vertex(holder)?,
-    })
+    read_vertex(holder).map(|x| Question::What { x })
 }
 
 // Who could come to hold the right over the second word.
 fn read_who(right: &str, over: &str) -> Result<Question, &'static str> {
-    Ok(Question::Who {
-        right: read_right(right)?,
-        y: read_vertex(over)?,
-    })
+    let right = read_right(right)?;
+    read_vertex(over).map(|y| Question::Who { right, y })
 }
 
 // Whether the first word could come to hold the right over the last.
 fn read_hold(holder: &str, right: &str, over: &str) -> Result<Question, &'static str> {
-    Ok(Question::Hold {
-        x: read_vertex(holder)?,
-        right: read_right(right)?,
-        y: read_vertex(over)?,
-    })
+    let x = read_vertex(holder)?;
+    let right = read_right(right)?;
+    read_vertex(over).map(|y| Question::Hold { x, right, y })
 }
 
 fn read_vertex(word: &str) -> Result<Vertex, &'static str> {
-    if word == "new" {
+    if is_new(word) {
         return Ok(Vertex::New);
     }
     if let Some(reason) = reason_of_number(word) {

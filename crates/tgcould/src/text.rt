@@ -14,8 +14,7 @@ use tg_text::{line_bytes, line_of_deed};
 pub fn put(text: &mut Vec<u8>, bytes: &[u8]) -> Result<(), AllocError>
     ensures { OnOk result (text.new.items ≡ text.old.items ++ bytes.now) }
 {
-    text.extend_from_slice(bytes)?;
-    Ok(())
+    text.extend_from_slice(bytes)
 }
 
 /// Adds the text of an answer: its word, and behind `could` the lines that do it. Fails only when out of memory.

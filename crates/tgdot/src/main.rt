@@ -30,12 +30,12 @@ mod steps;
 use draft::Draft;
 use drawing::write_last;
 use fault::DrawFault;
-use options::{DotOptions, LineRange, read_words};
+use options::{COMMAND_LINE, DotOptions, LineRange, options_of};
 use std::alloc::Global;
 use std::env;
 use std::process::ExitCode;
 use steps::write_steps;
-use tg_plain::Script;
+use tg_plain::{Script, print_error, read_words};
 
 fn main(rt: HostRuntime) -> ExitCode {
     match obey(&rt) {
@@ -58,15 +58,12 @@ fn obey(rt: &HostRuntime) -> Result<u8, DrawFault> {
 
 // Does what the words ask for. The exit status.
 fn obey_words(rt: &HostRuntime, words: &[String]) -> Result<u8, DrawFault> {
-    match read_words(rt.alloc(), words) {
-        Ok(options) => {
-            draw_script(rt, rt.alloc(), options)?;
+    match read_words(rt.alloc(), &COMMAND_LINE, words) {
+        Ok(matches) => {
+            draw_script(rt, rt.alloc(), options_of(&matches))?;
             Ok(0)
         }
-        Err(error) => {
-            error.print(rt)?;
-            Ok(error.exit_code() as u8)
-        }
+        Err(error) => Ok(print_error(rt, &error)?),
     }
 }
 

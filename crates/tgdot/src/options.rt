@@ -2,10 +2,8 @@
 
 use crate::fault::DrawFault;
 use clap::builder::ValueParser;
-use clap::{ArgAction, ArgMatches, Command, Error};
-use std::alloc::Global;
-use std::convert::AsStr;
-use tg_plain::{Choice, PlainOptions, STOCK, VERTICES, WORKERS, add_args, read_options};
+use clap::{ArgAction, ArgMatches};
+use tg_plain::{Choice, CommandLine, PlainOptions, STOCK, VERTICES, WORKERS, read_options};
 
 const ABOUT: &str = "Draws the graph that a script leaves, for GraphViz's dot
 
@@ -20,12 +18,6 @@ vertex red that should store a log. Neither the heap nor memory refuses a line h
 
 const EXAMPLE: &str = "Example:
   printf '0 create rw\\n0 list\\n' | tgdot --workers 1 --stock c | dot -Tsvg > graph.svg";
-
-// How many workers there are at first, and how many vertices may be made, where the words don't say it: as tgstore has
-// it.
-const DEFAULT_WORKERS: u64 = 2;
-
-const DEFAULT_VERTICES: u64 = 1_000_000;
 
 // The number of a line, as an option has it.
 const LINE: ValueParser<'static> = ValueParser::Unsigned(1, i64::MAX as u64);
@@ -68,6 +60,14 @@ const CHOICES: &[Choice] = &[
     },
 ];
 
+/// The command line.
+pub const COMMAND_LINE: CommandLine = CommandLine {
+    name: "tgdot",
+    about: ABOUT,
+    manual: EXAMPLE,
+    choices: CHOICES,
+};
+
 /// What the words ask for.
 #[derive(Clone, Copy)]
 pub struct DotOptions<'a> {
@@ -102,23 +102,8 @@ impl LineRange {
     }
 }
 
-/// Reads the words, the first of which is the program's name. An `Err` is the text for the user, of the help as of a
-/// fault.
-pub fn read_words<'a, S: AsStr>(alloc: Global, words: &'a [S]) -> Result<DotOptions<'a>, Error> {
-    let mut args = Vec::new(alloc);
-    add_args(&mut args, alloc, CHOICES)?;
-    let command = Command::new(alloc, "tgdot")
-        .about(ABOUT)
-        .after_help(EXAMPLE)
-        .args(args)?;
-    match command.try_get_matches_from(words) {
-        Ok(matches) => Ok(options_of(&matches)),
-        Err(error) => Err(error),
-    }
-}
-
-// The options that were found in the words, and the defaults of the others.
-fn options_of<'a>(matches: &ArgMatches<'a>) -> DotOptions<'a> {
+/// The options that were found in the words, and the defaults of the others.
+pub fn options_of<'a>(matches: &ArgMatches<'a>) -> DotOptions<'a> {
     DotOptions {
         plain: read_options(matches),
         steps: steps_of(matches),
