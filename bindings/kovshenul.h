@@ -406,15 +406,16 @@ enum {
     TG_COULD = 2,             /* x holds it after the answer's turns, each of which is allowed when it comes */
     TG_WANTS_NAMES = 3,       /* so it is where tg_answer_names more vertices may be made; fewer than 64 names are left */
     TG_UNREACHED = 4,         /* no worker reaches x, which was made: it holds what it holds, for good */
-    TG_OPEN = 5,              /* neither was shown. That it doesn't come is tested */
+    TG_OPEN = 5,              /* neither was shown: so it is of a name far ahead (tg_could). That it doesn't come else is tested */
     TG_PERHAPS = 6            /* of a view alone: it says nothing of the right. tg_could tells more */
 };
 
 /* Answers whether x could ever come to hold the right over y, as if the edges as_if were there too: so a grant is asked
    about before it is made. The answer goes to *answer, which is closed. It is that of the graph that was never collected,
    the same before a collection and after it. The store is as it was, and its journal gets no entry. Time and memory are
-   in proportion to what the workers reach, and memory to the names that were made. A name that isn't made yet stands for
-   a vertex that those who act may make.
+   in proportion to what the workers reach. A name that isn't made yet stands for a vertex that those who act may make:
+   the turns make each one up to it. Behind more than 65,536 of them it is TG_NEVER or TG_OPEN; ask about the next name
+   in its place.
 
    It is refused in this order: where right isn't one right, or an edge's rights are none (TG_BAD_RIGHTS); where the
    answer is open (TG_ALREADY_OPEN); where the store is closed (TG_NOT_OPEN); where a silent one is no worker
@@ -454,8 +455,8 @@ typedef struct tg_view {
 
 /* Opens a view of the store, in which the silent ones take no turns, as if the edges as_if were there too. It is of the
    graph that was never collected, the same before a collection and after it. The store is as it was, and its journal gets
-   no entry. Time and memory are in proportion to what the workers reach and to the names that were made. It is refused as
-   tg_could is, in the same order, the view in the answer's place; refused, *view is as it was. */
+   no entry. Time and memory are in proportion to what the workers reach. It is refused as tg_could is, in the same order,
+   the view in the answer's place; refused, *view is as it was. */
 tg_status tg_view_open(tg_store *store, const uint64_t *silent, size_t silent_count, const tg_edge *as_if,
                        size_t as_if_count, tg_view *view);
 

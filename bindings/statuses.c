@@ -916,6 +916,26 @@ static void questions(void) {
     WANT(tg_close(&store) == TG_DONE && says(&answer, TG_UNREACHED, 0, 0) && tg_answer_close(&answer) == TG_DONE);
 }
 
+/* Of a name that over 65,536 others come before no turns are told, which would make all of these; of the next name some are. */
+static void far_names(void) {
+    static const tg_limits lasting = { (uint64_t)1 << 48, 8, 4 };
+    static const uint64_t both[2] = { 0, 1 };
+    const uint64_t far = (uint64_t)1 << 40;
+    tg_store store = TG_STORE_INIT;
+    tg_answer answer = TG_ANSWER_INIT;
+    uint64_t kind = UNTOUCHED;
+    WANT(tg_open(&store, workers, 2, edges, 0, &lasting) == TG_DONE);
+    WANT(tg_could(&store, NULL, 0, NULL, 0, 0, TG_READ, far, &answer) == TG_DONE && says(&answer, TG_OPEN, 0, 0));
+    WANT(tg_answer_close(&answer) == TG_DONE);
+    WANT(tg_could(&store, NULL, 0, NULL, 0, far, TG_READ, 0, &answer) == TG_DONE && says(&answer, TG_NEVER, 0, 0));
+    WANT(tg_answer_close(&answer) == TG_DONE);
+    WANT(tg_could(&store, both, 2, NULL, 0, 0, TG_READ, far, &answer) == TG_DONE && says(&answer, TG_NEVER, 0, 0));
+    WANT(tg_answer_close(&answer) == TG_DONE);
+    WANT(tg_could(&store, NULL, 0, NULL, 0, 0, TG_READ, 2, &answer) == TG_DONE);
+    WANT(tg_answer_kind(&answer, &kind) == TG_DONE && kind == TG_COULD);
+    WANT(tg_answer_close(&answer) == TG_DONE && tg_close(&store) == TG_DONE);
+}
+
 /* Whether no view is opened for this status, and its place is as it was. */
 static int is_unseen(tg_store *store, const uint64_t *silent, size_t count, tg_edge supposed, tg_status status) {
     tg_view view = TG_VIEW_INIT;
@@ -1034,6 +1054,7 @@ int main(void) {
     as_many_workers_as_may_be();
     entries_read();
     questions();
+    far_names();
     views();
     names_wanting();
     a_worker_leaves();

@@ -63,8 +63,7 @@ NAMED = {
     ("tg_program/src/boxes.rt", "serve_with_boxes", "start.settings.workers"): "the same",
     ("tgdot/src/run.rt", "open", "script.workers"): "the same",
     ("tgdot/src/draft.rt", "pad", "first.saturating_add(columns)"): "the longest text of a kind that is drawn",
-    ("tg_could/src/plan.rt", "make_names", "last.saturating_add(1)"): "a turn for each name up to the one that is asked about",
-    ("tg_could/src/plan.rt", "mailbox", "turn"): "a place in the list, or its length",
+    ("tg_could/src/plan.rt", "make_names", "last.saturating_add(1)"): "a turn for each name up to the one that is asked about, which is 65,536 ahead at most",
     ("tg_could/src/walks.rt", "hand_on", "start"): "a place in the list",
     ("tg_could/src/incoming.rt", "bounds_of", "bound.1"):
         "how many of the entries have this target, of those that there are",

@@ -24,7 +24,3 @@ FromParts = plain (λ _. Parts.the_row Sight.the_row Heap.the_row ghosts)
 
 abbrev pub FromHandle : Slot 0
 FromHandle = plain (λ _. Handle.the_row)
-
--- no marks
-abbrev pub no_marks : Global → Vec Bool Global
-no_marks a = record { ptr = null_ptr; len = 0; cap = 0; alloc = a; items = []; ok = (refl, omega arith); small = omega arith }

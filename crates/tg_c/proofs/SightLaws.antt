@@ -1,8 +1,8 @@
--- Marks on names, and what a view tells by them.
-use Rattle.std.proofs.Common.{◌≡◌, ◌↔◌, ◌⊎◌, inl, inr, ⊎_elim, ℕ, ◌+◌, ◌<◌, ◌≤◌, ◌==◌, Bool, true, false, List, [], ◌∷◌, ◌++◌, Option, Some, None, IfSome, set, get_or, length, refl, take, sym, ap, ◌∙◌, subst, arith}
-use Rattle.std.specs.List.{Contains}
-use Rattle.std.proofs.lemmas.Bool.{cases_Bool, cases_eq, cases_lt, eqb-true}
-use Rattle.std.proofs.lemmas.List.{get_or-set_other, get_or-set_same, length-set, take_all, take_more}
+-- Names of whom a picture shows, and what a view tells by them.
+use Rattle.std.proofs.Common.{◌≡◌, ◌↔◌, ◌⊎◌, inl, inr, ⊎_elim, ℕ, ◌+◌, ◌<◌, ◌≤◌, ◌==◌, nat_eq, Bool, true, false, cond, List, [], ◌∷◌, ◌++◌, Option, Some, None, IfSome, get_or, length, refl, take, sym, ap, ◌∙◌, subst, arith, eq-eqb}
+use Rattle.std.specs.List.{Contains, list_any}
+use Rattle.std.proofs.lemmas.Bool.{cases_Bool, cases_eq, cases_lt, eqb-true, ne_eqb, false≢true}
+use Rattle.std.proofs.lemmas.List.{take_all, take_more}
 use Rattle.std.proofs.lemmas.List.Elements.{Contains-append_left, Contains-push, Contains-push_cases}
 use Rattle.tg_model.specs.declared.edge.Edge.{Edge}
 use Rattle.tg_model.specs.Graph.{ProtectionGraph, IsReachable, IsSound}
@@ -12,57 +12,61 @@ use Rattle.tg_rights.specs.declared.Right.{Right}
 use Rattle.tg_could.specs.Reached.{IsLedTo, IsReachedPicture}
 use Rattle.tg_could.specs.Turns.{NeverHolds}
 use Rattle.tg_could.specs.View.{IsViewOf}
-use Rattle.tg_could.specs.declared.view.View.{View}
 use Rattle.tg_could.proofs.ReachedLaws.{Known, never_on, reached_shown, relabelled, shown_reached}
 use Rattle.tg_c.specs.Could.{JoinReached, with_edges}
-use Rattle.tg_c.specs.View.{AreMarked, IsSightOf}
+use Rattle.tg_c.specs.View.{AreShown, IsShownIn, IsSightOf, is_seen}
+use Rattle.tg_c.specs.declared.view.sight.Seen.{Seen}
 use Rattle.tg_c.specs.declared.view.sight.Sight.{Sight}
 use Rattle.tg_c.proofs.AsIfLaws.{agrees, held_edge, more, reached_before, reached_then, seen, seen_by, supposed_sound}
 
--- these marks, one for each name below `made`, stand on exactly these names
-pub record AreOn (made : ℕ) (these : ℕ → Type 0) (marks : List Bool) : Type 0 where
-  pub all : length marks ≡ made
-  pub each : (x : ℕ) → x < made → (get_or marks x false ≡ true) ↔ these x
+-- a list has exactly these names
+abbrev pub AreOn : (ℕ → Type 0) → List ℕ → Type 0
+AreOn these names = (x : ℕ) → (list_any (nat_eq x) names ≡ true) ↔ these x
 
--- one mark more
-one_more : (made : ℕ) (these those : ℕ → Type 0) (marks : List Bool) (name : ℕ) → AreOn made these marks → ((x : ℕ) → those x ↔ (these x ⊎ (x ≡ name))) → AreOn made those (set marks name true)
-one_more made these those marks name on same = record {
-  all = length-set marks name true ∙ on.all;
-  each = λ x low. by_test x low (cases_eq x name);
-}
+-- it has one name more
+abbrev pub HasMore : List ℕ → List ℕ → ℕ → Type 0
+HasMore names new name = (x : ℕ) → list_any (nat_eq x) new ≡ cond (nat_eq name x) true (list_any (nat_eq x) names)
+
+one_more : (these those : ℕ → Type 0) (names new : List ℕ) (name : ℕ) → AreOn these names → ((x : ℕ) → those x ↔ (these x ⊎ (x ≡ name))) → HasMore names new name → AreOn those new
+one_more these those names new name on same has x = by_test (cases_eq x name)
   where
-    by_test : (x : ℕ) → x < made → (x ≡ name) ⊎ (x ≡ name → ⊥) → (get_or (set marks name true) x false ≡ true) ↔ those x
-    by_test x low (inl here) =
-        let inside : name < length marks = omega (arith, low, here, on.all) in (
-          λ _. (same x).1 (inr here),
-          λ _. ap (λ k. get_or (set marks name true) k false) here ∙ get_or-set_same marks name true false inside,
-        )
-    by_test x low (inr other) = (
-      λ t. (same x).1 (inl ((on.each x low).0 (sym (get_or-set_other marks name x true false other) ∙ t))),
-      λ is. ⊎_elim (λ was. get_or-set_other marks name x true false other ∙ (on.each x low).1 was) (λ here. absurd (other here)) ((same x).0 is),
+    by_test : (x ≡ name) ⊎ (x ≡ name → ⊥) → (list_any (nat_eq x) new ≡ true) ↔ those x
+    by_test (inl here) = (
+      λ _. (same x).1 (inr here),
+      λ _. has x ∙ ap (λ (b : Bool). cond b true (list_any (nat_eq x) names)) (eq-eqb name x (sym here)),
     )
+    by_test (inr other) =
+        let kept : list_any (nat_eq x) new ≡ list_any (nat_eq x) names =
+        has x ∙ ap (λ (b : Bool). cond b true (list_any (nat_eq x) names)) (ne_eqb name x (λ at. other (sym at))) in (
+          λ t. (same x).1 (inl ((on x).0 (sym kept ∙ t))),
+          λ is. ⊎_elim (λ was. kept ∙ (on x).1 was) (λ here. absurd (other here)) ((same x).0 is),
+        )
 
--- the same marks, on the same names
-same_on : (made : ℕ) (these those : ℕ → Type 0) (marks : List Bool) → AreOn made these marks → ((x : ℕ) → these x ↔ those x) → AreOn made those marks
-same_on made these those marks on same = record {
-  all = on.all;
-  each = λ x low. (λ t. (same x).0 ((on.each x low).0 t), λ is. (on.each x low).1 ((same x).1 is));
-}
+-- the same names
+same_on : (these those : ℕ → Type 0) (names : List ℕ) → AreOn these names → ((x : ℕ) → these x ↔ those x) → AreOn those names
+same_on these those names on same x = (λ t. (same x).0 ((on x).0 t), λ is. (on x).1 ((same x).1 is))
+
+-- no name yet
+pub none_on : (names : List ℕ) → names ≡ [] → AreOn (λ x. Contains [] x) names
+none_on names none x = (
+  λ t. absurd (false≢true (sym (ap (list_any (nat_eq x)) none) ∙ t)),
+  λ has. let low = has.1 in absurd (omega arith),
+)
 
 -- one subject more, or one edge more
-pub subjects_more : (made : ℕ) (names : List ℕ) (i : ℕ) (marks new : List Bool) → i < length names → AreOn made (λ x. Contains (take i names) x) marks → new ≡ set marks (get_or names i 0) true
-    → AreOn made (λ x. Contains (take (i + 1) names) x) new
-subjects_more made names i marks new low on is =
+pub subjects_more : (names : List ℕ) (i : ℕ) (old new : List ℕ) → i < length names → AreOn (λ x. Contains (take i names) x) old → HasMore old new (get_or names i 0)
+    → AreOn (λ x. Contains (take (i + 1) names) x) new
+subjects_more names i old new low on has =
     let name : ℕ = get_or names i 0 in
     let grown : take (i + 1) names ≡ take i names ++ name ∷ [] = take_more names i 0 low in
-    subst (AreOn made (λ x. Contains (take (i + 1) names) x)) (sym is)
-    (one_more made (λ x. Contains (take i names) x) (λ x. Contains (take (i + 1) names) x) marks name on
+    one_more (λ x. Contains (take i names) x) (λ x. Contains (take (i + 1) names) x) old new name on
     (λ x. (
-      λ has. ⊎_elim inl (λ (here : name ≡ x). inr (sym here)) (Contains-push_cases (take i names) name x (subst (λ (ns : List ℕ). Contains ns x) grown has)),
-      λ has. subst (λ (ns : List ℕ). Contains ns x) (sym grown)
+      λ there. ⊎_elim inl (λ (here : name ≡ x). inr (sym here)) (Contains-push_cases (take i names) name x (subst (λ (ns : List ℕ). Contains ns x) grown there)),
+      λ there. subst (λ (ns : List ℕ). Contains ns x) (sym grown)
           (⊎_elim (λ was. Contains-append_left (take i names) (name ∷ []) x was)
-          (λ (here : x ≡ name). subst (Contains (take i names ++ name ∷ [])) (sym here) (Contains-push (take i names) name)) has),
-    )))
+          (λ (here : x ≡ name). subst (Contains (take i names ++ name ∷ [])) (sym here) (Contains-push (take i names) name)) there),
+    ))
+    has
 
 -- whom a picture shows, as far as these edges go
 abbrev ShownBy : List ℕ → List Edge → ℕ → Type 0
@@ -77,34 +81,32 @@ led_cases edges edge x led =
     (λ (here : edge ≡ led.edge). inr (sym led.leads ∙ ap (λ (e : Edge). e.to) (sym here)))
     (Contains-push_cases edges edge led.edge led.there)
 
-pub edges_more : (made : ℕ) (names : List ℕ) (edges : List Edge) (i : ℕ) (edge : Edge) (marks new : List Bool) → i < length edges → edge ≡ get_or edges i edge
-    → AreOn made (ShownBy names (take i edges)) marks → new ≡ set marks edge.to true → AreOn made (ShownBy names (take (i + 1) edges)) new
-edges_more made names edges i edge marks new low at on is =
+pub edges_more : (names : List ℕ) (edges : List Edge) (i : ℕ) (edge : Edge) (old new : List ℕ) → i < length edges → edge ≡ get_or edges i edge
+    → AreOn (ShownBy names (take i edges)) old → HasMore old new edge.to → AreOn (ShownBy names (take (i + 1) edges)) new
+edges_more names edges i edge old new low at on has =
     let grown : take (i + 1) edges ≡ take i edges ++ edge ∷ [] = take_more edges i edge low ∙ ap (λ (e : Edge). take i edges ++ e ∷ []) (sym at) in
-    subst (AreOn made (ShownBy names (take (i + 1) edges))) (sym is)
-    (one_more made (ShownBy names (take i edges)) (ShownBy names (take (i + 1) edges)) marks edge.to on
+    one_more (ShownBy names (take i edges)) (ShownBy names (take (i + 1) edges)) old new edge.to on
     (λ x. (
-      λ shown. ⊎_elim (λ has. inl (inl has)) (λ led. ⊎_elim (λ was. inl (inr was)) inr (led_cases (take i edges) edge x (subst (λ (es : List Edge). IsLedTo es x) grown led))) shown,
+      λ shown. ⊎_elim (λ there. inl (inl there)) (λ led. ⊎_elim (λ was. inl (inr was)) inr (led_cases (take i edges) edge x (subst (λ (es : List Edge). IsLedTo es x) grown led))) shown,
       λ shown. ⊎_elim
           (λ was. ⊎_elim inl (λ led. inr (subst (λ (es : List Edge). IsLedTo es x) (sym grown) (led_more (take i edges) edge x led))) was)
           (λ (here : x ≡ edge.to). inr (subst (λ (es : List Edge). IsLedTo es x) (sym grown) (record { edge = edge; there = Contains-push (take i edges) edge; leads = sym here })))
           shown,
-    )))
+    ))
+    has
 
 -- all subjects, and no edge yet
-pub edges_none : (made : ℕ) (names : List ℕ) (i : ℕ) (marks : List Bool) → length names ≤ i → AreOn made (λ x. Contains (take i names) x) marks → AreOn made (ShownBy names []) marks
-edges_none made names i marks past on =
-    same_on made (λ x. Contains (take i names) x) (ShownBy names []) marks on
+pub edges_none : (names : List ℕ) (i : ℕ) (old : List ℕ) → length names ≤ i → AreOn (λ x. Contains (take i names) x) old → AreOn (ShownBy names []) old
+edges_none names i old past on =
+    same_on (λ x. Contains (take i names) x) (ShownBy names []) old on
     (λ x. (
       λ has. inl (subst (λ (ns : List ℕ). Contains ns x) (take_all i names past) has),
       λ shown. ⊎_elim (λ has. subst (λ (ns : List ℕ). Contains ns x) (sym (take_all i names past)) has) (λ led. let low = led.there.1 in absurd (omega arith)) shown,
     ))
 
 -- all edges too
-pub all_marked : (p : Shown) (i : ℕ) (marks : List Bool) → length p.edges ≤ i → AreOn p.made (ShownBy p.subjects (take i p.edges)) marks → AreMarked p marks
-all_marked p i marks past on =
-    let whole : take i p.edges ≡ p.edges = take_all i p.edges past in
-    record { all = on.all; each = λ x low. subst (λ (es : List Edge). (get_or marks x false ≡ true) ↔ ShownBy p.subjects es x) whole (on.each x low) }
+pub all_shown : (p : Shown) (i : ℕ) (old : List ℕ) → length p.edges ≤ i → AreOn (ShownBy p.subjects (take i p.edges)) old → AreShown p old
+all_shown p i old past on x = subst (λ (es : List Edge). (list_any (nat_eq x) old ≡ true) ↔ ShownBy p.subjects es x) (take_all i p.edges past) (on x)
 
 -- a list of no items
 pub none_there : (xs : List ℕ) → (length xs == 0) ≡ true → xs ≡ []
@@ -113,9 +115,16 @@ none_there (x ∷ xs) t = let is = eqb-true (length (x ∷ xs)) 0 t in absurd (o
 
 -- ---- a view
 
-module _ (g : ProtectionGraph) (sound : IsSound g) (es : List Edge) (all : JoinReached g es) (p : Shown) (picture : IsReachedPicture p g) (silent : List ℕ) (sight : Sight) (marks : AreMarked p sight.marks.items) where
-  sight_by : IfSome sight.view (IsViewOf silent (more g sound es all p picture)) → (sight.view ≡ None → g.subjects ≡ []) → IsSightOf silent (with_edges g es) sight
-  sight_by view nobody = record {
+-- where no subject is active nothing comes about
+no_reach : (g : ProtectionGraph) → g.subjects ≡ [] → (x : ℕ) → IsReachable g x → ⊥
+no_reach g none =
+    Walk-within (λ x. ⊥)
+    (λ q is. let low = (subst (λ (names : List ℕ). Contains names q) none is).1 in omega arith)
+    (λ a b no edge. no)
+
+module _ (g : ProtectionGraph) (sound : IsSound g) (es : List Edge) (all : JoinReached g es) (p : Shown) (picture : IsReachedPicture p g) (silent : List ℕ) (sight : Sight) (made : sight.made ≡ p.made) where
+  sight_by : IfSome sight.seen (λ seen. IsViewOf silent (more g sound es all p picture) seen.view) → (sight.seen ≡ None → g.subjects ≡ []) → ((x : ℕ) → (is_seen sight.seen x ≡ true) ↔ IsShownIn p x) → IsSightOf silent (with_edges g es) sight
+  sight_by view nobody shown = record {
     sound = supposed_sound g sound es all;
     shown = more g sound es all p picture;
     other = relabelled (with_edges g es) (seen g sound es all p picture);
@@ -125,28 +134,26 @@ module _ (g : ProtectionGraph) (sound : IsSound g) (es : List Edge) (all : JoinR
     back = λ x r y known never.
         never_on silent (with_edges g es) (seen g sound es all p picture) (Known g) (agrees g sound es all p picture) x
         (⊎_elim (λ reached. inl (reached_before g sound es all x reached)) inr known) r y never;
-    all = marks.all ∙ sym picture.made;
-    marks = λ x low.
-        let made : x < p.made = let same = picture.made in omega (arith, same, low) in (
-          λ t. reached_then g sound es all x (shown_reached p g picture x ((marks.each x made).0 t)),
-          λ reached. (marks.each x made).1 (reached_shown p g picture x (reached_before g sound es all x reached)),
-        );
+    made = made ∙ sym picture.made;
+    reached = λ x. (
+      λ t. reached_then g sound es all x (shown_reached p g picture x ((shown x).0 t)),
+      λ reached. (shown x).1 (reached_shown p g picture x (reached_before g sound es all x reached)),
+    );
   }
 
-  pub sight_on : (v : View) → sight.view ≡ Some v → IsViewOf silent (more g sound es all p picture) v → IsSightOf silent (with_edges g es) sight
-  sight_on v is view =
-      sight_by (subst (λ (o : Option View). IfSome o (IsViewOf silent (more g sound es all p picture))) (sym is) view) (λ none. absurd (cc (is, none)))
+  pub sight_on : (s : Seen) → sight.seen ≡ Some s → AreShown p s.reached.keys → IsViewOf silent (more g sound es all p picture) s.view → IsSightOf silent (with_edges g es) sight
+  sight_on s is shown view =
+      sight_by (subst (λ (o : Option Seen). IfSome o (λ seen. IsViewOf silent (more g sound es all p picture) seen.view)) (sym is) view) (λ none. absurd (cc (is, none)))
+      (λ x. subst (λ (o : Option Seen). (is_seen o x ≡ true) ↔ IsShownIn p x) (sym is) (shown x))
 
-  pub sight_of_nobody : sight.view ≡ None → p.subjects ≡ [] → IsSightOf silent (with_edges g es) sight
+  pub sight_of_nobody : sight.seen ≡ None → p.subjects ≡ [] → IsSightOf silent (with_edges g es) sight
   sight_of_nobody is none =
-      sight_by (subst (λ (o : Option View). IfSome o (IsViewOf silent (more g sound es all p picture))) (sym is) tt) (λ _. picture.subjects ∙ none)
-
--- where no subject is active nothing comes about
-no_reach : (g : ProtectionGraph) → g.subjects ≡ [] → (x : ℕ) → IsReachable g x → ⊥
-no_reach g none =
-    Walk-within (λ x. ⊥)
-    (λ q is. let low = (subst (λ (names : List ℕ). Contains names q) none is).1 in omega arith)
-    (λ a b no edge. no)
+      let nobody : g.subjects ≡ [] = picture.subjects ∙ none in
+      sight_by (subst (λ (o : Option Seen). IfSome o (λ seen. IsViewOf silent (more g sound es all p picture) seen.view)) (sym is) tt) (λ _. nobody)
+      (λ x. (
+        λ t. absurd (false≢true (sym (ap (λ (o : Option Seen). is_seen o x) is) ∙ t)),
+        λ shown. absurd (no_reach g nobody x (shown_reached p g picture x shown)),
+      ))
 
 pub never_by_nobody : (silent : List ℕ) (g : ProtectionGraph) → IsSound g → g.subjects ≡ [] → (x : ℕ) → IsReachable g x ⊎ (g.made ≤ x) → (r : Right) (y : ℕ) → NeverHolds silent g x r y
 never_by_nobody silent g sound none x known r y [] are held =
@@ -155,9 +162,9 @@ never_by_nobody silent g sound none x known r y (turn ∷ turns) are held =
     let low = (subst (λ (names : List ℕ). Contains names turn.0) none are.0.0).1 in absurd (omega arith)
 
 -- who isn't told as unreached is reached, or isn't made yet
-pub known_by : (silent : List ℕ) (g : ProtectionGraph) (sight : Sight) → IsSightOf silent g sight → (x : ℕ) → ¬ ((x < length sight.marks.items) × (get_or sight.marks.items x false ≡ false)) → IsReachable g x ⊎ (g.made ≤ x)
-known_by silent g sight is x marked =
+pub known_by : (silent : List ℕ) (g : ProtectionGraph) (sight : Sight) → IsSightOf silent g sight → (x : ℕ) → ¬ ((x < sight.made) × (is_seen sight.seen x ≡ false)) → IsReachable g x ⊎ (g.made ≤ x)
+known_by silent g sight is x known =
     ⊎_elim
-    (λ (low : x < g.made). ⊎_elim (λ t. inl ((is.marks x low).0 t)) (λ f. absurd (marked (let same = is.all in omega (arith, same, low), f))) (cases_Bool (get_or sight.marks.items x false)))
+    (λ (low : x < g.made). ⊎_elim (λ t. inl ((is.reached x).0 t)) (λ f. absurd (known (let same = is.made in omega (arith, same, low), f))) (cases_Bool (is_seen sight.seen x)))
     inr
     (cases_lt x g.made)

@@ -1,6 +1,7 @@
 -- What C asks of a view: it is opened on what the workers of a store reach, and tells of each question as of then.
-use Rattle.std.specs.Prelude.{◌≡◌, ◌≢◌, ◌↔◌, ◌⊎◌, ℕ, ◌<◌, ◌≤◌, Bool, true, false, List, [], Some, None, IfSome, Result, Ok, Err, length, map, slice_index_or}
-use Rattle.std.specs.List.{Contains}
+use Rattle.std.specs.Prelude.{◌≡◌, ◌≢◌, ◌↔◌, ◌⊎◌, ℕ, ◌<◌, ◌≤◌, nat_eq, Bool, true, false, List, [], Option, Some, None, IfSome, Result, Ok, Err, map}
+use Rattle.std.specs.List.{Contains, list_any}
+use Rattle.indexmap.specs.IndexSet.{contains}
 use Rattle.tg_rights.specs.declared.Right.{Right}
 use Rattle.tg_model.specs.Graph.{ProtectionGraph, IsReachable, IsSound}
 use Rattle.tg_model.specs.Picture.{Shown, IsPictureOf}
@@ -15,6 +16,7 @@ use Rattle.tg_c.specs.declared.refusal.CallRefusal.TheVariants as refusal
 use Rattle.tg_c.specs.declared.view.place.ViewPlace.{ViewPlace}
 use Rattle.tg_c.specs.declared.view.sight.Glimpse.{Glimpse}
 use Rattle.tg_c.specs.declared.view.sight.Glimpse.TheVariants.{Never, Unreached, Perhaps}
+use Rattle.tg_c.specs.declared.view.sight.Seen.{Seen}
 use Rattle.tg_c.specs.declared.view.sight.Sight.{Sight}
 use Rattle.tg_c.specs.Calls.{AreMet, IsFirstUnmet, IsStatusWhere, state_in}
 use Rattle.tg_c.specs.Could.{AreActive, IsRefusedOn, JoinReached, asked_of_places, right_at, with_edges}
@@ -26,24 +28,28 @@ use Rattle.tg_c.specs.Forms.{edge_in}
 abbrev pub IsShownIn : Shown → ℕ → Type 0
 IsShownIn p x = Contains p.subjects x ⊎ IsLedTo p.edges x
 
--- exactly the names of those whom a picture shows are marked, of all that were made
-pub record AreMarked (p : Shown) (marks : List Bool) : Type 0 where
-  pub all : length marks ≡ p.made
-  pub each : (x : ℕ) → x < p.made → (slice_index_or marks x false ≡ true) ↔ IsShownIn p x
+-- these are exactly the names of those whom a picture shows
+abbrev pub AreShown : Shown → List ℕ → Type 0
+AreShown p names = (x : ℕ) → (list_any (nat_eq x) names ≡ true) ↔ IsShownIn p x
+
+-- whether a name is one of those who were seen to be reached: none is where no subject is active
+abbrev pub is_seen : Option Seen → ℕ → Bool
+is_seen None x = false
+is_seen (Some seen) x = contains nat_eq seen.reached x
 
 -- It is a view of a graph on which these are silent: one of a picture, so that what never comes about with the labels that this shows
--- never does on the graph, where x is reached or isn't made yet; none where no subject is active. Exactly the names of those who are
--- reached are marked.
+-- never does on the graph, where x is reached or isn't made yet; none where no subject is active. It has exactly the names of those
+-- who are reached.
 pub record IsSightOf (silent : List ℕ) (g : ProtectionGraph) (sight : Sight) : Type 0 where
   pub sound : IsSound g
   pub shown : Shown
   pub other : ProtectionGraph
-  pub view : IfSome sight.view (IsViewOf silent shown)
-  pub nobody : sight.view ≡ None → g.subjects ≡ []
+  pub view : IfSome sight.seen (λ seen. IsViewOf silent shown seen.view)
+  pub nobody : sight.seen ≡ None → g.subjects ≡ []
   pub picture : IsPictureOf shown other
   pub back : (x : ℕ) (right : Right) (y : ℕ) → IsReachable g x ⊎ (g.made ≤ x) → NeverHolds silent other x right y → NeverHolds silent g x right y
-  pub all : length sight.marks.items ≡ g.made
-  pub marks : (x : ℕ) → x < g.made → (slice_index_or sight.marks.items x false ≡ true) ↔ IsReachable g x
+  pub made : sight.made ≡ g.made
+  pub reached : (x : ℕ) → (is_seen sight.seen x ≡ true) ↔ IsReachable g x
 
 -- What is told of a question on a graph. `Never`: x never holds the right over y. `Unreached`: x was made, no active subject reaches it,
 -- and it holds what it holds. `Perhaps` says nothing of a right.

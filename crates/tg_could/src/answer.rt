@@ -13,6 +13,9 @@ use std::alloc::{AllocError, Global};
 use tg_model::{Deed, Picture};
 use tg_rights::Right;
 
+// How many names that nobody asks about turns make at most, on the way to one that is asked about.
+const MOST_MADE: u64 = 1 << 16;
+
 /// What comes of the question whether x could ever come to hold a right over y. Who acts is an active subject that
 /// isn't silent; whoever is spawned later acts too.
 #[derive(Drop)]
@@ -30,14 +33,18 @@ pub enum Answer {
         /// How many names are wanting.
         names: u64,
     },
-    /// Neither was shown: the sets that the search found don't part x from the right, nor do its turns lead there.
+    /// Neither was shown: the sets that the search found don't part x from the right, nor do its turns lead there. It
+    /// is told of a name that isn't made yet and over 65,536 others come before, since turns would have to make all of
+    /// them: ask about the next name in its place. Otherwise it never came.
     Open,
 }
 
 /// Whether x could ever come to hold a right over y, by any turns of the active subjects but the silent ones, on the
 /// graph of which this is a picture. A name in `silent` that was never made counts for nothing. Who retired is asked
 /// about like any object. A name that isn't made yet is asked about as one that whoever acts may make, and may have the
-/// right over, or hand it to. Takes time and memory in proportion to the picture. Fails only when out of memory.
+/// right over, or hand it to: a `Could` makes each name up to it, and where over 65,536 others come before it the
+/// answer is `Never` or `Open`. Takes time and memory in proportion to the picture and to these. Fails only when out of
+/// memory.
 pub fn could_hold(
     alloc: Global,
     picture: &Picture,
@@ -67,6 +74,9 @@ fn tell_turns(
 ) -> Result<Answer, AllocError>
     ensures { IfOk result (λ answer. (g : ProtectionGraph) → IsPictureOf picture.now g → IsAnswer silent.now g x right y answer) }
 {
+    if is_far(picture, x) || is_far(picture, y) {
+        return Ok(Answer::Open);
+    }
     let rows = found.rows(alloc, picture, x)?;
     let planned = turns_to(alloc, picture, found, rows.copy(alloc)?, x, right, y)?;
     let names = planned.made.saturating_sub(picture.limit());
@@ -92,6 +102,11 @@ fn tell_turns(
         return Ok(Answer::WantsNames { turns, names });
     }
     Ok(Answer::Open)
+}
+
+// Whether more names than turns make come before one that isn't made yet and may be made.
+fn is_far(picture: &Picture, name: u64) -> bool {
+    comes_later(picture, name) && name - picture.made() > MOST_MADE
 }
 
 // Whether fewer than 64 names are left, or fewer behind x or y where one of these may yet be made.

@@ -13,7 +13,7 @@ pub(crate) fn place(at: usize) -> u32 {
 }
 
 /// The place of an edge, and of the next link of the same vertex.
-#[derive(Clone, Copy, Debug, Drop)]
+#[derive(Clone, Copy, Drop)]
 pub(crate) struct Chained {
     pub(crate) edge: u32,
     pub(crate) next: u32,

@@ -19,7 +19,7 @@ pub(crate) fn number_of(vertex: u64) -> Option<u32> {
 
 /// An edge as one of its ends sees it, in 8 bytes: four times the other end, two more for take, one more for grant; and
 /// the place of the next link of the same vertex.
-#[derive(Clone, Copy, Debug, Drop)]
+#[derive(Clone, Copy, Drop)]
 pub(crate) struct Link {
     packed: u32,
     next: u32,

@@ -24,7 +24,7 @@ fn all_three(right: Right) -> Label {
 }
 
 /// The right that is asked for, and who holds it at first.
-#[derive(Clone, Copy, Debug, Drop)]
+#[derive(Clone, Copy, Drop)]
 struct Goal {
     right: Right,
     over: u64,
@@ -32,7 +32,7 @@ struct Goal {
 }
 
 /// Where the way ends.
-#[derive(Clone, Copy, Debug, Drop)]
+#[derive(Clone, Copy, Drop)]
 enum End {
     /// At x, who acts.
     Itself,
@@ -49,32 +49,41 @@ pub(crate) struct Planned {
     pub(crate) made: u64,
 }
 
-// How far a way was gone: the steps since the last who acts, who acted before, and the mailbox that is handed on.
+// How far a way was gone: the place of the last who acts on it, who acted before, and the mailbox that is handed on.
 #[derive(Drop)]
 struct Way {
-    stretch: Vec<Step>,
+    place: usize,
     before: Option<u64>,
     last: Option<u64>,
     mailbox: u64,
 }
 
-// The turns so far, and the graph behind them.
+// The turns so far, and the graph behind them. Where memory was wanting once, no turn is taken any more, and the end
+// tells it.
 #[derive(Drop)]
 struct Plan<'a> {
-    alloc: Global,
     picture: &'a Picture,
     found: &'a Found,
     goal: Goal,
     trial: Trial,
     turns: Vec<(u64, Deed)>,
+    taken: Result<(), AllocError>,
 }
 
 impl<'a> Plan<'a> {
     // Takes a turn, whatever comes of it.
-    fn turn(&mut self, worker: u64, deed: Deed) -> Result<(), AllocError> {
-        let turn = (worker, deed);
-        let _ = self.trial.take_turn(self.picture.edges(), &[], 0, &turn)?;
+    fn turn(&mut self, worker: u64, deed: Deed) {
+        if self.taken.is_ok() {
+            self.taken = self.try_turn((worker, deed));
+        }
+    }
+
+    // The same. Fails only when out of memory.
+    fn try_turn(&mut self, turn: (u64, Deed)) -> Result<(), AllocError> {
         self.turns.push(turn)?;
+        if let Some(turn) = self.turns.last() {
+            self.trial.take_turn(self.picture.edges(), &[], 0, turn)?;
+        }
         Ok(())
     }
 
@@ -85,48 +94,46 @@ impl<'a> Plan<'a> {
     }
 
     // Takes rights, where they aren't held yet.
-    fn take(&mut self, x: u64, via: u64, target: u64, rights: Label) -> Result<(), AllocError> {
-        if self.has_all(x, target, rights) {
-            return Ok(());
+    fn take(&mut self, x: u64, via: u64, target: u64, rights: Label) {
+        if !self.has_all(x, target, rights) {
+            let command = Command::Take {
+                rights,
+                via,
+                target,
+            };
+            self.turn(x, Deed::Plain(command));
         }
-        let command = Command::Take {
-            rights,
-            via,
-            target,
-        };
-        self.turn(x, Deed::Plain(command))
     }
 
     // Grants rights, where they aren't held yet.
-    fn grant(&mut self, x: u64, via: u64, target: u64, rights: Label) -> Result<(), AllocError> {
-        if self.has_all(via, target, rights) {
-            return Ok(());
+    fn grant(&mut self, x: u64, via: u64, target: u64, rights: Label) {
+        if !self.has_all(via, target, rights) {
+            let command = Command::Grant {
+                rights,
+                via,
+                target,
+            };
+            self.turn(x, Deed::Plain(command));
         }
-        let command = Command::Grant {
-            rights,
-            via,
-            target,
-        };
-        self.turn(x, Deed::Plain(command))
     }
 
     // Makes an object over which x has these rights.
-    fn create(&mut self, x: u64, label: Label) -> Result<u64, AllocError> {
+    fn create(&mut self, x: u64, label: Label) -> u64 {
         let name = self.trial.made();
         let deed = Deed::Create {
             label,
             law: Law::Cell,
             state: Numbers::one(0),
         };
-        self.turn(x, deed)?;
-        Ok(name)
+        self.turn(x, deed);
+        name
     }
 
     // Makes a subject over which x has take and grant. Where as many as may be are active, another who acts retires
     // first.
-    fn spawn(&mut self, x: u64) -> Result<u64, AllocError> {
+    fn spawn(&mut self, x: u64) -> u64 {
         if self.trial.subjects().len() as u64 >= MAX_WORKERS {
-            self.make_room(x)?;
+            self.make_room(x);
         }
         let name = self.trial.made();
         let deed = Deed::Spawn {
@@ -134,148 +141,134 @@ impl<'a> Plan<'a> {
             law: Law::Cell,
             state: Numbers::one(0),
         };
-        self.turn(x, deed)?;
-        Ok(name)
+        self.turn(x, deed);
+        name
     }
 
     // Another than x who acts retires.
-    fn make_room(&mut self, x: u64) -> Result<(), AllocError> {
-        let found = self.found;
-        let other = self
-            .picture
-            .subjects()
-            .iter()
-            .copied()
-            .find(|subject| *subject != x && found.acts(*subject));
-        match other {
-            Some(other) => self.turn(other, Deed::Plain(Command::Retire)),
-            None => Ok(()),
+    fn make_room(&mut self, x: u64) {
+        let picture = self.picture;
+        for subject in picture.subjects() {
+            if *subject != x && self.found.acts(*subject) {
+                return self.turn(*subject, Deed::Plain(Command::Retire));
+            }
         }
     }
 
     // Makes the names that are asked about and aren't made yet: the maker of x makes it, another one all others.
-    fn make_names(&mut self, x: u64, maker: u64, other: u64) -> Result<(), AllocError> {
+    fn make_names(&mut self, x: u64, maker: u64, other: u64) {
         let x_comes = comes_later(self.picture, x);
         let mut last = if x_comes { x } else { 0 };
         if comes_later(self.picture, self.goal.over) {
             last = last.max(self.goal.over);
         } else if !x_comes {
-            return Ok(());
+            return;
         }
         for name in self.picture.made()..last.saturating_add(1) {
             let worker = if name == x { maker } else { other };
-            self.create(worker, all_three(self.goal.right))?;
+            self.create(worker, all_three(self.goal.right));
         }
-        Ok(())
     }
 
-    // The first of these takes the take right over each in turn.
-    fn along(&mut self, walk: &[u64]) -> Result<(), AllocError> {
-        let Some(first) = walk.first().copied() else {
-            return Ok(());
-        };
+    // Takes the take right over the next vertex of a walk, which is over one before it.
+    fn walk(&mut self, first: u64, via: u64, target: u64) {
+        if via != first {
+            let rights = single(Right::T);
+            let command = Command::Take {
+                rights,
+                via,
+                target,
+            };
+            self.turn(first, Deed::Plain(command));
+        }
+    }
+
+    // Who stands first takes the take right over each behind it in turn.
+    fn along(&mut self, first: u64, walk: &[Step]) {
         let mut via = first;
-        for target in walk.iter().copied() {
-            if via != first {
-                let rights = single(Right::T);
-                let command = Command::Take {
-                    rights,
-                    via,
-                    target,
-                };
-                self.turn(first, Deed::Plain(command))?;
-            }
-            via = target;
+        for step in walk {
+            self.walk(first, via, step.vertex);
+            via = step.vertex;
         }
-        Ok(())
     }
 
-    // The first who acts takes the right, or else take over who has it, and puts it into a new mailbox.
-    fn begin(&mut self, walk: &[u64]) -> Result<u64, AllocError> {
-        let Some(first) = walk.first().copied() else {
-            return Ok(0);
-        };
+    // Who stands last takes the take right over each before it in turn.
+    fn back_along(&mut self, last: u64, walk: &[Step]) {
+        let mut via = last;
+        for step in walk.iter().rev() {
+            self.walk(last, via, step.vertex);
+            via = step.vertex;
+        }
+    }
+
+    // The first who acts, at the end of a stretch, takes the right, or else take over who has it, and puts it into a
+    // new mailbox.
+    fn begin(&mut self, stretch: &[Step], first: u64) -> u64 {
         let Goal {
             right,
             over,
             source,
         } = self.goal;
-        self.along(walk)?;
-        let mailbox = self.create(first, both())?;
+        self.back_along(first, stretch);
+        let mailbox = self.create(first, both());
         if first == over {
-            self.grant(first, mailbox, source, single(Right::T))?;
-            return Ok(mailbox);
+            self.grant(first, mailbox, source, single(Right::T));
+        } else {
+            self.take(first, source, over, single(right));
+            self.grant(first, mailbox, over, single(right));
         }
-        self.take(first, source, over, single(right))?;
-        self.grant(first, mailbox, over, single(right))?;
-        Ok(mailbox)
+        mailbox
     }
 
     // Hands take and grant over the mailbox on from the first of a stretch to the last.
-    fn hand_on(&mut self, stretch: &[Step], mailbox: u64) -> Result<(), AllocError> {
-        let (Some(first), Some(last)) = (stretch.first().copied(), stretch.last().copied()) else {
-            return Ok(());
-        };
-        let between = self.mailbox(stretch, first.vertex, last.vertex)?;
-        self.grant(first.vertex, between, mailbox, both())?;
-        self.take(last.vertex, between, mailbox, both())?;
-        if last.vertex == self.goal.over {
-            return Ok(());
+    fn hand_on(&mut self, stretch: &[Step], first: u64, last: u64, mailbox: u64) {
+        let between = self.mailbox(stretch, first, last);
+        self.grant(first, between, mailbox, both());
+        self.take(last, between, mailbox, both());
+        if last != self.goal.over {
+            self.fetch(last, mailbox);
         }
-        self.fetch(last.vertex, mailbox)
     }
 
     // Where the mailbox has no more than take over who holds the right, the right is fetched.
-    fn fetch(&mut self, x: u64, mailbox: u64) -> Result<(), AllocError> {
+    fn fetch(&mut self, x: u64, mailbox: u64) {
         let Goal {
             right,
             over,
             source,
         } = self.goal;
-        if self.has_all(mailbox, over, single(right)) {
-            return Ok(());
+        if !self.has_all(mailbox, over, single(right)) {
+            self.take(x, mailbox, source, single(Right::T));
+            self.take(x, source, over, single(right));
+            self.grant(x, mailbox, over, single(right));
         }
-        self.take(x, mailbox, source, single(Right::T))?;
-        self.take(x, source, over, single(right))?;
-        self.grant(x, mailbox, over, single(right))
     }
 
     // A new vertex over which both ends of a stretch have take and grant.
-    fn mailbox(&mut self, stretch: &[Step], p: u64, q: u64) -> Result<u64, AllocError> {
-        let turn = stretch
-            .iter()
-            .skip(1)
-            .position(|step| !step.forward)
-            .map_or(stretch.len(), |at| at.saturating_add(1));
-        let down = names_of(self.alloc, stretch, 0, turn)?;
-        let mut up = names_of(self.alloc, stretch, turn, stretch.len())?;
-        up.reverse();
-        self.mailbox_between(down.as_slice(), &mut up, p, q)
+    fn mailbox(&mut self, stretch: &[Step], p: u64, q: u64) -> u64 {
+        let turn = turn_of(stretch);
+        if turn < stretch.len() {
+            return self.mailbox_between(
+                part(stretch, 0, turn),
+                part(stretch, turn, stretch.len()),
+                p,
+                q,
+            );
+        }
+        self.along(p, stretch);
+        self.make_for(q, p)
     }
 
-    // The same, where p walks down to the last of one list, and q up to the last of the other.
-    fn mailbox_between(
-        &mut self,
-        down: &[u64],
-        up: &mut Vec<u64>,
-        p: u64,
-        q: u64,
-    ) -> Result<u64, AllocError> {
-        let (Some(a), Some(b)) = (down.last().copied(), up.last().copied()) else {
-            self.along(down)?;
-            let new = self.create(q, both())?;
-            self.take(p, q, new, both())?;
-            return Ok(new);
-        };
+    // The same, where p walks down the steps forward, and q up the steps back.
+    fn mailbox_between(&mut self, down: &[Step], up: &[Step], p: u64, q: u64) -> u64 {
+        let a = vertex_of(down.last(), p);
+        let b = vertex_of(up.first(), q);
+        self.along(p, down);
+        self.back_along(q, up);
         if a == p && self.has_all(b, p, single(Right::T)) {
-            up.push(p)?;
-            self.along(up.as_slice())?;
-            let new = self.create(p, both())?;
-            self.take(q, p, new, both())?;
-            return Ok(new);
+            self.walk(q, b, p);
+            return self.make_for(p, q);
         }
-        self.along(down)?;
-        self.along(up.as_slice())?;
         if self.has_all(a, b, single(Right::G)) {
             self.meet(p, a, b, q)
         } else {
@@ -283,140 +276,151 @@ impl<'a> Plan<'a> {
         }
     }
 
+    // A new vertex that p makes, and q, who has take over p, takes.
+    fn make_for(&mut self, p: u64, q: u64) -> u64 {
+        let new = self.create(p, both());
+        self.take(q, p, new, both());
+        new
+    }
+
     // p puts a new vertex where q can take it: a, to which p walks, has grant over b, to which q walks.
-    fn meet(&mut self, p: u64, a: u64, b: u64, q: u64) -> Result<u64, AllocError> {
+    fn meet(&mut self, p: u64, a: u64, b: u64, q: u64) -> u64 {
         if a != p {
-            self.take(p, a, b, single(Right::G))?;
+            self.take(p, a, b, single(Right::G));
         }
-        let new = self.create(p, both())?;
-        if b == q {
-            self.grant(p, q, new, both())?;
-        } else {
-            self.grant(p, b, new, both())?;
-            self.take(q, b, new, both())?;
+        let new = self.create(p, both());
+        self.grant(p, b, new, both());
+        if b != q {
+            self.take(q, b, new, both());
         }
-        Ok(new)
+        new
     }
 
     // The last who acts walks to one that has grant over x, and the right is granted to x.
-    fn end(
-        &mut self,
-        walk: &[u64],
-        before: Option<u64>,
-        x: u64,
-        mailbox: u64,
-    ) -> Result<(), AllocError> {
-        let (Some(last), Some(giver)) = (walk.first().copied(), walk.last().copied()) else {
-            return Ok(());
-        };
+    fn end(&mut self, walk: &[Step], last: u64, way: &Way, x: u64) {
         let Goal { right, over, .. } = self.goal;
-        self.along(walk)?;
+        self.along(last, walk);
+        let giver = vertex_of(walk.last(), last);
         if giver != last {
-            self.take(last, giver, x, single(Right::G))?;
+            self.take(last, giver, x, single(Right::G));
         }
         if last == over {
-            return self.end_behind(last, before, x, mailbox);
+            return self.end_behind(last, way, x);
         }
-        self.take(last, mailbox, over, single(right))?;
-        self.grant(last, x, over, single(right))
+        self.take(last, way.mailbox, over, single(right));
+        self.grant(last, x, over, single(right));
     }
 
     // The right is over the last who acts, who can't hold it: the one before it grants it to x, or one that it spawns.
-    fn end_behind(
-        &mut self,
-        last: u64,
-        before: Option<u64>,
-        x: u64,
-        mailbox: u64,
-    ) -> Result<(), AllocError> {
+    fn end_behind(&mut self, last: u64, way: &Way, x: u64) {
         let Goal { right, over, .. } = self.goal;
-        let holder = match before {
+        let mailbox = way.mailbox;
+        let holder = match way.before {
             Some(before) => before,
-            None => {
-                let spawned = self.spawn(last)?;
-                self.grant(last, spawned, mailbox, both())?;
-                self.fetch(spawned, mailbox)?;
-                spawned
-            }
+            None => self.spawn_holder(last, mailbox),
         };
-        self.grant(last, mailbox, x, single(Right::G))?;
-        self.take(holder, mailbox, x, single(Right::G))?;
-        self.take(holder, mailbox, over, single(right))?;
-        self.grant(holder, x, over, single(right))
+        self.grant(last, mailbox, x, single(Right::G));
+        self.take(holder, mailbox, x, single(Right::G));
+        self.take(holder, mailbox, over, single(right));
+        self.grant(holder, x, over, single(right));
+    }
+
+    // Spawns one who puts the right into the mailbox.
+    fn spawn_holder(&mut self, last: u64, mailbox: u64) -> u64 {
+        let spawned = self.spawn(last);
+        self.grant(last, spawned, mailbox, both());
+        self.fetch(spawned, mailbox);
+        spawned
+    }
+
+    // Leads the right to x, where the search did. Fails only when out of memory.
+    fn try_lead(&mut self, alloc: Global, x: u64) -> Result<(), AllocError> {
+        let Some(end) = end_of(self.picture, self.found, x) else {
+            return Ok(());
+        };
+        let path = path_to(alloc, self.found, x, end)?;
+        self.lead(path.as_slice(), x, end);
+        self.taken
     }
 
     // Leads the right to x along a path, unless x holds it.
-    fn lead(&mut self, path: &[Step], x: u64, end: End) -> Result<(), AllocError> {
-        let (Some(first), Some(last)) = (path.first().copied(), path.last().copied()) else {
-            return Ok(());
+    fn lead(&mut self, path: &[Step], x: u64, end: End) {
+        let (Some(first), Some(last)) = (path.first(), path.last()) else {
+            return;
         };
         let Goal { right, over, .. } = self.goal;
         if self.has_all(x, over, single(right)) {
-            return Ok(());
+            return;
         }
         self.goal.source = first.vertex;
-        self.make_names(x, last.vertex, first.vertex)?;
+        self.make_names(x, last.vertex, first.vertex);
+        self.follow(path, x, end);
+    }
+
+    // Goes a path to its end.
+    fn follow(&mut self, path: &[Step], x: u64, end: End) {
         let mut way = Way {
-            stretch: Vec::new(self.alloc),
+            place: 0,
             before: None,
             last: None,
             mailbox: 0,
         };
-        for step in path {
-            self.go(&mut way, *step)?;
+        for (at, step) in path.iter().enumerate() {
+            self.go(&mut way, path, at, step.vertex);
         }
-        self.arrive(&way, x, end)
+        self.arrive(&way, path, x, end);
     }
 
     // Goes one step, from one who acts to the next, with one mailbox that is handed on.
-    fn go(&mut self, way: &mut Way, step: Step) -> Result<(), AllocError> {
-        let vertex = step.vertex;
-        if way.last == Some(vertex) {
-            return Ok(());
-        }
-        way.stretch.push(step)?;
+    fn go(&mut self, way: &mut Way, path: &[Step], at: usize, vertex: u64) {
         if !self.found.acts(vertex) {
-            return Ok(());
+            return;
         }
-        if way.last.is_some() {
-            self.hand_on(way.stretch.as_slice(), way.mailbox)?;
-        } else {
-            way.mailbox = self.set_out(way.stretch.as_slice())?;
+        let stretch = part(path, way.place, at.saturating_add(1));
+        match way.last {
+            Some(last) if last == vertex => {}
+            Some(last) => self.hand_on(stretch, last, vertex, way.mailbox),
+            None => way.mailbox = self.begin(stretch, vertex),
         }
-        way.before = way.last;
+        if way.last != Some(vertex) {
+            way.before = way.last;
+        }
         way.last = Some(vertex);
-        way.stretch.clear();
-        way.stretch.push(step)?;
-        Ok(())
-    }
-
-    // The first who acts begins, at the end of a stretch.
-    fn set_out(&mut self, stretch: &[Step]) -> Result<u64, AllocError> {
-        let mut walk = names_of(self.alloc, stretch, 0, stretch.len())?;
-        walk.reverse();
-        self.begin(walk.as_slice())
+        way.place = at;
     }
 
     // The last who acts hands the right to x, or is x.
-    fn arrive(&mut self, way: &Way, x: u64, end: End) -> Result<(), AllocError> {
-        if matches!(end, End::Itself) {
-            let Goal { right, over, .. } = self.goal;
-            return self.take(x, way.mailbox, over, single(right));
+    fn arrive(&mut self, way: &Way, path: &[Step], x: u64, end: End) {
+        let Goal { right, over, .. } = self.goal;
+        match (end, way.last) {
+            (End::Itself, _) => self.take(x, way.mailbox, over, single(right)),
+            (_, Some(last)) => self.end(part(path, way.place, path.len()), last, way, x),
+            (_, None) => {}
         }
-        let walk = names_of(self.alloc, way.stretch.as_slice(), 0, way.stretch.len())?;
-        self.end(walk.as_slice(), way.before, x, way.mailbox)
     }
 }
 
-// The vertices of some steps.
-fn names_of(alloc: Global, steps: &[Step], from: usize, to: usize) -> Result<Vec<u64>, AllocError> {
-    let mut names = Vec::new(alloc);
-    for at in from..to {
-        if let Some(step) = steps.get(at) {
-            names.push(step.vertex)?;
+// How many steps a stretch goes forward, the first counted with them.
+fn turn_of(stretch: &[Step]) -> usize {
+    for (at, step) in stretch.iter().enumerate() {
+        if at > 0 && !step.forward {
+            return at;
         }
     }
-    Ok(names)
+    stretch.len()
+}
+
+// The vertex of a step, another one where there is none.
+fn vertex_of(step: Option<&Step>, other: u64) -> u64 {
+    match step {
+        Some(step) => step.vertex,
+        None => other,
+    }
+}
+
+// Some of the steps, none past the last.
+fn part(steps: &[Step], from: usize, to: usize) -> &[Step] {
+    steps.get(from..to).unwrap_or(&[])
 }
 
 // Where the search ends for x: at x itself, at one that has grant over x, or at one who may make it.
@@ -425,13 +429,26 @@ fn end_of(picture: &Picture, found: &Found, x: u64) -> Option<End> {
         return Some(End::Itself);
     }
     if comes_later(picture, x) {
-        let maker = picture.subjects().iter().copied().find(|subject| found.acts(*subject)
-            && found.sides.is_back(*subject));
-        return maker.map(End::Maker);
+        return Some(End::Maker(maker_in(picture, found)?));
     }
+    Some(End::Giver(giver_to(picture, found, x)?))
+}
+
+// The first who acts and may come to hold the right.
+fn maker_in(picture: &Picture, found: &Found) -> Option<u64> {
+    for subject in picture.subjects() {
+        if found.acts(*subject) && found.sides.is_back(*subject) {
+            return Some(*subject);
+        }
+    }
+    None
+}
+
+// The first who has grant over x, and may be handed the right.
+fn giver_to(picture: &Picture, found: &Found, x: u64) -> Option<u64> {
     for edge in picture.edges() {
         if edge.to == x && has(edge.label, Right::G) && found.sides.is_forward(edge.from) {
-            return Some(End::Giver(edge.from));
+            return Some(edge.from);
         }
     }
     None
@@ -458,7 +475,6 @@ pub(crate) fn turns_to(
     y: u64,
 ) -> Result<Planned, AllocError> {
     let mut plan = Plan {
-        alloc,
         picture,
         found,
         goal: Goal {
@@ -468,11 +484,9 @@ pub(crate) fn turns_to(
         },
         trial: Trial::new(alloc, picture, rows, u64::MAX)?,
         turns: Vec::new(alloc),
+        taken: Ok(()),
     };
-    if let Some(end) = end_of(picture, found, x) {
-        let path = path_to(alloc, found, x, end)?;
-        plan.lead(path.as_slice(), x, end)?;
-    }
+    plan.try_lead(alloc, x)?;
     Ok(Planned {
         turns: plan.turns,
         made: plan.trial.made(),

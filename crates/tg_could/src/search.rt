@@ -11,7 +11,7 @@ use tg_model::{Edge, Picture};
 use tg_rights::Right;
 
 /// A vertex that was put into a set.
-#[derive(Clone, Copy, Debug, Drop)]
+#[derive(Clone, Copy, Drop)]
 pub(crate) struct Step {
     pub(crate) vertex: u64,
     pub(crate) forward: bool,
@@ -19,7 +19,7 @@ pub(crate) struct Step {
 
 // A step as it is kept, in 8 bytes: the number of the vertex twice, and one more where it was put into the first set;
 // and the place of the step that led there, `NONE` where the search began.
-#[derive(Clone, Copy, Debug, Drop)]
+#[derive(Clone, Copy, Drop)]
 struct Kept {
     packed: u32,
     before: u32,
@@ -336,10 +336,11 @@ impl Found {
         let Some(wanted) = Kept::of(number, forward, NONE) else {
             return NONE;
         };
-        let end = self
-            .steps
-            .iter()
-            .position(|kept| kept.packed == wanted.packed);
-        end.map_or(NONE, place)
+        for (at, kept) in self.steps.iter().enumerate() {
+            if kept.packed == wanted.packed {
+                return place(at);
+            }
+        }
+        NONE
     }
 }

@@ -23,7 +23,7 @@ pub struct Separation {
 }
 
 /// Where a vertex is: in the first set, and in the second.
-#[derive(Clone, Copy, Debug, Drop)]
+#[derive(Clone, Copy, Drop)]
 pub(crate) struct Place {
     pub(crate) forward: bool,
     pub(crate) back: bool,

@@ -52,7 +52,7 @@ fn takes_of(alloc: Global, count: usize, entries: &[Entry]) -> Result<Links, All
 }
 
 // A vertex on the path, the number that it got, and the place of the next take edge from it.
-#[derive(Clone, Copy, Debug, Drop)]
+#[derive(Clone, Copy, Drop)]
 struct Visit {
     vertex: u32,
     number: u32,

@@ -1,14 +1,15 @@
 //! What a view's handle leads to.
-ghost use Rattle.std.specs.Prelude.{◌≡◌, ◌↔◌, ◌<◌, ℕ, List, true, false, length, replicate, slice_index_or, slice_set, IfOk, IfErr, IsTrue};
+ghost use Rattle.std.specs.Prelude.{◌≡◌, ◌↔◌, ◌<◌, ℕ, List, false, IfOk, IfErr, IsTrue};
 ghost use Rattle.std.specs.List.{Contains};
-ghost use Rattle.tg_could.specs.Reached.{IsLedTo, IsReachedPicture};
+ghost use Rattle.tg_could.specs.Reached.{IsReachedPicture};
 ghost use Rattle.tg_model.specs.Graph.{ProtectionGraph, IsSound};
 ghost use Rattle.tg_c.specs.Calls.{IsMemoryOr};
 ghost use Rattle.tg_c.specs.Could.{JoinReached, with_edges};
-ghost use Rattle.tg_c.specs.View.{AreMarked, IsGlimpse, IsSightOf, kind_seen};
+ghost use Rattle.tg_c.specs.View.{AreShown, IsGlimpse, IsSightOf, is_seen, kind_seen};
 
 use crate::foresee::{join_reached, supposing};
 use crate::refusal::CallRefusal;
+use indexmap::IndexSet;
 use std::alloc::{AllocError, Global};
 use tg_could::{Chance, View};
 use tg_model::{Edge, Picture};
@@ -17,10 +18,17 @@ use tg_rights::Right;
 /// What could come about on what the active subjects of a graph reach, as of the moment when it was made.
 #[derive(Drop)]
 pub struct Sight {
-    // None where no subject is active: nothing comes about any more then.
-    view: Option<View>,
-    // Whether an active subject reaches the vertex with a name, for each name that was made.
-    marks: Vec<bool>,
+    // None where no subject is active: nobody is reached then, and nothing comes about any more.
+    seen: Option<Seen>,
+    // How many vertices were made.
+    made: u64,
+}
+
+// Where a subject is active: the view, and the names of those whom one reaches.
+#[derive(Drop)]
+struct Seen {
+    view: View,
+    reached: IndexSet<u64>,
 }
 
 /// What is told of a question by a view.
@@ -64,15 +72,16 @@ impl Sight {
         if !join_reached(picture, as_if) {
             return Err(CallRefusal::BadEdge);
         }
-        let marks = marks_of(alloc, picture)?;
+        let made = picture.made();
         if picture.subjects().is_empty() {
-            return Ok(Sight { view: None, marks });
+            return Ok(Sight { seen: None, made });
         }
+        let reached = names_shown(alloc, picture)?;
         let supposed = supposing(alloc, picture, as_if)?;
         let view = View::open(alloc, &supposed, silent)?;
         Ok(Sight {
-            view: Some(view),
-            marks,
+            seen: Some(Seen { view, reached }),
+            made,
         })
     }
 
@@ -84,53 +93,43 @@ impl Sight {
         if self.is_unreached(x) {
             return Glimpse::Unreached;
         }
-        let Some(view) = &self.view else {
+        let Some(seen) = &self.seen else {
             return Glimpse::Never;
         };
-        match view.could(x, right, y) {
+        match seen.view.could(x, right, y) {
             Chance::Never => Glimpse::Never,
             Chance::Perhaps => Glimpse::Perhaps,
         }
     }
 
-    // Whether a name was made, and has no mark.
+    // Whether the vertex with a name was made, and no active subject reaches it.
     fn is_unreached(&self, name: u64) -> bool
-        ensures { IsTrue result ↔ ((name < length self.now.marks.items) × (slice_index_or self.now.marks.items name false ≡ false)) }
+        ensures { IsTrue result ↔ ((name < self.now.made) × (is_seen self.now.seen name ≡ false)) }
     {
-        match self.marks.get(name as usize) {
-            Some(mark) => !*mark,
+        name < self.made && !self.has_seen(name)
+    }
+
+    // Whether a name is that of a vertex which an active subject reaches.
+    fn has_seen(&self, name: u64) -> bool
+        ensures { result ≡ is_seen self.now.seen name }
+    {
+        match &self.seen {
+            Some(seen) => seen.reached.contains(&name),
             None => false,
         }
     }
 }
 
-// For each name that was made, whether a picture shows that the vertex with it is reached. Fails only when out of
-// memory.
-fn marks_of(alloc: Global, picture: &Picture) -> Result<Vec<bool>, AllocError>
-    ensures { IfOk result (λ marks. AreMarked picture.now marks.items) }
+// The names of those whom a picture shows as reached. Fails only when out of memory.
+fn names_shown(alloc: Global, picture: &Picture) -> Result<IndexSet<u64>, AllocError>
+    ensures { IfOk result (λ names. AreShown picture.now names.keys) }
 {
-    let mut marks = no_marks(alloc, picture.made())?;
+    let mut names = IndexSet::new(alloc);
     for subject in picture.subjects() {
-        mark(&mut marks, *subject);
+        names.insert(*subject)?;
     }
     for edge in picture.edges() {
-        mark(&mut marks, edge.to);
+        names.insert(edge.to)?;
     }
-    Ok(marks)
-}
-
-// A mark for each name that was made, and none is set. Fails only when out of memory.
-fn no_marks(alloc: Global, made: u64) -> Result<Vec<bool>, AllocError>
-    ensures { IfOk result (λ marks. marks.items ≡ replicate made false) }
-{
-    vec![in alloc; false; made as usize]
-}
-
-// Sets the mark of a name, where there is one.
-fn mark(marks: &mut Vec<bool>, name: u64)
-    ensures { marks.new.items ≡ slice_set marks.old.items name true }
-{
-    if let Some(mark) = marks.get_mut(name as usize) {
-        *mark = true;
-    }
+    Ok(names)
 }

@@ -33,7 +33,7 @@ use Rattle.std_alloc.proofs.ResultValues.{and_tt}
 use Rattle.core.proofs.alloc.Calls.{handle_tells}
 use Rattle.std_heap.specs.contracts.Global as Heap
 use Rattle.tg_c.specs.contracts.view.handle.ViewHandle as Handle
-use Rattle.tg_c.proofs.SightBox.{E, no_marks}
+use Rattle.tg_c.proofs.SightBox.{E}
 use Rattle.tg_c.specs.contracts.view.handle.ViewHandle.closed as F
 use Rattle.tg_c.specs.contracts.view.handle.ViewHandle.closed.Key.{name as #self}
 use Rattle.tg_c.proofs.view.handle.ViewHandle.closed.Statement as stated
@@ -54,7 +54,7 @@ module _ {M : Type 1} {𝓤 : Ura M} (𝓛 : Logic 𝓤) (at_mem : Memory → SP
       let Post = (walk_of 𝓛 F.ended stayed (F.clauses 𝓛 at_mem run)).post z in
       let a = z.0.3.0 in
       let To = type_at (F.signature).result tt in
-      let made : To.Denot = record { at = null_ptr; alloc = a; is_open = false; opened = record { view = None; marks = no_marks a } } in
+      let made : To.Denot = record { at = null_ptr; alloc = a; is_open = false; opened = record { seen = None; made = 0 } } in
       qed 𝓛 ((‵ ftrue ⊛ ‵ (fsep (Heap.the_row.own_val a z.0.4.0) ftrue)) ∷ raw (emp 𝓤) ∷ []) ∵ split ! $ drop ! $ fsplit ! $
       handle_tells E.al ! a z.0.4.0 (λ hv ws fa. move ! (1 ∷ 2 ∷ []) $ drop ! $ drop ! $
       let w : Val = vstruct (vcons (vint w64 0) (vcons hv vnil)) in
