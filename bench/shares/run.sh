@@ -1,0 +1,9 @@
+#!/bin/sh
+# run.sh: a race of 1,000,000 calls. Eight clients on threads ask 125,000 times each: seven of them for a vertex, with a share of
+# 40,000, and the eighth keeps below its own. It builds and runs the program beside it (`main.rt.in`), which isn't proved, with the
+# crates that it needs, in a temporary folder, and tells what came of each client's calls.
+set -eu
+here=$(cd "$(dirname "$0")" && pwd)
+. "$here/../temporary.sh"
+take_crates shares tg_rights tg_model tg_payload tg_journal tg_store tg_shared tg_shares
+(cd "$program" && rt try --steps 1000 --seconds 900)

@@ -1,0 +1,21 @@
+//! Why a purse refuses.
+use thiserror::Error;
+
+/// Of what a purse has too few.
+#[derive(Clone, Copy, PartialEq, Eq, Debug, Error)]
+pub enum Lack {
+    /// Vertices that may still be made.
+    #[error("vertices")]
+    Vertices,
+    /// Entries of the journal.
+    #[error("entries")]
+    Entries,
+}
+
+/// A worker's own share is used up, whatever the store has. Nothing is changed by it.
+#[derive(Clone, Copy, PartialEq, Eq, Debug, Error)]
+#[error("too few {lacks} are left in the share of worker {worker}")]
+pub struct ShareFault {
+    pub worker: u64,
+    pub lacks: Lack,
+}
