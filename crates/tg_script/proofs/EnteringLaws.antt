@@ -192,6 +192,24 @@ enters_end_cut T s bytes t first p before left entries mid after h wrote =
       w.3 ∙ ap Some (append_assoc before text w.0),
     )
 
+-- ---- what a call wrote of it
+
+-- the opening that was written is the plan's, behind what was known to stand
+pub opening_wrote : (p q : Plan) (before : List ℕ) (taken after : Option (List ℕ)) → q ≡ p → taken ≡ Some before → Wrote taken (head_text q) after → after ≡ Some (before ++ head_text p)
+opening_wrote p q before taken after same known wrote =
+    subst (λ (x : Plan). after ≡ Some (before ++ head_text x)) same (subst (λ (x : Option (List ℕ)). Wrote x (head_text q) after) known wrote)
+
+pub opening_cut : (p q : Plan) (before : List ℕ) (taken after : Option (List ℕ)) → q ≡ p → taken ≡ Some before → WroteSome taken (head_text q) after → WroteSome (Some before) (head_text p) after
+opening_cut p q before taken after same known wrote =
+    subst (λ (x : Plan). WroteSome (Some before) (head_text x) after) same (subst (λ (x : Option (List ℕ)). WroteSome x (head_text q) after) known wrote)
+
+-- the number that was written is that of the entries
+pub end_wrote : (held entries : List Entry) (count : ℕ) (taken after : Option (List ℕ)) → count ≡ length held → held ≡ entries → Wrote taken (end_text count) after → Wrote taken (end_text (length entries)) after
+end_wrote held entries count taken after is same wrote = subst (λ (n : ℕ). Wrote taken (end_text n) after) (is ∙ ap (λ (es : List Entry). length es) same) wrote
+
+pub end_cut : (held entries : List Entry) (count : ℕ) (taken after : Option (List ℕ)) → count ≡ length held → held ≡ entries → WroteSome taken (end_text count) after → WroteSome taken (end_text (length entries)) after
+end_cut held entries count taken after is same wrote = subst (λ (n : ℕ). WroteSome taken (end_text n) after) (is ∙ ap (λ (es : List Entry). length es) same) wrote
+
 -- ---- the whole of a script
 
 edges_of-edges : (edges : List Edge) → edges_of (edge_lines edges) ≡ edges

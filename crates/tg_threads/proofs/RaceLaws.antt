@@ -8,7 +8,7 @@ use Rattle.std.proofs.lemmas.List.Elements.{All-head}
 use Rattle.std.proofs.lemmas.List.FromFn.{length-map-range_with_len, length-range_with_len}
 use Rattle.tg_model.specs.declared.edge.Edge.{Edge}
 use Rattle.tg_model.specs.declared.value.Value.{Value}
-use Rattle.tg_model.specs.Opened.{Plan, start_of}
+use Rattle.tg_model.specs.Opened.{IsPlan, Plan, start_of}
 use Rattle.tg_journal.specs.History.{IsLegal, IsAuditFault}
 use Rattle.tg_journal.specs.declared.entry.Entry.{Entry}
 use Rattle.tg_journal.specs.declared.replay.AuditFault.{AuditFault}
@@ -35,7 +35,7 @@ use Rattle.tg_weave.specs.Telling.{text_of_told}
 use Rattle.tg_script.specs.Entering.{plan_of}
 use Rattle.tg_threads.specs.Output.{Arena, IsNewStore, IsRaceOutput, RaceText, arena_of}
 use Rattle.tg_threads.specs.Tasks.{AllBring, AreRaced, all_assigned, assigned_of}
-use Rattle.tg_threads.specs.Race.{EndsRace, HasRaced, IsOfTelling, IsRaceDue, IsWhole, TellsRace, race_fault_of_audit, race_read_failures, race_write_failures}
+use Rattle.tg_threads.specs.Race.{EndsRace, HasHistory, HasRaced, IsOfTelling, IsRaceDue, IsWhole, TellsRace, race_fault_of_audit, race_read_failures, race_write_failures}
 use Rattle.tg_threads.proofs.ShareLaws.{each_assigned}
 use Rattle.tg_threads.proofs.WeaveLaws.{bring_as_many, each_told}
 
@@ -100,15 +100,16 @@ unclosed closing.ReceiptMismatch missing mismatch = inr (mismatch refl)
 -- ---- the whole
 
 -- what the lines came to, with a legal history, is an output
-raced_output : (race_text : RaceText) (start : Start) (shared : SharedStart) (lines : List Line) (s : StoreState) (ts : List Told) → IsNewStore (plan_of start lines) start.blocks shared → s.opening ≡ plan_of start lines → AreRaced (arena_of shared start.helpers) start.workers (boxed start.stock (commands_of lines)) s.entries ts → IsLegal (start_of s.opening) s.entries →
+raced_output : (race_text : RaceText) (start : Start) (shared : SharedStart) (lines : List Line) (s : StoreState) (ts : List Told) → IsNewStore (plan_of start lines) start.blocks shared → s.opening ≡ plan_of start lines → AreRaced (arena_of shared start.helpers) start.workers (boxed start.stock (commands_of lines)) s.entries ts → HasHistory s →
     IsRaceOutput race_text start lines (race_text s.opening s.entries (text_of_told s.entries ts))
-raced_output race_text start shared lines s ts new opening raced legal = record {
+raced_output race_text start shared lines s ts new opening raced history = record {
   shared = shared;
   new = new;
   entries = s.entries;
   made = raced.made;
   replies = text_of_told s.entries ts;
-  legal = subst (λ (p : Plan). IsLegal (start_of p) s.entries) opening legal;
+  plan = subst IsPlan opening history.0;
+  legal = subst (λ (p : Plan). IsLegal (start_of p) s.entries) opening history.1;
   told = raced.told;
   each = raced.each;
   text_is = ap (λ (p : Plan). race_text p s.entries (text_of_told s.entries ts)) opening;

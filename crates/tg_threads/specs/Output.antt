@@ -8,7 +8,7 @@ use Rattle.tg_model.specs.declared.command.Command.TheVariants.{Retire}
 use Rattle.tg_model.specs.declared.command.Deed.{Deed}
 use Rattle.tg_model.specs.declared.command.Deed.TheVariants as deed
 use Rattle.tg_model.specs.declared.reply.Reply.TheVariants as reply
-use Rattle.tg_model.specs.Opened.{Plan}
+use Rattle.tg_model.specs.Opened.{IsPlan, Plan}
 use Rattle.tg_model.specs.Rules.{IsAllowed}
 use Rattle.tg_word.specs.Word.{nursery_space}
 use Rattle.tg_space.specs.declared.kind.Kind.{Kind}
@@ -153,16 +153,17 @@ reply_race p entries replies = replies ++ end_text (length entries)
 abbrev pub entry_race : RaceText
 entry_race p entries replies = history_text p entries
 
--- The text may be written for these lines: there is a legal history of their opening whose entries are those of the command lines,
--- one for each that has one and no other, each worker's in script order; and the replies tell in script order the reply of each
--- entry where its line stands, a refusal for each command line without an entry, and one line for each collection, where the store
--- was one of that opening when it was shared. Of these the text is made.
+-- The text may be written for these lines: their opening is accepted, and there is a legal history of it whose entries are those of
+-- the command lines, one for each that has one and no other, each worker's in script order; and the replies tell in script order
+-- the reply of each entry where its line stands, a refusal for each command line without an entry, and one line for each
+-- collection, where the store was one of that opening when it was shared. Of these the text is made.
 pub record IsRaceOutput (race_text : RaceText) (start : Start) (lines : List Line) (text : List ℕ) : Type 0 where
   pub shared : SharedStart
   pub entries : List Entry
   pub made : List Entry
   pub replies : List ℕ
   pub new : IsNewStore (plan_of start lines) start.blocks shared
+  pub plan : IsPlan (plan_of start lines)
   pub legal : IsLegal (scene_of start lines).graph entries
   pub told : AreTold (arena_of shared start.helpers) (has_thread start.workers) (boxed start.stock (commands_of lines)) made replies
   pub each : HasEach entries made

@@ -2,7 +2,7 @@
 use Rattle.std.specs.Prelude.{◌≡◌, ◌⊎◌, ℕ, ◌+◌, ◌<◌, ◌≤◌, Bool, true, List, [], ◌++◌, length, Option, Some, None, Result, Ok, Err, IsOk, IfErr, IfOk, OnOk}
 use Rattle.std.specs.List.{All}
 use Rattle.tg_model.specs.declared.value.Value.{Value}
-use Rattle.tg_model.specs.Opened.{Plan, start_of}
+use Rattle.tg_model.specs.Opened.{IsPlan, Plan, start_of}
 use Rattle.tg_journal.specs.declared.entry.Entry.{Entry}
 use Rattle.tg_journal.specs.History.{IsLegal}
 use Rattle.tg_journal.specs.declared.replay.AuditFault.{AuditFault}
@@ -155,12 +155,15 @@ OpensRace start bytes (Ok opened) left =
 OpensRace start bytes (Err (fault.Script f)) left = IsNotRun start bytes f left
 OpensRace start bytes (Err f) left = ⊥
 
--- The store's journal is a legal history, as the audit finds, and this text was written behind what stood there, or a front of it;
--- or nothing.
+-- the store's journal is a legal history of its opening, which was accepted
+abbrev pub HasHistory : StoreState → Type 0
+HasHistory s = IsPlan s.opening × IsLegal (start_of s.opening) s.entries
+
+-- The store's journal is such a history, and this text was written behind what stood there, or a front of it; or nothing.
 abbrev pub TellsRace : {T : Type 0} → StoreState → List ℕ → List ℕ → Result T RaceFault → Option (List ℕ) → Type 0
-TellsRace s text before (Ok done) after = IsLegal (start_of s.opening) s.entries × (after ≡ Some (before ++ text))
+TellsRace s text before (Ok done) after = HasHistory s × (after ≡ Some (before ++ text))
 TellsRace s text before (Err fault.WriteFailed) after =
-    IsLegal (start_of s.opening) s.entries × (front : List ℕ) × (rest : List ℕ) × (text ≡ front ++ rest) × (after ≡ Some (before ++ front))
+    HasHistory s × (front : List ℕ) × (rest : List ℕ) × (text ≡ front ++ rest) × (after ≡ Some (before ++ front))
 TellsRace s text before (Err (fault.Script f)) after = ⊥
 TellsRace s text before (Err fault.AuditFailed) after = ⊥
 TellsRace s text before (Err f) after = after ≡ Some before
