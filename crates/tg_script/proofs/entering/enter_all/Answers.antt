@@ -27,7 +27,7 @@ returns-in_err-entered-clause-written g c = λ t rest before shows left taken.
     let begun = opening_wrote s.opening c.opening.result.now before (k.taken c.args.sink.now) (k.taken c.write_opening.new.sink) c.opening.ensures taken c.in-Ok.ensures.0 in
     let n = c.in_err-entered.ensures.written t rest (before ++ head_text s.opening) shows left begun in
     let legal = legal_from s.opening new.opening s.entries new.entries t.graph c.requires.none shows.0 c.in_err-entered.ensures.kept c.journal.ensures.faithful.legal in
-    rw (e.0, e.1) (
+    rw (e.1, e.2) (
       n.0,
       n.1,
       enters_fault (Unit {0}) c.in_err-entered.field-0.0 c.args.script.now rest t c.args.first s.opening s.entries before n.0 new.entries (k.taken c.enter_commands-entered.new.sink) c.requires.none legal n.2,
