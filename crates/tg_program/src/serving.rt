@@ -58,6 +58,7 @@ pub fn serve<P: Payload + Send, R: Threads + Wait + Sync, C: Collector, S: Sourc
 }
 
 // Runs the script line by line, and writes replies, or entries where the start says so.
+#[inline(always)]
 fn run<P: Payload, C: Collector, S: Source, K: Sink>(
     alloc: Global,
     collector: &C,

@@ -1,6 +1,6 @@
 -- The lines that are no edge lines, one after the other.
 use mathlib.Core.Bool.{false≢true}
-use Rattle.std.proofs.Common.{◌≡◌, inl, inr, ℕ, ◌+◌, false, List, [], ◌∷◌, ◌++◌, Option, Some, Err, refl, sym, ap, ◌∙◌, subst, append_assoc, append-nil}
+use Rattle.std.proofs.Common.{◌≡◌, inl, inr, ℕ, false, List, [], ◌∷◌, ◌++◌, Option, Some, Err, refl, sym, ap, ◌∙◌, subst, append_assoc, append-nil}
 use Rattle.tg_model.specs.declared.value.Value.{Value}
 use Rattle.tg_journal.specs.declared.entry.Entry.{Entry}
 use Rattle.tg_text.specs.declared.line.Line.{Line}

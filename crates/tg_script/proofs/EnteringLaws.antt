@@ -1,6 +1,6 @@
 -- What was written for the whole of a script whose entries are written.
 use Rattle.std.specs.Prelude.{IsOk, IfNone, IfSome}
-use Rattle.std.proofs.Common.{◌≡◌, ◌≢◌, ◌≤◌, ◌+◌, inl, inr, ℕ, List, [], ◌∷◌, ◌++◌, length, drop, true, Option, Some, None, Result, Ok, Err, refl, sym, ap, ◌∙◌, subst, arith, append_assoc, append-nil}
+use Rattle.std.proofs.Common.{◌≡◌, ◌≤◌, ◌+◌, inl, inr, ℕ, List, [], ◌∷◌, ◌++◌, length, drop, true, Option, Some, None, Result, Ok, Err, refl, sym, ap, ◌∙◌, subst, arith, append_assoc, append-nil}
 use Rattle.std.proofs.lemmas.Bool.{false≢true}
 use Rattle.std.proofs.Math.Seq.{drop-append_seam}
 use Rattle.std.specs.List.{flat_map}
@@ -16,12 +16,12 @@ use Rattle.tg_text.specs.Reading.{ReadsScript}
 use Rattle.tg_text.specs.Sinks.{KeepsBytes, Wrote, WroteSome}
 use Rattle.tg_entries.specs.Texts.{end_text, entry_text, head_text, history_text}
 use Rattle.tg_script.specs.declared.script.Script.{Script}
-use Rattle.tg_script.specs.Entering.{AreEntered, IsCutEntered, IsEntered, RanEntering, StandsEntered, plan_of, unended_text}
+use Rattle.tg_script.specs.Entering.{AreEntered, IsEntered, RanEntering, StandsEntered, plan_of, unended_text}
 use Rattle.tg_script.specs.Lines.{Behind, IsOfReading, ReadsFrom}
 use Rattle.tg_script.specs.Opening.{IsCommand, edge_lines, OpensStore, ReadsEdges, ReadsFirst}
-use Rattle.tg_script.specs.Running.{Finishes, Ran}
-use Rattle.tg_script.specs.Script.{CanOpen, MayAnswer, Scene, Start, commands_of, edges_of, scene_of}
-use Rattle.tg_script.specs.Telling.{AreLegal, EntersAll, ReadsCommands, StandsTold, StandsCut, TellsAll, TellsFirst, entry_of_line}
+use Rattle.tg_script.specs.Running.{Finishes}
+use Rattle.tg_script.specs.Script.{CanOpen, MayAnswer, Scene, Start, commands_of, edges_of}
+use Rattle.tg_script.specs.Telling.{AreLegal, EntersAll, ReadsCommands, StandsTold, TellsFirst, entry_of_line}
 use Rattle.tg_script.proofs.LinesLaws.{keeps_known, may_stop_writing, reads_stop}
 use Rattle.tg_script.proofs.RanLaws.{IsFresh, commands_of-edges, commands_of-front, edges_of-front, fresh_reads, ran_edges_fault, ran_keeps, ran_store_fault, scene_with}
 use Rattle.tg_script.proofs.TellLaws.{entries_cut, entries_told}

@@ -44,7 +44,8 @@ pub fn run_script_entries<P: Payload, C: Collector, S: Source, K: Sink>(
     finish(sink, outcome)
 }
 
-// All but that the sink is finished.
+// All but that the sink is finished. It stands apart from the run that writes replies.
+#[inline(never)]
 fn enter_lines<P: Payload, C: Collector, S: Source, K: Sink>(
     alloc: Global,
     collector: &C,

@@ -1,8 +1,7 @@
-use Rattle.std.proofs.Common.{◌≡◌, List, ◌++◌, Option, Some, Ok, Err, ℕ, refl, sym, ap, ◌∙◌, subst}
+use Rattle.std.proofs.Common.{◌++◌, Ok, refl, subst}
 use Rattle.std.proofs.lemmas.Result.{err_from_is_err_and}
-use Rattle.tg_model.specs.Opened.{Plan, IsPlan}
-use Rattle.tg_entries.specs.Texts.{end_text, head_text}
-use Rattle.tg_text.specs.Sinks.{Wrote, WroteSome}
+use Rattle.tg_model.specs.Opened.{IsPlan}
+use Rattle.tg_entries.specs.Texts.{head_text}
 use Rattle.tg_script.proofs.EnteringLaws.{enters_done, enters_end_cut, enters_fault, enters_opening_cut, has_entries, legal_from, opening_cut, opening_wrote, end_cut, end_wrote}
 use Rattle.tg_script.proofs.entering.enter_all.Goals as goal
 
