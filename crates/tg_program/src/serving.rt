@@ -32,6 +32,7 @@ pub struct RunPayloads<P: Payload> {
 /// `run_script_with` does with the start's settings, or, where the start says so, as `run_race` does, and then entries
 /// in the place of replies, as `run_script_entries` and `run_race_entries` do. Memory may be wanting for drafts of what
 /// the workers store; then nothing is read or written.
+#[inline(always)]
 pub fn serve<P: Payload + Send, R: Threads + Wait + Sync, C: Collector, S: Source, K: Sink>(
     rt: &R,
     alloc: Global,
