@@ -1,5 +1,5 @@
 -- What comes of a whole script whose workers run their lines side by side.
-use Rattle.std.specs.Prelude.{◌≡◌, ◌⊎◌, ℕ, ◌+◌, ◌<◌, ◌≤◌, Bool, true, List, [], ◌++◌, length, Option, Some, None, Result, Ok, Err, IsOk, IfErr, IfOk, OnOk}
+use Rattle.std.specs.Prelude.{◌≡◌, ◌⊎◌, ℕ, ◌+◌, ◌<◌, ◌≤◌, Bool, true, List, [], ◌++◌, Option, Some, None, Result, Ok, Err, IsOk, IfErr, IfOk, OnOk}
 use Rattle.std.specs.List.{All}
 use Rattle.tg_model.specs.declared.value.Value.{Value}
 use Rattle.tg_model.specs.Opened.{IsPlan, Plan, start_of}
@@ -23,7 +23,6 @@ use Rattle.tg_threads.specs.declared.threads.ThreadsFault.{ThreadsFault}
 use Rattle.tg_threads.specs.declared.threads.ThreadsFault.TheVariants as threads
 use Rattle.tg_threads.specs.declared.race.Opened.{Opened}
 use Rattle.tg_threads.specs.declared.race.Raced.{Raced}
-use Rattle.tg_weave.specs.declared.task.Told.{Told}
 use Rattle.tg_weave.specs.Boxes.{boxed}
 use Rattle.tg_shared.specs.Sessions.{SharedStart}
 use Rattle.tg_script.specs.Entering.{plan_of}
