@@ -1,6 +1,6 @@
 -- What comes of a whole race, from what its parts did.
 use mathlib.Core.Bool.{false≢true}
-use Rattle.std.proofs.Common.{◌≡◌, ◌⊎◌, ◌+◌, ◌≤◌, arith, inl, inr, ℕ, List, [], ◌∷◌, ◌++◌, Option, Some, Result, Ok, Err, refl, sym, ap, ◌∙◌, subst, append-nil, length}
+use Rattle.std.proofs.Common.{◌≡◌, ◌⊎◌, ◌+◌, ◌<◌, ◌≤◌, arith, inl, inr, ℕ, List, [], ◌∷◌, ◌++◌, Option, Some, Result, Ok, Err, refl, sym, ap, ◌∙◌, subst, append-nil, length}
 use Rattle.std.specs.Prelude.{IfErr, IsErrAnd, IsOk, OnOk, map}
 use Rattle.std.specs.List.{All, filter, range_with_len}
 use Rattle.std.proofs.lemmas.List.{length-map}
@@ -9,11 +9,10 @@ use Rattle.std.proofs.lemmas.List.FromFn.{length-map-range_with_len, length-rang
 use Rattle.tg_model.specs.declared.edge.Edge.{Edge}
 use Rattle.tg_model.specs.declared.value.Value.{Value}
 use Rattle.tg_model.specs.Opened.{IsPlan, Plan, start_of}
-use Rattle.tg_journal.specs.History.{IsLegal, IsAuditFault}
+use Rattle.tg_journal.specs.History.{IsLegal}
 use Rattle.tg_journal.specs.declared.entry.Entry.{Entry}
-use Rattle.tg_journal.specs.declared.replay.AuditFault.{AuditFault}
-use Rattle.tg_journal.specs.declared.replay.AuditFault.TheVariants as audit
-use Rattle.tg_journal.proofs.HistoryLaws.{IsFirstBad-not_legal}
+use Rattle.tg_store.specs.declared.fault.StoreAuditFault.{StoreAuditFault}
+use Rattle.tg_store.specs.declared.fault.StoreAuditFault.TheVariants as audit
 use Rattle.tg_store.specs.Store.{StoreState}
 use Rattle.tg_text.specs.declared.line.Line.{Line}
 use Rattle.tg_text.specs.declared.line.Line.TheVariants as line
@@ -132,27 +131,25 @@ race_told (Err fault.AuditFailed) race_text start shared bytes before left lines
 race_told (Err fault.WriteFailed) race_text start shared bytes before left lines s ts after whole new opening raced h =
     (lines, h.1, h.2, whole, subst (λ text. IsRaceOutput race_text start lines text) h.3 (raced_output race_text start shared lines s ts new opening raced h.0), h.4)
 
--- the audit of a store's own journal, which is legal, is refused for want of memory alone
-pub unaudited : {T : Type 0} (s : StoreState) (text : List ℕ) (given : Plan) (listed : List Entry) (f : AuditFault) (r : Result T RaceFault) (before : List ℕ) (after : Option (List ℕ)) → given ≡ s.opening → listed ≡ s.entries →
-    IsLegal (start_of s.opening) s.entries → IsAuditFault (start_of given) listed f → IsErrAnd r (λ why. why ≡ race_fault_of_audit f) → after ≡ Some before → TellsRace s text before r after
-unaudited s text given listed f (Ok done) before after opening entries legal says is kept = absurd is
-unaudited {T} s text given listed audit.OutOfMemory (Err why) before after opening entries legal says is kept =
+-- the audit of a store that gave no entry up is refused for want of memory alone
+pub own_audit_fault : {A : Type 0} (handed : ℕ) (f : StoreAuditFault) → handed ≡ 0 → (Err {A = A} f ≡ Err audit.NotWhole → 0 < handed) → (f ≡ audit.NotWhole) ⊎ (f ≡ audit.OutOfMemory) → f ≡ audit.OutOfMemory
+own_audit_fault handed f none gave (inl not_whole) = let some = gave (ap (λ why. Err why) not_whole) in absurd (omega (arith, none, some))
+own_audit_fault handed f none gave (inr memory) = memory
+
+-- and then nothing is written
+pub unaudited : {T : Type 0} (s : StoreState) (text : List ℕ) (f : StoreAuditFault) (r : Result T RaceFault) (before : List ℕ) (after : Option (List ℕ)) → f ≡ audit.OutOfMemory → IsErrAnd r (λ why. why ≡ race_fault_of_audit f) → after ≡ Some before →
+    TellsRace s text before r after
+unaudited s text f (Ok done) before after memory is kept = absurd is
+unaudited {T} s text f (Err why) before after memory is kept =
     let P : RaceFault → Type 0 = λ x. TellsRace {T = T} s text before (Err x) after in
-    subst P (sym is) kept
-unaudited s text given listed (audit.BadEntry at) (Err why) before after opening entries legal says is kept =
-    absurd (IsFirstBad-not_legal (start_of given) listed at says
-    (subst (λ (p : Plan). IsLegal (start_of p) listed) (sym opening) (subst (λ (es : List Entry). IsLegal (start_of s.opening) es) (sym entries) legal)))
+    subst P (sym (is ∙ ap race_fault_of_audit memory)) kept
 
 -- ---- when a fault is due
 
 -- so it is no fault that the audit found
-pub unaudited_fault : {T : Type 0} (s : StoreState) (given : Plan) (listed : List Entry) (f : AuditFault) (r : Result T RaceFault) → given ≡ s.opening → listed ≡ s.entries →
-    IsLegal (start_of s.opening) s.entries → IsAuditFault (start_of given) listed f → IsErrAnd r (λ why. why ≡ race_fault_of_audit f) → IfErr r IsOfTelling
-unaudited_fault s given listed f (Ok done) opening entries legal says is = absurd is
-unaudited_fault s given listed audit.OutOfMemory (Err why) opening entries legal says is = subst IsOfTelling (sym is) tt
-unaudited_fault s given listed (audit.BadEntry at) (Err why) opening entries legal says is =
-    absurd (IsFirstBad-not_legal (start_of given) listed at says
-    (subst (λ (p : Plan). IsLegal (start_of p) listed) (sym opening) (subst (λ (es : List Entry). IsLegal (start_of s.opening) es) (sym entries) legal)))
+pub unaudited_fault : {T : Type 0} (f : StoreAuditFault) (r : Result T RaceFault) → f ≡ audit.OutOfMemory → IsErrAnd r (λ why. why ≡ race_fault_of_audit f) → IfErr r IsOfTelling
+unaudited_fault f (Ok done) memory is = absurd is
+unaudited_fault f (Err why) memory is = subst IsOfTelling (sym (is ∙ ap race_fault_of_audit memory)) tt
 
 -- and where the replies are
 pub telling_due : {T : Type 0} (start : Start) (r : Result T RaceFault) → IfErr r IsOfTelling → IfErr r (IsRaceDue start)

@@ -5,8 +5,6 @@ use Rattle.tg_model.specs.declared.value.Value.{Value}
 use Rattle.tg_model.specs.Opened.{IsPlan, Plan, start_of}
 use Rattle.tg_journal.specs.declared.entry.Entry.{Entry}
 use Rattle.tg_journal.specs.History.{IsLegal}
-use Rattle.tg_journal.specs.declared.replay.AuditFault.{AuditFault}
-use Rattle.tg_journal.specs.declared.replay.AuditFault.TheVariants as audit
 use Rattle.tg_text.specs.declared.line.Line.{Line}
 use Rattle.tg_text.specs.declared.fault.ScriptFault.{ScriptFault}
 use Rattle.tg_text.specs.declared.fault.ScriptFault.TheVariants as script
@@ -16,6 +14,8 @@ use Rattle.tg_script.specs.Lines.{IsOfKeeping}
 use Rattle.tg_script.specs.Opening.{IsCommand}
 use Rattle.tg_script.specs.Script.{Start, CanOpen, HasRoomForWorkers, commands_of}
 use Rattle.tg_script.specs.Running.{IsDue}
+use Rattle.tg_store.specs.declared.fault.StoreAuditFault.{StoreAuditFault}
+use Rattle.tg_store.specs.declared.fault.StoreAuditFault.TheVariants as audit
 use Rattle.tg_store.specs.Store.{StoreState}
 use Rattle.tg_threads.specs.declared.fault.RaceFault.{RaceFault}
 use Rattle.tg_threads.specs.declared.fault.RaceFault.TheVariants as fault
@@ -77,7 +77,8 @@ of_threads threads.OutOfMemory = fault.OutOfMemory
 of_threads threads.NoThread = fault.NoThread
 of_threads threads.NoSuchWorker = fault.ReceiptMismatch
 
-abbrev pub race_fault_of_audit : AuditFault → RaceFault
+abbrev pub race_fault_of_audit : StoreAuditFault → RaceFault
+race_fault_of_audit audit.NotWhole = fault.AuditFailed
 race_fault_of_audit audit.OutOfMemory = fault.OutOfMemory
 race_fault_of_audit (audit.BadEntry at) = fault.AuditFailed
 

@@ -2,8 +2,6 @@
 ghost use Rattle.std.specs.Prelude.{◌≡◌, ◌⊎◌, ◌+◌, ◌<◌, ◌≤◌, ℕ, List, [], Some, false, true, IfErr, IfOk, length};
 ghost use Rattle.std.specs.List.{All, range_with_len};
 ghost use Rattle.tg_model.specs.declared.value.Value.{Value};
-ghost use Rattle.tg_model.specs.Opened.{start_of};
-ghost use Rattle.tg_journal.specs.History.{IsAuditFault, IsLegal};
 ghost use Rattle.tg_text.specs.Sinks.{KeepsBytes};
 ghost use Rattle.tg_script.specs.Opening.{IsCommand};
 ghost use Rattle.tg_script.specs.Script.{MayStart, start_with};
@@ -20,8 +18,6 @@ use std::marker::Brand;
 use std::sync::Wait;
 use std::sync::ledger::Blank;
 use std::thread::Threads;
-use tg_journal::{AuditFault, Entry, audit};
-use tg_model::Opening;
 use tg_payload::{Draft, Payload};
 use tg_script::{Helpers, Settings, open_store, read_script};
 use tg_shared::{Round, Session, Shared, SharedStore, close};
@@ -217,21 +213,12 @@ impl<P: Payload> Raced<P> {
         ensures told { (before : List ℕ) → K.taken sink.old ≡ Some before →
             TellsRace self.now.store (T.race_text self.now.store.opening self.now.store.entries (text_of_told self.now.store.entries self.now.told.items)) before result (K.taken sink.new) }
     {
-        let journal = self.store.journal();
+        let audited = self.store.audit(alloc)?;
         let opening = self.store.opening();
-        let count = count_audited(alloc, opening, journal.entries())?;
-        Ok(T::tell(sink, opening, journal, self.told.as_slice(), count)?)
+        let journal = self.store.journal();
+        let told = self.told.as_slice();
+        Ok(T::tell(sink, opening, journal, told, audited.entries())?)
     }
-}
-
-// Replays entries from an opening, and answers how many there are. Refused at the first that isn't legal, or for want
-// of memory.
-fn count_audited(alloc: Global, opening: &Opening, entries: &[Entry]) -> Result<u64, AuditFault>
-    ensures count { IfOk result (λ count. (count ≡ length entries.now) × IsLegal (start_of opening.now) entries.now) }
-    ensures fault { IfErr result (IsAuditFault (start_of opening.now) entries.now) }
-{
-    audit(alloc, opening, entries)?;
-    Ok(entries.len() as u64)
 }
 
 // Runs the lines in a store with no entry.
