@@ -5,6 +5,7 @@ use crate::collector::Collector;
 use crate::helpers::Helpers;
 use crate::refusals::{apply_refusal, create_answer};
 use crate::supply::Supply;
+use crate::telling::Telling;
 use tg_model::{Command, Reply};
 use tg_payload::{Draft, Payload};
 use tg_rights::Label;
@@ -25,7 +26,7 @@ pub(crate) struct Run<P: Payload> {
 }
 
 impl<P: Payload> Run<P> {
-    ghost use Rattle.std.specs.Prelude.{◌≡◌, ◌++◌, ◌∷◌, None};
+    ghost use Rattle.std.specs.Prelude.{◌≡◌, ◌++◌, ◌∷◌, None, true};
     ghost use Rattle.tg_script.specs.Opening.{IsAnswerable};
     ghost use Rattle.tg_script.specs.Run.{Handles, HandlesWith, IsAsBefore, MakesEntry, MakesEntryBy, making_answer, values_back};
     ghost use Rattle.tg_script.specs.Supply.{values_left};
@@ -41,12 +42,12 @@ impl<P: Payload> Run<P> {
         }
     }
 
-    /// Gives up what was entered, where the last answer is a long list.
+    /// Gives up what was entered, where the reply is a long list.
     #[inline(always)]
-    pub(crate) fn give_up_long(&mut self, answer: &Answer)
+    pub(crate) fn give_up_long(&mut self, reply: &Reply)
         ensures { IsAsBefore self.old self.new }
     {
-        if is_long(answer) {
+        if is_long(reply) {
             self.give_up_entries();
         }
     }
@@ -64,16 +65,16 @@ impl<P: Payload> Run<P> {
 
     /// What a line is answered. No line fails: where memory or room is wanting, that is the answer.
     #[inline(always)]
-    pub(crate) fn answer<C: Collector>(&mut self, collector: &C, line: Line) -> Answer
+    pub(crate) fn answer<T: Telling, C: Collector>(&mut self, collector: &C, line: Line) -> Answer
         requires answerable { IsAnswerable C.Ready line }
         ensures answered { Handles self.old line result self.new }
         ensures entry { MakesEntry self.old line result self.new }
-        ensures handed { self.new.store.handed ≡ self.old.store.handed }
+        ensures held { T.holds ≡ true → self.new.store.handed ≡ self.old.store.handed }
     {
         match line {
             Line::Create { worker, label } => self.create(worker, label),
             Line::Spawn { worker, label } => self.spawn(worker, label),
-            Line::Plain { worker, command } => self.apply(worker, command),
+            Line::Plain { worker, command } => self.apply::<T>(worker, command),
             Line::Full => self.collect_all(collector),
             Line::Minor => self.collect_nurseries(collector),
             Line::Edge(_) => unreachable!(),
@@ -81,13 +82,16 @@ impl<P: Payload> Run<P> {
     }
 
     #[inline(always)]
-    fn apply(&mut self, worker: u64, command: Command) -> Answer
+    fn apply<T: Telling>(&mut self, worker: u64, command: Command) -> Answer
         ensures answered { Handles self.old (Line.Plain worker command) result self.new }
         ensures entry { MakesEntry self.old (Line.Plain worker command) result self.new }
-        ensures handed { self.new.store.handed ≡ self.old.store.handed }
+        ensures held { T.holds ≡ true → self.new.store.handed ≡ self.old.store.handed }
     {
         match self.store.apply(worker, command) {
-            Ok(reply) => Answer::Reply(reply),
+            Ok(reply) => {
+                T::heed(self, &reply);
+                Answer::Reply(reply)
+            }
             Err(fault) => Answer::Refused(apply_refusal(fault)),
         }
     }
@@ -184,11 +188,11 @@ impl<P: Payload> Run<P> {
     }
 }
 
-// Whether the answer is a long list. No other answer takes much memory.
+// Whether the reply is a long list. No other reply takes much memory.
 #[inline(always)]
-fn is_long(answer: &Answer) -> bool {
-    match answer {
-        Answer::Reply(Reply::Edges(edges)) => edges.as_slice().len() > MOST_EDGES,
+fn is_long(reply: &Reply) -> bool {
+    match reply {
+        Reply::Edges(edges) => edges.as_slice().len() > MOST_EDGES,
         _ => false,
     }
 }

@@ -1,20 +1,33 @@
 //! How what came of a line is told: by its reply, or by the entry that it made.
+ghost use Rattle.std.specs.Prelude.{◌≡◌, Bool, false, true};
 ghost use Rattle.tg_script.specs.Opening.{IsAnswerable};
+ghost use Rattle.tg_script.specs.Run.{IsAsBefore};
 ghost use Rattle.tg_script.specs.Telling.{LineText, RunsLine, entry_of_line, reply_of_line};
 
 use crate::collector::Collector;
 use crate::run::Run;
 use tg_entries::write_entries;
+use tg_model::Reply;
 use tg_payload::Payload;
 use tg_text::{Line, Sink, WriteFailed, write_reply};
 
 /// How what came of a line is told. A run is the same over it.
 pub(crate) trait Telling {
+    ghost use Rattle.std.specs.Prelude.{◌≡◌, Bool, true};
     ghost use Rattle.tg_script.specs.Opening.{IsAnswerable};
+    ghost use Rattle.tg_script.specs.Run.{IsAsBefore};
     ghost use Rattle.tg_script.specs.Telling.{LineText, RunsLine};
 
     /// What is told of a line.
     ghost told: { LineText };
+
+    /// Whether what a line entered is held until it was told.
+    ghost holds: { Bool };
+
+    /// Does what is to be done where a command has this reply, before it is told.
+    fn heed<P: Payload>(run: &mut Run<P>, reply: &Reply)
+        ensures same { IsAsBefore run.old run.new }
+        ensures held { holds ≡ true → run.new.store.handed ≡ run.old.store.handed };
 
     /// Answers the line, and writes what is told of it.
     fn run_line<P: Payload, C: Collector, K: Sink>(
@@ -33,6 +46,13 @@ pub(crate) struct Replies;
 impl Telling for Replies {
     ghost told = { reply_of_line };
 
+    ghost holds = { false };
+
+    #[inline(always)]
+    fn heed<P: Payload>(run: &mut Run<P>, reply: &Reply) {
+        run.give_up_long(reply);
+    }
+
     #[inline(always)]
     fn run_line<P: Payload, C: Collector, K: Sink>(
         run: &mut Run<P>,
@@ -41,8 +61,7 @@ impl Telling for Replies {
         line: Line,
     ) -> Result<(), WriteFailed> {
         run.give_up_many();
-        let answer = run.answer(collector, line);
-        run.give_up_long(&answer);
+        let answer = run.answer::<Replies, C>(collector, line);
         write_reply(sink, &answer)
     }
 }
@@ -53,6 +72,11 @@ pub(crate) struct Entries;
 impl Telling for Entries {
     ghost told = { entry_of_line };
 
+    ghost holds = { true };
+
+    #[inline(always)]
+    fn heed<P: Payload>(_run: &mut Run<P>, _reply: &Reply) {}
+
     fn run_line<P: Payload, C: Collector, K: Sink>(
         run: &mut Run<P>,
         collector: &C,
@@ -61,7 +85,7 @@ impl Telling for Entries {
     ) -> Result<(), WriteFailed> {
         // Those of the lines before were written.
         run.give_up_entries();
-        let _ = run.answer(collector, line);
+        let _ = run.answer::<Entries, C>(collector, line);
         write_entries(sink, run.store.journal().entries())
     }
 }

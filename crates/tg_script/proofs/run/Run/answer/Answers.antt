@@ -1,16 +1,16 @@
 use Rattle.tg_script.proofs.run.Run.answer.Goals as goal
 
 pub returns-in-Create : goal.returns-in-Create
-returns-in-Create g c = rw c.in-Create.is (record { answered = c.create.ensures.answered; entry = c.create.ensures.entry; handed = c.create.ensures.handed })
+returns-in-Create g c = rw c.in-Create.is (record { answered = c.create.ensures.answered; entry = c.create.ensures.entry; held = λ holds. c.create.ensures.handed })
 
 pub returns-in-Spawn : goal.returns-in-Spawn
-returns-in-Spawn g c = rw c.in-Spawn.is (record { answered = c.spawn.ensures.answered; entry = c.spawn.ensures.entry; handed = c.spawn.ensures.handed })
+returns-in-Spawn g c = rw c.in-Spawn.is (record { answered = c.spawn.ensures.answered; entry = c.spawn.ensures.entry; held = λ holds. c.spawn.ensures.handed })
 
 pub returns-in-Plain : goal.returns-in-Plain
-returns-in-Plain g c = rw c.in-Plain.is (record { answered = c.apply.ensures.answered; entry = c.apply.ensures.entry; handed = c.apply.ensures.handed })
+returns-in-Plain g c = rw c.in-Plain.is (record { answered = c.apply.ensures.answered; entry = c.apply.ensures.entry; held = c.apply.ensures.held })
 
 pub returns-in-Full : goal.returns-in-Full
-returns-in-Full g c = rw c.in-Full.is (record { answered = c.collect_all.ensures.answered; entry = c.collect_all.ensures.entry; handed = c.collect_all.ensures.handed })
+returns-in-Full g c = rw c.in-Full.is (record { answered = c.collect_all.ensures.answered; entry = c.collect_all.ensures.entry; held = λ holds. c.collect_all.ensures.handed })
 
 pub returns-in-Minor : goal.returns-in-Minor
-returns-in-Minor g c = rw c.in-Minor.is (record { answered = c.collect_nurseries.ensures.answered; entry = c.collect_nurseries.ensures.entry; handed = c.collect_nurseries.ensures.handed })
+returns-in-Minor g c = rw c.in-Minor.is (record { answered = c.collect_nurseries.ensures.answered; entry = c.collect_nurseries.ensures.entry; held = λ holds. c.collect_nurseries.ensures.handed })

@@ -1,19 +1,23 @@
-use Rattle.std.proofs.Common.{refl}
+use Rattle.std.proofs.Common.{refl, ◌∙◌}
 use Rattle.tg_text.specs.declared.answer.Answer.TheVariants as told
 use Rattle.tg_text.specs.declared.line.Line.TheVariants as line
 use Rattle.tg_script.specs.declared.run.Run.{Run}
 use Rattle.tg_script.specs.Refusals.{apply_refusal}
 use Rattle.tg_script.specs.Supply.{values_left}
-use Rattle.tg_script.proofs.RunLaws.{apply_done, apply_refused, makes_none}
+use Rattle.tg_script.proofs.RunLaws.{apply_done, apply_refused, handles_behind, makes_behind, makes_none}
 use Rattle.tg_script.proofs.run.Run.apply.Goals as goal
 
 pub returns-in-Ok : goal.returns-in-Ok
 returns-in-Ok g c =
-    let new : Run _ = record { store = c.apply.new.self; supply = c.args.self.now.supply; helpers = c.args.self.now.helpers } in
+    let old = c.args.self.now in
+    let mid : Run _ = record { store = c.apply.new.self; supply = old.supply; helpers = old.helpers } in
+    let new = c.heed.new.run in
+    let l = line.Plain c.args.worker c.args.command in
+    let a = told.Reply c.in-Ok.reply in
     record {
-      answered = apply_done c.args.self.now new c.args.worker c.args.command c.in-Ok.reply c.in-Ok.ensures.reply c.in-Ok.ensures.step c.in-Ok.ensures.no_such_worker refl refl;
-      entry = record { entries = c.in-Ok.ensures.entry; opening = c.in-Ok.ensures.opening };
-      handed = c.in-Ok.ensures.handed;
+      answered = handles_behind old mid new l a (apply_done old mid c.args.worker c.args.command c.in-Ok.reply c.in-Ok.ensures.reply c.in-Ok.ensures.step c.in-Ok.ensures.no_such_worker refl refl) c.heed.ensures.same;
+      entry = makes_behind old mid new l a (record { entries = c.in-Ok.ensures.entry; opening = c.in-Ok.ensures.opening }) c.heed.ensures.same;
+      held = λ holds. c.heed.ensures.held holds ∙ c.in-Ok.ensures.handed;
     }
 
 pub returns-in-Err : goal.returns-in-Err
@@ -26,6 +30,6 @@ returns-in-Err g c =
           (λ h stands is. let f = c.in-Err.ensures.full h stands is in (f.0, f.1))
           same refl refl;
       entry = makes_none c.args.self.now.store c.apply.new.self (values_left c.args.self.now.supply) (line.Plain c.args.worker c.args.command) (told.Refused (apply_refusal c.in-Err.fault)) refl same.entries same.opening;
-      handed = same.handed;
+      held = λ holds. same.handed;
     }
     )

@@ -1,4 +1,4 @@
-use Rattle.std.proofs.Common.{List, ap, subst, ◌∙◌}
+use Rattle.std.proofs.Common.{List, ap, refl, subst, ◌∙◌}
 use Rattle.std.specs.List.{flat_map}
 use Rattle.tg_journal.specs.declared.entry.Entry.{Entry}
 use Rattle.tg_entries.specs.Texts.{entry_text}
@@ -23,7 +23,7 @@ returns g c =
     let before : IsAsBefore old mid = record { entries = out.store.entries; opening = out.store.opening; values = ap values_left out.supply; helpers = out.helpers } in
     let made = makes_before old mid new l a before c.answer.ensures.entry in
     let held = c.entries.ensures ∙ held_since old.store.entries (entered l a (values_left old.supply)) c.journal.result.now.entries c.journal.result.now.start
-    (c.journal.ensures.entries ∙ made.entries) (c.journal.ensures.start ∙ c.answer.ensures.handed ∙ out.store.handed) in (
+    (c.journal.ensures.entries ∙ made.entries) (c.journal.ensures.start ∙ c.answer.ensures.held refl ∙ out.store.handed) in (
       a,
       handles_before old mid new l a before c.answer.ensures.answered,
       made,
