@@ -5,7 +5,7 @@ use crate::collector::Collector;
 use crate::helpers::Helpers;
 use crate::refusals::{apply_refusal, create_answer};
 use crate::supply::Supply;
-use crate::telling::Telling;
+use crate::telling::Holding;
 use tg_model::{Command, Reply};
 use tg_payload::{Draft, Payload};
 use tg_rights::Label;
@@ -65,16 +65,16 @@ impl<P: Payload> Run<P> {
 
     /// What a line is answered. No line fails: where memory or room is wanting, that is the answer.
     #[inline(always)]
-    pub(crate) fn answer<T: Telling, C: Collector>(&mut self, collector: &C, line: Line) -> Answer
+    pub(crate) fn answer<H: Holding, C: Collector>(&mut self, collector: &C, line: Line) -> Answer
         requires answerable { IsAnswerable C.Ready line }
         ensures answered { Handles self.old line result self.new }
         ensures entry { MakesEntry self.old line result self.new }
-        ensures held { T.holds ≡ true → self.new.store.handed ≡ self.old.store.handed }
+        ensures held { H.holds ≡ true → self.new.store.handed ≡ self.old.store.handed }
     {
         match line {
             Line::Create { worker, label } => self.create(worker, label),
             Line::Spawn { worker, label } => self.spawn(worker, label),
-            Line::Plain { worker, command } => self.apply::<T>(worker, command),
+            Line::Plain { worker, command } => self.apply::<H>(worker, command),
             Line::Full => self.collect_all(collector),
             Line::Minor => self.collect_nurseries(collector),
             Line::Edge(_) => unreachable!(),
@@ -82,14 +82,14 @@ impl<P: Payload> Run<P> {
     }
 
     #[inline(always)]
-    fn apply<T: Telling>(&mut self, worker: u64, command: Command) -> Answer
+    fn apply<H: Holding>(&mut self, worker: u64, command: Command) -> Answer
         ensures answered { Handles self.old (Line.Plain worker command) result self.new }
         ensures entry { MakesEntry self.old (Line.Plain worker command) result self.new }
-        ensures held { T.holds ≡ true → self.new.store.handed ≡ self.old.store.handed }
+        ensures held { H.holds ≡ true → self.new.store.handed ≡ self.old.store.handed }
     {
         match self.store.apply(worker, command) {
             Ok(reply) => {
-                T::heed(self, &reply);
+                H::heed(self, &reply);
                 Answer::Reply(reply)
             }
             Err(fault) => Answer::Refused(apply_refusal(fault)),

@@ -11,23 +11,27 @@ use tg_model::Reply;
 use tg_payload::Payload;
 use tg_text::{Line, Sink, WriteFailed, write_reply};
 
-/// How what came of a line is told. A run is the same over it.
-pub(crate) trait Telling {
+/// Whether what a command entered is held until it was told.
+pub(crate) trait Holding {
     ghost use Rattle.std.specs.Prelude.{◌≡◌, Bool, true};
-    ghost use Rattle.tg_script.specs.Opening.{IsAnswerable};
     ghost use Rattle.tg_script.specs.Run.{IsAsBefore};
-    ghost use Rattle.tg_script.specs.Telling.{LineText, RunsLine};
 
-    /// What is told of a line.
-    ghost told: { LineText };
-
-    /// Whether what a line entered is held until it was told.
+    /// Whether it is held.
     ghost holds: { Bool };
 
     /// Does what is to be done where a command has this reply, before it is told.
     fn heed<P: Payload>(run: &mut Run<P>, reply: &Reply)
         ensures same { IsAsBefore run.old run.new }
         ensures held { holds ≡ true → run.new.store.handed ≡ run.old.store.handed };
+}
+
+/// How what came of a line is told. A run is the same over it.
+pub(crate) trait Telling {
+    ghost use Rattle.tg_script.specs.Opening.{IsAnswerable};
+    ghost use Rattle.tg_script.specs.Telling.{LineText, RunsLine};
+
+    /// What is told of a line.
+    ghost told: { LineText };
 
     /// Answers the line, and writes what is told of it.
     fn run_line<P: Payload, C: Collector, K: Sink>(
@@ -43,15 +47,17 @@ pub(crate) trait Telling {
 /// Each line is told by its reply. What was entered is given up: many entries at a time, and a long list at once.
 pub(crate) struct Replies;
 
-impl Telling for Replies {
-    ghost told = { reply_of_line };
-
+impl Holding for Replies {
     ghost holds = { false };
 
     #[inline(always)]
     fn heed<P: Payload>(run: &mut Run<P>, reply: &Reply) {
         run.give_up_long(reply);
     }
+}
+
+impl Telling for Replies {
+    ghost told = { reply_of_line };
 
     #[inline(always)]
     fn run_line<P: Payload, C: Collector, K: Sink>(
@@ -69,13 +75,15 @@ impl Telling for Replies {
 /// Each line is told by the entry that it made, if any, which is given up once it was written.
 pub(crate) struct Entries;
 
-impl Telling for Entries {
-    ghost told = { entry_of_line };
-
+impl Holding for Entries {
     ghost holds = { true };
 
     #[inline(always)]
     fn heed<P: Payload>(_run: &mut Run<P>, _reply: &Reply) {}
+}
+
+impl Telling for Entries {
+    ghost told = { entry_of_line };
 
     fn run_line<P: Payload, C: Collector, K: Sink>(
         run: &mut Run<P>,
