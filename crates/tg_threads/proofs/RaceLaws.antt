@@ -132,9 +132,10 @@ race_told (Err fault.WriteFailed) race_text start shared bytes before left lines
     (lines, h.1, h.2, whole, subst (λ text. IsRaceOutput race_text start lines text) h.3 (raced_output race_text start shared lines s ts new opening raced h.0), h.4)
 
 -- the audit of a store that gave no entry up is refused for want of memory alone
-pub own_audit_fault : {A : Type 0} (handed : ℕ) (f : StoreAuditFault) → handed ≡ 0 → (Err {A = A} f ≡ Err audit.NotWhole → 0 < handed) → (f ≡ audit.NotWhole) ⊎ (f ≡ audit.OutOfMemory) → f ≡ audit.OutOfMemory
-own_audit_fault handed f none gave (inl not_whole) = let some = gave (ap (λ why. Err why) not_whole) in absurd (omega (arith, none, some))
-own_audit_fault handed f none gave (inr memory) = memory
+pub own_audit_fault : {A : Type 0} (handed : ℕ) (r : Result A StoreAuditFault) (f : StoreAuditFault) → r ≡ Err f → handed ≡ 0 → (r ≡ Err audit.NotWhole → 0 < handed) → (f ≡ audit.NotWhole) ⊎ (f ≡ audit.OutOfMemory) → f ≡ audit.OutOfMemory
+own_audit_fault handed r f was none gave (inl not_whole) =
+    let some = gave (was ∙ ap (λ (why : StoreAuditFault). Err why) not_whole) in absurd (omega (arith, none, some))
+own_audit_fault handed r f was none gave (inr memory) = memory
 
 -- and then nothing is written
 pub unaudited : {T : Type 0} (s : StoreState) (text : List ℕ) (f : StoreAuditFault) (r : Result T RaceFault) (before : List ℕ) (after : Option (List ℕ)) → f ≡ audit.OutOfMemory → IsErrAnd r (λ why. why ≡ race_fault_of_audit f) → after ≡ Some before →
