@@ -113,6 +113,7 @@ fn serve_counted<C: Collector, A: Ledger, F: Ledger, R: Threads + Wait + Sync>(
             limits,
         },
         race: false,
+        entries: false,
         stock: Vec::new(alloc),
     };
     let mut source = Bytes::new(BOTH_KINDS.script, Count::<A>::new(asked));

@@ -97,7 +97,8 @@ fn write_edges<K: Sink>(sink: &mut K, edges: &[Edge]) -> Result<(), WriteFailed>
     Ok(())
 }
 
-fn write_entries<K: Sink>(sink: &mut K, entries: &[Entry]) -> Result<(), WriteFailed>
+/// Writes the line of each entry, or a front of them where the sink fails. Takes no memory.
+pub fn write_entries<K: Sink>(sink: &mut K, entries: &[Entry]) -> Result<(), WriteFailed>
     ensures { Writes (K.taken sink.old) (K.failures sink.old) (flat_map entry_text entries.now) result
         (K.taken sink.new) (K.failures sink.new) }
 {

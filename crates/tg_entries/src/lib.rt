@@ -14,10 +14,10 @@
 //!     entries 2
 //! ```
 //!
-//! [`write_history`] puts all of it into a sink of `tg_text`, and [`write_opening`], [`write_entry`] and [`write_end`]
-//! what a host writes as it goes. [`audit_text`] reads all of a
-//! reader's, and answers how many entries there are only where the text is that of a legal history of the opening that
-//! it tells ([`TextAudit`] is the same, fed a line at a time). Nothing that takes a line apart has to be believed: what
+//! [`write_history`] puts all of it into a sink of `tg_text`, and [`write_opening`], [`write_entry`], [`write_entries`]
+//! and [`write_end`] what a host writes as it goes. [`audit_text`] reads all of a reader's, and answers how many
+//! entries there are only where the text is that of a legal history of the opening that it tells ([`TextAudit`] is the
+//! same, fed a line at a time). Nothing that takes a line apart has to be believed: what
 //! was read is written again, and has to be the bytes that came; and `tg_journal`'s [`Auditor`](tg_journal::Auditor)
 //! replays it. So an audit takes memory by the longest line and by what its subjects reach, and not by the entries.
 #![tactic(auto)]
@@ -34,7 +34,7 @@ mod write;
 
 pub use audit::TextAudit;
 pub use fault::{LineFault, TextFault};
-pub use history::{write_history, write_opening};
+pub use history::{write_entries, write_history, write_opening};
 pub use read::MOST_DEED_BYTES;
 pub use stream::audit_text;
 pub use write::{VERSION, write_edge, write_end, write_entry, write_limits, write_worker};

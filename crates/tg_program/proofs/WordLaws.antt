@@ -13,8 +13,8 @@ pub now_or : (r : Option (Bor (List ℕ))) (d : Bor (List ℕ)) → (unwrap_or r
 now_or None d = refl
 now_or (Some x) d = refl
 
-said_of : (words : List (List ℕ)) (found : Found) (o : Options) → rows_of found ≡ matches_of command_line words → AreFound found o.settings → IsFlag (one_text found (codes "race")) o.race → IsFlag (one_text found (codes "why")) o.why → o.stock.now ≡ unwrap_or (first_value found (codes "stock")) [] → AreSaid words o
-said_of words found o rows numbers race why stock =
+said_of : (words : List (List ℕ)) (found : Found) (o : Options) → rows_of found ≡ matches_of command_line words → AreFound found o.settings → IsFlag (one_text found (codes "race")) o.race → IsFlag (one_text found (codes "entries")) o.entries → IsFlag (one_text found (codes "why")) o.why → o.stock.now ≡ unwrap_or (first_value found (codes "stock")) [] → AreSaid words o
+said_of words found o rows numbers race entries why stock =
     let number : (name : List ℕ) → one_text found name ≡ one_of name (matches_of command_line words) = λ name. one_text-rows found name ∙ ap (one_of name) rows in
     record {
       workers = numbers.workers ∙ ap (number_or 2) (number (codes "workers"));
@@ -23,11 +23,12 @@ said_of words found o rows numbers race why stock =
       blocks = numbers.blocks ∙ ap (number_or 4096) (number (codes "blocks"));
       space_blocks = numbers.space_blocks;
       race = subst (λ t. IsFlag t o.race) (number (codes "race")) race;
+      entries = subst (λ t. IsFlag t o.entries) (number (codes "entries")) entries;
       why = subst (λ t. IsFlag t o.why) (number (codes "why")) why;
       stock = stock ∙ ap (λ t. unwrap_or t []) (first_value-rows found (codes "stock") ∙ ap (first_of (codes "stock")) rows);
     }
 
 -- what was read of the words is what they say
-pub are_said : {E : Type 0} (words : List (List ℕ)) (found : Found) (read : Result Options E) → rows_of found ≡ matches_of command_line words → IfOk read (λ o. AreFound found o.settings) → IfOk read (λ o. IsFlag (one_text found (codes "race")) o.race) → IfOk read (λ o. IsFlag (one_text found (codes "why")) o.why) → IfOk read (λ o. o.stock.now ≡ unwrap_or (first_value found (codes "stock")) []) → IfOk read (AreSaid words)
-are_said words found (Ok o) rows numbers race why stock = said_of words found o rows numbers race why stock
-are_said words found (Err e) rows numbers race why stock = tt
+pub are_said : {E : Type 0} (words : List (List ℕ)) (found : Found) (read : Result Options E) → rows_of found ≡ matches_of command_line words → IfOk read (λ o. AreFound found o.settings) → IfOk read (λ o. IsFlag (one_text found (codes "race")) o.race) → IfOk read (λ o. IsFlag (one_text found (codes "entries")) o.entries) → IfOk read (λ o. IsFlag (one_text found (codes "why")) o.why) → IfOk read (λ o. o.stock.now ≡ unwrap_or (first_value found (codes "stock")) []) → IfOk read (AreSaid words)
+are_said words found (Ok o) rows numbers race entries why stock = said_of words found o rows numbers race entries why stock
+are_said words found (Err e) rows numbers race entries why stock = tt

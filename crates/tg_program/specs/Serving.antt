@@ -1,8 +1,11 @@
 -- What a run reads and writes.
-use Rattle.std.specs.Prelude.{◌≡◌, ◌⊎◌, ℕ, true, false, List, map, replicate, Option, Some, Result, Ok, Err, IfErr}
+use Rattle.std.specs.Prelude.{◌≡◌, ◌⊎◌, ℕ, Bool, true, false, List, map, replicate, Option, Some, Result, Ok, Err, IfErr}
 use Rattle.tg_text.specs.declared.stock.StockItem.TheVariants.{Cell}
 use Rattle.tg_script.specs.Script.{Start as ScriptStart, start_with}
+use Rattle.tg_script.specs.Entering.{RanEntering}
 use Rattle.tg_script.specs.Running.{Ran}
+use Rattle.tg_text.specs.declared.fault.ScriptFault.{ScriptFault}
+use Rattle.tg_threads.specs.Output.{RaceText, entry_race, reply_race}
 use Rattle.tg_threads.specs.Race.{HasRaced}
 use Rattle.tg_program.specs.Boxes.{value_of}
 use Rattle.tg_program.specs.Faults.{status_of_stop}
@@ -15,13 +18,23 @@ use Rattle.tg_program.specs.declared.stop.Stop.TheVariants as stop
 abbrev pub script_start_of : Start → ScriptStart
 script_start_of start = start_with start.settings (replicate start.settings.workers (value_of Cell)) (map value_of start.stock.items)
 
--- The script of these bytes was run, line by line or as a race, as the start says, and this is left of them and stands in the writer;
--- or there was no memory for drafts, and nothing was read or written.
+-- what stands behind a script that was run line by line, whether entries are written or replies
+abbrev pub RanAs : {T : Type 0} → Bool → ScriptStart → List ℕ → List ℕ → Result T ScriptFault → List ℕ → Option (List ℕ) → Type 0
+RanAs false start bytes before r left after = Ran start bytes before r left after
+RanAs true start bytes before r left after = RanEntering start bytes before r left after
+
+-- and what is written of a race
+abbrev pub race_text_as : Bool → RaceText
+race_text_as false = reply_race
+race_text_as true = entry_race
+
+-- The script of these bytes was run, line by line or as a race, and replies or entries were written, as the start says, and this is left
+-- of them and stands in the writer; or there was no memory for drafts, and nothing was read or written.
 abbrev pub Served : {T : Type 0} → Start → List ℕ → List ℕ → Result T Stop → List ℕ → Option (List ℕ) → Type 0
 Served {T} start bytes before (Ok done) left after =
-    ((start.race ≡ false) × Ran (script_start_of start) bytes before (Ok done) left after) ⊎ ((start.race ≡ true) × HasRaced (script_start_of start) bytes before (Ok done) left after)
-Served {T} start bytes before (Err (stop.Script fault)) left after = (start.race ≡ false) × Ran {T = T} (script_start_of start) bytes before (Err fault) left after
-Served {T} start bytes before (Err (stop.Race fault)) left after = (start.race ≡ true) × HasRaced {T = T} (script_start_of start) bytes before (Err fault) left after
+    ((start.race ≡ false) × RanAs start.entries (script_start_of start) bytes before (Ok done) left after) ⊎ ((start.race ≡ true) × HasRaced (race_text_as start.entries) (script_start_of start) bytes before (Ok done) left after)
+Served {T} start bytes before (Err (stop.Script fault)) left after = (start.race ≡ false) × RanAs {T = T} start.entries (script_start_of start) bytes before (Err fault) left after
+Served {T} start bytes before (Err (stop.Race fault)) left after = (start.race ≡ true) × HasRaced {T = T} (race_text_as start.entries) (script_start_of start) bytes before (Err fault) left after
 Served {T} start bytes before (Err (stop.Start OutOfMemory)) left after = (left ≡ bytes) × (after ≡ Some before)
 Served {T} start bytes before (Err why) left after = ⊥
 

@@ -1,5 +1,5 @@
 -- What the words of the command line say. How they are taken apart is clap's matter: behind the program's name `--NAME` takes
--- the next word, `--NAME=TEXT` takes the text, `--race` and `--why` stand alone, and no option comes twice.
+-- the next word, `--NAME=TEXT` takes the text, `--race`, `--entries` and `--why` stand alone, and no option comes twice.
 use Rattle.std.specs.Prelude.{◌≡◌, ℕ, Bool, true, false, List, [], Option, Some, None, codes, unwrap_or}
 use Rattle.std.specs.Option.{option_map_or}
 use Rattle.std.specs.Str.Parse.{digits_value, without_leading_plus}
@@ -40,9 +40,11 @@ command_line =
     with_rule
     (with_rule
     (with_rule
+    (with_rule
     (with_rule (with_rule (with_rule (with_rule bare_line (number_rule (codes "workers"))) (number_rule (codes "helpers"))) (number_rule (codes "vertices"))) (number_rule (codes "blocks")))
     (option_rule (codes "stock")))
     (flag_rule (codes "race")))
+    (flag_rule (codes "entries")))
     (flag_rule (codes "why"))
 
 -- the number that a text writes, or this one where there is no text
@@ -71,6 +73,7 @@ pub record AreSaid (words : List (List ℕ)) (o : Options) : Type 0 where
   pub blocks : o.settings.limits.max_blocks ≡ number_said (codes "blocks") 4096 words
   pub space_blocks : o.settings.limits.space_blocks ≡ MOST_SPACE_BLOCKS
   pub race : IsFlag (one_of (codes "race") (matches_of command_line words)) o.race
+  pub entries : IsFlag (one_of (codes "entries") (matches_of command_line words)) o.entries
   pub why : IsFlag (one_of (codes "why") (matches_of command_line words)) o.why
   pub stock : o.stock.now ≡ text_said (codes "stock") words
 

@@ -32,6 +32,11 @@ with as many threads as --helpers says. In what order lines of different
 workers are run is then open. The replies are written when all have ended, in
 the script's order, and behind them 'entries N audit ok'";
 
+pub const ENTRIES: &str =
+    "Writes the text of the history, which tgaudit reads, in the place of replies:
+the opening, each command that was answered with its reply behind ' = ', and
+how many these are";
+
 pub const WHY: &str = "Says why a line is bad, on a second line of standard error";
 
 pub const MANUAL: &str = "Script:

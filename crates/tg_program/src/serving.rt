@@ -1,7 +1,11 @@
 //! A run with payloads, from a source to a sink.
-ghost use Rattle.std.specs.Prelude.{◌≡◌, ◌+◌, ◌<◌, ◌≤◌, true, OnOk, map};
+ghost use Rattle.std.specs.Prelude.{◌≡◌, ◌+◌, ◌<◌, ◌≤◌, ℕ, List, Some, true, OnOk, map};
+ghost use Rattle.tg_script.specs.Lines.{read_failures};
+ghost use Rattle.tg_script.specs.Running.{FinishesSink};
+ghost use Rattle.tg_script.specs.Script.{MayRun, MayStart, start_with};
+ghost use Rattle.tg_threads.specs.Race.{FinishesRace, RacesFrom};
 ghost use Rattle.tg_program.specs.Faults.{stop_read_failures, stop_write_failures};
-ghost use Rattle.tg_program.specs.Serving.{ServesFrom, WasBegun};
+ghost use Rattle.tg_program.specs.Serving.{RanAs, ServesFrom, WasBegun, race_text_as};
 ghost use Rattle.tg_program.specs.Starts.{HasPayloads, MayServe};
 
 use crate::start::Start;
@@ -10,8 +14,10 @@ use std::alloc::Global;
 use std::sync::Wait;
 use std::thread::Threads;
 use tg_payload::{Draft, Payload};
-use tg_script::{Collector, Sink, Source, drafts_of, run_script_with};
-use tg_threads::{NoTurnstile, run_race};
+use tg_script::{
+    Collector, ScriptFault, Sink, Source, drafts_of, run_script_entries, run_script_with,
+};
+use tg_threads::{NoTurnstile, RaceFault, run_race, run_race_entries};
 
 /// The payloads of a run.
 #[derive(Drop)]
@@ -23,8 +29,10 @@ pub struct RunPayloads<P: Payload> {
 }
 
 /// Runs the source's script from the start with these payloads, and puts the replies into the sink, as
-/// `run_script_with` does with the start's settings, or, where the start says so, as `run_race` does. Memory may be
-/// wanting for drafts of what the workers store; then nothing is read or written.
+/// `run_script_with` does with the start's settings, or, where the start says so, as `run_race` does, and then entries
+/// in the place of replies, as `run_script_entries` and `run_race_entries` do. Memory may be wanting for drafts of what
+/// the workers store; then nothing is read or written.
+#[inline(always)]
 pub fn serve<P: Payload + Send, R: Threads + Wait + Sync, C: Collector, S: Source, K: Sink>(
     rt: &R,
     alloc: Global,
@@ -45,26 +53,74 @@ pub fn serve<P: Payload + Send, R: Threads + Wait + Sync, C: Collector, S: Sourc
     let RunPayloads { workers, stock } = payloads;
     let workers = drafts_of(alloc, workers)?;
     if start.race {
-        return run_race(
+        return race(rt, alloc, source, sink, start, workers, stock).map_err(Stop::Race);
+    }
+    run(alloc, collector, source, sink, start, workers, stock).map_err(Stop::Script)
+}
+
+// Runs the script line by line, and writes replies, or entries where the start says so.
+#[inline(always)]
+fn run<P: Payload, C: Collector, S: Source, K: Sink>(
+    alloc: Global,
+    collector: &C,
+    source: &mut S,
+    sink: &mut K,
+    start: &Start,
+    workers: Vec<Draft<P>>,
+    stock: Vec<Draft<P>>,
+) -> Result<(), ScriptFault>
+    requires runnable { MayRun C.Ready start.now.settings workers.items }
+    ensures ran { (bytes before : List ℕ) → S.left source.old ≡ Some bytes → K.taken sink.old ≡ Some before →
+        (rest : List ℕ) × (S.left source.new ≡ Some rest)
+        × RanAs start.now.entries (start_with start.now.settings workers.items stock.items) bytes before result rest (K.taken sink.new) }
+    ensures read_failed { S.failures source.new ≡ S.failures source.old + read_failures result }
+    ensures finish { FinishesSink K.failures K.finished sink.old sink.new result }
+{
+    let settings = start.settings;
+    if start.entries {
+        run_script_entries(alloc, collector, source, sink, settings, workers, stock)
+    } else {
+        run_script_with(alloc, collector, source, sink, settings, workers, stock)
+    }
+}
+
+// Runs the script as a race, and writes replies, or entries where the start says so.
+fn race<P: Payload + Send, R: Threads + Wait + Sync, S: Source, K: Sink>(
+    rt: &R,
+    alloc: Global,
+    source: &mut S,
+    sink: &mut K,
+    start: &Start,
+    workers: Vec<Draft<P>>,
+    stock: Vec<Draft<P>>,
+) -> Result<(), RaceFault>
+    requires startable { MayStart start.now.settings workers.items }
+    ensures raced { RacesFrom S.left S.asked S.failures K.taken source.old source.new sink.old sink.new
+        (race_text_as start.now.entries) (start_with start.now.settings workers.items stock.items) result }
+    ensures finish { FinishesRace K.failures K.finished sink.old sink.new result }
+{
+    let settings = start.settings;
+    if start.entries {
+        run_race_entries(
             rt,
             alloc,
             source,
             sink,
             &NoTurnstile,
-            start.settings,
+            settings,
             workers,
             stock,
         )
-        .map_err(Stop::Race);
+    } else {
+        run_race(
+            rt,
+            alloc,
+            source,
+            sink,
+            &NoTurnstile,
+            settings,
+            workers,
+            stock,
+        )
     }
-    run_script_with(
-        alloc,
-        collector,
-        source,
-        sink,
-        start.settings,
-        workers,
-        stock,
-    )
-    .map_err(Stop::Script)
 }

@@ -8,6 +8,8 @@ pub struct Options<'a> {
     pub settings: Settings,
     /// Whether each worker's lines are run on a thread of their own.
     pub race: bool,
+    /// Whether the text of the history is written in the place of replies.
+    pub entries: bool,
     /// Whether it is said why a line is bad.
     pub why: bool,
     /// The text of the stock, as it was written.

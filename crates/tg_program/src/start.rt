@@ -15,6 +15,8 @@ pub struct Start {
     pub settings: Settings,
     /// Whether each worker's lines are run on a thread of their own.
     pub race: bool,
+    /// Whether the text of the history is written in the place of replies.
+    pub entries: bool,
     /// The kinds of the boxes for the vertices that are made, in order.
     pub stock: Vec<StockItem>,
 }
@@ -64,6 +66,7 @@ pub fn prepare(alloc: Global, options: &Options) -> Result<Start, StartFault>
     requires { AreInRange options.now.settings }
     ensures settings { IfOk result (λ start. (start.settings ≡ options.now.settings) × MayHoldWorkers start.settings) }
     ensures race { IfOk result (λ start. start.race ≡ options.now.race) }
+    ensures entries { IfOk result (λ start. start.entries ≡ options.now.entries) }
     ensures stock { IfOk result (λ start. IsStockText options.now.stock.now start.stock.items) }
     ensures ready { IfOk result IsReady }
     ensures refused { IfErr result (IsStartFault options.now.settings options.now.stock.now) }
@@ -76,6 +79,7 @@ pub fn prepare(alloc: Global, options: &Options) -> Result<Start, StartFault>
     Ok(Start {
         settings,
         race: options.race,
+        entries: options.entries,
         stock,
     })
 }

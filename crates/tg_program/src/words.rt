@@ -50,6 +50,7 @@ fn options_of<'a>(
 ) -> Result<Options<'a>, Error>
     ensures found { IfOk result (λ o. AreFound (found_of matches.now) o.settings) }
     ensures race { IfOk result (λ o. IsFlag (one_text (found_of matches.now) (codes "race")) o.race) }
+    ensures entries { IfOk result (λ o. IsFlag (one_text (found_of matches.now) (codes "entries")) o.entries) }
     ensures why { IfOk result (λ o. IsFlag (one_text (found_of matches.now) (codes "why")) o.why) }
     ensures stock { IfOk result (λ o. o.stock.now ≡ unwrap_or (first_value (found_of matches.now) (codes "stock")) []) }
     ensures in_range { IfOk result (λ o. AreInRange o.settings) }
@@ -58,6 +59,7 @@ fn options_of<'a>(
     Ok(Options {
         settings,
         race: matches.get_flag("race"),
+        entries: matches.get_flag("entries"),
         why: matches.get_flag("why"),
         stock: matches.get_str("stock").unwrap_or(""),
     })
@@ -148,6 +150,7 @@ fn command<'a>(alloc: Global) -> Result<Command<'a>, Error>
         number_arg(alloc, "blocks", help::BLOCKS),
         option_arg(alloc, "stock", "TEXT", help::STOCK),
         flag_arg(alloc, "race", help::RACE),
+        flag_arg(alloc, "entries", help::ENTRIES),
         flag_arg(alloc, "why", help::WHY),
     ]?;
     let command = Command::new(alloc, "tgstore")

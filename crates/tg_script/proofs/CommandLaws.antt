@@ -1,6 +1,8 @@
 -- The lines that are no edge lines, one after the other.
 use mathlib.Core.Bool.{false≢true}
-use Rattle.std.proofs.Common.{◌≡◌, inl, inr, ℕ, ◌+◌, false, List, [], ◌∷◌, ◌++◌, Option, Some, Err, refl, sym, ap, ◌∙◌, subst, append_assoc, append-nil}
+use Rattle.std.proofs.Common.{◌≡◌, inl, inr, ℕ, false, List, [], ◌∷◌, ◌++◌, Option, Some, Err, refl, sym, ap, ◌∙◌, subst, append_assoc, append-nil}
+use Rattle.tg_model.specs.declared.value.Value.{Value}
+use Rattle.tg_journal.specs.declared.entry.Entry.{Entry}
 use Rattle.tg_text.specs.declared.line.Line.{Line}
 use Rattle.tg_text.specs.declared.line.Line.TheVariants as line
 use Rattle.tg_text.specs.declared.answer.Answer.{Answer}
@@ -8,44 +10,44 @@ use Rattle.tg_text.specs.declared.fault.ScriptFault.{ScriptFault}
 use Rattle.tg_text.specs.declared.fault.ScriptFault.TheVariants as fault
 use Rattle.tg_script.specs.declared.script.Script.{Script}
 use Rattle.tg_script.specs.declared.run.Run.{Run}
-use Rattle.tg_text.specs.Texts.{answer_text}
 use Rattle.tg_text.specs.Sinks.{Wrote, WroteSome}
-use Rattle.tg_script.specs.Script.{Scene, Serves, IsAdmissible, IsCut}
+use Rattle.tg_script.specs.Entering.{entered}
+use Rattle.tg_script.specs.Script.{Scene}
 use Rattle.tg_script.specs.Lines.{ReadsFrom, Passes, Follows, IsBehind, IsOfReading}
 use Rattle.tg_script.specs.Opening.{IsCommand}
-use Rattle.tg_script.specs.Run.{Shows, Handles}
-use Rattle.tg_script.specs.Running.{IsTold, StandsTold, CutsTold, TellsAll}
+use Rattle.tg_script.specs.Run.{Shows, Handles, MakesEntry}
+use Rattle.tg_script.specs.Supply.{values_left}
+use Rattle.tg_script.specs.Telling.{LineText, Tells, TellsCut, IsTold, StandsTold, CutsTold, TellsAll}
 use Rattle.tg_script.proofs.LinesLaws.{reads_behind, behind-append, may_stop_writing}
 
 -- ---- one line and those behind it
 
-pub told_then : (s t : Scene) (l : Line) (a : Answer) (lines : List Line) (wants : ℕ) (text : List ℕ) → Serves s l a t → IsAdmissible t lines wants text → (more : ℕ) × IsAdmissible s (l ∷ lines) more (answer_text a ++ text)
-told_then s t l a lines wants text (inl answers) rest = (wants, inl (a, t, text, answers, refl, rest))
-told_then s t l a lines wants text (inr refused) rest =
-    let P : Scene → Type 0 = λ x. IsAdmissible x lines wants text in
-    (wants + 1, inr (refused.0, wants, text, refused.1, refl, ap (λ x. answer_text x ++ text) refused.2, subst P refused.3 rest))
-
--- Where the run is: what it shows, what is left, what was written, and that whatever is told from here on is told from the start.
-pub record Under {P : Type 0} (start : Script) (bytes : List ℕ) (t : Scene) (first : Line) (before : List ℕ) (s : Script) (r : Run P) (l : Line) (left taken : Option (List ℕ)) : Type 0 where
+-- Where the run is: what it shows, what is left, what was written and entered, and that whatever is told from here on is told from
+-- the start.
+pub record Under {P : Type 0} (told : LineText) (start : Script) (bytes : List ℕ) (t : Scene) (first : Line) (begun : List Entry) (before : List ℕ) (s : Script) (r : Run P) (l : Line) (left taken : Option (List ℕ)) : Type 0 where
   pub scene : Scene
   pub rest : List ℕ
   pub sofar : List ℕ
+  pub made : List Entry
   pub shows : Shows r scene
   pub leaves : left ≡ Some rest
   pub took : taken ≡ Some (before ++ sofar)
-  pub cuts : (lines : List Line) (behind cut : List ℕ) → ReadsFrom s rest lines (Some fault.WriteFailed) behind → IsBehind lines rest behind → IsCut scene (l ∷ lines) cut → CutsTold start bytes t first behind (sofar ++ cut)
-  pub goes_on : (lines : List Line) (wants : ℕ) (end : Option ScriptFault) (behind text : List ℕ) → ReadsFrom s rest lines end behind → IsAdmissible scene (l ∷ lines) wants text → IsTold start bytes t first end behind (sofar ++ text)
+  pub had : r.store.entries ≡ begun ++ made
+  pub cuts : (lines : List Line) (behind cut : List ℕ) (es : List Entry) → ReadsFrom s rest lines (Some fault.WriteFailed) behind → IsBehind lines rest behind → TellsCut told scene (l ∷ lines) cut es → CutsTold told start bytes t first behind (sofar ++ cut) (made ++ es)
+  pub goes_on : (lines : List Line) (end : Option ScriptFault) (behind text : List ℕ) (es : List Entry) → ReadsFrom s rest lines end behind → Tells told scene (l ∷ lines) text es → IsTold told start bytes t first end behind (sofar ++ text) (made ++ es)
 
-pub under_first : {P : Type 0} (start : Script) (bytes : List ℕ) (t : Scene) (first : Line) (before : List ℕ) (r : Run P) (left taken : Option (List ℕ)) → Shows r t → left ≡ Some bytes → taken ≡ Some before → Under start bytes t first before start r first left taken
-under_first start bytes t first before r left taken shows leaves took = record {
+pub under_first : {P : Type 0} (told : LineText) (start : Script) (bytes : List ℕ) (t : Scene) (first : Line) (before : List ℕ) (r : Run P) (left taken : Option (List ℕ)) → Shows r t → left ≡ Some bytes → taken ≡ Some before → Under told start bytes t first r.store.entries before start r first left taken
+under_first told start bytes t first before r left taken shows leaves took = record {
   scene = t;
   rest = bytes;
   sofar = [];
+  made = [];
   shows = shows;
   leaves = leaves;
   took = took ∙ ap Some (sym (append-nil before));
-  cuts = λ lines behind cut reads is_behind is_cut. (lines, reads, is_behind, is_cut);
-  goes_on = λ lines wants end behind text reads admissible. (lines, wants, reads, admissible);
+  had = sym (append-nil r.store.entries);
+  cuts = λ lines behind cut es reads is_behind is_cut. (lines, reads, is_behind, is_cut);
+  goes_on = λ lines end behind text es reads tells. (lines, reads, tells);
 }
 
 wrote_known : (taken after : Option (List ℕ)) (known bytes : List ℕ) → taken ≡ Some known → Wrote taken bytes after → after ≡ Some (known ++ bytes)
@@ -54,61 +56,85 @@ wrote_known taken after known bytes is w = let P : Option (List ℕ) → Type 0 
 wrote_some_known : (taken after : Option (List ℕ)) (known bytes : List ℕ) → taken ≡ Some known → WroteSome taken bytes after → WroteSome (Some known) bytes after
 wrote_some_known taken after known bytes is w = let P : Option (List ℕ) → Type 0 = λ x. WroteSome x bytes after in subst P is w
 
--- the answer is written, and nothing more is read
-pub under_end : {P : Type 0} (start : Script) (bytes : List ℕ) (t : Scene) (first : Line) (before : List ℕ) (s : Script) (r : Run P) (l : Line) (left taken : Option (List ℕ)) (a : Answer) (r' : Run P) (after : Option (List ℕ)) (end : Option ScriptFault) (behind : List ℕ) (h : Under start bytes t first before s r l left taken) → Handles r l a r' → Wrote taken (answer_text a) after → ReadsFrom s h.rest [] end behind → StandsTold start bytes t first before end behind after
-under_end start bytes t first before s r l left taken a r' after end behind h handles wrote ends =
+-- the entry of this line stands behind those before
+had_more : {P : Type 0} (begun made : List Entry) (r r' : Run P) (l : Line) (a : Answer) (stock : List Value) → r.store.entries ≡ begun ++ made → values_left r.supply ≡ stock → MakesEntry r l a r' → r'.store.entries ≡ begun ++ (made ++ entered l a stock)
+had_more begun made r r' l a stock had is makes =
+    makes.entries ∙ ap (λ (x : List Value). r.store.entries ++ entered l a x) is ∙ ap (λ (x : List Entry). x ++ entered l a stock) had ∙ append_assoc begun made (entered l a stock)
+
+-- what is told of a line is written, and nothing more is read
+pub under_end : {P : Type 0} (told : LineText) (start : Script) (bytes : List ℕ) (t : Scene) (first : Line) (begun : List Entry) (before : List ℕ) (s : Script) (r : Run P) (l : Line) (left taken : Option (List ℕ)) (a : Answer) (r' : Run P) (after : Option (List ℕ)) (end : Option ScriptFault) (behind : List ℕ) (h : Under told start bytes t first begun before s r l left taken) → Handles r l a r' → MakesEntry r l a r' → Wrote taken (told l a (values_left r.supply)) after → ReadsFrom s h.rest [] end behind → StandsTold told start bytes t first begun before end behind r'.store.entries after
+under_end told start bytes t first begun before s r l left taken a r' after end behind h handles makes wrote ends =
     let v = handles h.scene h.shows in
-    let k = told_then h.scene v.0 l a [] 0 [] v.2 (refl, refl) in
-    let P : List ℕ → Type 0 = λ x. IsTold start bytes t first end behind (h.sofar ++ x) in (
-      h.sofar ++ answer_text a,
-      wrote_known taken after (before ++ h.sofar) (answer_text a) h.took wrote ∙ ap Some (append_assoc before h.sofar (answer_text a)),
-      subst P (append-nil (answer_text a)) (h.goes_on [] k.0 end behind (answer_text a ++ []) ends k.1),
+    let stock = h.scene.stock in
+    let W : List Value → Type 0 = λ x. Wrote taken (told l a x) after in (
+      h.sofar ++ told l a stock,
+      h.made ++ entered l a stock,
+      wrote_known taken after (before ++ h.sofar) (told l a stock) h.took (subst W h.shows.1 wrote) ∙ ap Some (append_assoc before h.sofar (told l a stock)),
+      had_more begun h.made r r' l a stock h.had h.shows.1 makes,
+      h.goes_on [] end behind (told l a stock) (entered l a stock) ends (a, v.0, [], [], v.2, sym (append-nil (told l a stock)), sym (append-nil (entered l a stock)), (refl, refl)),
     )
 
--- the answer is cut short, and nothing more is read
-pub under_cut : (T : Type 0) {P : Type 0} (start : Script) (bytes : List ℕ) (t : Scene) (first : Line) (before : List ℕ) (s : Script) (r : Run P) (l : Line) (left taken : Option (List ℕ)) (a : Answer) (r' : Run P) (after : Option (List ℕ)) → Under start bytes t first before s r l left taken → Handles r l a r' → WroteSome taken (answer_text a) after → (rest : List ℕ) × (left ≡ Some rest) × TellsAll {T = T} start bytes t first before (Err fault.WriteFailed) rest after
-under_cut T start bytes t first before s r l left taken a r' after h handles wrote =
+-- what is told of a line is cut short, and nothing more is read
+pub under_cut : (T : Type 0) {P : Type 0} (told : LineText) (start : Script) (bytes : List ℕ) (t : Scene) (first : Line) (begun : List Entry) (before : List ℕ) (s : Script) (r : Run P) (l : Line) (left taken : Option (List ℕ)) (a : Answer) (r' : Run P) (after : Option (List ℕ)) → Under told start bytes t first begun before s r l left taken → Handles r l a r' → MakesEntry r l a r' → WroteSome taken (told l a (values_left r.supply)) after → (rest : List ℕ) × (left ≡ Some rest) × TellsAll {T = T} told start bytes t first begun before (Err fault.WriteFailed) rest r'.store.entries after
+under_cut T told start bytes t first begun before s r l left taken a r' after h handles makes wrote =
     let v = handles h.scene h.shows in
-    let w = wrote_some_known taken after (before ++ h.sofar) (answer_text a) h.took wrote in (
+    let stock = h.scene.stock in
+    let W : List Value → Type 0 = λ x. WroteSome taken (told l a x) after in
+    let w = wrote_some_known taken after (before ++ h.sofar) (told l a stock) h.took (subst W h.shows.1 wrote) in (
       h.rest,
       h.leaves,
-      inr (h.sofar ++ w.0, w.3 ∙ ap Some (append_assoc before h.sofar w.0), h.cuts [] h.rest w.0 (may_stop_writing s.workers s.lines.room s.count s.opening h.rest) refl (a, v.0, w.1, v.2, w.2)),
+      inr (
+        h.sofar ++ w.0,
+        h.made ++ entered l a stock,
+        w.3 ∙ ap Some (append_assoc before h.sofar w.0),
+        had_more begun h.made r r' l a stock h.had h.shows.1 makes,
+        h.cuts [] h.rest w.0 (entered l a stock) (may_stop_writing s.workers s.lines.room s.count s.opening h.rest) refl (a, v.0, w.1, v.2, w.2, refl),
+      ),
     )
 
--- the answer is written, and a further line is read
-pub under_next : {P : Type 0} (start : Script) (bytes : List ℕ) (t : Scene) (first : Line) (before : List ℕ) (s : Script) (r : Run P) (l : Line) (left taken : Option (List ℕ)) (a : Answer) (r' : Run P) (after : Option (List ℕ)) (next : Line) (s' : Script) (left' : Option (List ℕ)) → Under start bytes t first before s r l left taken → Handles r l a r' → Wrote taken (answer_text a) after → ((rest : List ℕ) → left ≡ Some rest → (rest' : List ℕ) × (left' ≡ Some rest') × Passes s rest next s' rest') → Under start bytes t first before s' r' next left' after
-under_next start bytes t first before s r l left taken a r' after next s' left' h handles wrote came =
+-- what is told of a line is written, and a further line is read
+pub under_next : {P : Type 0} (told : LineText) (start : Script) (bytes : List ℕ) (t : Scene) (first : Line) (begun : List Entry) (before : List ℕ) (s : Script) (r : Run P) (l : Line) (left taken : Option (List ℕ)) (a : Answer) (r' : Run P) (after : Option (List ℕ)) (next : Line) (s' : Script) (left' : Option (List ℕ)) → Under told start bytes t first begun before s r l left taken → Handles r l a r' → MakesEntry r l a r' → Wrote taken (told l a (values_left r.supply)) after → ((rest : List ℕ) → left ≡ Some rest → (rest' : List ℕ) × (left' ≡ Some rest') × Passes s rest next s' rest') → Under told start bytes t first begun before s' r' next left' after
+under_next told start bytes t first begun before s r l left taken a r' after next s' left' h handles makes wrote came =
     let v = handles h.scene h.shows in
     let n = came h.rest h.leaves in
+    let stock = h.scene.stock in
+    let W : List Value → Type 0 = λ x. Wrote taken (told l a x) after in
     record {
       scene = v.0;
       rest = n.0;
-      sofar = h.sofar ++ answer_text a;
+      sofar = h.sofar ++ told l a stock;
+      made = h.made ++ entered l a stock;
       shows = v.1;
       leaves = n.1;
-      took = wrote_known taken after (before ++ h.sofar) (answer_text a) h.took wrote ∙ ap Some (append_assoc before h.sofar (answer_text a));
-      cuts = λ lines behind cut reads is_behind is_cut.
+      took = wrote_known taken after (before ++ h.sofar) (told l a stock) h.took (subst W h.shows.1 wrote) ∙ ap Some (append_assoc before h.sofar (told l a stock));
+      had = had_more begun h.made r r' l a stock h.had h.shows.1 makes;
+      cuts = λ lines behind cut es reads is_behind is_cut.
           let one = reads_behind (next ∷ []) s.workers s.lines.room s.count s.opening h.rest n.0 (n.2 [] (Some fault.OutOfMemory) n.0 refl) in
-          subst (λ x. CutsTold start bytes t first behind x) (sym (append_assoc h.sofar (answer_text a) cut))
-          (h.cuts (next ∷ lines) behind (answer_text a ++ cut) (n.2 lines (Some fault.WriteFailed) behind reads)
-          (behind-append (next ∷ []) lines h.rest n.0 behind one is_behind) (a, v.0, cut, v.2, refl, is_cut));
-      goes_on = λ lines wants end behind text reads admissible.
-          let k = told_then h.scene v.0 l a (next ∷ lines) wants text v.2 admissible in
-          subst (λ x. IsTold start bytes t first end behind x) (sym (append_assoc h.sofar (answer_text a) text))
-          (h.goes_on (next ∷ lines) k.0 end behind (answer_text a ++ text) (n.2 lines end behind reads) k.1);
+          subst (λ (x : List ℕ). CutsTold told start bytes t first behind x ((h.made ++ entered l a stock) ++ es)) (sym (append_assoc h.sofar (told l a stock) cut))
+          (
+          subst (λ (x : List Entry). CutsTold told start bytes t first behind (h.sofar ++ (told l a stock ++ cut)) x) (sym (append_assoc h.made (entered l a stock) es))
+          (h.cuts (next ∷ lines) behind (told l a stock ++ cut) (entered l a stock ++ es) (n.2 lines (Some fault.WriteFailed) behind reads)
+          (behind-append (next ∷ []) lines h.rest n.0 behind one is_behind) (a, v.0, cut, es, v.2, refl, refl, is_cut))
+          );
+      goes_on = λ lines end behind text es reads tells.
+          subst (λ (x : List ℕ). IsTold told start bytes t first end behind x ((h.made ++ entered l a stock) ++ es)) (sym (append_assoc h.sofar (told l a stock) text))
+          (
+          subst (λ (x : List Entry). IsTold told start bytes t first end behind (h.sofar ++ (told l a stock ++ text)) x) (sym (append_assoc h.made (entered l a stock) es))
+          (h.goes_on (next ∷ lines) end behind (told l a stock ++ text) (entered l a stock ++ es) (n.2 lines end behind reads) (a, v.0, text, es, v.2, refl, refl, tells))
+          );
     }
 
 -- ---- faults
 
-pub tells_fault : (T : Type 0) (f : ScriptFault) (s : Script) (bytes : List ℕ) (t : Scene) (first : Line) (before left : List ℕ) (after : Option (List ℕ)) → IsOfReading f → StandsTold s bytes t first before (Some f) left after → TellsAll {T = T} s bytes t first before (Err f) left after
-tells_fault T fault.ReadFailed s bytes t first before left after r h = (r, h)
-tells_fault T fault.InputTooLong s bytes t first before left after r h = (r, h)
-tells_fault T (fault.LineTooLong n) s bytes t first before left after r h = (r, h)
-tells_fault T (fault.BadLine n) s bytes t first before left after r h = (r, h)
-tells_fault T fault.WriteFailed s bytes t first before left after r h = inl h
-tells_fault T fault.OutOfMemory s bytes t first before left after r h = absurd r
-tells_fault T fault.HeapFull s bytes t first before left after r h = absurd r
-tells_fault T fault.BadLimits s bytes t first before left after r h = absurd r
+pub tells_fault : (T : Type 0) (f : ScriptFault) (told : LineText) (s : Script) (bytes : List ℕ) (t : Scene) (first : Line) (begun : List Entry) (before left : List ℕ) (entries : List Entry) (after : Option (List ℕ)) → IsOfReading f → StandsTold told s bytes t first begun before (Some f) left entries after → TellsAll {T = T} told s bytes t first begun before (Err f) left entries after
+tells_fault T fault.ReadFailed told s bytes t first begun before left entries after r h = (r, h)
+tells_fault T fault.InputTooLong told s bytes t first begun before left entries after r h = (r, h)
+tells_fault T (fault.LineTooLong n) told s bytes t first begun before left entries after r h = (r, h)
+tells_fault T (fault.BadLine n) told s bytes t first begun before left entries after r h = (r, h)
+tells_fault T fault.WriteFailed told s bytes t first begun before left entries after r h = inl h
+tells_fault T fault.OutOfMemory told s bytes t first begun before left entries after r h = absurd r
+tells_fault T fault.HeapFull told s bytes t first begun before left entries after r h = absurd r
+tells_fault T fault.BadLimits told s bytes t first begun before left entries after r h = absurd r
 
 -- a line that came behind another that is no edge line is no edge line
 pub next_command : (s : Script) (l : Line) (t : Script) → s.opening ≡ false → Follows s l t → IsCommand l × (t.opening ≡ false)

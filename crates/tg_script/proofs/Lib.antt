@@ -1,9 +1,11 @@
 pub mod LinesLaws
 pub mod OpeningLaws
 pub mod RunLaws
+pub mod TellLaws
 pub mod CommandLaws
 pub mod DueLaws
 pub mod RanLaws
+pub mod EnteringLaws
 pub mod WholeLaws
 pub mod CountLaws
 pub mod OutputLaws

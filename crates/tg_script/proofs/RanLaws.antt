@@ -14,7 +14,10 @@ use Rattle.tg_text.specs.Reading.{Reads, ReadsScript}
 use Rattle.tg_script.specs.Script.{Scene, IsAdmissible, IsCut, Start, HasRoomForWorkers, CanOpen, edges_of, commands_of, scene_of, IsScriptOutput}
 use Rattle.tg_script.specs.Lines.{ReadsFrom, Behind, IsBehind}
 use Rattle.tg_script.specs.Opening.{IsCommand, edge_lines, ReadsFirst, ReadsEdges, OpensStore}
-use Rattle.tg_script.specs.Running.{IsWritten, IsUnopened, IsUnkept, IsCutOff, Ran, IsTold, StandsTold, StandsCut, TellsAll, Finishes}
+use Rattle.tg_journal.specs.declared.entry.Entry.{Entry}
+use Rattle.tg_script.specs.Running.{IsWritten, IsUnopened, IsUnkept, IsCutOff, Ran, Finishes}
+use Rattle.tg_script.specs.Telling.{IsTold, StandsTold, StandsCut, TellsAll, reply_of_line}
+use Rattle.tg_script.proofs.TellLaws.{replies_admissible, replies_cut}
 use Rattle.tg_script.proofs.LinesLaws.{MayStop, reads_stop, reads_end, reads_behind, behind-append, may_stop_writing, keeps_known}
 use Rattle.tg_script.proofs.OpeningLaws.{behind_all}
 
@@ -35,7 +38,7 @@ fresh_reads s workers bytes lines end left fresh h =
 
 -- ---- edge lines alone
 
-commands_of-edges : (edges : List Edge) → commands_of (edge_lines edges) ≡ []
+pub commands_of-edges : (edges : List Edge) → commands_of (edge_lines edges) ≡ []
 commands_of-edges [] = refl
 commands_of-edges (e ∷ edges) = commands_of-edges edges
 
@@ -72,7 +75,7 @@ ran_edges_fault T fault.BadLimits start s t bytes before left after fresh h same
 
 -- ---- edge lines and others
 
-edges_of-front : (edges : List Edge) (l : Line) (lines : List Line) → IsCommand l → edges_of (edge_lines edges ++ l ∷ lines) ≡ edges
+pub edges_of-front : (edges : List Edge) (l : Line) (lines : List Line) → IsCommand l → edges_of (edge_lines edges ++ l ∷ lines) ≡ edges
 edges_of-front [] (line.Edge e) lines command = absurd (false≢true command.0)
 edges_of-front [] (line.Create x label) lines command = refl
 edges_of-front [] (line.Spawn x label) lines command = refl
@@ -81,7 +84,7 @@ edges_of-front [] line.Full lines command = refl
 edges_of-front [] line.Minor lines command = refl
 edges_of-front (e ∷ edges) l lines command = ap (λ x. e ∷ x) (edges_of-front edges l lines command)
 
-commands_of-front : (edges : List Edge) (l : Line) (lines : List Line) → IsCommand l → commands_of (edge_lines edges ++ l ∷ lines) ≡ l ∷ lines
+pub commands_of-front : (edges : List Edge) (l : Line) (lines : List Line) → IsCommand l → commands_of (edge_lines edges ++ l ∷ lines) ≡ l ∷ lines
 commands_of-front [] (line.Edge e) lines command = absurd (false≢true command.0)
 commands_of-front [] (line.Create x label) lines command = refl
 commands_of-front [] (line.Spawn x label) lines command = refl
@@ -134,65 +137,66 @@ scene_with start edges = record {
   helpers = start.helpers;
 }
 
-told_output : (start : Start) (s t : Script) (bytes rest : List ℕ) (edges : List Edge) (l : Line) (end : Option ScriptFault) (left text : List ℕ) → IsFresh s start.workers → CanOpen start → IsCommand l → Behind s bytes (edge_lines edges ++ l ∷ []) t rest → IsTold t rest (scene_with start edges) l end left text → IsScriptOutput start bytes end left text
-told_output start s t bytes rest edges l end left text fresh can command behind h =
+told_output : (start : Start) (s t : Script) (bytes rest : List ℕ) (edges : List Edge) (l : Line) (end : Option ScriptFault) (left text : List ℕ) (es : List Entry) → IsFresh s start.workers → CanOpen start → IsCommand l → Behind s bytes (edge_lines edges ++ l ∷ []) t rest → IsTold reply_of_line t rest (scene_with start edges) l end left text es → IsScriptOutput start bytes end left text
+told_output start s t bytes rest edges l end left text es fresh can command behind h =
     let lines = edge_lines edges ++ l ∷ h.0 in
+    let told = replies_admissible (l ∷ h.0) (scene_with start edges) text es h.2 in
     let P : List Line → Type 0 = λ x. ReadsFrom s bytes x end left in
-    let Q : List Edge → Type 0 = λ x. IsAdmissible (scene_with start x) (commands_of lines) h.1 text in
-    let R : List Line → Type 0 = λ x. IsAdmissible (scene_with start edges) x h.1 text in (
+    let Q : List Edge → Type 0 = λ x. IsAdmissible (scene_with start x) (commands_of lines) told.0 text in
+    let R : List Line → Type 0 = λ x. IsAdmissible (scene_with start edges) x told.0 text in (
       lines,
-      h.1,
-      fresh_reads s start.workers bytes lines end left fresh (subst P (append_assoc (edge_lines edges) (l ∷ []) h.0) (behind h.0 end left h.2)),
+      told.0,
+      fresh_reads s start.workers bytes lines end left fresh (subst P (append_assoc (edge_lines edges) (l ∷ []) h.0) (behind h.0 end left h.1)),
       inr can,
-      subst Q (sym (edges_of-front edges l h.0 command)) (subst R (sym (commands_of-front edges l h.0 command)) h.3),
+      subst Q (sym (edges_of-front edges l h.0 command)) (subst R (sym (commands_of-front edges l h.0 command)) told.1),
     )
 
-told_written : (start : Start) (s t : Script) (bytes rest : List ℕ) (edges : List Edge) (l : Line) (before : List ℕ) (end : Option ScriptFault) (left : List ℕ) (after : Option (List ℕ)) → IsFresh s start.workers → CanOpen start → IsCommand l → Behind s bytes (edge_lines edges ++ l ∷ []) t rest → StandsTold t rest (scene_with start edges) l before end left after → IsWritten start bytes before end left after
-told_written start s t bytes rest edges l before end left after fresh can command behind h =
-    (h.0, h.1, told_output start s t bytes rest edges l end left h.0 fresh can command behind h.2)
+told_written : (start : Start) (s t : Script) (bytes rest : List ℕ) (edges : List Edge) (l : Line) (before : List ℕ) (end : Option ScriptFault) (left : List ℕ) (begun entries : List Entry) (after : Option (List ℕ)) → IsFresh s start.workers → CanOpen start → IsCommand l → Behind s bytes (edge_lines edges ++ l ∷ []) t rest → StandsTold reply_of_line t rest (scene_with start edges) l begun before end left entries after → IsWritten start bytes before end left after
+told_written start s t bytes rest edges l before end left begun entries after fresh can command behind h =
+    (h.0, h.2, told_output start s t bytes rest edges l end left h.0 h.1 fresh can command behind h.4)
 
 -- a reply was cut off
-cut_off : (start : Start) (s t : Script) (bytes rest : List ℕ) (edges : List Edge) (l : Line) (before left : List ℕ) (after : Option (List ℕ)) → IsFresh s start.workers → CanOpen start → IsCommand l → Behind s bytes (edge_lines edges ++ l ∷ []) t rest → StandsCut t rest (scene_with start edges) l before left after → IsCutOff start bytes before left after
-cut_off start s t bytes rest edges l before left after fresh can command behind h =
+cut_off : (start : Start) (s t : Script) (bytes rest : List ℕ) (edges : List Edge) (l : Line) (before left : List ℕ) (begun entries : List Entry) (after : Option (List ℕ)) → IsFresh s start.workers → CanOpen start → IsCommand l → Behind s bytes (edge_lines edges ++ l ∷ []) t rest → StandsCut reply_of_line t rest (scene_with start edges) l begun before left entries after → IsCutOff start bytes before left after
+cut_off start s t bytes rest edges l before left begun entries after fresh can command behind h =
     let front = h.0 in
-    let more = h.2.0 in
+    let more = h.4.0 in
     let lines = edge_lines edges ++ l ∷ more in
     let first = edge_lines edges ++ l ∷ [] in
     let joined : first ++ more ≡ lines = append_assoc (edge_lines edges) (l ∷ []) more in
-    let begun = reads_behind first s.workers s.lines.room s.count s.opening bytes rest (behind_all s t bytes rest first (Some fault.OutOfMemory) rest behind refl) in
+    let begins = reads_behind first s.workers s.lines.room s.count s.opening bytes rest (behind_all s t bytes rest first (Some fault.OutOfMemory) rest behind refl) in
     let P : List Line → Type 0 = λ x. ReadsFrom s bytes x (Some fault.WriteFailed) left in
     let B : List Line → Type 0 = λ x. IsBehind x bytes left in
     let Q : List Edge → Type 0 = λ x. IsCut (scene_with start x) (commands_of lines) front in
     let R : List Line → Type 0 = λ x. IsCut (scene_with start edges) x front in (
       lines,
       front,
-      fresh_reads s start.workers bytes lines (Some fault.WriteFailed) left fresh (subst P joined (behind more (Some fault.WriteFailed) left h.2.1)),
-      subst B joined (behind-append first more bytes rest left begun h.2.2),
+      fresh_reads s start.workers bytes lines (Some fault.WriteFailed) left fresh (subst P joined (behind more (Some fault.WriteFailed) left h.4.1)),
+      subst B joined (behind-append first more bytes rest left begins h.4.2),
       can,
-      subst Q (sym (edges_of-front edges l more command)) (subst R (sym (commands_of-front edges l more command)) h.2.3),
-      h.1,
+      subst Q (sym (edges_of-front edges l more command)) (subst R (sym (commands_of-front edges l more command)) (replies_cut (l ∷ more) (scene_with start edges) front h.1 h.4.3)),
+      h.2,
     )
 
-pub ran_commands : {T : Type 0} (r : Result T ScriptFault) (start : Start) (s t : Script) (bytes rest : List ℕ) (edges : List Edge) (l : Line) (before left : List ℕ) (after : Option (List ℕ)) → IsFresh s start.workers → CanOpen start → IsCommand l → Behind s bytes (edge_lines edges ++ l ∷ []) t rest → TellsAll t rest (scene_with start edges) l before r left after → Ran start bytes before r left after
-ran_commands (Ok done) start s t bytes rest edges l before left after fresh room command behind h = (room, told_written start s t bytes rest edges l before None left after fresh room command behind h)
-ran_commands (Err fault.ReadFailed) start s t bytes rest edges l before left after fresh room command behind h = told_written start s t bytes rest edges l before (Some fault.ReadFailed) left after fresh room command behind h.1
-ran_commands (Err fault.InputTooLong) start s t bytes rest edges l before left after fresh room command behind h = told_written start s t bytes rest edges l before (Some fault.InputTooLong) left after fresh room command behind h.1
-ran_commands (Err (fault.LineTooLong n)) start s t bytes rest edges l before left after fresh room command behind h = told_written start s t bytes rest edges l before (Some (fault.LineTooLong n)) left after fresh room command behind h.1
-ran_commands (Err (fault.BadLine n)) start s t bytes rest edges l before left after fresh room command behind h = told_written start s t bytes rest edges l before (Some (fault.BadLine n)) left after fresh room command behind h.1
-ran_commands (Err fault.WriteFailed) start s t bytes rest edges l before left after fresh room command behind (inl h) =
-    inl (told_written start s t bytes rest edges l before (Some fault.WriteFailed) left after fresh room command behind h)
-ran_commands (Err fault.WriteFailed) start s t bytes rest edges l before left after fresh room command behind (inr h) =
-    inr (cut_off start s t bytes rest edges l before left after fresh room command behind h)
-ran_commands (Err fault.OutOfMemory) start s t bytes rest edges l before left after fresh room command behind h = absurd h.0
-ran_commands (Err fault.HeapFull) start s t bytes rest edges l before left after fresh room command behind h = absurd h.0
-ran_commands (Err fault.BadLimits) start s t bytes rest edges l before left after fresh room command behind h = absurd h.0
+pub ran_commands : {T : Type 0} (r : Result T ScriptFault) (start : Start) (s t : Script) (bytes rest : List ℕ) (edges : List Edge) (l : Line) (before left : List ℕ) (begun entries : List Entry) (after : Option (List ℕ)) → IsFresh s start.workers → CanOpen start → IsCommand l → Behind s bytes (edge_lines edges ++ l ∷ []) t rest → TellsAll reply_of_line t rest (scene_with start edges) l begun before r left entries after → Ran start bytes before r left after
+ran_commands (Ok done) start s t bytes rest edges l before left begun entries after fresh room command behind h = (room, told_written start s t bytes rest edges l before None left begun entries after fresh room command behind h)
+ran_commands (Err fault.ReadFailed) start s t bytes rest edges l before left begun entries after fresh room command behind h = told_written start s t bytes rest edges l before (Some fault.ReadFailed) left begun entries after fresh room command behind h.1
+ran_commands (Err fault.InputTooLong) start s t bytes rest edges l before left begun entries after fresh room command behind h = told_written start s t bytes rest edges l before (Some fault.InputTooLong) left begun entries after fresh room command behind h.1
+ran_commands (Err (fault.LineTooLong n)) start s t bytes rest edges l before left begun entries after fresh room command behind h = told_written start s t bytes rest edges l before (Some (fault.LineTooLong n)) left begun entries after fresh room command behind h.1
+ran_commands (Err (fault.BadLine n)) start s t bytes rest edges l before left begun entries after fresh room command behind h = told_written start s t bytes rest edges l before (Some (fault.BadLine n)) left begun entries after fresh room command behind h.1
+ran_commands (Err fault.WriteFailed) start s t bytes rest edges l before left begun entries after fresh room command behind (inl h) =
+    inl (told_written start s t bytes rest edges l before (Some fault.WriteFailed) left begun entries after fresh room command behind h)
+ran_commands (Err fault.WriteFailed) start s t bytes rest edges l before left begun entries after fresh room command behind (inr h) =
+    inr (cut_off start s t bytes rest edges l before left begun entries after fresh room command behind h)
+ran_commands (Err fault.OutOfMemory) start s t bytes rest edges l before left begun entries after fresh room command behind h = absurd h.0
+ran_commands (Err fault.HeapFull) start s t bytes rest edges l before left begun entries after fresh room command behind h = absurd h.0
+ran_commands (Err fault.BadLimits) start s t bytes rest edges l before left begun entries after fresh room command behind h = absurd h.0
 
 -- ---- the sink is finished
 
 written_keeps : (start : Start) (bytes before : List ℕ) (end : Option ScriptFault) (left : List ℕ) (mid after : Option (List ℕ)) → IsWritten start bytes before end left mid → KeepsBytes mid after → IsWritten start bytes before end left after
 written_keeps start bytes before end left mid after h keeps = (h.0, keeps_known mid after (before ++ h.0) h.1 keeps, h.2)
 
-ran_keeps : {T : Type 0} (r : Result T ScriptFault) (start : Start) (bytes before left : List ℕ) (mid after : Option (List ℕ)) → Ran start bytes before r left mid → KeepsBytes mid after → Ran start bytes before r left after
+pub ran_keeps : {T : Type 0} (r : Result T ScriptFault) (start : Start) (bytes before left : List ℕ) (mid after : Option (List ℕ)) → Ran start bytes before r left mid → KeepsBytes mid after → Ran start bytes before r left after
 ran_keeps (Ok done) start bytes before left mid after h keeps = (h.0, written_keeps start bytes before None left mid after h.1 keeps)
 ran_keeps (Err fault.ReadFailed) start bytes before left mid after h keeps = written_keeps start bytes before (Some fault.ReadFailed) left mid after h keeps
 ran_keeps (Err fault.InputTooLong) start bytes before left mid after h keeps = written_keeps start bytes before (Some fault.InputTooLong) left mid after h keeps

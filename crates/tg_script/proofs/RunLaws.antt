@@ -1,6 +1,6 @@
 -- Each line is answered by the scene that the run shows.
 use mathlib.Core.Bool.{true≢false}
-use Rattle.std.proofs.Common.{◌≡◌, ◌≢◌, inl, inr, ◌↔◌, ℕ, ◌<◌, ◌≤◌, nat_lt, true, false, cond, eqb, length, List, [], ◌∷◌, ◌++◌, Result, Ok, Err, refl, sym, ap, ap₂, ◌∙◌, subst}
+use Rattle.std.proofs.Common.{◌≡◌, ◌≢◌, inl, inr, ◌↔◌, ℕ, ◌<◌, ◌≤◌, nat_lt, true, false, cond, eqb, length, List, [], ◌∷◌, ◌++◌, Result, Ok, Err, refl, sym, ap, ap₂, ◌∙◌, subst, append-nil}
 use Rattle.std.specs.Prelude.{IfOk, IfErr, OnErr, IsErrAnd}
 use Rattle.std.specs.List.{list_any}
 use Rattle.std.proofs.lemmas.Bool.{lt-ltb, le-ltb}
@@ -23,17 +23,20 @@ use Rattle.tg_store.specs.declared.fault.ApplyFault.TheVariants as apply
 use Rattle.tg_store.specs.declared.fault.CreateFault.{CreateFault}
 use Rattle.tg_store.specs.declared.fault.CreateFault.TheVariants as create
 use Rattle.tg_store.specs.declared.fault.CreateRefused.{CreateRefused}
-use Rattle.tg_store.specs.Store.{StoreState, graph_of_store, StandsFor, IsUnchanged}
+use Rattle.tg_journal.specs.declared.entry.Entry.{Entry}
+use Rattle.tg_store.specs.Store.{StoreState, graph_of_store, Enters, OnlyEnters, StandsFor, IsUnchanged}
 use Rattle.tg_text.specs.declared.line.Line.{Line}
 use Rattle.tg_text.specs.declared.line.Line.TheVariants as line
 use Rattle.tg_text.specs.declared.answer.Answer.{Answer}
 use Rattle.tg_text.specs.declared.answer.Answer.TheVariants as told
+use Rattle.tg_text.specs.declared.answer.Refusal.{Refusal}
 use Rattle.tg_text.specs.declared.answer.Refusal.TheVariants as refusal
 use Rattle.tg_script.specs.declared.run.Run.{Run}
 use Rattle.tg_script.specs.Supply.{values_left}
 use Rattle.tg_script.specs.Script.{Scene, Answers, AnswersMaking, MayAnswerRefused, Serves, create_of, spawn_of, stock_left}
 use Rattle.tg_script.specs.Refusals.{apply_refusal, create_answer}
-use Rattle.tg_script.specs.Run.{Shows, HandlesBy, Handles, making_answer, values_back}
+use Rattle.tg_script.specs.Entering.{entered}
+use Rattle.tg_script.specs.Run.{Shows, HandlesBy, Handles, IsAsBefore, MakesEntry, MakesEntryBy, making_answer, values_back}
 
 -- ---- who is a subject, and which graph a store stands for
 
@@ -79,14 +82,18 @@ apply_refused old new x command apply.HeapFull unknown full same supply helpers 
 
 -- ---- vertices
 
--- a line by which x makes a vertex, and what it may be refused for
+-- a line by which x makes a vertex, what it may be refused for, and what it enters
 pub record IsMaking (l : Line) (x : ℕ) (making : Value → Deed) : Type 0 where
+  pub enters : (r : Reply) (value : Value) (left : List Value) → entered l (told.Reply r) (value ∷ left) ≡ (record { worker = x; deed = making value; reply = r }) ∷ []
+  pub enters_none : (r : Refusal) (values : List Value) → entered l (told.Refused r) values ≡ []
   pub answers : (s t : Scene) (a : Answer) → AnswersMaking s x making s.stock a t → Answers s l a t
   pub memory : (s : Scene) → IsSubject s.graph x → s.stock ≢ [] → MayAnswerRefused s l refusal.Memory
   pub heap : (s : Scene) (value : Value) → IsSubject s.graph x → s.stock ≢ [] → IsAllowed s.graph x (making value) → MayAnswerRefused s l refusal.Heap
 
 pub creating : (x : ℕ) (label : RightSet) → IsMaking (line.Create x label) x (create_of label)
 creating x label = record {
+  enters = λ r value left. refl;
+  enters_none = λ r values. refl;
   answers = λ s t a h. h;
   memory = λ s subject some. (subject, some);
   heap = λ s value subject some allowed. (subject, some, allowed);
@@ -94,6 +101,8 @@ creating x label = record {
 
 pub spawning : (x : ℕ) (label : RightSet) → IsMaking (line.Spawn x label) x (spawn_of label)
 spawning x label = record {
+  enters = λ r value left. refl;
+  enters_none = λ r values. refl;
   answers = λ s t a h. h;
   memory = λ s subject some. (subject, some);
   heap = λ s value subject some allowed. (subject, some, allowed.0, allowed.1);
@@ -184,3 +193,77 @@ handles_making store after helpers new l x making value left (Ok name) is makes 
 handles_making store after helpers new l x making value left (Err refused) is makes same supply same_helpers s shown =
     let makes' = subst (λ (t : StoreState). Makes store t x (making value) value (Err refused)) (sym same) makes in
     making_refused store helpers new l x making value left refused is makes' (supply ∙ ap (λ v. v ∷ left) makes.handed_back) same_helpers refused.why refl s shown
+
+-- ---- the entry of a line
+
+-- a line that has none
+pub makes_none : (old new : StoreState) (values : List Value) (l : Line) (a : Answer) → entered l a values ≡ [] → new.entries ≡ old.entries → new.opening ≡ old.opening → MakesEntryBy old values l a new
+makes_none old new values l a none same opening = record {
+  entries = same ∙ sym (append-nil old.entries) ∙ ap (λ (es : List Entry). old.entries ++ es) (sym none);
+  opening = opening;
+}
+
+-- what a store enters of a deed by which it was to make a vertex for x
+pub record EntersMade {P : Type 0} (old new : StoreState) (x : ℕ) (d : Deed) (made : Result ℕ (CreateRefused P)) : Type 0 where
+  pub named : IfOk made (λ name. Enters old new x d (reply.Name name))
+  pub no_more : IfErr made (λ refused. refused.why ≡ create.VerticesFull → OnlyEnters old new x d reply.VerticesFull)
+  pub too_many : IfErr made (λ refused. refused.why ≡ create.WorkersFull → OnlyEnters old new x d reply.WorkersFull)
+  pub others : IfErr made (λ refused. refused.why ≢ create.VerticesFull → refused.why ≢ create.WorkersFull → IsUnchanged old new)
+  pub opening : new.opening ≡ old.opening
+
+-- the entry has this reply
+makes_one : (store new : StoreState) (l : Line) (x : ℕ) (making : Value → Deed) (value : Value) (left : List Value) (r : Reply) → IsMaking l x making → Enters store new x (making value) r → new.opening ≡ store.opening → MakesEntryBy store (value ∷ left) l (told.Reply r) new
+makes_one store new l x making value left r is enters opening = record {
+  entries = enters ∙ ap (λ (es : List Entry). store.entries ++ es) (sym (is.enters r value left));
+  opening = opening;
+}
+
+making_refused_entry : {P : Type 0} (store new : StoreState) (l : Line) (x : ℕ) (making : Value → Deed) (value : Value) (left : List Value) (refused : CreateRefused P) → IsMaking l x making → EntersMade store new x (making value) (Err refused) → (why : CreateFault) → refused.why ≡ why → MakesEntryBy store (value ∷ left) l (create_answer why) new
+making_refused_entry store new l x making value left refused is made create.VerticesFull why =
+    makes_one store new l x making value left reply.VerticesFull is (made.no_more why).entry made.opening
+making_refused_entry store new l x making value left refused is made create.WorkersFull why =
+    makes_one store new l x making value left reply.WorkersFull is (made.too_many why).entry made.opening
+making_refused_entry store new l x making value left refused is made create.NoSuchWorker why =
+    let same = made.others (λ full. let e : create.NoSuchWorker ≡ create.VerticesFull = sym why ∙ full in cc) (λ full. let e : create.NoSuchWorker ≡ create.WorkersFull = sym why ∙ full in cc) in
+    makes_none store new (value ∷ left) l (told.Refused refusal.Worker) (is.enters_none refusal.Worker (value ∷ left)) same.entries same.opening
+making_refused_entry store new l x making value left refused is made create.OutOfMemory why =
+    let same = made.others (λ full. let e : create.OutOfMemory ≡ create.VerticesFull = sym why ∙ full in cc) (λ full. let e : create.OutOfMemory ≡ create.WorkersFull = sym why ∙ full in cc) in
+    makes_none store new (value ∷ left) l (told.Refused refusal.Memory) (is.enters_none refusal.Memory (value ∷ left)) same.entries same.opening
+making_refused_entry store new l x making value left refused is made create.HeapFull why =
+    let same = made.others (λ full. let e : create.HeapFull ≡ create.VerticesFull = sym why ∙ full in cc) (λ full. let e : create.HeapFull ≡ create.WorkersFull = sym why ∙ full in cc) in
+    makes_none store new (value ∷ left) l (told.Refused refusal.Heap) (is.enters_none refusal.Heap (value ∷ left)) same.entries same.opening
+
+making_entry_at : {P : Type 0} (store new : StoreState) (l : Line) (x : ℕ) (making : Value → Deed) (value : Value) (left : List Value) (made : Result ℕ (CreateRefused P)) → IsMaking l x making → EntersMade store new x (making value) made → MakesEntryBy store (value ∷ left) l (making_answer made) new
+making_entry_at store new l x making value left (Ok name) is enters = makes_one store new l x making value left (reply.Name name) is enters.named enters.opening
+making_entry_at store new l x making value left (Err refused) is enters = making_refused_entry store new l x making value left refused is enters refused.why refl
+
+-- behind the line the run has the store that is left
+pub making_entry : {P : Type 0} (store after new : StoreState) (l : Line) (x : ℕ) (making : Value → Deed) (value : Value) (left : List Value) (made : Result ℕ (CreateRefused P)) → IsMaking l x making → EntersMade store after x (making value) made → new ≡ after → MakesEntryBy store (value ∷ left) l (making_answer made) new
+making_entry store after new l x making value left made is enters same =
+    subst (λ (t : StoreState). MakesEntryBy store (value ∷ left) l (making_answer made) t) (sym same) (making_entry_at store after l x making value left made is enters)
+
+-- ---- entries that are given up
+
+-- a line is handled as it was before they were
+pub handles_before : {P : Type 0} (old mid new : Run P) (l : Line) (a : Answer) → IsAsBefore old mid → Handles mid l a new → Handles old l a new
+handles_before old mid new l a before handles s shows =
+    handles s (stands_still old.store mid.store s.graph before.opening before.entries shows.0, before.values ∙ shows.1, before.helpers ∙ shows.2)
+
+pub handles_behind : {P : Type 0} (old mid new : Run P) (l : Line) (a : Answer) → Handles old l a mid → IsAsBefore mid new → Handles old l a new
+handles_behind old mid new l a handles before s shows =
+    let told = handles s shows in
+    let t = told.0 in
+    (t, (stands_still mid.store new.store t.graph before.opening before.entries told.1.0, before.values ∙ told.1.1, before.helpers ∙ told.1.2), told.2)
+
+-- and its entry is made
+pub makes_before : {P : Type 0} (old mid new : Run P) (l : Line) (a : Answer) → IsAsBefore old mid → MakesEntry mid l a new → MakesEntry old l a new
+makes_before old mid new l a before makes = record {
+  entries = makes.entries ∙ ap (λ (es : List Entry). es ++ entered l a (values_left mid.supply)) before.entries ∙ ap (λ (values : List Value). old.store.entries ++ entered l a values) before.values;
+  opening = makes.opening ∙ before.opening;
+}
+
+pub makes_behind : {P : Type 0} (old mid new : Run P) (l : Line) (a : Answer) → MakesEntry old l a mid → IsAsBefore mid new → MakesEntry old l a new
+makes_behind old mid new l a makes before = record {
+  entries = before.entries ∙ makes.entries;
+  opening = before.opening ∙ makes.opening;
+}

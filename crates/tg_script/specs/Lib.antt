@@ -2,8 +2,10 @@ pub mod Refusals
 pub mod Script
 pub mod Counting
 pub mod Running
+pub mod Entering
 pub mod Lines
 pub mod Opening
 pub mod Supply
 pub mod Run
+pub mod Telling
 pub mod Whole

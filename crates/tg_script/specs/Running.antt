@@ -1,17 +1,12 @@
 -- What a run's answer says of the bytes that were read and of those that were written.
-use Rattle.std.specs.Prelude.{◌≡◌, ◌≢◌, ◌⊎◌, ℕ, ◌+◌, ◌<◌, ◌≤◌, IsOk, IfErr, OnOk, Bool, true, List, [], ◌∷◌, ◌++◌, length, Option, Some, None, Result, Ok, Err}
+use Rattle.std.specs.Prelude.{◌≡◌, ◌≢◌, ◌⊎◌, ℕ, ◌+◌, ◌<◌, ◌≤◌, IsOk, IfErr, OnOk, Bool, true, List, [], ◌++◌, length, Option, Some, None, Result, Ok, Err}
 use Rattle.tg_text.specs.declared.fault.ScriptFault.{ScriptFault}
 use Rattle.tg_text.specs.declared.fault.ScriptFault.TheVariants as fault
-use Rattle.tg_text.specs.Sinks.{KeepsBytes, Writes}
+use Rattle.tg_text.specs.Sinks.{KeepsBytes}
 use Rattle.tg_text.specs.declared.line.Line.{Line}
-use Rattle.tg_script.specs.declared.script.Script.{Script}
-use Rattle.tg_text.specs.declared.answer.Answer.{Answer}
-use Rattle.tg_script.specs.declared.run.Run.{Run}
-use Rattle.tg_text.specs.Texts.{answer_text}
-use Rattle.tg_script.specs.Run.{Handles}
-use Rattle.tg_script.specs.Lines.{ReadsFrom, IsBehind, IsOfReading, read_failures}
+use Rattle.tg_script.specs.Lines.{IsBehind, read_failures}
 use Rattle.tg_text.specs.Reading.{ReadsScript}
-use Rattle.tg_script.specs.Script.{Scene, IsAdmissible, IsCut, Start, HasRoomForWorkers, CanOpen, IsScriptOutput, commands_of, scene_of}
+use Rattle.tg_script.specs.Script.{IsCut, Start, HasRoomForWorkers, CanOpen, IsScriptOutput, commands_of, scene_of}
 
 -- the text for the script, read up to this fault or to its end, stands behind what was written before
 abbrev pub IsWritten : Start → List ℕ → List ℕ → Option ScriptFault → List ℕ → Option (List ℕ) → Type 0
@@ -70,36 +65,7 @@ pub record FinishesSink {K T : Type 0} (failures : K → ℕ) (is_finished : K �
   pub unfailed : OnOk result (failures sink' ≡ failures sink)
   pub finished : is_finished sink' ≡ true
 
--- ---- parts of a run
-
--- the lines behind the first are read so far, and the text is admissible for all of them from the scene
-abbrev pub IsTold : Script → List ℕ → Scene → Line → Option ScriptFault → List ℕ → List ℕ → Type 0
-IsTold s bytes t first end left text = (lines : List Line) × (wants : ℕ) × ReadsFrom s bytes lines end left × IsAdmissible t (first ∷ lines) wants text
-
--- such a text stands behind what was written before
-abbrev pub StandsTold : Script → List ℕ → Scene → Line → List ℕ → Option ScriptFault → List ℕ → Option (List ℕ) → Type 0
-StandsTold s bytes t first before end left after = (text : List ℕ) × (after ≡ Some (before ++ text)) × IsTold s bytes t first end left text
-
--- a reply of theirs was cut off, and this much of the text stands
-abbrev pub CutsTold : Script → List ℕ → Scene → Line → List ℕ → List ℕ → Type 0
-CutsTold s bytes t first left front =
-    (lines : List Line) × ReadsFrom s bytes lines (Some fault.WriteFailed) left × IsBehind lines bytes left × IsCut t (first ∷ lines) front
-
--- such a part of a text stands behind what was written before
-abbrev pub StandsCut : Script → List ℕ → Scene → Line → List ℕ → List ℕ → Option (List ℕ) → Type 0
-StandsCut s bytes t first before left after = (front : List ℕ) × (after ≡ Some (before ++ front)) × CutsTold s bytes t first left front
-
--- what stands in the sink after the lines from the first on that is no edge line, and what is left behind them
-abbrev pub TellsAll : {T : Type 0} → Script → List ℕ → Scene → Line → List ℕ → Result T ScriptFault → List ℕ → Option (List ℕ) → Type 0
-TellsAll s bytes t first before (Ok done) left after = StandsTold s bytes t first before None left after
-TellsAll s bytes t first before (Err fault.WriteFailed) left after =
-    StandsTold s bytes t first before (Some fault.WriteFailed) left after ⊎ StandsCut s bytes t first before left after
-TellsAll s bytes t first before (Err f) left after = IsOfReading f × StandsTold s bytes t first before (Some f) left after
-
--- the line was answered, and the answer was written or a front of it
-abbrev pub RunsLine : {P T E : Type 0} → Run P → Line → Run P → Option (List ℕ) → ℕ → Result T E → Option (List ℕ) → ℕ → Type 0
-RunsLine old l new before failures result after failures' =
-    (a : Answer) × Handles old l a new × Writes before failures (answer_text a) result after failures'
+-- ---- its end
 
 -- The sink was finished: what was taken is the same still. A fault stands; where there was none and it failed, that is the fault.
 abbrev pub Finishes : {T : Type 0} → Option (List ℕ) → ℕ → Result T ScriptFault → Result T ScriptFault → Option (List ℕ) → ℕ → Type 0

@@ -34,6 +34,7 @@ pub trait Collector {
         ensures reachable { (g : ProtectionGraph) → StandsFor store.old g → IfOk result (λ number. kind ≡ Kind.Full → IsCountOf (IsReachable g) number) }
         ensures refused { IfErr result (MayWant helpers) }
         ensures entries { store.new.entries ≡ store.old.entries }
+        ensures handed { store.new.handed ≡ store.old.handed }
         ensures opening { store.new.opening ≡ store.old.opening };
 }
 

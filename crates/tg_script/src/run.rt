@@ -5,6 +5,7 @@ use crate::collector::Collector;
 use crate::helpers::Helpers;
 use crate::refusals::{apply_refusal, create_answer};
 use crate::supply::Supply;
+use crate::telling::Holding;
 use tg_model::{Command, Reply};
 use tg_payload::{Draft, Payload};
 use tg_rights::Label;
@@ -25,27 +26,35 @@ pub(crate) struct Run<P: Payload> {
 }
 
 impl<P: Payload> Run<P> {
-    ghost use Rattle.std.specs.Prelude.{◌≡◌, ◌++◌, None};
+    ghost use Rattle.std.specs.Prelude.{◌≡◌, ◌++◌, ◌∷◌, None, true};
     ghost use Rattle.tg_script.specs.Opening.{IsAnswerable};
-    ghost use Rattle.tg_script.specs.Run.{Handles, HandlesWith, making_answer, values_back};
+    ghost use Rattle.tg_script.specs.Run.{Handles, HandlesWith, IsAsBefore, MakesEntry, MakesEntryBy, making_answer, values_back};
     ghost use Rattle.tg_script.specs.Supply.{values_left};
     ghost use Rattle.tg_store.specs.Store.{HandsOut};
 
-    /// What a line is answered. No line fails: where memory or room is wanting, that is the answer. A run's output is
-    /// its journal, so what was entered is given up: many entries at a time, and a long list at once.
+    /// Gives up what was entered, where it is many entries. A run's output is its journal.
     #[inline(always)]
-    pub(crate) fn answer<C: Collector>(&mut self, collector: &C, line: Line) -> Answer
-        requires answerable { IsAnswerable C.Ready line }
-        ensures { Handles self.old line result self.new }
+    pub(crate) fn give_up_many(&mut self)
+        ensures { IsAsBefore self.old self.new }
     {
         if self.store.journal().entries().len() >= MOST_ENTRIES {
             self.give_up_entries();
         }
-        self.answer_line(collector, line)
     }
 
+    /// Gives up what was entered, where the reply is a long list.
+    #[inline(always)]
+    pub(crate) fn give_up_long(&mut self, reply: &Reply)
+        ensures { IsAsBefore self.old self.new }
+    {
+        if is_long(reply) {
+            self.give_up_entries();
+        }
+    }
+
+    /// Gives up what was entered.
     #[cold]
-    fn give_up_entries(&mut self)
+    pub(crate) fn give_up_entries(&mut self)
         ensures store { HandsOut self.old.store self.new.store }
         ensures supply { self.new.supply ≡ self.old.supply }
         ensures helpers { self.new.helpers ≡ self.old.helpers }
@@ -54,15 +63,18 @@ impl<P: Payload> Run<P> {
         self.store.forget(made);
     }
 
+    /// What a line is answered. No line fails: where memory or room is wanting, that is the answer.
     #[inline(always)]
-    fn answer_line<C: Collector>(&mut self, collector: &C, line: Line) -> Answer
+    pub(crate) fn answer<H: Holding, C: Collector>(&mut self, collector: &C, line: Line) -> Answer
         requires answerable { IsAnswerable C.Ready line }
-        ensures { Handles self.old line result self.new }
+        ensures answered { Handles self.old line result self.new }
+        ensures entry { MakesEntry self.old line result self.new }
+        ensures held { H.holds ≡ true → self.new.store.handed ≡ self.old.store.handed }
     {
         match line {
             Line::Create { worker, label } => self.create(worker, label),
             Line::Spawn { worker, label } => self.spawn(worker, label),
-            Line::Plain { worker, command } => self.apply(worker, command),
+            Line::Plain { worker, command } => self.apply::<H>(worker, command),
             Line::Full => self.collect_all(collector),
             Line::Minor => self.collect_nurseries(collector),
             Line::Edge(_) => unreachable!(),
@@ -70,14 +82,14 @@ impl<P: Payload> Run<P> {
     }
 
     #[inline(always)]
-    fn apply(&mut self, worker: u64, command: Command) -> Answer
-        ensures { Handles self.old (Line.Plain worker command) result self.new }
+    fn apply<H: Holding>(&mut self, worker: u64, command: Command) -> Answer
+        ensures answered { Handles self.old (Line.Plain worker command) result self.new }
+        ensures entry { MakesEntry self.old (Line.Plain worker command) result self.new }
+        ensures held { H.holds ≡ true → self.new.store.handed ≡ self.old.store.handed }
     {
         match self.store.apply(worker, command) {
             Ok(reply) => {
-                if is_long(&reply) {
-                    self.give_up_entries();
-                }
+                H::heed(self, &reply);
                 Answer::Reply(reply)
             }
             Err(fault) => Answer::Refused(apply_refusal(fault)),
@@ -86,7 +98,9 @@ impl<P: Payload> Run<P> {
 
     fn collect_all<C: Collector>(&mut self, collector: &C) -> Answer
         requires { C.Ready }
-        ensures { Handles self.old Line.Full result self.new }
+        ensures answered { Handles self.old Line.Full result self.new }
+        ensures entry { MakesEntry self.old Line.Full result self.new }
+        ensures handed { self.new.store.handed ≡ self.old.store.handed }
     {
         match collector.collect(&mut self.store, Kind::Full, self.helpers) {
             Ok(kept) => Answer::Collected(Some(kept)),
@@ -97,7 +111,9 @@ impl<P: Payload> Run<P> {
     // How many vertices the heap then has isn't told: the graph doesn't say it.
     fn collect_nurseries<C: Collector>(&mut self, collector: &C) -> Answer
         requires { C.Ready }
-        ensures { Handles self.old Line.Minor result self.new }
+        ensures answered { Handles self.old Line.Minor result self.new }
+        ensures entry { MakesEntry self.old Line.Minor result self.new }
+        ensures handed { self.new.store.handed ≡ self.old.store.handed }
     {
         match collector.collect(&mut self.store, Kind::Nursery, self.helpers) {
             Ok(_) => Answer::Collected(None),
@@ -108,7 +124,9 @@ impl<P: Payload> Run<P> {
     // The first payload of the stock goes to the new vertex.
     #[inline(always)]
     fn create(&mut self, worker: u64, label: Label) -> Answer
-        ensures { Handles self.old (Line.Create worker label) result self.new }
+        ensures answered { Handles self.old (Line.Create worker label) result self.new }
+        ensures entry { MakesEntry self.old (Line.Create worker label) result self.new }
+        ensures handed { self.new.store.handed ≡ self.old.store.handed }
     {
         match self.supply.take() {
             Some(draft) => self.create_of(worker, label, draft),
@@ -119,15 +137,20 @@ impl<P: Payload> Run<P> {
     #[inline(always)]
     fn create_of(&mut self, worker: u64, label: Label, draft: Draft<P>) -> Answer
         requires { self.old.supply.front ≡ None }
-        ensures { HandlesWith self.old draft (Line.Create worker label) result self.new }
+        ensures answered { HandlesWith self.old draft (Line.Create worker label) result self.new }
+        ensures entry { MakesEntryBy self.old.store (draft ∷ values_left self.old.supply) (Line.Create worker label) result self.new.store }
+        ensures handed { self.new.store.handed ≡ self.old.store.handed }
     {
         let made = self.store.create(worker, label, draft);
         self.tell(made)
     }
 
     // The same, and the new vertex is a subject.
+    #[inline(always)]
     fn spawn(&mut self, worker: u64, label: Label) -> Answer
-        ensures { Handles self.old (Line.Spawn worker label) result self.new }
+        ensures answered { Handles self.old (Line.Spawn worker label) result self.new }
+        ensures entry { MakesEntry self.old (Line.Spawn worker label) result self.new }
+        ensures handed { self.new.store.handed ≡ self.old.store.handed }
     {
         match self.supply.take() {
             Some(draft) => self.spawn_of(worker, label, draft),
@@ -137,7 +160,9 @@ impl<P: Payload> Run<P> {
 
     fn spawn_of(&mut self, worker: u64, label: Label, draft: Draft<P>) -> Answer
         requires { self.old.supply.front ≡ None }
-        ensures { HandlesWith self.old draft (Line.Spawn worker label) result self.new }
+        ensures answered { HandlesWith self.old draft (Line.Spawn worker label) result self.new }
+        ensures entry { MakesEntryBy self.old.store (draft ∷ values_left self.old.supply) (Line.Spawn worker label) result self.new.store }
+        ensures handed { self.new.store.handed ≡ self.old.store.handed }
     {
         let made = self.store.spawn(worker, label, draft);
         self.tell(made)

@@ -6,8 +6,9 @@ ghost use Rattle.tg_script.specs.Counting.{MayCountInMemory};
 ghost use Rattle.tg_script.specs.Lines.{CountsFailures, IsOfReading, read_failures, write_failures};
 ghost use Rattle.tg_script.specs.Opening.{IsAnswerable};
 ghost use Rattle.tg_script.specs.Run.{OpensRun, Shows};
-ghost use Rattle.tg_script.specs.Running.{Finishes, FinishesSink, IsDue, Ran, RunsFrom, RunsLine, TellsAll};
+ghost use Rattle.tg_script.specs.Running.{Finishes, FinishesSink, IsDue, Ran, RunsFrom};
 ghost use Rattle.tg_script.specs.Script.{MayRun, MayStart, Scene, start_with};
+ghost use Rattle.tg_script.specs.Telling.{TellsAll};
 
 use crate::collector::{Collector, OneThread};
 use crate::helpers::Helpers;
@@ -15,13 +16,14 @@ use crate::opening::{Front, open_store, read_edges};
 use crate::run::Run;
 use crate::script::Script;
 use crate::supply::Supply;
+use crate::telling::{Replies, Telling};
 use std::alloc::Global;
 use std::marker::Brand;
 use std::sync::ledger::{Blank, Ledger};
 use tg_model::Edge;
 use tg_payload::{Draft, Payload};
 use tg_store::Limits;
-use tg_text::{Bytes, Count, Line, ScriptFault, Sink, Source, WriteFailed, Written, write_reply};
+use tg_text::{Bytes, Count, Line, ScriptFault, Sink, Source, Written};
 
 /// What a run is given beside its script and its payloads.
 #[derive(Clone, Copy, Debug)]
@@ -148,8 +150,11 @@ fn run_counted<P: Payload, C: Collector, A: Ledger, F: Ledger>(
     }
 }
 
-// Finishes the sink. A fault that came before stands.
-fn finish<K: Sink>(sink: &mut K, outcome: Result<(), ScriptFault>) -> Result<(), ScriptFault>
+/// Finishes the sink. A fault that came before stands.
+pub(crate) fn finish<K: Sink>(
+    sink: &mut K,
+    outcome: Result<(), ScriptFault>,
+) -> Result<(), ScriptFault>
     ensures outcome { Finishes (K.taken sink.old) (K.failures sink.old) outcome result (K.taken sink.new) (K.failures sink.new) }
     ensures finished { K.finished sink.new ≡ true }
 {
@@ -181,7 +186,14 @@ fn run_lines<P: Payload, C: Collector, S: Source, K: Sink>(
     let mut run = open_run(alloc, settings, edges, workers, stock)?;
     match first {
         Some(first) => {
-            let ran = run_commands(&mut run, collector, &mut script, source, sink, first);
+            let ran = run_commands::<P, Replies, C, S, K>(
+                &mut run,
+                collector,
+                &mut script,
+                source,
+                sink,
+                first,
+            );
             drop(run);
             ran
         }
@@ -192,8 +204,8 @@ fn run_lines<P: Payload, C: Collector, S: Source, K: Sink>(
     }
 }
 
-// Opens the store, beside which the stock is whole.
-fn open_run<P: Payload>(
+/// Opens the store, beside which the stock is whole.
+pub(crate) fn open_run<P: Payload>(
     alloc: Global,
     settings: Settings,
     edges: Vec<Edge>,
@@ -220,8 +232,8 @@ fn open_run<P: Payload>(
     })
 }
 
-// Runs the lines from the first on that is no edge line.
-fn run_commands<P: Payload, C: Collector, S: Source, K: Sink>(
+/// Runs the lines from the first on that is no edge line, and writes what is told of each.
+pub(crate) fn run_commands<P: Payload, T: Telling, C: Collector, S: Source, K: Sink>(
     run: &mut Run<P>,
     collector: &C,
     script: &mut Script,
@@ -232,14 +244,15 @@ fn run_commands<P: Payload, C: Collector, S: Source, K: Sink>(
     requires answerable { IsAnswerable C.Ready first }
     requires opening { script.old.opening ≡ false }
     ensures written { (t : Scene) (rest before : List ℕ) → Shows run.old t → S.left source.old ≡ Some rest → K.taken sink.old ≡ Some before →
-        (left : List ℕ) × (S.left source.new ≡ Some left) × TellsAll script.old rest t first before result left (K.taken sink.new) }
+        (left : List ℕ) × (S.left source.new ≡ Some left) × TellsAll T.told script.old rest t first run.old.store.entries before result left run.new.store.entries (K.taken sink.new) }
+    ensures kept { run.new.store.opening ≡ run.old.store.opening }
     ensures fault { IfErr result IsOfReading }
     ensures asked { S.asked source.new ≤ S.asked source.old + script.old.lines.room + 1 }
     ensures failures { CountsFailures S.failures K.failures source.old source.new sink.old sink.new (read_failures result) (write_failures result) }
 {
     let mut line = first;
     'lines: loop {
-        let Ok(()) = run_line(run, collector, sink, line) else {
+        let Ok(()) = T::run_line(run, collector, sink, line) else {
             return Err(ScriptFault::WriteFailed);
         };
         let came = script.next(source, sink)?;
@@ -248,19 +261,4 @@ fn run_commands<P: Payload, C: Collector, S: Source, K: Sink>(
         };
         line = next;
     }
-}
-
-// Answers the line, and writes the answer.
-#[inline(always)]
-fn run_line<P: Payload, C: Collector, K: Sink>(
-    run: &mut Run<P>,
-    collector: &C,
-    sink: &mut K,
-    line: Line,
-) -> Result<(), WriteFailed>
-    requires answerable { IsAnswerable C.Ready line }
-    ensures { RunsLine run.old line run.new (K.taken sink.old) (K.failures sink.old) result (K.taken sink.new) (K.failures sink.new) }
-{
-    let answer = run.answer(collector, line);
-    write_reply(sink, &answer)
 }

@@ -1,6 +1,6 @@
 -- What comes of a whole race, from what its parts did.
 use mathlib.Core.Bool.{false≢true}
-use Rattle.std.proofs.Common.{◌≡◌, ◌⊎◌, ◌+◌, ◌≤◌, arith, inl, inr, ℕ, List, [], ◌∷◌, ◌++◌, Option, Some, Result, Ok, Err, refl, sym, ap, ◌∙◌, subst, append-nil, length}
+use Rattle.std.proofs.Common.{◌≡◌, ◌⊎◌, ◌+◌, ◌<◌, ◌≤◌, arith, inl, inr, ℕ, List, [], ◌∷◌, ◌++◌, Option, Some, Result, Ok, Err, refl, sym, ap, ◌∙◌, subst, append-nil, length}
 use Rattle.std.specs.Prelude.{IfErr, IsErrAnd, IsOk, OnOk, map}
 use Rattle.std.specs.List.{All, filter, range_with_len}
 use Rattle.std.proofs.lemmas.List.{length-map}
@@ -8,12 +8,11 @@ use Rattle.std.proofs.lemmas.List.Elements.{All-head}
 use Rattle.std.proofs.lemmas.List.FromFn.{length-map-range_with_len, length-range_with_len}
 use Rattle.tg_model.specs.declared.edge.Edge.{Edge}
 use Rattle.tg_model.specs.declared.value.Value.{Value}
-use Rattle.tg_model.specs.Opened.{Plan, start_of}
-use Rattle.tg_journal.specs.History.{IsLegal, IsAuditFault}
+use Rattle.tg_model.specs.Opened.{IsPlan, Plan, start_of}
+use Rattle.tg_journal.specs.History.{IsLegal}
 use Rattle.tg_journal.specs.declared.entry.Entry.{Entry}
-use Rattle.tg_journal.specs.declared.replay.AuditFault.{AuditFault}
-use Rattle.tg_journal.specs.declared.replay.AuditFault.TheVariants as audit
-use Rattle.tg_journal.proofs.HistoryLaws.{IsFirstBad-not_legal}
+use Rattle.tg_store.specs.declared.fault.StoreAuditFault.{StoreAuditFault}
+use Rattle.tg_store.specs.declared.fault.StoreAuditFault.TheVariants as audit
 use Rattle.tg_store.specs.Store.{StoreState}
 use Rattle.tg_text.specs.declared.line.Line.{Line}
 use Rattle.tg_text.specs.declared.line.Line.TheVariants as line
@@ -31,10 +30,11 @@ use Rattle.tg_weave.specs.declared.work.Work.{Work}
 use Rattle.tg_weave.specs.declared.work.Finished.{Finished}
 use Rattle.tg_weave.specs.Boxes.{Boxed, boxed}
 use Rattle.tg_weave.specs.Shares.{IsInScriptOrder, all_lines, is_run_by, lines_in, lines_of}
-use Rattle.tg_weave.specs.Telling.{end_text, text_of_told}
-use Rattle.tg_threads.specs.Output.{Arena, IsNewStore, IsRaceOutput, arena_of, plan_of_script}
+use Rattle.tg_weave.specs.Telling.{text_of_told}
+use Rattle.tg_script.specs.Entering.{plan_of}
+use Rattle.tg_threads.specs.Output.{Arena, IsNewStore, IsRaceOutput, RaceText, arena_of}
 use Rattle.tg_threads.specs.Tasks.{AllBring, AreRaced, all_assigned, assigned_of}
-use Rattle.tg_threads.specs.Race.{EndsRace, HasRaced, IsOfTelling, IsRaceDue, IsWhole, TellsRace, race_fault_of_audit, race_read_failures, race_write_failures}
+use Rattle.tg_threads.specs.Race.{EndsRace, HasHistory, HasRaced, IsOfTelling, IsRaceDue, IsWhole, TellsRace, race_fault_of_audit, race_read_failures, race_write_failures}
 use Rattle.tg_threads.proofs.ShareLaws.{each_assigned}
 use Rattle.tg_threads.proofs.WeaveLaws.{bring_as_many, each_told}
 
@@ -99,18 +99,19 @@ unclosed closing.ReceiptMismatch missing mismatch = inr (mismatch refl)
 -- ---- the whole
 
 -- what the lines came to, with a legal history, is an output
-raced_output : (start : Start) (shared : SharedStart) (lines : List Line) (s : StoreState) (ts : List Told) → IsNewStore (plan_of_script start lines) start.blocks shared → s.opening ≡ plan_of_script start lines → AreRaced (arena_of shared start.helpers) start.workers (boxed start.stock (commands_of lines)) s.entries ts → IsLegal (start_of s.opening) s.entries →
-    IsRaceOutput start lines (text_of_told s.entries ts ++ end_text (length s.entries))
-raced_output start shared lines s ts new opening raced legal = record {
+raced_output : (race_text : RaceText) (start : Start) (shared : SharedStart) (lines : List Line) (s : StoreState) (ts : List Told) → IsNewStore (plan_of start lines) start.blocks shared → s.opening ≡ plan_of start lines → AreRaced (arena_of shared start.helpers) start.workers (boxed start.stock (commands_of lines)) s.entries ts → HasHistory s →
+    IsRaceOutput race_text start lines (race_text s.opening s.entries (text_of_told s.entries ts))
+raced_output race_text start shared lines s ts new opening raced history = record {
   shared = shared;
   new = new;
   entries = s.entries;
   made = raced.made;
   replies = text_of_told s.entries ts;
-  legal = subst (λ (p : Plan). IsLegal (start_of p) s.entries) opening legal;
+  plan = subst IsPlan opening history.0;
+  legal = subst (λ (p : Plan). IsLegal (start_of p) s.entries) opening history.1;
   told = raced.told;
   each = raced.each;
-  text_is = refl;
+  text_is = ap (λ (p : Plan). race_text p s.entries (text_of_told s.entries ts)) opening;
 }
 
 pub raced_same : (arena : Arena) (n workers : ℕ) (stock : List Value) (lent lines : List Line) (entries : List Entry) (ts : List Told) → n ≡ workers → lent ≡ lines → AreRaced arena n (boxed stock lent) entries ts → AreRaced arena workers (boxed stock lines) entries ts
@@ -118,39 +119,38 @@ raced_same arena n workers stock lent lines entries ts same is h =
     let P : ℕ → List Line → Type 0 = λ k ls. AreRaced arena k (boxed stock ls) entries ts in
     subst (P workers) is (subst (λ k. P k lent) same h)
 
-pub race_told : {T : Type 0} (r : Result T RaceFault) (start : Start) (shared : SharedStart) (bytes before left : List ℕ) (lines : List Line) (s : StoreState) (ts : List Told) (after : Option (List ℕ)) → IsWhole start bytes lines left → IsNewStore (plan_of_script start lines) start.blocks shared → s.opening ≡ plan_of_script start lines →
-    AreRaced (arena_of shared start.helpers) start.workers (boxed start.stock (commands_of lines)) s.entries ts → TellsRace s ts before r after → HasRaced start bytes before r left after
-race_told (Ok done) start shared bytes before left lines s ts after whole new opening raced h =
-    (lines, text_of_told s.entries ts ++ end_text (length s.entries), whole, raced_output start shared lines s ts new opening raced h.0, h.1)
-race_told (Err (fault.Script f)) start shared bytes before left lines s ts after whole new opening raced h = absurd h
-race_told (Err fault.OutOfMemory) start shared bytes before left lines s ts after whole new opening raced h = (lines, whole, h)
-race_told (Err fault.NoThread) start shared bytes before left lines s ts after whole new opening raced h = (lines, whole, h)
-race_told (Err fault.ReceiptMismatch) start shared bytes before left lines s ts after whole new opening raced h = (lines, whole, h)
-race_told (Err fault.AuditFailed) start shared bytes before left lines s ts after whole new opening raced h = absurd h
-race_told (Err fault.WriteFailed) start shared bytes before left lines s ts after whole new opening raced h =
-    (lines, h.1, h.2, whole, subst (λ text. IsRaceOutput start lines text) h.3 (raced_output start shared lines s ts new opening raced h.0), h.4)
+pub race_told : {T : Type 0} (r : Result T RaceFault) (race_text : RaceText) (start : Start) (shared : SharedStart) (bytes before left : List ℕ) (lines : List Line) (s : StoreState) (ts : List Told) (after : Option (List ℕ)) → IsWhole start bytes lines left → IsNewStore (plan_of start lines) start.blocks shared → s.opening ≡ plan_of start lines →
+    AreRaced (arena_of shared start.helpers) start.workers (boxed start.stock (commands_of lines)) s.entries ts → TellsRace s (race_text s.opening s.entries (text_of_told s.entries ts)) before r after → HasRaced race_text start bytes before r left after
+race_told (Ok done) race_text start shared bytes before left lines s ts after whole new opening raced h =
+    (lines, race_text s.opening s.entries (text_of_told s.entries ts), whole, raced_output race_text start shared lines s ts new opening raced h.0, h.1)
+race_told (Err (fault.Script f)) race_text start shared bytes before left lines s ts after whole new opening raced h = absurd h
+race_told (Err fault.OutOfMemory) race_text start shared bytes before left lines s ts after whole new opening raced h = (lines, whole, h)
+race_told (Err fault.NoThread) race_text start shared bytes before left lines s ts after whole new opening raced h = (lines, whole, h)
+race_told (Err fault.ReceiptMismatch) race_text start shared bytes before left lines s ts after whole new opening raced h = (lines, whole, h)
+race_told (Err fault.AuditFailed) race_text start shared bytes before left lines s ts after whole new opening raced h = absurd h
+race_told (Err fault.WriteFailed) race_text start shared bytes before left lines s ts after whole new opening raced h =
+    (lines, h.1, h.2, whole, subst (λ text. IsRaceOutput race_text start lines text) h.3 (raced_output race_text start shared lines s ts new opening raced h.0), h.4)
 
--- the audit of a store's own journal, which is legal, is refused for want of memory alone
-pub unaudited : {T : Type 0} (s : StoreState) (ts : List Told) (given : Plan) (listed : List Entry) (f : AuditFault) (r : Result T RaceFault) (before : List ℕ) (after : Option (List ℕ)) → given ≡ s.opening → listed ≡ s.entries →
-    IsLegal (start_of s.opening) s.entries → IsAuditFault (start_of given) listed f → IsErrAnd r (λ why. why ≡ race_fault_of_audit f) → after ≡ Some before → TellsRace s ts before r after
-unaudited s ts given listed f (Ok done) before after opening entries legal says is kept = absurd is
-unaudited {T} s ts given listed audit.OutOfMemory (Err why) before after opening entries legal says is kept =
-    let P : RaceFault → Type 0 = λ x. TellsRace {T = T} s ts before (Err x) after in
-    subst P (sym is) kept
-unaudited s ts given listed (audit.BadEntry at) (Err why) before after opening entries legal says is kept =
-    absurd (IsFirstBad-not_legal (start_of given) listed at says
-    (subst (λ (p : Plan). IsLegal (start_of p) listed) (sym opening) (subst (λ (es : List Entry). IsLegal (start_of s.opening) es) (sym entries) legal)))
+-- the audit of a store that gave no entry up is refused for want of memory alone
+pub own_audit_fault : {A : Type 0} (handed : ℕ) (r : Result A StoreAuditFault) (f : StoreAuditFault) → r ≡ Err f → handed ≡ 0 → (r ≡ Err audit.NotWhole → 0 < handed) → (f ≡ audit.NotWhole) ⊎ (f ≡ audit.OutOfMemory) → f ≡ audit.OutOfMemory
+own_audit_fault handed r f was none gave (inl not_whole) =
+    let some = gave (was ∙ ap (λ (why : StoreAuditFault). Err why) not_whole) in absurd (omega (arith, none, some))
+own_audit_fault handed r f was none gave (inr memory) = memory
+
+-- and then nothing is written
+pub unaudited : {T : Type 0} (s : StoreState) (text : List ℕ) (f : StoreAuditFault) (r : Result T RaceFault) (before : List ℕ) (after : Option (List ℕ)) → f ≡ audit.OutOfMemory → IsErrAnd r (λ why. why ≡ race_fault_of_audit f) → after ≡ Some before →
+    TellsRace s text before r after
+unaudited s text f (Ok done) before after memory is kept = absurd is
+unaudited {T} s text f (Err why) before after memory is kept =
+    let P : RaceFault → Type 0 = λ x. TellsRace {T = T} s text before (Err x) after in
+    subst P (sym (is ∙ ap race_fault_of_audit memory)) kept
 
 -- ---- when a fault is due
 
 -- so it is no fault that the audit found
-pub unaudited_fault : {T : Type 0} (s : StoreState) (given : Plan) (listed : List Entry) (f : AuditFault) (r : Result T RaceFault) → given ≡ s.opening → listed ≡ s.entries →
-    IsLegal (start_of s.opening) s.entries → IsAuditFault (start_of given) listed f → IsErrAnd r (λ why. why ≡ race_fault_of_audit f) → IfErr r IsOfTelling
-unaudited_fault s given listed f (Ok done) opening entries legal says is = absurd is
-unaudited_fault s given listed audit.OutOfMemory (Err why) opening entries legal says is = subst IsOfTelling (sym is) tt
-unaudited_fault s given listed (audit.BadEntry at) (Err why) opening entries legal says is =
-    absurd (IsFirstBad-not_legal (start_of given) listed at says
-    (subst (λ (p : Plan). IsLegal (start_of p) listed) (sym opening) (subst (λ (es : List Entry). IsLegal (start_of s.opening) es) (sym entries) legal)))
+pub unaudited_fault : {T : Type 0} (f : StoreAuditFault) (r : Result T RaceFault) → f ≡ audit.OutOfMemory → IsErrAnd r (λ why. why ≡ race_fault_of_audit f) → IfErr r IsOfTelling
+unaudited_fault f (Ok done) memory is = absurd is
+unaudited_fault f (Err why) memory is = subst IsOfTelling (sym (is ∙ ap race_fault_of_audit memory)) tt
 
 -- and where the replies are
 pub telling_due : {T : Type 0} (start : Start) (r : Result T RaceFault) → IfErr r IsOfTelling → IfErr r (IsRaceDue start)
@@ -164,26 +164,26 @@ telling_due start (Err fault.WriteFailed) h = tt
 
 -- ---- the end
 
-race_keeps : {T : Type 0} (r : Result T RaceFault) (start : Start) (bytes before left : List ℕ) (mid after : Option (List ℕ)) → HasRaced start bytes before r left mid → KeepsBytes mid after → HasRaced start bytes before r left after
-race_keeps (Ok done) start bytes before left mid after h keeps = (h.0, h.1, h.2, h.3, keeps_known mid after (before ++ h.1) h.4 keeps)
-race_keeps (Err (fault.Script f)) start bytes before left mid after h keeps = (h.0, keeps_known mid after before h.1 keeps)
-race_keeps (Err fault.OutOfMemory) start bytes before left mid after h keeps = (h.0, h.1, keeps_known mid after before h.2 keeps)
-race_keeps (Err fault.NoThread) start bytes before left mid after h keeps = (h.0, h.1, keeps_known mid after before h.2 keeps)
-race_keeps (Err fault.ReceiptMismatch) start bytes before left mid after h keeps = (h.0, h.1, keeps_known mid after before h.2 keeps)
-race_keeps (Err fault.AuditFailed) start bytes before left mid after h keeps = absurd h
-race_keeps (Err fault.WriteFailed) start bytes before left mid after h keeps = (h.0, h.1, h.2, h.3, h.4, keeps_known mid after (before ++ h.1) h.5 keeps)
+race_keeps : {T : Type 0} (r : Result T RaceFault) (race_text : RaceText) (start : Start) (bytes before left : List ℕ) (mid after : Option (List ℕ)) → HasRaced race_text start bytes before r left mid → KeepsBytes mid after → HasRaced race_text start bytes before r left after
+race_keeps (Ok done) race_text start bytes before left mid after h keeps = (h.0, h.1, h.2, h.3, keeps_known mid after (before ++ h.1) h.4 keeps)
+race_keeps (Err (fault.Script f)) race_text start bytes before left mid after h keeps = (h.0, keeps_known mid after before h.1 keeps)
+race_keeps (Err fault.OutOfMemory) race_text start bytes before left mid after h keeps = (h.0, h.1, keeps_known mid after before h.2 keeps)
+race_keeps (Err fault.NoThread) race_text start bytes before left mid after h keeps = (h.0, h.1, keeps_known mid after before h.2 keeps)
+race_keeps (Err fault.ReceiptMismatch) race_text start bytes before left mid after h keeps = (h.0, h.1, keeps_known mid after before h.2 keeps)
+race_keeps (Err fault.AuditFailed) race_text start bytes before left mid after h keeps = absurd h
+race_keeps (Err fault.WriteFailed) race_text start bytes before left mid after h keeps = (h.0, h.1, h.2, h.3, h.4, keeps_known mid after (before ++ h.1) h.5 keeps)
 
 -- the whole text was written, but the sink was not finished
-race_unfinished : {T : Type 0} (r : Result T RaceFault) (start : Start) (bytes before left : List ℕ) (after : Option (List ℕ)) → IsOk r → HasRaced start bytes before r left after → HasRaced {T = T} start bytes before (Err fault.WriteFailed) left after
-race_unfinished (Err f) start bytes before left after fine h = absurd (false≢true fine)
-race_unfinished (Ok done) start bytes before left after fine h =
-    (h.0, h.1, [], h.2, subst (λ text. IsRaceOutput start h.0 text) (sym (append-nil h.1)) h.3, h.4)
+race_unfinished : {T : Type 0} (r : Result T RaceFault) (race_text : RaceText) (start : Start) (bytes before left : List ℕ) (after : Option (List ℕ)) → IsOk r → HasRaced race_text start bytes before r left after → HasRaced {T = T} race_text start bytes before (Err fault.WriteFailed) left after
+race_unfinished (Err f) race_text start bytes before left after fine h = absurd (false≢true fine)
+race_unfinished (Ok done) race_text start bytes before left after fine h =
+    (h.0, h.1, [], h.2, subst (λ text. IsRaceOutput race_text start h.0 text) (sym (append-nil h.1)) h.3, h.4)
 
-pub race_ended : {T : Type 0} (outcome r : Result T RaceFault) (start : Start) (bytes before left : List ℕ) (mid after : Option (List ℕ)) (f g : ℕ) → HasRaced start bytes before outcome left mid → EndsRace mid f outcome r after g → HasRaced start bytes before r left after
-race_ended outcome r start bytes before left mid after f g h (keeps, inl same) =
-    subst (λ x. HasRaced start bytes before x left after) (sym same.0) (race_keeps outcome start bytes before left mid after h keeps)
-race_ended outcome r start bytes before left mid after f g h (keeps, inr failed) =
-    subst (λ x. HasRaced start bytes before x left after) (sym failed.1) (race_unfinished outcome start bytes before left after failed.0 (race_keeps outcome start bytes before left mid after h keeps))
+pub race_ended : {T : Type 0} (outcome r : Result T RaceFault) (race_text : RaceText) (start : Start) (bytes before left : List ℕ) (mid after : Option (List ℕ)) (f g : ℕ) → HasRaced race_text start bytes before outcome left mid → EndsRace mid f outcome r after g → HasRaced race_text start bytes before r left after
+race_ended outcome r race_text start bytes before left mid after f g h (keeps, inl same) =
+    subst (λ x. HasRaced race_text start bytes before x left after) (sym same.0) (race_keeps outcome race_text start bytes before left mid after h keeps)
+race_ended outcome r race_text start bytes before left mid after f g h (keeps, inr failed) =
+    subst (λ x. HasRaced race_text start bytes before x left after) (sym failed.1) (race_unfinished outcome race_text start bytes before left after failed.0 (race_keeps outcome race_text start bytes before left mid after h keeps))
 
 pub ended_due : {T : Type 0} (start : Start) (outcome r : Result T RaceFault) (mid after : Option (List ℕ)) (f g : ℕ) → IfErr outcome (IsRaceDue start) → EndsRace mid f outcome r after g → IfErr r (IsRaceDue start)
 ended_due start outcome r mid after f g due (keeps, inl same) = subst (λ x. IfErr x (IsRaceDue start)) (sym same.0) due

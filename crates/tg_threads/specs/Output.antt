@@ -8,7 +8,7 @@ use Rattle.tg_model.specs.declared.command.Command.TheVariants.{Retire}
 use Rattle.tg_model.specs.declared.command.Deed.{Deed}
 use Rattle.tg_model.specs.declared.command.Deed.TheVariants as deed
 use Rattle.tg_model.specs.declared.reply.Reply.TheVariants as reply
-use Rattle.tg_model.specs.Opened.{Plan}
+use Rattle.tg_model.specs.Opened.{IsPlan, Plan}
 use Rattle.tg_model.specs.Rules.{IsAllowed}
 use Rattle.tg_word.specs.Word.{nursery_space}
 use Rattle.tg_space.specs.declared.kind.Kind.{Kind}
@@ -21,6 +21,7 @@ use Rattle.tg_store.specs.Store.{StoreState, graph_of_store}
 use Rattle.tg_shared.specs.Sessions.{AtSome, LeavesAtSome, SharedStart}
 use Rattle.tg_journal.specs.declared.entry.Entry.{Entry}
 use Rattle.tg_journal.specs.History.{IsLegal}
+use Rattle.tg_entries.specs.Texts.{history_text}
 use Rattle.tg_text.specs.declared.line.Line.{Line}
 use Rattle.tg_text.specs.declared.line.Line.TheVariants as line
 use Rattle.tg_text.specs.declared.answer.Answer.{Answer}
@@ -28,7 +29,8 @@ use Rattle.tg_text.specs.declared.answer.Answer.TheVariants as told
 use Rattle.tg_text.specs.declared.answer.Refusal.{Refusal}
 use Rattle.tg_text.specs.declared.answer.Refusal.TheVariants as refusal
 use Rattle.tg_text.specs.Texts.{answer_text}
-use Rattle.tg_script.specs.Script.{MayWant, Start, commands_of, create_of, edges_of, scene_of, spawn_of}
+use Rattle.tg_script.specs.Entering.{plan_of}
+use Rattle.tg_script.specs.Script.{MayWant, Start, commands_of, create_of, scene_of, spawn_of}
 use Rattle.tg_weave.specs.Boxes.{Boxed, boxed}
 use Rattle.tg_weave.specs.Telling.{end_text}
 
@@ -47,10 +49,6 @@ pub record IsNewStore (opening : Plan) (blocks : ℕ) (shared : SharedStart) : T
   pub opened : shared.opening ≡ opening
   pub limits : shared.limits.max_blocks ≡ blocks
   pub none : shared.entries ≡ []
-
--- the opening that a script asks for
-abbrev pub plan_of_script : Start → List Line → Plan
-plan_of_script start lines = record { workers = start.workers; edges = edges_of lines; values = start.values; limit = start.limit }
 
 -- ---- whose lines are run
 
@@ -143,20 +141,33 @@ AreTold arena served (b ∷ bs) made text =
 abbrev pub HasEach : List Entry → List Entry → Type 0
 HasEach entries made = (x : ℕ) → filter (λ e. e.worker == x) entries ≡ filter (λ e. e.worker == x) made
 
--- The text may be written for these lines: there is a legal history of their opening whose entries are those of the command lines,
--- one for each that has one and no other, each worker's in script order; and the text tells in script order the reply of each
--- entry where its line stands, a refusal for each command line without an entry, and one line for each collection, where the store
--- was one of that opening when it was shared. Behind them stands the history's length.
-pub record IsRaceOutput (start : Start) (lines : List Line) (text : List ℕ) : Type 0 where
+-- what is written of a race, by its opening, its entries and the replies to its lines
+abbrev pub RaceText : Type 0
+RaceText = Plan → List Entry → List ℕ → List ℕ
+
+-- the replies, and behind them how many entries there are
+abbrev pub reply_race : RaceText
+reply_race p entries replies = replies ++ end_text (length entries)
+
+-- the text of the history
+abbrev pub entry_race : RaceText
+entry_race p entries replies = history_text p entries
+
+-- The text may be written for these lines: their opening is accepted, and there is a legal history of it whose entries are those of
+-- the command lines, one for each that has one and no other, each worker's in script order; and the replies tell in script order
+-- the reply of each entry where its line stands, a refusal for each command line without an entry, and one line for each
+-- collection, where the store was one of that opening when it was shared. Of these the text is made.
+pub record IsRaceOutput (race_text : RaceText) (start : Start) (lines : List Line) (text : List ℕ) : Type 0 where
   pub shared : SharedStart
   pub entries : List Entry
   pub made : List Entry
   pub replies : List ℕ
-  pub new : IsNewStore (plan_of_script start lines) start.blocks shared
+  pub new : IsNewStore (plan_of start lines) start.blocks shared
+  pub plan : IsPlan (plan_of start lines)
   pub legal : IsLegal (scene_of start lines).graph entries
   pub told : AreTold (arena_of shared start.helpers) (has_thread start.workers) (boxed start.stock (commands_of lines)) made replies
   pub each : HasEach entries made
-  pub text_is : text ≡ replies ++ end_text (length entries)
+  pub text_is : text ≡ race_text (plan_of start lines) entries replies
 
 -- ---- where there is one worker
 

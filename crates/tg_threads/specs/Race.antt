@@ -1,12 +1,10 @@
 -- What comes of a whole script whose workers run their lines side by side.
-use Rattle.std.specs.Prelude.{◌≡◌, ◌⊎◌, ℕ, ◌+◌, ◌<◌, ◌≤◌, Bool, true, List, [], ◌++◌, length, Option, Some, None, Result, Ok, Err, IsOk, IfErr, IfOk, OnOk}
+use Rattle.std.specs.Prelude.{◌≡◌, ◌⊎◌, ℕ, ◌+◌, ◌<◌, ◌≤◌, Bool, true, List, [], ◌++◌, Option, Some, None, Result, Ok, Err, IsOk, IfErr, IfOk, OnOk}
 use Rattle.std.specs.List.{All}
 use Rattle.tg_model.specs.declared.value.Value.{Value}
-use Rattle.tg_model.specs.Opened.{Plan, start_of}
+use Rattle.tg_model.specs.Opened.{IsPlan, Plan, start_of}
 use Rattle.tg_journal.specs.declared.entry.Entry.{Entry}
 use Rattle.tg_journal.specs.History.{IsLegal}
-use Rattle.tg_journal.specs.declared.replay.AuditFault.{AuditFault}
-use Rattle.tg_journal.specs.declared.replay.AuditFault.TheVariants as audit
 use Rattle.tg_text.specs.declared.line.Line.{Line}
 use Rattle.tg_text.specs.declared.fault.ScriptFault.{ScriptFault}
 use Rattle.tg_text.specs.declared.fault.ScriptFault.TheVariants as script
@@ -16,6 +14,8 @@ use Rattle.tg_script.specs.Lines.{IsOfKeeping}
 use Rattle.tg_script.specs.Opening.{IsCommand}
 use Rattle.tg_script.specs.Script.{Start, CanOpen, HasRoomForWorkers, commands_of}
 use Rattle.tg_script.specs.Running.{IsDue}
+use Rattle.tg_store.specs.declared.fault.StoreAuditFault.{StoreAuditFault}
+use Rattle.tg_store.specs.declared.fault.StoreAuditFault.TheVariants as audit
 use Rattle.tg_store.specs.Store.{StoreState}
 use Rattle.tg_threads.specs.declared.fault.RaceFault.{RaceFault}
 use Rattle.tg_threads.specs.declared.fault.RaceFault.TheVariants as fault
@@ -23,11 +23,10 @@ use Rattle.tg_threads.specs.declared.threads.ThreadsFault.{ThreadsFault}
 use Rattle.tg_threads.specs.declared.threads.ThreadsFault.TheVariants as threads
 use Rattle.tg_threads.specs.declared.race.Opened.{Opened}
 use Rattle.tg_threads.specs.declared.race.Raced.{Raced}
-use Rattle.tg_weave.specs.declared.task.Told.{Told}
 use Rattle.tg_weave.specs.Boxes.{boxed}
-use Rattle.tg_weave.specs.Telling.{end_text, text_of_told}
 use Rattle.tg_shared.specs.Sessions.{SharedStart}
-use Rattle.tg_threads.specs.Output.{IsNewStore, IsRaceOutput, arena_of, plan_of_script}
+use Rattle.tg_script.specs.Entering.{plan_of}
+use Rattle.tg_threads.specs.Output.{IsNewStore, IsRaceOutput, RaceText, arena_of}
 use Rattle.tg_threads.specs.Tasks.{AreRaced}
 
 -- ---- the script and its store
@@ -78,7 +77,8 @@ of_threads threads.OutOfMemory = fault.OutOfMemory
 of_threads threads.NoThread = fault.NoThread
 of_threads threads.NoSuchWorker = fault.ReceiptMismatch
 
-abbrev pub race_fault_of_audit : AuditFault → RaceFault
+abbrev pub race_fault_of_audit : StoreAuditFault → RaceFault
+race_fault_of_audit audit.NotWhole = fault.AuditFailed
 race_fault_of_audit audit.OutOfMemory = fault.OutOfMemory
 race_fault_of_audit (audit.BadEntry at) = fault.AuditFailed
 
@@ -100,21 +100,21 @@ race_write_failures r = 0
 -- What stands in the sink after a race over these bytes, where `before` stood in it, and what is left of them: a text that may be
 -- written for all of the script, or a front of one where the sink failed. For a script with a fault, for one whose store can't be
 -- opened, and where anything else was wanting, nothing more. The audit never fails.
-abbrev pub HasRaced : {T : Type 0} → Start → List ℕ → List ℕ → Result T RaceFault → List ℕ → Option (List ℕ) → Type 0
-HasRaced start bytes before (Ok done) left after =
-    (lines : List Line) × (text : List ℕ) × IsWhole start bytes lines left × IsRaceOutput start lines text × (after ≡ Some (before ++ text))
-HasRaced start bytes before (Err fault.WriteFailed) left after =
-    (lines : List Line) × (front : List ℕ) × (rest : List ℕ) × IsWhole start bytes lines left × IsRaceOutput start lines (front ++ rest) × (after ≡ Some (before ++ front))
-HasRaced start bytes before (Err (fault.Script f)) left after = IsNotRun start bytes f left × (after ≡ Some before)
-HasRaced start bytes before (Err fault.AuditFailed) left after = ⊥
-HasRaced start bytes before (Err f) left after = (lines : List Line) × IsWhole start bytes lines left × (after ≡ Some before)
+abbrev pub HasRaced : {T : Type 0} → RaceText → Start → List ℕ → List ℕ → Result T RaceFault → List ℕ → Option (List ℕ) → Type 0
+HasRaced race_text start bytes before (Ok done) left after =
+    (lines : List Line) × (text : List ℕ) × IsWhole start bytes lines left × IsRaceOutput race_text start lines text × (after ≡ Some (before ++ text))
+HasRaced race_text start bytes before (Err fault.WriteFailed) left after =
+    (lines : List Line) × (front : List ℕ) × (rest : List ℕ) × IsWhole start bytes lines left × IsRaceOutput race_text start lines (front ++ rest) × (after ≡ Some (before ++ front))
+HasRaced race_text start bytes before (Err (fault.Script f)) left after = IsNotRun start bytes f left × (after ≡ Some before)
+HasRaced race_text start bytes before (Err fault.AuditFailed) left after = ⊥
+HasRaced race_text start bytes before (Err f) left after = (lines : List Line) × IsWhole start bytes lines left × (after ≡ Some before)
 
 -- A race from this start, by what its source and its sink tell: of the bytes that are left, how often it was asked and has failed, and
 -- of the bytes that were taken.
 pub record RacesFrom {S K T : Type 0} (left : S → Option (List ℕ)) (asks failures : S → ℕ) (taken : K → Option (List ℕ))
-    (source source' : S) (sink sink' : K) (start : Start) (result : Result T RaceFault) : Type 0 where
+    (source source' : S) (sink sink' : K) (race_text : RaceText) (start : Start) (result : Result T RaceFault) : Type 0 where
   pub output : (bytes before : List ℕ) → left source ≡ Some bytes → taken sink ≡ Some before →
-      (rest : List ℕ) × (left source' ≡ Some rest) × HasRaced start bytes before result rest (taken sink')
+      (rest : List ℕ) × (left source' ≡ Some rest) × HasRaced race_text start bytes before result rest (taken sink')
   pub due : IfErr result (IsRaceDue start)
   pub asked : asks source' ≤ asks source + 1048577
   pub read_failed : failures source' ≡ failures source + race_read_failures result
@@ -151,20 +151,22 @@ pub record RunsRace {P : Type 0} (helpers blocks : ℕ) (opening : Plan) (stock 
 -- the whole script was read, and a store of its opening has no entry yet
 abbrev pub OpensRace : {P : Type 0} → Start → List ℕ → Result (Opened P) RaceFault → List ℕ → Type 0
 OpensRace start bytes (Ok opened) left =
-    (lines : List Line) × IsWhole start bytes lines left × (opened.lines.items ≡ commands_of lines) × (opened.store.opening ≡ plan_of_script start lines)
+    (lines : List Line) × IsWhole start bytes lines left × (opened.lines.items ≡ commands_of lines) × (opened.store.opening ≡ plan_of start lines)
 OpensRace start bytes (Err (fault.Script f)) left = IsNotRun start bytes f left
 OpensRace start bytes (Err f) left = ⊥
 
--- The store's journal is a legal history, as the audit finds, and the text was written behind what stood there, or a front of it;
--- or nothing.
-abbrev pub TellsRace : {T : Type 0} → StoreState → List Told → List ℕ → Result T RaceFault → Option (List ℕ) → Type 0
-TellsRace s ts before (Ok done) after = IsLegal (start_of s.opening) s.entries × (after ≡ Some (before ++ (text_of_told s.entries ts ++ end_text (length s.entries))))
-TellsRace s ts before (Err fault.WriteFailed) after =
-    IsLegal (start_of s.opening) s.entries
-    × (front : List ℕ) × (rest : List ℕ) × (text_of_told s.entries ts ++ end_text (length s.entries) ≡ front ++ rest) × (after ≡ Some (before ++ front))
-TellsRace s ts before (Err (fault.Script f)) after = ⊥
-TellsRace s ts before (Err fault.AuditFailed) after = ⊥
-TellsRace s ts before (Err f) after = after ≡ Some before
+-- the store's journal is a legal history of its opening, which was accepted
+abbrev pub HasHistory : StoreState → Type 0
+HasHistory s = IsPlan s.opening × IsLegal (start_of s.opening) s.entries
+
+-- The store's journal is such a history, and this text was written behind what stood there, or a front of it; or nothing.
+abbrev pub TellsRace : {T : Type 0} → StoreState → List ℕ → List ℕ → Result T RaceFault → Option (List ℕ) → Type 0
+TellsRace s text before (Ok done) after = HasHistory s × (after ≡ Some (before ++ text))
+TellsRace s text before (Err fault.WriteFailed) after =
+    HasHistory s × (front : List ℕ) × (rest : List ℕ) × (text ≡ front ++ rest) × (after ≡ Some (before ++ front))
+TellsRace s text before (Err (fault.Script f)) after = ⊥
+TellsRace s text before (Err fault.AuditFailed) after = ⊥
+TellsRace s text before (Err f) after = after ≡ Some before
 
 -- The sink was finished: what was taken is the same still. A fault stands; where there was none and it failed, that is the fault.
 abbrev pub EndsRace : {T : Type 0} → Option (List ℕ) → ℕ → Result T RaceFault → Result T RaceFault → Option (List ℕ) → ℕ → Type 0

@@ -2,9 +2,9 @@
 
 use crate::threads::ThreadsFault;
 use std::alloc::{AllocError, AllocFailed};
-use tg_journal::AuditFault;
 use tg_payload::Payload;
 use tg_shared::SharedRefused;
+use tg_store::StoreAuditFault;
 use tg_text::{ScriptFault, WriteFailed};
 use thiserror::Error;
 
@@ -94,16 +94,17 @@ impl From<ThreadsFault> for RaceFault {
     }
 }
 
-impl From<AuditFault> for RaceFault {
+impl From<StoreAuditFault> for RaceFault {
     ghost use Rattle.std.specs.Prelude.{◌≡◌};
     ghost use Rattle.tg_threads.specs.Race.{race_fault_of_audit};
 
     ghost from_gives = { λ fault e. e ≡ race_fault_of_audit fault };
 
-    fn from(fault: AuditFault) -> RaceFault {
+    // A race gives no entry up.
+    fn from(fault: StoreAuditFault) -> RaceFault {
         match fault {
-            AuditFault::OutOfMemory => RaceFault::OutOfMemory,
-            AuditFault::BadEntry { .. } => RaceFault::AuditFailed,
+            StoreAuditFault::OutOfMemory => RaceFault::OutOfMemory,
+            StoreAuditFault::NotWhole | StoreAuditFault::BadEntry { .. } => RaceFault::AuditFailed,
         }
     }
 }

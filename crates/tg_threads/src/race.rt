@@ -2,15 +2,15 @@
 ghost use Rattle.std.specs.Prelude.{◌≡◌, ◌⊎◌, ◌+◌, ◌<◌, ◌≤◌, ℕ, List, [], Some, false, true, IfErr, IfOk, length};
 ghost use Rattle.std.specs.List.{All, range_with_len};
 ghost use Rattle.tg_model.specs.declared.value.Value.{Value};
-ghost use Rattle.tg_model.specs.Opened.{start_of};
-ghost use Rattle.tg_journal.specs.History.{IsAuditFault, IsLegal};
 ghost use Rattle.tg_text.specs.Sinks.{KeepsBytes};
 ghost use Rattle.tg_script.specs.Opening.{IsCommand};
 ghost use Rattle.tg_script.specs.Script.{MayStart, start_with};
 ghost use Rattle.tg_shared.specs.Sessions.{AreFresh, AreSharedOut, AtSome, MayClose, MayShare, count_of, handed_of, held_from, parts_of, sessions_made};
+ghost use Rattle.tg_threads.specs.Output.{entry_race, reply_race};
 ghost use Rattle.tg_threads.specs.Race.{CountsRace, EndsRace, FinishesRace, HasRaced, IsRaceDue, MayRace, OpensRace, RacesFrom, RunsRace};
 
 use crate::fault::RaceFault;
+use crate::telling::{Entries, RaceTelling, Replies};
 use crate::threads::run_threads;
 use crate::turnstile::Turnstile;
 use std::alloc::Global;
@@ -18,14 +18,12 @@ use std::marker::Brand;
 use std::sync::Wait;
 use std::sync::ledger::Blank;
 use std::thread::Threads;
-use tg_journal::{AuditFault, Entry, audit};
-use tg_model::Opening;
 use tg_payload::{Draft, Payload};
 use tg_script::{Helpers, Settings, open_store, read_script};
 use tg_shared::{Round, Session, Shared, SharedStore, close};
 use tg_store::Store;
 use tg_text::{Line, Sink, Source};
-use tg_weave::{Told, in_script_order, sessions_of, share_out, tell_all};
+use tg_weave::{Told, in_script_order, sessions_of, share_out};
 
 /// Runs the script, with one payload for each worker, by rising name, and a stock of payloads for the vertices that it
 /// makes: the i-th create or spawn line has the i-th of them, and where no vertex is made it is dropped.
@@ -60,10 +58,40 @@ pub fn run_race<
     stock: Vec<Draft<P>>,
 ) -> Result<(), RaceFault>
     requires startable { MayStart settings workers.items }
-    ensures raced { RacesFrom S.left S.asked S.failures K.taken source.old source.new sink.old sink.new (start_with settings workers.items stock.items) result }
+    ensures raced { RacesFrom S.left S.asked S.failures K.taken source.old source.new sink.old sink.new reply_race (start_with settings workers.items stock.items) result }
     ensures finish { FinishesRace K.failures K.finished sink.old sink.new result }
 {
-    let outcome = race(rt, alloc, source, sink, turnstile, settings, workers, stock);
+    let outcome = race::<P, Replies, S, K, G, R>(
+        rt, alloc, source, sink, turnstile, settings, workers, stock,
+    );
+    finish(sink, outcome)
+}
+
+/// Runs the script as [`run_race`] does, and writes the text of its history, as `tg_entries` has it, in the place of
+/// replies: its opening, all entries in the order of the lock, and their number. None is given up.
+pub fn run_race_entries<
+    P: Payload + Send,
+    S: Source,
+    K: Sink,
+    G: Turnstile + Sync,
+    R: Threads + Wait + Sync,
+>(
+    rt: &R,
+    alloc: Global,
+    source: &mut S,
+    sink: &mut K,
+    turnstile: &G,
+    settings: Settings,
+    workers: Vec<Draft<P>>,
+    stock: Vec<Draft<P>>,
+) -> Result<(), RaceFault>
+    requires startable { MayStart settings workers.items }
+    ensures raced { RacesFrom S.left S.asked S.failures K.taken source.old source.new sink.old sink.new entry_race (start_with settings workers.items stock.items) result }
+    ensures finish { FinishesRace K.failures K.finished sink.old sink.new result }
+{
+    let outcome = race::<P, Entries, S, K, G, R>(
+        rt, alloc, source, sink, turnstile, settings, workers, stock,
+    );
     finish(sink, outcome)
 }
 
@@ -82,7 +110,14 @@ fn finish<K: Sink>(sink: &mut K, outcome: Result<(), RaceFault>) -> Result<(), R
 }
 
 // All but that the sink is finished.
-fn race<P: Payload + Send, S: Source, K: Sink, G: Turnstile + Sync, R: Threads + Wait + Sync>(
+fn race<
+    P: Payload + Send,
+    T: RaceTelling,
+    S: Source,
+    K: Sink,
+    G: Turnstile + Sync,
+    R: Threads + Wait + Sync,
+>(
     rt: &R,
     alloc: Global,
     source: &mut S,
@@ -94,7 +129,7 @@ fn race<P: Payload + Send, S: Source, K: Sink, G: Turnstile + Sync, R: Threads +
 ) -> Result<(), RaceFault>
     requires startable { MayStart settings workers.items }
     ensures output { (bytes before : List ℕ) → S.left source.old ≡ Some bytes → K.taken sink.old ≡ Some before →
-        (left : List ℕ) × (S.left source.new ≡ Some left) × HasRaced (start_with settings workers.items stock.items) bytes before result left (K.taken sink.new) }
+        (left : List ℕ) × (S.left source.new ≡ Some left) × HasRaced T.race_text (start_with settings workers.items stock.items) bytes before result left (K.taken sink.new) }
     ensures due { IfErr result (IsRaceDue (start_with settings workers.items stock.items)) }
     ensures counts { CountsRace S.asked S.failures K.failures source.old source.new sink.old sink.new result }
 {
@@ -110,7 +145,7 @@ fn race<P: Payload + Send, S: Source, K: Sink, G: Turnstile + Sync, R: Threads +
         stock,
         lines.as_slice(),
     )?;
-    let told = raced.tell(alloc, sink);
+    let told = raced.tell::<T, K>(alloc, sink);
     drop(raced);
     told
 }
@@ -166,31 +201,24 @@ impl<P: Payload> Raced<P> {
     ghost use Rattle.std.specs.Prelude.{◌≡◌, ◌+◌, List, ℕ, Some, IfErr};
     ghost use Rattle.std.specs.List.{All};
     ghost use Rattle.tg_threads.specs.Race.{IsOfTelling, TellsRace, race_read_failures, race_write_failures};
-    ghost use Rattle.tg_weave.specs.Telling.{IsThere};
+    ghost use Rattle.tg_weave.specs.Telling.{IsThere, text_of_told};
 
-    // Audits the journal, and writes the replies.
-    fn tell<K: Sink>(&self, alloc: Global, sink: &mut K) -> Result<(), RaceFault>
+    // Audits the journal, and writes what is told of the race.
+    fn tell<T: RaceTelling, K: Sink>(&self, alloc: Global, sink: &mut K) -> Result<(), RaceFault>
         requires there { All (IsThere self.now.store.entries) self.now.told.items }
         requires none_handed { self.now.store.handed ≡ 0 }
         ensures fault { IfErr result IsOfTelling }
         ensures read { race_read_failures result ≡ 0 }
         ensures write_failed { K.failures sink.new ≡ K.failures sink.old + race_write_failures result }
-        ensures told { (before : List ℕ) → K.taken sink.old ≡ Some before → TellsRace self.now.store self.now.told.items before result (K.taken sink.new) }
+        ensures told { (before : List ℕ) → K.taken sink.old ≡ Some before →
+            TellsRace self.now.store (T.race_text self.now.store.opening self.now.store.entries (text_of_told self.now.store.entries self.now.told.items)) before result (K.taken sink.new) }
     {
+        let audited = self.store.audit(alloc)?;
+        let opening = self.store.opening();
         let journal = self.store.journal();
-        let count = count_audited(alloc, self.store.opening(), journal.entries())?;
-        Ok(tell_all(sink, journal, self.told.as_slice(), count)?)
+        let told = self.told.as_slice();
+        Ok(T::tell(sink, opening, journal, told, audited.entries())?)
     }
-}
-
-// Replays entries from an opening, and answers how many there are. Refused at the first that isn't legal, or for want
-// of memory.
-fn count_audited(alloc: Global, opening: &Opening, entries: &[Entry]) -> Result<u64, AuditFault>
-    ensures count { IfOk result (λ count. (count ≡ length entries.now) × IsLegal (start_of opening.now) entries.now) }
-    ensures fault { IfErr result (IsAuditFault (start_of opening.now) entries.now) }
-{
-    audit(alloc, opening, entries)?;
-    Ok(entries.len() as u64)
 }
 
 // Runs the lines in a store with no entry.

@@ -19,42 +19,42 @@ returns-in_err-workers g c =
 
 pub returns-then-start : goal.returns-then-start
 returns-then-start g c =
-    let is = is_told stop.Race c.run_race.result c.map_err.result c.map_err.ensures.cases in
+    let is = is_told stop.Race c.race.result c.map_err.result c.map_err.ensures.cases in
     record {
       served = record {
-        status = status_told stop.Race c.run_race.result c.map_err.result is (λ fault. refl);
+        status = status_told stop.Race c.race.result c.map_err.result is (λ fault. refl);
         output = λ bytes before left taken.
-            let had = c.run_race.ensures.raced.output bytes before left taken in (
+            let had = c.race.ensures.raced.output bytes before left taken in (
               had.0,
               had.1,
-              served_race c.args.start.now bytes before c.run_race.result c.map_err.result had.0 (g.K.Sink.taken c.run_race.new.sink) is c.if-start.true
-                  (raced_from c.args.start.now c.in_ok-workers.workers.items c.args.payloads.stock.items bytes before c.run_race.result had.0 (g.K.Sink.taken c.run_race.new.sink)
+              served_race c.args.start.now bytes before c.race.result c.map_err.result had.0 (g.K.Sink.taken c.race.new.sink) is c.if-start.true
+                  (raced_from c.args.start.now c.in_ok-workers.workers.items c.args.payloads.stock.items bytes before c.race.result had.0 (g.K.Sink.taken c.race.new.sink)
                   (c.in_ok-workers.ensures ∙ c.requires.payloads.0) c.requires.payloads.1 had.2),
             );
       };
-      read_failed = c.run_race.ensures.raced.read_failed ∙ ap (λ n. g.S.Source.failures c.args.source.now + n) (read_race c.run_race.result c.map_err.result is);
-      write_failed = write_race c.run_race.result c.map_err.result _ _ is c.run_race.ensures.finish.write_failed;
-      unfailed = unfailed_told stop.Race c.run_race.result c.map_err.result _ is c.run_race.ensures.finish.unfailed;
-      finished = λ begun. c.run_race.ensures.finish.finished;
+      read_failed = c.race.ensures.raced.read_failed ∙ ap (λ n. g.S.Source.failures c.args.source.now + n) (read_race c.race.result c.map_err.result is);
+      write_failed = write_race c.race.result c.map_err.result _ _ is c.race.ensures.finish.write_failed;
+      unfailed = unfailed_told stop.Race c.race.result c.map_err.result _ is c.race.ensures.finish.unfailed;
+      finished = λ begun. c.race.ensures.finish.finished;
     }
 
 pub returns : goal.returns
 returns g c =
-    let is = is_told stop.Script c.run_script_with.result c.map_err-2.result c.map_err-2.ensures.cases in
+    let is = is_told stop.Script c.run.result c.map_err-2.result c.map_err-2.ensures.cases in
     record {
       served = record {
-        status = status_told stop.Script c.run_script_with.result c.map_err-2.result is (λ fault. refl);
+        status = status_told stop.Script c.run.result c.map_err-2.result is (λ fault. refl);
         output = λ bytes before left taken.
-            let had = c.run_script_with.ensures.ran.output bytes before left taken in (
+            let had = c.run.ensures.ran bytes before left taken in (
               had.0,
               had.1,
-              served_run c.args.start.now bytes before c.run_script_with.result c.map_err-2.result had.0 (g.K.Sink.taken c.run_script_with.new.sink) is c.if-start.false
-                  (ran_from c.args.start.now c.in_ok-workers.workers.items c.args.payloads.stock.items bytes before c.run_script_with.result had.0 (g.K.Sink.taken c.run_script_with.new.sink)
+              served_run c.args.start.now bytes before c.run.result c.map_err-2.result had.0 (g.K.Sink.taken c.run.new.sink) is c.if-start.false
+                  (ran_from c.args.start.now c.in_ok-workers.workers.items c.args.payloads.stock.items bytes before c.run.result had.0 (g.K.Sink.taken c.run.new.sink)
                   (c.in_ok-workers.ensures ∙ c.requires.payloads.0) c.requires.payloads.1 had.2),
             );
       };
-      read_failed = c.run_script_with.ensures.ran.read_failed ∙ ap (λ n. g.S.Source.failures c.args.source.now + n) (read_run c.run_script_with.result c.map_err-2.result is);
-      write_failed = write_run c.run_script_with.result c.map_err-2.result _ _ is c.run_script_with.ensures.finish.write_failed;
-      unfailed = unfailed_told stop.Script c.run_script_with.result c.map_err-2.result _ is c.run_script_with.ensures.finish.unfailed;
-      finished = λ begun. c.run_script_with.ensures.finish.finished;
+      read_failed = c.run.ensures.read_failed ∙ ap (λ n. g.S.Source.failures c.args.source.now + n) (read_run c.run.result c.map_err-2.result is);
+      write_failed = write_run c.run.result c.map_err-2.result _ _ is c.run.ensures.finish.write_failed;
+      unfailed = unfailed_told stop.Script c.run.result c.map_err-2.result _ is c.run.ensures.finish.unfailed;
+      finished = λ begun. c.run.ensures.finish.finished;
     }

@@ -16,10 +16,12 @@ returns c =
     let fifth = fourth.2 in
     let sixth = fifth.2 in
     let seventh = sixth.2 in
+    let eighth = seventh.2 in
     let workers = first.1.shape c.number_arg.ensures.arg.local ∙ ap₂ with_rule start c.number_arg.ensures.arg.rule in
     let helpers = second.1.shape c.number_arg-2.ensures.arg.local ∙ ap₂ with_rule workers c.number_arg-2.ensures.arg.rule in
     let vertices = third.1.shape c.number_arg-3.ensures.arg.local ∙ ap₂ with_rule helpers c.number_arg-3.ensures.arg.rule in
     let blocks = fourth.1.shape c.number_arg-4.ensures.arg.local ∙ ap₂ with_rule vertices c.number_arg-4.ensures.arg.rule in
     let stock = fifth.1.shape c.option_arg.ensures.arg.local ∙ ap₂ with_rule blocks c.option_arg.ensures.arg.rule in
     let race = sixth.1.shape c.flag_arg.ensures.arg.local ∙ ap₂ with_rule stock c.flag_arg.ensures.arg.rule in
-    ap app_of (sym seventh.2) ∙ seventh.1.shape c.flag_arg-2.ensures.arg.local ∙ ap₂ with_rule race c.flag_arg-2.ensures.arg.rule
+    let entries = seventh.1.shape c.flag_arg-2.ensures.arg.local ∙ ap₂ with_rule race c.flag_arg-2.ensures.arg.rule in
+    ap app_of (sym eighth.2) ∙ eighth.1.shape c.flag_arg-3.ensures.arg.local ∙ ap₂ with_rule entries c.flag_arg-3.ensures.arg.rule

@@ -17,4 +17,4 @@ returns-clause-said g c =
     let line = c.in_ok-command.ensures in
     let rows : rows_of found ≡ matches_of command_line words =
     (c.in_ok-matches.ensures.ok.2 (ap is_simple line ∙ is_simple_line)).0 ∙ ap (λ (a : App). matches_of a words) line in
-    are_said words found c.options_of.result rows c.options_of.ensures.found c.options_of.ensures.race c.options_of.ensures.why c.options_of.ensures.stock
+    are_said words found c.options_of.result rows c.options_of.ensures.found c.options_of.ensures.race c.options_of.ensures.entries c.options_of.ensures.why c.options_of.ensures.stock

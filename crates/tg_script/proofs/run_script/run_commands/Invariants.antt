@@ -13,8 +13,9 @@ invariant-lines g l =
       command : IsCommand l.line;
       opening : l.script.opening ≡ false;
       under : (t : Scene) (rest before : List ℕ) → Shows l.fn.run t → s.left l.fn.source ≡ Some rest → k.taken l.fn.sink ≡ Some before →
-          Under l.fn.script rest t l.fn.first before l.script l.run l.line (s.left l.source) (k.taken l.sink);
+          Under g.T.Telling.told l.fn.script rest t l.fn.first l.fn.run.store.entries before l.script l.run l.line (s.left l.source) (k.taken l.sink);
       read : s.failures l.source ≡ s.failures l.fn.source;
+      kept : l.run.store.opening ≡ l.fn.run.store.opening;
       wrote : k.failures l.sink ≡ k.failures l.fn.sink;
       asked : s.asked l.source + l.script.lines.room ≡ s.asked l.fn.source + l.fn.script.lines.room;
     }

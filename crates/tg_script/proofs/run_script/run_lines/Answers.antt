@@ -81,7 +81,7 @@ returns-in-Some-clause-ran g c =
           let told = c.run_commands-ran.ensures.written (scene_with start edges) b.0 before c.in_ok-run.ensures.2 b.1 kept in (
             told.0,
             told.1,
-            ran_commands c.run_commands-ran.result start c.new-script.result c.read_edges.new.script bytes b.0 edges c.in-Some.first before told.0 (g.K.Sink.taken c.run_commands-ran.new.sink)
+            ran_commands c.run_commands-ran.result start c.new-script.result c.read_edges.new.script bytes b.0 edges c.in-Some.first before told.0 _ c.run_commands-ran.new.run.store.entries (g.K.Sink.taken c.run_commands-ran.new.sink)
                 fresh (c.in_ok-run.ensures.0, c.in_ok-run.ensures.1) command.0 b.2 told.2,
           ));
       due = lines_due start c.run_commands-ran.result c.run_commands-ran.ensures.fault;

@@ -6,7 +6,8 @@ use Rattle.tg_script.specs.Opening.{IsCommand}
 use Rattle.tg_script.specs.Script.{commands_of, start_with}
 use Rattle.tg_script.proofs.LinesLaws.{keeps_known}
 use Rattle.tg_space.specs.SpaceTable.{BlockLimits}
-use Rattle.tg_threads.specs.Output.{IsNewStore, arena_of, plan_of_script}
+use Rattle.tg_script.specs.Entering.{plan_of}
+use Rattle.tg_threads.specs.Output.{IsNewStore, arena_of}
 use Rattle.tg_threads.proofs.RaceLaws.{race_told, raced_same, telling_due}
 use Rattle.tg_threads.proofs.race.race.Goals as goal
 
@@ -21,7 +22,7 @@ returns-clause-output g c = λ bytes before known taken.
     let ts = c.in_ok-raced.raced.told.items in
     let came = c.in_ok-raced.ensures.run.raced in
     let shared = came.0 in
-    let new : IsNewStore (plan_of_script start lines) start.blocks shared = record {
+    let new : IsNewStore (plan_of start lines) start.blocks shared = record {
       opened = came.1.opened ∙ whole.3;
       limits = came.1.limits ∙ ap (λ (l : BlockLimits). l.max_blocks) c.in_ok-opened.ensures.limits;
       none = came.1.none;
@@ -30,7 +31,7 @@ returns-clause-output g c = λ bytes before known taken.
     c.in_ok-opened.ensures.new.0 (c.as_slice.ensures.value ∙ whole.2) came.3 in (
       opens.0,
       opens.1,
-      race_told c.tell-told.result start shared bytes before opens.0 lines store ts (s.taken c.tell-told.new.sink) whole.1 new (came.2 ∙ whole.3) same
+      race_told c.tell-told.result g.T.RaceTelling.race_text start shared bytes before opens.0 lines store ts (s.taken c.tell-told.new.sink) whole.1 new (came.2 ∙ whole.3) same
           (c.tell-told.ensures.told before (keeps_known (s.taken c.args.sink.now) (s.taken c.open_race.new.sink) before taken c.in_ok-opened.ensures.taken)),
     )
 

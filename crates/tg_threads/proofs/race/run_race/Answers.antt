@@ -1,5 +1,6 @@
 use Rattle.std.proofs.Common.{◌+◌, ap, sym, ◌∙◌}
 use Rattle.tg_script.specs.Script.{start_with}
+use Rattle.tg_threads.specs.Output.{reply_race}
 use Rattle.tg_threads.proofs.RaceLaws.{race_ended, ended_due, ended_read, ended_write, ended_unfailed}
 use Rattle.tg_threads.proofs.race.run_race.Goals as goal
 
@@ -13,7 +14,7 @@ returns-clause-raced g c =
           let had = c.race-outcome.ensures.output bytes before known taken in (
             had.0,
             had.1,
-            race_ended c.race-outcome.result c.finish.result start bytes before had.0 (s.taken c.race-outcome.new.sink) (s.taken c.finish.new.sink)
+            race_ended c.race-outcome.result c.finish.result reply_race start bytes before had.0 (s.taken c.race-outcome.new.sink) (s.taken c.finish.new.sink)
                 (s.failures c.race-outcome.new.sink) (s.failures c.finish.new.sink) had.2 c.finish.ensures.outcome,
           ));
       due = (ended_due start c.race-outcome.result c.finish.result (s.taken c.race-outcome.new.sink) (s.taken c.finish.new.sink) (s.failures c.race-outcome.new.sink) (s.failures c.finish.new.sink)

@@ -1,21 +1,16 @@
--- The store that gave its entries up stands for the graph that it stood for.
-use Rattle.std.proofs.Common.{◌∙◌, ap}
-use Rattle.tg_script.specs.Run.{ShowsBy}
-use Rattle.tg_script.specs.Supply.{values_left}
-use Rattle.tg_script.proofs.RunLaws.{stands_still}
 use Rattle.tg_script.proofs.run.Run.answer.Goals as goal
-use Rattle.tg_script.proofs.run.Run.answer.Goals.{then-entries-ge-MOST_ENTRIES, else-entries-ge-MOST_ENTRIES}
 
-pub returns : goal.returns
-returns g c = λ s shows.
-    let now = c.if-entries-ge-MOST_ENTRIES.self in
-    let shown : ShowsBy now.store (values_left now.supply) now.helpers s = elim c.if-entries-ge-MOST_ENTRIES.branch [
-      | then-entries-ge-MOST_ENTRIES w ↦
-          let out = w.give_up_entries.ensures in rw w.self-is (
-            stands_still c.args.self.now.store w.give_up_entries.new.self.store s.graph out.store.opening out.store.entries shows.0,
-            ap values_left out.supply ∙ shows.1,
-            out.helpers ∙ shows.2,
-          )
-      | else-entries-ge-MOST_ENTRIES w ↦ rw w.self-is shows
-    ] in
-    c.answer_line.ensures s shown
+pub returns-in-Create : goal.returns-in-Create
+returns-in-Create g c = rw c.in-Create.is (record { answered = c.create.ensures.answered; entry = c.create.ensures.entry; held = λ holds. c.create.ensures.handed })
+
+pub returns-in-Spawn : goal.returns-in-Spawn
+returns-in-Spawn g c = rw c.in-Spawn.is (record { answered = c.spawn.ensures.answered; entry = c.spawn.ensures.entry; held = λ holds. c.spawn.ensures.handed })
+
+pub returns-in-Plain : goal.returns-in-Plain
+returns-in-Plain g c = rw c.in-Plain.is (record { answered = c.apply.ensures.answered; entry = c.apply.ensures.entry; held = c.apply.ensures.held })
+
+pub returns-in-Full : goal.returns-in-Full
+returns-in-Full g c = rw c.in-Full.is (record { answered = c.collect_all.ensures.answered; entry = c.collect_all.ensures.entry; held = λ holds. c.collect_all.ensures.handed })
+
+pub returns-in-Minor : goal.returns-in-Minor
+returns-in-Minor g c = rw c.in-Minor.is (record { answered = c.collect_nurseries.ensures.answered; entry = c.collect_nurseries.ensures.entry; held = λ holds. c.collect_nurseries.ensures.handed })

@@ -1,34 +1,35 @@
-use Rattle.std.proofs.Common.{◌∙◌, ap, refl}
+use Rattle.std.proofs.Common.{refl, ◌∙◌}
+use Rattle.tg_text.specs.declared.answer.Answer.TheVariants as told
+use Rattle.tg_text.specs.declared.line.Line.TheVariants as line
 use Rattle.tg_script.specs.declared.run.Run.{Run}
+use Rattle.tg_script.specs.Refusals.{apply_refusal}
 use Rattle.tg_script.specs.Supply.{values_left}
-use Rattle.tg_script.proofs.RunLaws.{apply_done, apply_refused, stands_still}
+use Rattle.tg_script.proofs.RunLaws.{apply_done, apply_refused, handles_behind, makes_behind, makes_none}
 use Rattle.tg_script.proofs.run.Run.apply.Goals as goal
-use Rattle.tg_script.proofs.run.Run.apply.Goals.{then-is_long, else-is_long}
 
--- The store that gave its entries up stands for the graph that it stood for.
-pub returns-after-is_long : goal.returns-after-is_long
-returns-after-is_long g c = λ s shows.
-    let new : Run _ = record { store = c.apply.new.self; supply = c.args.self.now.supply; helpers = c.args.self.now.helpers } in
-    let told = apply_done c.args.self.now new c.args.worker c.args.command c.in-Ok.reply c.in-Ok.ensures.reply c.in-Ok.ensures.step c.in-Ok.ensures.no_such_worker refl refl s shows in
-    elim c.if-is_long.branch [
-      | then-is_long w ↦
-          let out = w.give_up_entries.ensures in (
-            told.0,
-            (
-              rw w.self-is (stands_still new.store w.give_up_entries.new.self.store _ out.store.opening out.store.entries told.1.0),
-              rw w.self-is (ap values_left out.supply ∙ told.1.1),
-              rw w.self-is (out.helpers ∙ told.1.2),
-            ),
-            told.2,
-          )
-      | else-is_long w ↦ rw w.self-is told
-    ]
+pub returns-in-Ok : goal.returns-in-Ok
+returns-in-Ok g c =
+    let old = c.args.self.now in
+    let mid : Run _ = record { store = c.apply.new.self; supply = old.supply; helpers = old.helpers } in
+    let new = c.heed.new.run in
+    let l = line.Plain c.args.worker c.args.command in
+    let a = told.Reply c.in-Ok.reply in
+    record {
+      answered = handles_behind old mid new l a (apply_done old mid c.args.worker c.args.command c.in-Ok.reply c.in-Ok.ensures.reply c.in-Ok.ensures.step c.in-Ok.ensures.no_such_worker refl refl) c.heed.ensures.same;
+      entry = makes_behind old mid new l a (record { entries = c.in-Ok.ensures.entry; opening = c.in-Ok.ensures.opening }) c.heed.ensures.same;
+      held = λ holds. c.heed.ensures.held holds ∙ c.in-Ok.ensures.handed;
+    }
 
 pub returns-in-Err : goal.returns-in-Err
 returns-in-Err g c =
     let new : Run _ = record { store = c.apply.new.self; supply = c.args.self.now.supply; helpers = c.args.self.now.helpers } in
+    let same = c.in-Err.ensures.refused in
     rw c.apply_refusal.ensures (
-    apply_refused c.args.self.now new c.args.worker c.args.command c.in-Err.fault c.in-Err.ensures.no_such_worker
-    (λ h stands is. let f = c.in-Err.ensures.full h stands is in (f.0, f.1))
-    c.in-Err.ensures.refused refl refl
+    record {
+      answered = apply_refused c.args.self.now new c.args.worker c.args.command c.in-Err.fault c.in-Err.ensures.no_such_worker
+          (λ h stands is. let f = c.in-Err.ensures.full h stands is in (f.0, f.1))
+          same refl refl;
+      entry = makes_none c.args.self.now.store c.apply.new.self (values_left c.args.self.now.supply) (line.Plain c.args.worker c.args.command) (told.Refused (apply_refusal c.in-Err.fault)) refl same.entries same.opening;
+      held = λ holds. same.handed;
+    }
     )

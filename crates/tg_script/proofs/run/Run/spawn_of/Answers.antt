@@ -1,12 +1,14 @@
+use Rattle.std.proofs.Common.{ap, ◌∙◌}
 use Rattle.std.proofs.lemmas.Result.{IfErr-weaker, IfOk-weaker}
+use Rattle.tg_store.specs.Store.{StoreState}
 use Rattle.tg_text.specs.declared.line.Line.TheVariants as line
 use Rattle.tg_script.specs.Script.{spawn_of}
 use Rattle.tg_script.specs.Supply.{values_left}
-use Rattle.tg_script.proofs.RunLaws.{spawning, spawn_full, spawn_crowded, handles_making}
+use Rattle.tg_script.proofs.RunLaws.{spawning, spawn_full, spawn_crowded, handles_making, making_entry}
 use Rattle.tg_script.proofs.run.Run.spawn_of.Goals as goal
 
-pub returns : goal.returns
-returns g c =
+pub returns-clause-answered : goal.returns-clause-answered
+returns-clause-answered g c =
     let old = c.args.self.now in
     let x = c.args.worker in
     let label = c.args.label in
@@ -28,3 +30,26 @@ returns g c =
     })
     c.tell.ensures.store c.tell.ensures.stock c.tell.ensures.helpers
     )
+
+pub returns-clause-entry : goal.returns-clause-entry
+returns-clause-entry g c =
+    let old = c.args.self.now in
+    let x = c.args.worker in
+    let label = c.args.label in
+    let made = c.spawn-made.result in
+    let store = c.spawn-made.ensures in
+    rw c.tell.ensures.answer
+    (
+    making_entry old.store c.spawn-made.new.self c.tell.new.self.store (line.Spawn x label) x (spawn_of label) c.args.draft (values_left old.supply) made (spawning x label)
+    (record {
+      named = store.entry;
+      no_more = store.no_more_entry;
+      too_many = store.too_many_entry;
+      others = store.refused;
+      opening = store.refusals.opening;
+    })
+    c.tell.ensures.store
+    )
+
+pub returns-clause-handed : goal.returns-clause-handed
+returns-clause-handed g c = ap (λ (s : StoreState). s.handed) c.tell.ensures.store ∙ c.spawn-made.ensures.refusals.handed

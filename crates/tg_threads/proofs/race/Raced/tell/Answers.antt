@@ -1,14 +1,16 @@
-use Rattle.std.proofs.Common.{◌∙◌}
-use Rattle.std.specs.Prelude.{drop}
-use Rattle.tg_threads.proofs.RaceLaws.{unaudited, unaudited_fault}
+use Rattle.tg_weave.specs.Telling.{text_of_told}
+use Rattle.tg_threads.proofs.RaceLaws.{own_audit_fault, unaudited, unaudited_fault}
 use Rattle.tg_threads.proofs.race.Raced.tell.Goals as goal
 
-pub returns-in_err-count-clause-told : goal.returns-in_err-count-clause-told
-returns-in_err-count-clause-told g c = λ before taken.
-    unaudited c.args.self.now.store c.args.self.now.told.items c.opening.result.now c.entries.result.now c.in_err-count.field-0.0 c.from_residual.result before (g.K.Sink.taken c.args.sink.now) c.opening.ensures
-    (c.entries.ensures ∙ (λ i. drop ((c.journal-journal.ensures.start ∙ c.requires.none_handed) i) (c.journal-journal.ensures.entries i))) c.journal-journal.ensures.faithful.legal c.in_err-count.ensures.fault c.from_residual.ensures.1 taken
+pub returns-in_err-audited-clause-told : goal.returns-in_err-audited-clause-told
+returns-in_err-audited-clause-told g c = λ before taken.
+    let s = c.args.self.now.store in
+    let f = c.in_err-audited.field-0.0 in
+    let memory = own_audit_fault s.handed c.audit.result f c.in_err-audited.was c.requires.none_handed c.audit.ensures.not_whole.0 c.in_err-audited.ensures.fault in
+    unaudited s (g.T.RaceTelling.race_text s.opening s.entries (text_of_told s.entries c.args.self.now.told.items)) f c.from_residual.result before (g.K.Sink.taken c.args.sink.now) memory c.from_residual.ensures.1 taken
 
-pub returns-in_err-count-clause-fault : goal.returns-in_err-count-clause-fault
-returns-in_err-count-clause-fault g c =
-    unaudited_fault c.args.self.now.store c.opening.result.now c.entries.result.now c.in_err-count.field-0.0 c.from_residual.result c.opening.ensures (c.entries.ensures ∙ (λ i. drop ((c.journal-journal.ensures.start ∙ c.requires.none_handed) i) (c.journal-journal.ensures.entries i)))
-    c.journal-journal.ensures.faithful.legal c.in_err-count.ensures.fault c.from_residual.ensures.1
+pub returns-in_err-audited-clause-fault : goal.returns-in_err-audited-clause-fault
+returns-in_err-audited-clause-fault g c =
+    let f = c.in_err-audited.field-0.0 in
+    let memory = own_audit_fault c.args.self.now.store.handed c.audit.result f c.in_err-audited.was c.requires.none_handed c.audit.ensures.not_whole.0 c.in_err-audited.ensures.fault in
+    unaudited_fault f c.from_residual.result memory c.from_residual.ensures.1

@@ -1,0 +1,32 @@
+use Rattle.std.proofs.Common.{List, ap, refl, subst, ◌∙◌}
+use Rattle.std.specs.List.{flat_map}
+use Rattle.tg_journal.specs.declared.entry.Entry.{Entry}
+use Rattle.tg_entries.specs.Texts.{entry_text}
+use Rattle.tg_script.specs.Entering.{entered}
+use Rattle.tg_script.specs.Run.{IsAsBefore}
+use Rattle.tg_script.specs.Supply.{values_left}
+use Rattle.tg_text.specs.Sinks.{Writes}
+use Rattle.tg_script.proofs.EnteringLaws.{held_since}
+use Rattle.tg_script.proofs.RunLaws.{handles_before, makes_before}
+use Rattle.tg_script.proofs.telling.EntriesTelling.run_line.Goals as goal
+
+-- What the journal holds behind the line is what the line made.
+pub returns : goal.returns
+returns g c =
+    let s = g.K.Sink in
+    let old = c.args.run.now in
+    let mid = c.give_up_entries.new.self in
+    let new = c.answer.new.self in
+    let l = c.args.line in
+    let a = c.answer.result in
+    let out = c.give_up_entries.ensures in
+    let before : IsAsBefore old mid = record { entries = out.store.entries; opening = out.store.opening; values = ap values_left out.supply; helpers = out.helpers } in
+    let made = makes_before old mid new l a before c.answer.ensures.entry in
+    let held = c.entries.ensures ∙ held_since old.store.entries (entered l a (values_left old.supply)) c.journal.result.now.entries c.journal.result.now.start
+    (c.journal.ensures.entries ∙ made.entries) (c.journal.ensures.start ∙ c.answer.ensures.held refl ∙ out.store.handed) in (
+      a,
+      handles_before old mid new l a before c.answer.ensures.answered,
+      made,
+      subst (λ (es : List Entry). Writes (s.taken c.args.sink.now) (s.failures c.args.sink.now) (flat_map entry_text es) c.write_entries.result (s.taken c.write_entries.new.sink) (s.failures c.write_entries.new.sink))
+          held c.write_entries.ensures,
+    )
