@@ -158,6 +158,7 @@ impl<P: Payload> Run<P> {
         }
     }
 
+    #[inline(always)]
     fn spawn_of(&mut self, worker: u64, label: Label, draft: Draft<P>) -> Answer
         requires { self.old.supply.front ≡ None }
         ensures answered { HandlesWith self.old draft (Line.Spawn worker label) result self.new }
