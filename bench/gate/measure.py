@@ -1,5 +1,5 @@
 #!/usr/bin/env python3
-"""measure.py whole [LOG]                      what each crate takes of a whole `rt ci`
+"""measure.py whole [LOG]                      what each crate takes of a whole `rt ci --anew`
 measure.py everyday                         how long a changed body is on its way to green
 measure.py functions CRATE                  which functions the last check of a crate from nothing took longest for
 
@@ -175,7 +175,7 @@ def kind_of(pid):
 def whole(log):
     place, began, before = where(), time.time(), processor_seconds()
     with open(log, "w", encoding="utf-8") as out:
-        gate = subprocess.Popen(["rt", "ci"], cwd=TOP, stdin=subprocess.DEVNULL, stdout=out, stderr=subprocess.STDOUT)
+        gate = subprocess.Popen(["rt", "ci", "--anew"], cwd=TOP, stdin=subprocess.DEVNULL, stdout=out, stderr=subprocess.STDOUT)
         sampler = Sampler(gate.pid)
         status = gate.wait()
         sampler.stop()
