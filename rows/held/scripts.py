@@ -210,7 +210,7 @@ def a_line_too_long():
 def one_request_is_refused():
     """One line is refused for want of memory, and all behind it are served."""
     lines = [line for turn in range(100) for line in ("0 create rw", f"0 write {1 + turn} 7", "0 list", "full")]
-    return Script("--workers 1 --stock l200", lines, refused=1_003)
+    return Script("--workers 1 --stock l200", lines, refused=1_008)
 
 
 def a_collection_of_the_nurseries_is_refused():
