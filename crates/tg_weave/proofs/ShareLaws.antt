@@ -1,5 +1,5 @@
 -- Who runs a line, and the lines that each session is given.
-use Rattle.std.proofs.Common.{◌≡◌, ◌≢◌, ◌<◌, ◌≤◌, ◌==◌, ℕ, zero, suc, Bool, true, false, cond, List, [], ◌∷◌, ◌++◌, length, map, get_or, set, Option, Some, None, refl, sym, ap, ◌∙◌, subst, arith, eq-eqb, ne_eqb, eqb-true, append-nil, ⊎_elim}
+use Rattle.std.proofs.Common.{◌≡◌, ◌≢◌, ◌<◌, ◌≤◌, ◌==◌, ℕ, zero, suc, Bool, true, false, cond, List, [], ◌∷◌, ◌++◌, length, map, get_or, set, Option, Some, None, refl, sym, ap, ◌∙◌, subst, arith, eq-eqb, ne_eqb, eqb-true, append-nil, append_assoc, ⊎_elim}
 use Rattle.std.specs.Prelude.{nat_lt}
 use Rattle.std.specs.List.{All}
 use Rattle.std.specs.Option.{option_map_or}
@@ -15,6 +15,15 @@ use Rattle.tg_weave.specs.Shares.{runner_of, is_run_by, lines_of, all_lines}
 pub map_push : {X Y : Type 0} (f : X → Y) (xs : List X) (x : X) → map f (xs ++ x ∷ []) ≡ map f xs ++ f x ∷ []
 map_push f [] x = refl
 map_push f (y ∷ xs) x = ap (λ l. f y ∷ l) (map_push f xs x)
+
+-- one more came of what was left
+pub one_more : {X : Type 0} (yielded rest left all : List X) (x : X) → left ≡ x ∷ rest → yielded ++ left ≡ all → (yielded ++ x ∷ []) ++ rest ≡ all
+one_more {X} yielded rest left all x is was = append_assoc yielded (x ∷ []) rest ∙ ap (λ (l : List X). yielded ++ l) (sym is) ∙ was
+
+-- nothing is left, so what came is all
+pub all_came : {X : Type 0} (yielded rest all : List X) → yielded ++ rest ≡ all → length rest ≡ 0 → yielded ≡ all
+all_came yielded [] all was none = sym (append-nil yielded) ∙ was
+all_came yielded (x ∷ rest) all was none = absurd (omega (arith, none))
 
 -- ---- who runs a line
 

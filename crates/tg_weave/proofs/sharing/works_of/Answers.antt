@@ -1,9 +1,8 @@
-use Rattle.std.proofs.Common.{◌≡◌, ◌++◌, ◌∷◌, [], map, sym, ap, ◌∙◌, subst, arith, append_assoc}
+use Rattle.std.proofs.Common.{◌≡◌, ◌++◌, ◌∷◌, [], map, sym, ap, ◌∙◌, subst}
 use Rattle.std.specs.List.{All}
-use Rattle.std.proofs.lemmas.Grind.{common_steps}
 use Rattle.std.proofs.lemmas.List.Elements.{All-push}
 use Rattle.tg_weave.specs.declared.work.Work.{Work}
-use Rattle.tg_weave.proofs.ShareLaws.{map_push}
+use Rattle.tg_weave.proofs.ShareLaws.{map_push, one_more}
 use Rattle.tg_weave.proofs.sharing.works_of.Goals as goal
 
 pub loop-session-preserved : goal.loop-session-preserved
@@ -13,7 +12,7 @@ loop-session-preserved g c =
     let session_of : Work g.row.S.Denot g.row.P.Denot → g.row.S.Denot = λ w. w.session in
     let None : Work g.row.S.Denot g.row.P.Denot → Type 0 = λ w. w.tasks.items ≡ [] in
     record {
-      left = grind (arith, common_steps, append_assoc, c.loop-session.invariant.left, c.in-Some.ensures);
+      left = one_more c.loop-session.yielded c.next.new.self.rest.items c.loop-session.session-iterator.rest.items c.args.sessions.items session c.in-Some.ensures.steps.0 c.loop-session.invariant.left;
       sessions = ap (map session_of) c.in_ok-push.ensures.items ∙ map_push session_of c.loop-session.works.items work ∙ ap (λ ss. ss ++ session ∷ []) c.loop-session.invariant.sessions;
       none = subst (All None) (sym c.in_ok-push.ensures.items) (All-push None c.loop-session.works.items work c.loop-session.invariant.none c.new.ensures.items);
     }
