@@ -18,28 +18,37 @@ use Rattle.tg_entries.specs.Read.{HasEntered, HasRead}
 use Rattle.tg_entries.specs.Texts.{IsAudited, edge_text, end_text, entry_text, head_text, limits_text, opening_text, version_text, worker_text}
 
 -- the limits, behind the first line
-pub limits_read : (text line : List ℕ) (workers limit : ℕ) → text ≡ version_text → line ≡ limits_text workers limit → text ++ line ≡ opening_text workers limit [] []
-limits_read text line workers limit before is =
+pub limits_read : (text line : List ℕ) (workers limit : ℕ) (values : List Value) (edges : List Edge) → values ≡ [] → edges ≡ [] → text ≡ version_text → line ≡ limits_text workers limit →
+    text ++ line ≡ opening_text workers limit values edges
+limits_read text line workers limit values edges no_value no_edge before is =
     let front = version_text ++ limits_text workers limit in
     ap (λ (x : List ℕ). x ++ line) before ∙ ap (λ (x : List ℕ). version_text ++ x) is
     ∙ sym (append-nil (front ++ []) ∙ append-nil front)
+    ∙ ap (λ (vs : List Value). opening_text workers limit vs []) (sym no_value) ∙ ap (λ (es : List Edge). opening_text workers limit values es) (sym no_edge)
 
--- a worker's value, where no edge came
-pub worker_read : (text line : List ℕ) (workers limit : ℕ) (values : List Value) (value : Value) →
+worker_more : (text line : List ℕ) (workers limit : ℕ) (values : List Value) (value : Value) →
     text ≡ opening_text workers limit values [] → line ≡ worker_text value → text ++ line ≡ opening_text workers limit (values ++ value ∷ []) []
-worker_read text line workers limit values value before is =
+worker_more text line workers limit values value before is =
     let front = version_text ++ limits_text workers limit in
     ap (λ (x : List ℕ). x ++ line) (before ∙ append-nil (front ++ flat_map worker_text values))
     ∙ ap (λ (x : List ℕ). (front ++ flat_map worker_text values) ++ x) is
     ∙ flat_map_more worker_text front values value ∙ sym (append-nil (front ++ flat_map worker_text (values ++ value ∷ [])))
 
+-- a worker's value, where no edge came
+pub worker_read : (text line : List ℕ) (workers limit : ℕ) (values now : List Value) (edges : List Edge) (value : Value) → edges ≡ [] → now ≡ values ++ value ∷ [] →
+    text ≡ opening_text workers limit values edges → line ≡ worker_text value → text ++ line ≡ opening_text workers limit now edges
+worker_read text line workers limit values now edges value none more before is =
+    subst (λ (es : List Edge). text ++ line ≡ opening_text workers limit now es) (sym none)
+    (subst (λ (vs : List Value). text ++ line ≡ opening_text workers limit vs []) (sym more)
+    (worker_more text line workers limit values value (subst (λ (es : List Edge). text ≡ opening_text workers limit values es) none before) is))
+
 -- an edge
-pub edge_read : (text line : List ℕ) (workers limit : ℕ) (values : List Value) (edges : List Edge) (edge : Edge) →
-    text ≡ opening_text workers limit values edges → line ≡ edge_text edge → text ++ line ≡ opening_text workers limit values (edges ++ edge ∷ [])
-edge_read text line workers limit values edges edge before is =
+pub edge_read : (text line : List ℕ) (workers limit : ℕ) (values : List Value) (edges now : List Edge) (edge : Edge) → now ≡ edges ++ edge ∷ [] →
+    text ≡ opening_text workers limit values edges → line ≡ edge_text edge → text ++ line ≡ opening_text workers limit values now
+edge_read text line workers limit values edges now edge more before is =
     let front = (version_text ++ limits_text workers limit) ++ flat_map worker_text values in
     ap (λ (x : List ℕ). x ++ line) before ∙ ap (λ (x : List ℕ). (front ++ flat_map edge_text edges) ++ x) is
-    ∙ flat_map_more edge_text front edges edge
+    ∙ flat_map_more edge_text front edges edge ∙ ap (λ (es : List Edge). front ++ flat_map edge_text es) (sym more)
 
 -- the whole opening, before any entry
 pub opening_read : (text : List ℕ) (plan : Plan) (entered : Entered) → text ≡ head_text plan → IsPlan plan →

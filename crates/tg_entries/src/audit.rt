@@ -1,8 +1,8 @@
 //! An audit of a text that comes line by line.
-ghost use Rattle.std.specs.Prelude.{◌≡◌, ◌++◌, [], List, ℕ, IfOk, OnOk};
+ghost use Rattle.std.specs.Prelude.{◌≡◌, ◌+◌, ◌++◌, [], List, ℕ, IfOk, IsTrue, OnOk};
 ghost use Rattle.tg_entries.specs.declared.stage.Stage.TheVariants as Stage;
 ghost use Rattle.tg_entries.specs.Read.{HasEntered, HasHead, HasRead};
-ghost use Rattle.tg_entries.specs.Texts.{IsAudited};
+ghost use Rattle.tg_entries.specs.Texts.{IsAudited, edge_text, entry_text, worker_text};
 
 use crate::fault::LineFault;
 use crate::read::{read_deed, read_edge, read_end, read_limits, read_value, split_entry};
@@ -15,7 +15,7 @@ use std::marker::Model;
 use std::sync::ledger::Ledger;
 use std::{mem, slice, str};
 use tg_journal::{AuditFault, Auditor, Entry};
-use tg_model::{MAX_LASTING_VERTICES, MAX_WORKERS, Opening};
+use tg_model::{Deed, Edge, MAX_LASTING_VERTICES, MAX_WORKERS, Opening, Value};
 use tg_text::{Count, Written};
 
 /// An audit of the text of a history, which is fed a line at a time. It keeps the line that it reads, and of the graph
@@ -89,13 +89,13 @@ fn next_stage<L: Ledger>(
 }
 
 // The text of a line, without its line feed.
-fn text_of(line: &[u8]) -> Result<&str, LineFault> {
+fn text_of(line: &[u8]) -> Option<&str> {
     match line.strip_suffix(b"\n") {
         Some(bytes) => match str::from_utf8(bytes) {
-            Ok(text) => Ok(text),
-            Err(_) => Err(LineFault::BadLine),
+            Ok(text) => Some(text),
+            Err(_) => None,
         },
-        None => Err(LineFault::BadLine),
+        None => None,
     }
 }
 
@@ -116,7 +116,10 @@ fn limits_line<L: Ledger>(
 ) -> Result<Stage, LineFault>
     ensures { (text : List ℕ) → HasRead text Stage.Limits → IfOk result (HasRead (text ++ line.now)) }
 {
-    let Some((workers, max_vertices)) = read_limits(text_of(line)?) else {
+    let Some(text) = text_of(line) else {
+        return Err(LineFault::BadLine);
+    };
+    let Some((workers, max_vertices)) = read_limits(text) else {
         return Err(LineFault::BadLine);
     };
     if !are_limits(again, workers, max_vertices, line)? || !may_open(workers, max_vertices) {
@@ -147,7 +150,9 @@ fn opening_line<L: Ledger>(
 ) -> Result<Stage, LineFault>
     ensures { (text : List ℕ) → HasHead text head → IfOk result (HasRead (text ++ line.now)) }
 {
-    let text = text_of(line)?;
+    let Some(text) = text_of(line) else {
+        return Err(LineFault::BadLine);
+    };
     if let Some(word) = text.strip_prefix("worker ") {
         return worker_line(alloc, again, head, word, line);
     }
@@ -168,18 +173,39 @@ fn worker_line<L: Ledger>(
 ) -> Result<Stage, LineFault>
     ensures { (text : List ℕ) → HasHead text head → IfOk result (HasRead (text ++ line.now)) }
 {
-    let Some(value) = read_value(alloc, word)? else {
-        return Err(LineFault::BadLine);
-    };
-    let may_come = head.edges.is_empty() && (head.values.len() as u64) < head.workers;
-    if !may_come || !value.fits() || !is_worker(again, &value, line)? {
-        return Err(LineFault::BadLine);
-    }
+    let value = next_value(alloc, again, &head, word, line)?;
     let mut head = head;
     match head.values.push(value) {
         Ok(()) => Ok(Stage::Opening(head)),
         Err(_) => Err(LineFault::OutOfMemory),
     }
+}
+
+// The value that the line tells, where one more may come.
+fn next_value<L: Ledger>(
+    alloc: Global,
+    again: &mut Written<L>,
+    head: &Head,
+    word: &str,
+    line: &[u8],
+) -> Result<Value, LineFault>
+    ensures { IfOk result (λ value. (head.now.edges.items ≡ []) × (line.now ≡ worker_text value)) }
+{
+    let Some(value) = read_value(alloc, word)? else {
+        return Err(LineFault::BadLine);
+    };
+    if may_have_value(head) && value.fits() && is_worker(again, &value, line)? {
+        Ok(value)
+    } else {
+        Err(LineFault::BadLine)
+    }
+}
+
+// Whether one more worker's value may come: behind an edge none.
+fn may_have_value(head: &Head) -> bool
+    ensures { IsTrue result → head.now.edges.items ≡ [] }
+{
+    head.edges.is_empty() && (head.values.len() as u64) < head.workers
 }
 
 // An edge between two workers.
@@ -191,17 +217,31 @@ fn edge_line<L: Ledger>(
 ) -> Result<Stage, LineFault>
     ensures { (text : List ℕ) → HasHead text head → IfOk result (HasRead (text ++ line.now)) }
 {
-    let Some(edge) = read_edge(text) else {
-        return Err(LineFault::BadLine);
-    };
-    let may_come = head.values.len() as u64 == head.workers && edge.joins_workers(head.workers);
-    if !may_come || !is_edge(again, edge, line)? {
-        return Err(LineFault::BadLine);
-    }
+    let edge = next_edge(again, &head, text, line)?;
     let mut head = head;
     match head.edges.push(edge) {
         Ok(()) => Ok(Stage::Opening(head)),
         Err(_) => Err(LineFault::OutOfMemory),
+    }
+}
+
+// The edge that the line tells, where all values came.
+fn next_edge<L: Ledger>(
+    again: &mut Written<L>,
+    head: &Head,
+    text: &str,
+    line: &[u8],
+) -> Result<Edge, LineFault>
+    ensures { IfOk result (λ edge. line.now ≡ edge_text edge) }
+{
+    let Some(edge) = read_edge(text) else {
+        return Err(LineFault::BadLine);
+    };
+    let may_come = head.values.len() as u64 == head.workers && edge.joins_workers(head.workers);
+    if may_come && is_edge(again, edge, line)? {
+        Ok(edge)
+    } else {
+        Err(LineFault::BadLine)
     }
 }
 
@@ -233,10 +273,25 @@ fn entries_line<L: Ledger>(
 ) -> Result<Stage, LineFault>
     ensures { (text : List ℕ) → HasEntered text entered → IfOk result (HasRead (text ++ line.now)) }
 {
-    let text = text_of(line)?;
-    if let Some(count) = read_end(text) {
-        return end_line(again, entered, count, line);
+    let Some(text) = text_of(line) else {
+        return Err(LineFault::BadLine);
+    };
+    match read_end(text) {
+        Some(count) => end_line(again, &entered, count, line),
+        None => next_entry(alloc, again, entered, text, line),
     }
+}
+
+// The entry that a line's text is.
+fn next_entry<L: Ledger>(
+    alloc: Global,
+    again: &mut Written<L>,
+    entered: Entered,
+    text: &str,
+    line: &[u8],
+) -> Result<Stage, LineFault>
+    ensures { (text : List ℕ) → HasEntered text entered → IfOk result (HasRead (text ++ line.now)) }
+{
     let entry = read_entry(alloc, again, entered.count, text)?;
     entry_line(again, entered, &entry, line)
 }
@@ -244,11 +299,11 @@ fn entries_line<L: Ledger>(
 // The line with the number of entries.
 fn end_line<L: Ledger>(
     again: &mut Written<L>,
-    entered: Entered,
+    entered: &Entered,
     count: u64,
     line: &[u8],
 ) -> Result<Stage, LineFault>
-    ensures { (text : List ℕ) → HasEntered text entered → IfOk result (HasRead (text ++ line.now)) }
+    ensures { (text : List ℕ) → HasEntered text entered.now → IfOk result (HasRead (text ++ line.now)) }
 {
     if count != entered.count || !is_end(again, count, line)? {
         return Err(LineFault::BadLine);
@@ -266,12 +321,7 @@ fn read_entry<L: Ledger>(
     let Some((deed_text, reply_text)) = split_entry(text) else {
         return Err(LineFault::BadLine);
     };
-    let Some((worker, deed)) = read_deed(alloc, deed_text)? else {
-        return Err(LineFault::BadLine);
-    };
-    if !is_deed(again, worker, &deed, deed_text.as_bytes())? {
-        return Err(LineFault::BadLine);
-    }
+    let (worker, deed) = read_same_deed(alloc, again, deed_text)?;
     match read_reply(alloc, &deed, reply_text)? {
         Some(reply) => Ok(Entry {
             worker,
@@ -279,6 +329,22 @@ fn read_entry<L: Ledger>(
             reply,
         }),
         None => Err(LineFault::BadEntry { at }),
+    }
+}
+
+// Who asks, and for what, where the text is spelled as that is.
+fn read_same_deed<L: Ledger>(
+    alloc: Global,
+    again: &mut Written<L>,
+    text: &str,
+) -> Result<(u64, Deed), LineFault> {
+    let Some((worker, deed)) = read_deed(alloc, text)? else {
+        return Err(LineFault::BadLine);
+    };
+    if is_deed(again, worker, &deed, text.as_bytes())? {
+        Ok((worker, deed))
+    } else {
+        Err(LineFault::BadLine)
     }
 }
 
@@ -291,13 +357,8 @@ fn entry_line<L: Ledger>(
 ) -> Result<Stage, LineFault>
     ensures { (text : List ℕ) → HasEntered text entered → IfOk result (HasRead (text ++ line.now)) }
 {
+    let next = next_count(again, entered.count, entry, line)?;
     let Entered { mut auditor, count } = entered;
-    let Some(next) = count.checked_add(1) else {
-        return Err(LineFault::BadLine);
-    };
-    if !is_entry(again, entry, line)? {
-        return Err(LineFault::BadEntry { at: count });
-    }
     match auditor.feed(slice::from_ref(entry)) {
         Ok(()) => Ok(Stage::Entries(Entered {
             auditor,
@@ -307,5 +368,24 @@ fn entry_line<L: Ledger>(
             AuditFault::OutOfMemory => LineFault::OutOfMemory,
             AuditFault::BadEntry { .. } => LineFault::BadEntry { at: count },
         }),
+    }
+}
+
+// How many entries there are with this one behind so many, where the line is its text.
+fn next_count<L: Ledger>(
+    again: &mut Written<L>,
+    count: u64,
+    entry: &Entry,
+    line: &[u8],
+) -> Result<u64, LineFault>
+    ensures { IfOk result (λ next. (next ≡ count + 1) × (line.now ≡ entry_text entry.now)) }
+{
+    let Some(next) = count.checked_add(1) else {
+        return Err(LineFault::BadLine);
+    };
+    if is_entry(again, entry, line)? {
+        Ok(next)
+    } else {
+        Err(LineFault::BadEntry { at: count })
     }
 }
