@@ -1,7 +1,8 @@
-use Rattle.std.proofs.Common.{subst, ap, inl, inr, Ok, Err, refl, rules, sym}
+use Rattle.std.proofs.Common.{subst, ap, inl, inr, Ok, Err, refl, sym}
 use Rattle.tg_model.specs.declared.value.Value.{Value}
 use Rattle.tg_model.specs.Graph.{ProtectionGraph, IsSubject}
 use Rattle.tg_store.specs.Store.{graph_of_store}
+use Rattle.tg_c.proofs.MakeLaws.{no_worker_is_no_cell, no_worker_is_no_subject, no_worker_is_no_vertex, not_both, ok_is_no_refusal, same_refusal, unchanged}
 use Rattle.tg_c.specs.Calls.{Spawns}
 use Rattle.tg_c.proofs.law_store.LawStore.spawn.Goals as goal
 
@@ -11,19 +12,19 @@ returns-then-not-is_subject c = record {
   entry = tt;
   made = tt;
   no_such_worker = λ g stands. (
-    (λ is. subst (λ (h : ProtectionGraph). ¬ IsSubject h c.args.worker) stands (λ subject. let holds = (c.is_subject.ensures (graph_of_store c.args.self.now.store) refl).1 subject in cc (holds, c.if-not-is_subject.true))),
+    (λ is. subst (λ (h : ProtectionGraph). ¬ IsSubject h c.args.worker) stands (λ subject. let holds = (c.is_subject.ensures (graph_of_store c.args.self.now.store) refl).1 subject in not_both c.is_subject.result holds c.if-not-is_subject.true)),
     (λ none. refl),
   );
-  no_more = λ g stands is. absurd (cc is);
+  no_more = λ g stands is. absurd (no_worker_is_no_vertex is);
   exhausted = λ g stands subject full.
-      absurd (let holds = (c.is_subject.ensures (graph_of_store c.args.self.now.store) refl).1 (subst (λ (h : ProtectionGraph). IsSubject h c.args.worker) (sym stands) subject) in cc (holds, c.if-not-is_subject.true));
-  no_more_entry = λ is. absurd (cc is);
-  full = λ g stands is. absurd (cc is);
-  too_many = λ g stands is. absurd (cc is);
+      absurd (let holds = (c.is_subject.ensures (graph_of_store c.args.self.now.store) refl).1 (subst (λ (h : ProtectionGraph). IsSubject h c.args.worker) (sym stands) subject) in not_both c.is_subject.result holds c.if-not-is_subject.true);
+  no_more_entry = λ is. absurd (no_worker_is_no_vertex is);
+  full = λ g stands is. absurd (no_worker_is_no_cell is);
+  too_many = λ g stands is. absurd (no_worker_is_no_subject is);
   crowded = λ g stands subject room many.
-      absurd (let holds = (c.is_subject.ensures (graph_of_store c.args.self.now.store) refl).1 (subst (λ (h : ProtectionGraph). IsSubject h c.args.worker) (sym stands) subject) in cc (holds, c.if-not-is_subject.true));
-  too_many_entry = λ is. absurd (cc is);
-  refused = search rules;
+      absurd (let holds = (c.is_subject.ensures (graph_of_store c.args.self.now.store) refl).1 (subst (λ (h : ProtectionGraph). IsSubject h c.args.worker) (sym stands) subject) in not_both c.is_subject.result holds c.if-not-is_subject.true);
+  too_many_entry = λ is. absurd (no_worker_is_no_subject is);
+  refused = λ _ _. unchanged c.args.self.now.store;
   same_graph = λ g stands. stands;
   opening = refl;
   limits = refl;
@@ -35,14 +36,14 @@ returns-in-Ok-spawn c =
     subst (λ (v : Value). Spawns c.args.worker c.args.label v c.args.self.now.store c.spawn.new.self (Ok c.in-Ok-spawn.name)) c.in-Ok.ensures.made (record {
       entry = told.entry;
       made = told.made;
-      no_such_worker = λ g stands. ((λ is. absurd (cc is)), λ none. absurd ((told.refusals.no_such_worker g stands).1 none));
-      no_more = λ g stands is. absurd (cc is);
+      no_such_worker = λ g stands. ((λ is. absurd (ok_is_no_refusal is)), λ none. absurd ((told.refusals.no_such_worker g stands).1 none));
+      no_more = λ g stands is. absurd (ok_is_no_refusal is);
       exhausted = λ g stands subject full. absurd (told.refusals.exhausted g stands subject full);
-      no_more_entry = λ is. absurd (cc is);
-      full = λ g stands is. absurd (cc is);
-      too_many = λ g stands is. absurd (cc is);
+      no_more_entry = λ is. absurd (ok_is_no_refusal is);
+      full = λ g stands is. absurd (ok_is_no_refusal is);
+      too_many = λ g stands is. absurd (ok_is_no_refusal is);
       crowded = λ g stands subject room many. absurd (told.crowded g stands subject room many);
-      too_many_entry = λ is. absurd (cc is);
+      too_many_entry = λ is. absurd (ok_is_no_refusal is);
       refused = tt;
       same_graph = λ g stands. tt;
       opening = told.refusals.opening;
@@ -55,14 +56,14 @@ returns-in-Err c =
     subst (λ (v : Value). Spawns c.args.worker c.args.label v c.args.self.now.store c.spawn.new.self (Err c.in-Err.refused.why)) c.in-Ok.ensures.made (record {
       entry = tt;
       made = tt;
-      no_such_worker = λ g stands. ((λ is. (told.refusals.no_such_worker g stands).0 (cc is)), λ none. ap Err ((told.refusals.no_such_worker g stands).1 none));
-      no_more = λ g stands is. told.refusals.no_more g stands (cc is);
+      no_such_worker = λ g stands. ((λ is. (told.refusals.no_such_worker g stands).0 (same_refusal is)), λ none. ap Err ((told.refusals.no_such_worker g stands).1 none));
+      no_more = λ g stands is. told.refusals.no_more g stands (same_refusal is);
       exhausted = λ g stands subject full. elim (told.refusals.exhausted g stands subject full) [ inl why ↦ inl (ap Err why) | inr why ↦ inr (ap Err why) ];
-      no_more_entry = λ is. told.no_more_entry (cc is);
-      full = λ g stands is. told.refusals.full g stands (cc is);
-      too_many = λ g stands is. told.too_many g stands (cc is);
+      no_more_entry = λ is. told.no_more_entry (same_refusal is);
+      full = λ g stands is. told.refusals.full g stands (same_refusal is);
+      too_many = λ g stands is. told.too_many g stands (same_refusal is);
       crowded = λ g stands subject room many. elim (told.crowded g stands subject room many) [ inl why ↦ inl (ap Err why) | inr why ↦ inr (ap Err why) ];
-      too_many_entry = λ is. told.too_many_entry (cc is);
+      too_many_entry = λ is. told.too_many_entry (same_refusal is);
       refused = told.refused;
       same_graph = told.refusals.same_graph;
       opening = told.refusals.opening;
