@@ -1,5 +1,5 @@
 -- What the changes of a deed come to in the graph that is kept.
-use Rattle.std.proofs.Common.{◌≡◌, ◌==◌, ◌+◌, ◌<◌, ◌++◌, ◌∷◌, [], ℕ, List, length, Bool, true, false, cond, Option, Some, None, refl, sym, ap, subst, ◌∙◌, arith}
+use Rattle.std.proofs.Common.{◌≡◌, ◌==◌, ◌+◌, ◌<◌, ◌++◌, ◌∷◌, [], ℕ, List, length, Bool, true, false, cond, Option, Some, None, refl, sym, ap, ◌∙◌, arith}
 use mathlib.Core.Bool.{true≢false}
 use Rattle.std.proofs.lemmas.Bool.{eqb-true}
 use Rattle.tg_rights.specs.RightSet.{RightSet, no_rights, is_none_held}
@@ -10,7 +10,7 @@ use Rattle.tg_model.specs.Graph.{ProtectionGraph, IsReachable, with_rights}
 use Rattle.tg_model.specs.Opened.{Plan, start_of}
 use Rattle.tg_model.specs.Rules.{step, with_value, with_vertex}
 use Rattle.tg_model.proofs.AllowedLaws.{step-created, step-spawned}
-use Rattle.tg_journal.specs.Live.{Kept, Labels, graph_kept, label_between, value_of, IsAsBefore, IsSwept}
+use Rattle.tg_journal.specs.Live.{Kept, Labels, graph_kept, label_between, value_of, IsSwept}
 
 abbrev pub kept : List ℕ → ℕ → ℕ → Labels → List (ℕ × Value) → Kept
 kept s n l es vs = record { subjects = s; made = n; limit = l; labels = es; values = vs }
@@ -37,23 +37,8 @@ module _ (s : List ℕ) (n l : ℕ) (es : Labels) (vs : List (ℕ × Value)) (k 
 
   -- ---- want of memory
 
-  pub nothing_changed : (new : Labels) (us : List (ℕ × Value)) → new ≡ es → us ≡ vs → IsAsBefore (graph_kept k) (graph_kept (kept s n l new us))
-  nothing_changed new us labels values = subst (λ (k : Kept). IsAsBefore (graph_kept k) (graph_kept (kept s n l new us))) view (record {
-    subjects = refl;
-    made = refl;
-    limit = refl;
-    label = ap label_between labels;
-    value = λ y below. ap (λ (vs : List (ℕ × Value)). value_of vs y) values;
   })
 
-  -- a value of a name that wasn't made yet
-  pub later_value : (v : Value) (new : Labels) (us : List (ℕ × Value)) → new ≡ es → ((a : ℕ) → value_of us a ≡ with_value (value_of vs) n v a) → IsAsBefore (graph_kept k) (graph_kept (kept s n l new us))
-  later_value v new us labels values = subst (λ (k : Kept). IsAsBefore (graph_kept k) (graph_kept (kept s n l new us))) view (record {
-    subjects = refl;
-    made = refl;
-    limit = refl;
-    label = ap label_between labels;
-    value = λ y below. values y ∙ stays y below (y == n) refl;
   })
     where
       stays : (y : ℕ) → y < n → (b : Bool) → b ≡ (y == n) → cond b (Some v) (value_of vs y) ≡ value_of vs y
