@@ -1,7 +1,6 @@
 -- What the changes of a deed come to in the graph that is kept.
-use Rattle.std.proofs.Common.{◌≡◌, ◌==◌, ◌+◌, ◌<◌, ◌++◌, ◌∷◌, [], ℕ, List, length, Bool, true, false, cond, Option, Some, None, refl, sym, ap, ◌∙◌, arith}
+use Rattle.std.proofs.Common.{◌≡◌, ◌==◌, ◌+◌, ◌<◌, ◌++◌, ◌∷◌, [], ℕ, List, length, Bool, true, false, cond, Option, None, refl, sym, ap, ◌∙◌}
 use mathlib.Core.Bool.{true≢false}
-use Rattle.std.proofs.lemmas.Bool.{eqb-true}
 use Rattle.tg_rights.specs.RightSet.{RightSet, no_rights, is_none_held}
 use Rattle.tg_model.specs.declared.value.Value.{Value}
 use Rattle.tg_model.specs.declared.command.Deed.TheVariants.{Create, Spawn}
@@ -34,16 +33,6 @@ module _ (s : List ℕ) (n l : ℕ) (es : Labels) (vs : List (ℕ × Value)) (k 
       (λ i. record { subjects = s; made = n + 1; limit = l; label = labels i; value = λ a. values a i })
       ∙ sym (step-created (graph_kept (kept s n l es vs)) x r v.law v.state room)
       ∙ ap (λ (k : Kept). step (graph_kept k) x (Create r v.law v.state)) view
-
-  -- ---- want of memory
-
-  })
-
-  })
-    where
-      stays : (y : ℕ) → y < n → (b : Bool) → b ≡ (y == n) → cond b (Some v) (value_of vs y) ≡ value_of vs y
-      stays y below true is = let same = eqb-true y n (sym is) in absurd (omega (arith, below, same))
-      stays y below false is = refl
 
 -- a vertex more, which is a subject
 pub spawned : (g next : ProtectionGraph) (k : Kept) (x : ℕ) (r : RightSet) (v : Value) (subjects : List ℕ) (name : ℕ) → next ≡ step g x (Create r v.law v.state) → next ≡ graph_kept k → g.made < g.limit → length g.subjects < MAX_WORKERS → subjects ≡ g.subjects ++ name ∷ [] → name ≡ g.made → graph_kept (record k { subjects = subjects }) ≡ step g x (Spawn r v.law v.state)
