@@ -1,7 +1,6 @@
 -- What the changes of a deed come to in the graph that is kept.
-use Rattle.std.proofs.Common.{◌≡◌, ◌==◌, ◌+◌, ◌<◌, ◌++◌, ◌∷◌, [], ℕ, List, length, Bool, true, false, cond, Option, Some, None, refl, sym, ap, subst, ◌∙◌, arith}
+use Rattle.std.proofs.Common.{◌≡◌, ◌==◌, ◌+◌, ◌<◌, ◌++◌, ◌∷◌, [], ℕ, List, length, Bool, true, false, cond, Option, None, refl, sym, ap, ◌∙◌}
 use mathlib.Core.Bool.{true≢false}
-use Rattle.std.proofs.lemmas.Bool.{eqb-true}
 use Rattle.tg_rights.specs.RightSet.{RightSet, no_rights, is_none_held}
 use Rattle.tg_model.specs.declared.value.Value.{Value}
 use Rattle.tg_model.specs.declared.command.Deed.TheVariants.{Create, Spawn}
@@ -10,7 +9,7 @@ use Rattle.tg_model.specs.Graph.{ProtectionGraph, IsReachable, with_rights}
 use Rattle.tg_model.specs.Opened.{Plan, start_of}
 use Rattle.tg_model.specs.Rules.{step, with_value, with_vertex}
 use Rattle.tg_model.proofs.AllowedLaws.{step-created, step-spawned}
-use Rattle.tg_journal.specs.Live.{Kept, Labels, graph_kept, label_between, value_of, IsAsBefore, IsSwept}
+use Rattle.tg_journal.specs.Live.{Kept, Labels, graph_kept, label_between, value_of, IsSwept}
 
 abbrev pub kept : List ℕ → ℕ → ℕ → Labels → List (ℕ × Value) → Kept
 kept s n l es vs = record { subjects = s; made = n; limit = l; labels = es; values = vs }
@@ -34,31 +33,6 @@ module _ (s : List ℕ) (n l : ℕ) (es : Labels) (vs : List (ℕ × Value)) (k 
       (λ i. record { subjects = s; made = n + 1; limit = l; label = labels i; value = λ a. values a i })
       ∙ sym (step-created (graph_kept (kept s n l es vs)) x r v.law v.state room)
       ∙ ap (λ (k : Kept). step (graph_kept k) x (Create r v.law v.state)) view
-
-  -- ---- want of memory
-
-  pub nothing_changed : (new : Labels) (us : List (ℕ × Value)) → new ≡ es → us ≡ vs → IsAsBefore (graph_kept k) (graph_kept (kept s n l new us))
-  nothing_changed new us labels values = subst (λ (k : Kept). IsAsBefore (graph_kept k) (graph_kept (kept s n l new us))) view (record {
-    subjects = refl;
-    made = refl;
-    limit = refl;
-    label = ap label_between labels;
-    value = λ y below. ap (λ (vs : List (ℕ × Value)). value_of vs y) values;
-  })
-
-  -- a value of a name that wasn't made yet
-  pub later_value : (v : Value) (new : Labels) (us : List (ℕ × Value)) → new ≡ es → ((a : ℕ) → value_of us a ≡ with_value (value_of vs) n v a) → IsAsBefore (graph_kept k) (graph_kept (kept s n l new us))
-  later_value v new us labels values = subst (λ (k : Kept). IsAsBefore (graph_kept k) (graph_kept (kept s n l new us))) view (record {
-    subjects = refl;
-    made = refl;
-    limit = refl;
-    label = ap label_between labels;
-    value = λ y below. values y ∙ stays y below (y == n) refl;
-  })
-    where
-      stays : (y : ℕ) → y < n → (b : Bool) → b ≡ (y == n) → cond b (Some v) (value_of vs y) ≡ value_of vs y
-      stays y below true is = let same = eqb-true y n (sym is) in absurd (omega (arith, below, same))
-      stays y below false is = refl
 
 -- a vertex more, which is a subject
 pub spawned : (g next : ProtectionGraph) (k : Kept) (x : ℕ) (r : RightSet) (v : Value) (subjects : List ℕ) (name : ℕ) → next ≡ step g x (Create r v.law v.state) → next ≡ graph_kept k → g.made < g.limit → length g.subjects < MAX_WORKERS → subjects ≡ g.subjects ++ name ∷ [] → name ≡ g.made → graph_kept (record k { subjects = subjects }) ≡ step g x (Spawn r v.law v.state)

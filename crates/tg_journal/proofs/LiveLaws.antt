@@ -1,6 +1,5 @@
 -- What changes of values come to, and subjects that are told apart.
 use Rattle.std.proofs.Common.{◌≡◌, ⊎_elim, ℕ, ◌==◌, ◌<◌, List, [], ◌∷◌, arith, Bool, true, false, cond, Some, None, refl, sym, ap, ◌∙◌}
-use Rattle.std.specs.Prelude.{option_map}
 use Rattle.std.specs.BTreeMap.{is_at}
 use Rattle.std.specs.List.{filter}
 use Rattle.std.specs.Map.{lookup, set_value}
@@ -9,7 +8,7 @@ use Rattle.std.proofs.lemmas.Bool.{eqb-true}
 use Rattle.tg_rights.specs.RightSet.{RightSet, is_none_held}
 use Rattle.tg_model.specs.declared.value.Value.{Value}
 use Rattle.tg_model.specs.Graph.{HasEdge, with_rights, without_rights}
-use Rattle.tg_model.specs.Rules.{with_value, written, written_at}
+use Rattle.tg_model.specs.Rules.{with_value}
 use Rattle.tg_model.proofs.ReachLaws.{HasEdge-with_rights, HasEdge-without_rights}
 use Rattle.tg_journal.specs.Live.{value_of}
 use Rattle.tg_journal.proofs.EdgeLaws.{same_name, kept_lookup}
@@ -17,25 +16,6 @@ use Rattle.tg_journal.proofs.EdgeLaws.{same_name, kept_lookup}
 -- a value under a name
 pub inserted_value : (old new : List (ℕ × Value)) (n : ℕ) (v : Value) → ((q : ℕ) → lookup (is_at (nat_cmp q)) new ≡ cond (is_at (nat_cmp n) q) (Some v) (lookup (is_at (nat_cmp q)) old)) → (a : ℕ) → value_of new a ≡ with_value (value_of old) n v a
 inserted_value old new n v updates a = updates a ∙ ap (λ b. cond b (Some v) (value_of old a)) (same_name n a)
-
--- a value that is written in its place
-pub written_value : (old new : List (ℕ × Value)) (y v : ℕ) (u w : Value) → value_of old y ≡ Some u → w ≡ written v u → ((q : ℕ) → lookup (is_at (nat_cmp q)) new ≡ cond (is_at (nat_cmp y) q) (Some w) (lookup (is_at (nat_cmp q)) old)) → (a : ℕ) → value_of new a ≡ written_at (value_of old) y v a
-written_value old new y v u w here same updates a =
-    updates a ∙ ap (λ b. cond b (Some w) (value_of old a)) (same_name y a) ∙ at (a == y) refl
-  where
-    at : (b : Bool) → b ≡ (a == y) → cond b (Some w) (value_of old a) ≡ cond b (option_map (written v) (value_of old a)) (value_of old a)
-    at true is = ap Some same ∙ ap (option_map (written v)) (sym here ∙ ap (value_of old) (sym (eqb-true a y (sym is))))
-    at false is = refl
-
--- what isn't there is not written
-pub absent_value : (old : List (ℕ × Value)) (y v : ℕ) → value_of old y ≡ None → (a : ℕ) → value_of old a ≡ written_at (value_of old) y v a
-absent_value old y v none a = at (a == y) refl
-  where
-    at : (b : Bool) → b ≡ (a == y) → value_of old a ≡ cond b (option_map (written v) (value_of old a)) (value_of old a)
-    at true is =
-        let nothing : value_of old a ≡ None = ap (value_of old) (eqb-true a y (sym is)) ∙ none in
-        nothing ∙ ap (option_map (written v)) (sym nothing)
-    at false is = refl
 
 -- values that are forgotten by their names
 pub kept_value : (names : ℕ → Bool) (vs : List (ℕ × Value)) (y : ℕ) → value_of (filter (λ e. names e.0) vs) y ≡ cond (names y) (value_of vs y) None

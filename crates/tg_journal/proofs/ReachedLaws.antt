@@ -100,10 +100,6 @@ all_front ks (x ∷ xs) i inside =
     all_front (insert_key nat_eq ks x) xs i (omega (arith, inside, more_with (is_member nat_eq ks x) ks x))
     ∙ front_with (is_member nat_eq ks x) ks x i inside
 
-pub all_push : (ks xs : List ℕ) (x : ℕ) → insert_all nat_eq ks (xs ++ x ∷ []) ≡ insert_key nat_eq (insert_all nat_eq ks xs) x
-all_push ks [] x = refl
-all_push ks (y ∷ xs) x = all_push (insert_key nat_eq ks y) xs x
-
 -- ---- members and places
 
 pub member_there : (xs : List ℕ) (y : ℕ) → Contains xs y → Has xs y

@@ -83,10 +83,6 @@ reading_stands U f s bytes t l p begun before left entries after none legal h =
     let k = has_told (Some f) s bytes t l p begun before left entries after none legal h.1 in
     (h.0, l ∷ k.0, entries, (k.0, refl, k.1), k.2, k.3)
 
--- the end is left out
-unended_front : (p : Plan) (es : List Entry) → history_text p es ≡ (head_text p ++ flat_map entry_text es) ++ end_text (length es)
-unended_front p es = refl
-
 pub enters_fault : (T : Type 0) (f : ScriptFault) (s : Script) (bytes : List ℕ) (t : Scene) (first : Option Line) (p : Plan) (begun : List Entry) (before left : List ℕ) (entries : List Entry) (after : Option (List ℕ)) → begun ≡ [] → IsLegal t.graph entries → TellsFirst {T = T} entry_of_line s bytes t first begun (before ++ head_text p) (Err f) left entries after → EntersAll {T = T} s bytes t first p before (Err f) left after
 enters_fault T f s bytes t None p begun before left entries after none legal h = absurd (false≢true h.0)
 enters_fault T fault.ReadFailed s bytes t (Some l) p begun before left entries after none legal h = reading_stands T fault.ReadFailed s bytes t l p begun before left entries after none legal h
