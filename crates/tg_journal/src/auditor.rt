@@ -59,7 +59,7 @@ impl Auditor {
     /// audit has come to the graph after them. Else those before the place that is told are, and the audit has come
     /// there; of a bad entry it is the first, and of want of memory the audit can be fed again from it. It
     /// [sweeps](Auditor::sweep) by itself whenever it has twice as many vertices as the last sweep left, and 65,536 at
-    /// the least.
+    /// the least; but not where nothing could be forgotten, since no rights were given up and no subject ended.
     pub fn feed(&mut self, entries: &[Entry]) -> Result<(), AuditStopped>
         ensures legal { (g : ProtectionGraph) → HasComeTo g (graph_kept self.old) → OnOk result (Passes g entries.now (graph_kept self.new)) }
         ensures stopped { (g : ProtectionGraph) → HasComeTo g (graph_kept self.old) → IfErr result (IsStopped g entries.now (graph_kept self.new)) }
@@ -93,13 +93,15 @@ impl Auditor {
         self.graph.sweep()
     }
 
-    // Sweeps where there are twice as many vertices as the last sweep left. Want of memory for it stops no audit: the
-    // next one comes where there are twice as many again.
+    // Sweeps where there are twice as many vertices as the last sweep left, unless nothing was given up since. Want of
+    // memory for it stops no audit: the next one comes where there are twice as many again.
     fn sweep_where_due(&mut self)
         ensures { (g : ProtectionGraph) → HasComeTo g (graph_kept self.old) → HasComeTo g (graph_kept self.new) }
     {
         if self.graph.len() >= self.sweep_at {
-            let _ = self.sweep();
+            if self.graph.has_lost() {
+                let _ = self.sweep();
+            }
             self.sweep_at = self.graph.len().saturating_mul(2).max(FIRST_SWEEP);
         }
     }

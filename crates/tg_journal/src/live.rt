@@ -25,6 +25,9 @@ pub(crate) struct LiveGraph {
     max_vertices: u64,
     edges: Edges,
     values: BTreeMap<u64, Value>,
+    // Whether rights were given up, or a subject ended, since the last sweep. Else a sweep would find nothing to
+    // forget.
+    has_lost: bool,
 }
 
 impl Model for LiveGraph {
@@ -57,6 +60,7 @@ impl LiveGraph {
             max_vertices: opening.max_vertices(),
             edges,
             values,
+            has_lost: false,
         })
     }
 
@@ -65,6 +69,11 @@ impl LiveGraph {
         ensures { IsTrue result ↔ IsSubject (graph_kept self.now) name }
     {
         self.subjects.contains(&name)
+    }
+
+    /// Whether a sweep could find anything to forget.
+    pub(crate) fn has_lost(&self) -> bool {
+        self.has_lost
     }
 
     /// How many vertices it has.

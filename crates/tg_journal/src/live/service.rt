@@ -132,6 +132,7 @@ impl LiveGraph {
     fn remove(&mut self, from: u64, to: u64, label: Label)
         ensures { graph_kept self.new ≡ record (graph_kept self.old) { label = without_rights (graph_kept self.old).label from to label } }
     {
+        self.has_lost = true;
         self.edges.lose(from, to, label.rights());
     }
 
@@ -163,6 +164,7 @@ impl LiveGraph {
     fn retire(&mut self, worker: u64)
         ensures { graph_kept self.new ≡ record (graph_kept self.old) { subjects = without_subject (graph_kept self.old).subjects worker } }
     {
+        self.has_lost = true;
         self.subjects.retain(|subject| *subject != worker);
     }
 }

@@ -20,6 +20,7 @@ impl LiveGraph {
         let names = self.reached()?;
         self.edges.keep(&names);
         self.values.retain(|name, _| names.contains(name));
+        self.has_lost = false;
         Ok(())
     }
 
