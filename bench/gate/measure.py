@@ -2,6 +2,7 @@
 """measure.py whole [LOG]                      what each crate takes of a whole `rt ci --anew`
 measure.py everyday                         how long a changed body is on its way to green
 measure.py functions CRATE                  which functions the last check of a crate from nothing took longest for
+measure.py goals CRATE                      which goals and lemmas its checks took longest for
 
 All run at the top of the repository that the script stands in, and print Markdown.
 
@@ -18,7 +19,11 @@ stands below `tg_store`.
 one before it is the time of that module, by the clock; the part `Lts` of a function is what it owns and borrows at each
 of its points. It says nothing of a folder that more than one check wrote to.
 
+`goals` checks nothing either: it reads what the checker noted of each goal and each lemma in `out/incremental`, which
+other work hardly moves. A goal that has an answer since the folder was begun is still told.
+
 Other work on the machine moves all of it: the load is printed beside the figures."""
+import json
 import os
 import re
 import resource
@@ -275,6 +280,25 @@ def functions(crate):
     return 0
 
 
+def goals(crate):
+    """Prints the dearest goals and lemmas of a crate, by the seconds that the checker noted for each."""
+    noted = []
+    for at, _, files in os.walk(f"{TOP}/crates/{crate}/out/incremental"):
+        for name in files if os.path.basename(at) == "records" else ():
+            with open(f"{at}/{name}", "rb") as record:
+                text = record.read().decode("utf-8", "replace")
+            module = name.removesuffix(".decls.oantt").removeprefix(f"Rattle-{crate}-proofs.")
+            for told in re.findall(r'\{"aux":.*?"toil":\[[\d,]*\]\}', text):
+                goal = json.loads(told)
+                noted.append((sum(goal["phases"]) / 1e6, module, goal["name"]))
+    if not noted:
+        sys.exit(f"{crate} has no kept work: rt check writes it")
+    print("| Module | goal or lemma | seconds |\n|---|---|---|")
+    for seconds, module, goal in sorted(noted, reverse=True)[:20]:
+        print(f"| `{module}` | `{goal}` | {seconds:.1f} |")
+    return 0
+
+
 def main(words):
     if words[:1] == ["whole"] and len(words) <= 2:
         return whole(words[1] if len(words) == 2 else os.path.join(tempfile.mkdtemp(), "out.txt"))
@@ -282,6 +306,8 @@ def main(words):
         return everyday()
     if words[:1] == ["functions"] and len(words) == 2:
         return functions(words[1])
+    if words[:1] == ["goals"] and len(words) == 2:
+        return goals(words[1])
     print(__doc__, file=sys.stderr)
     return 2
 

@@ -19,6 +19,18 @@ no_worker_is_no_subject is = cc
 pub no_worker_is_no_cell : {T : Type 0} → ◌≡◌ {A = Result T CreateFault} (Err create.NoSuchWorker) (Err create.HeapFull) → ⊥
 no_worker_is_no_cell is = cc
 
+pub want_is_no_worker : {T : Type 0} → ◌≡◌ {A = Result T CreateFault} (Err create.OutOfMemory) (Err create.NoSuchWorker) → ⊥
+want_is_no_worker is = cc
+
+pub want_is_no_vertex : {T : Type 0} → ◌≡◌ {A = Result T CreateFault} (Err create.OutOfMemory) (Err create.VerticesFull) → ⊥
+want_is_no_vertex is = cc
+
+pub want_is_no_subject : {T : Type 0} → ◌≡◌ {A = Result T CreateFault} (Err create.OutOfMemory) (Err create.WorkersFull) → ⊥
+want_is_no_subject is = cc
+
+pub want_is_no_cell : {T : Type 0} → ◌≡◌ {A = Result T CreateFault} (Err create.OutOfMemory) (Err create.HeapFull) → ⊥
+want_is_no_cell is = cc
+
 pub not_both : (b : Bool) → b ≡ true → b ≡ false → ⊥
 not_both b is other = cc
 

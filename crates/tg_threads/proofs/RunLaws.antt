@@ -1,9 +1,10 @@
 -- What a session's calls come to, line by line.
-use Rattle.std.proofs.Common.{◌≡◌, ◌≢◌, ◌⊎◌, inl, inr, ℕ, Bool, true, false, if◌then◌else◌, List, [], ◌∷◌, ◌++◌, Option, Some, None, Result, Ok, Err, refl, sym, ap, ◌∙◌, subst, append-nil, append_assoc, length}
+use Rattle.std.proofs.Common.{◌≡◌, ◌≢◌, ◌⊎◌, inl, inr, ℕ, Bool, true, false, if◌then◌else◌, List, [], ◌∷◌, ◌++◌, Option, Some, None, Result, Ok, Err, refl, sym, ap, ◌∙◌, subst, append-nil, append_assoc, length, ◌<◌, arith}
 use Rattle.std.specs.Prelude.{◌↔◌, IfOk, map, nat_lt}
 use Rattle.std.proofs.lemmas.Bool.{false≢true}
 use Rattle.std.specs.List.{All}
 use Rattle.std.proofs.lemmas.Grind.{flat_map-append}
+use Rattle.std.proofs.lemmas.List.{length_push}
 use Rattle.std.proofs.lemmas.List.Concat.{flat_map-cons}
 use Rattle.std.proofs.lemmas.List.Elements.{All-head, All-nil, All-tail}
 use Rattle.tg_rights.specs.RightSet.{RightSet}
@@ -151,6 +152,10 @@ pub one_spawned : (old new fresh : SessionState) (at : ℕ) (d : Deed) (r : Repl
 one_spawned old new fresh at d r sessions made adds none had =
     subst (λ (names : List ℕ). AreFresh names (sessions ++ fresh ∷ [])) (sym (more_subjects old new at d r adds ∙ ap (λ (l : List ℕ). subjects_spawned old.receipts ++ l) made))
     (fresh_push (subjects_spawned old.receipts) fresh.worker sessions fresh had refl none)
+
+-- who was answered has a receipt
+pub has_receipt : (old new : List Receipt) (r : Receipt) → new ≡ old ++ r ∷ [] → 0 < length new
+has_receipt old new r is = subst (λ (rs : List Receipt). 0 < length rs) (sym is) (omega (arith, length_push old r))
 
 -- at first there is none
 pub none_spawned : (receipts : List Receipt) (sessions : List SessionState) → receipts ≡ [] → sessions ≡ [] → AreFresh (subjects_spawned receipts) sessions

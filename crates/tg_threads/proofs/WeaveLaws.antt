@@ -2,7 +2,7 @@
 use Rattle.std.proofs.Common.{◌≡◌, ◌≢◌, ◌⊎◌, ◌<◌, ◌≤◌, ◌+◌, ◌==◌, inl, inr, ◌++◌, ℕ, zero, suc, Bool, true, false, cond, List, [], ◌∷◌, length, map, filter, get_or, Some, None, slice_get, option_map, refl, sym, ap, ◌∙◌, subst, arith, ne_eqb, ⊎_elim}
 use Rattle.std.specs.List.{All, AllZip, count_by, range_with_len}
 use Rattle.std.proofs.lemmas.Bool.{cases_eq, cases_lt}
-use Rattle.std.proofs.lemmas.Option.{slice_get-get_or, slice_get-map, get_or_from_slice_get}
+use Rattle.std.proofs.lemmas.Option.{slice_get-get_or, slice_get-map, get_or_from_slice_get, same_Some}
 use Rattle.std.proofs.lemmas.List.{length-map}
 use Rattle.std.proofs.lemmas.List.Elements.{All-nil, All-cons, All-head, All-tail, All-append, All-weaker}
 use Rattle.std.proofs.lemmas.List.Sums.{sum_by-cons}
@@ -177,21 +177,36 @@ none_by x entries sessions each own none = ⊎_elim
     (λ (others : All (λ s. s.worker ≢ x) sessions). none_of x entries sessions each others)
     (idle_or_none x entries sessions own none)
 
+next_place : (k i : ℕ) → k + suc i ≡ (k + 1) + i
+next_place k i = omega arith
+
+some_inside : (n : ℕ) → 0 < suc n
+some_inside n = omega arith
+
+next_inside : (i n : ℕ) → i < n → suc i < suc n
+next_inside i n low = omega arith
+
+fewer_left : (k n workers : ℕ) → k + suc n ≤ workers → (k + 1) + n ≤ workers
+fewer_left k n workers few = omega arith
+
+not_past : (x worker k n workers : ℕ) → worker ≡ x → worker ≡ k + 0 → workers ≤ x → k + suc n ≤ workers → ⊥
+not_past x worker k n workers is here past few = omega arith
+
 -- no session of one who is no worker of the opening has a receipt
 none_past : (workers x k : ℕ) (all : List (Finished SessionState)) → workers ≤ x → ((i : ℕ) → i < length all → (f : Finished SessionState) × (slice_get all i ≡ Some f) × (f.session.worker ≡ k + i) × All IsFresh f.spawned.items) →
     k + length all ≤ workers → All (λ s. s.worker ≡ x → s.receipts ≡ []) (all_sessions all)
 none_past workers x k [] past each few = All-nil (λ s. s.worker ≡ x → s.receipts ≡ [])
 none_past workers x k (f ∷ all) past each few =
     let P : SessionState → Type 0 = λ s. s.worker ≡ x → s.receipts ≡ [] in
-    let here = each 0 (omega arith) in
-    let same : f ≡ here.0 = (let is : Some f ≡ Some here.0 = here.1 in cc) in
+    let here = each 0 (some_inside (length all)) in
+    let same : f ≡ here.0 = same_Some f here.0 here.1 in
     let worker : f.session.worker ≡ k + 0 = ap (λ (g : Finished SessionState). g.session.worker) same ∙ here.2 in
     let none : All IsFresh f.spawned.items = subst (λ (g : Finished SessionState). All IsFresh g.spawned.items) (sym same) here.3 in
     let later : All P (all_sessions all) =
     none_past workers x (k + 1) all past
-    (λ i low. let next = each (suc i) (omega (arith, low)) in (next.0, next.1, next.2 ∙ (let e : k + suc i ≡ (k + 1) + i = omega arith in e), next.3))
-    (omega (arith, few)) in
-    All-cons P f.session (f.spawned.items ++ all_sessions all) (λ is. absurd (omega (arith, is, worker, past, few)))
+    (λ i low. let next = each (suc i) (next_inside i (length all) low) in (next.0, next.1, next.2 ∙ next_place k i, next.3))
+    (fewer_left k (length all) workers few) in
+    All-cons P f.session (f.spawned.items ++ all_sessions all) (λ is. absurd (not_past x f.session.worker k (length all) workers is worker past few))
     (All-append P f.spawned.items (all_sessions all) (All-weaker IsFresh P (λ s h is. h.0) f.spawned.items none) later)
 
 others_none : (arena : Arena) (workers x : ℕ) (bs : List Boxed) (all : List (Finished SessionState)) → AllBring arena workers (all_assigned workers bs) all → workers ≤ x → All (λ s. s.worker ≡ x → s.receipts ≡ []) (all_sessions all)
@@ -208,10 +223,10 @@ none_handed_by : (all : List (Finished SessionState)) → ((i : ℕ) → i < len
 none_handed_by [] each = All-nil (λ s. s.handed ≡ 0)
 none_handed_by (f ∷ all) each =
     let P : SessionState → Type 0 = λ s. s.handed ≡ 0 in
-    let here = each 0 (omega arith) in
-    let same : f ≡ here.0 = (let is : Some f ≡ Some here.0 = here.1 in cc) in
+    let here = each 0 (some_inside (length all)) in
+    let same : f ≡ here.0 = same_Some f here.0 here.1 in
     let none : All IsFresh f.spawned.items = subst (λ (g : Finished SessionState). All IsFresh g.spawned.items) (sym same) here.3 in
-    let later : All P (all_sessions all) = none_handed_by all (λ i low. each (suc i) (omega (arith, low))) in
+    let later : All P (all_sessions all) = none_handed_by all (λ i low. each (suc i) (next_inside i (length all) low)) in
     All-cons P f.session (f.spawned.items ++ all_sessions all) (ap (λ (g : Finished SessionState). g.session.handed) same ∙ here.2)
     (All-append P f.spawned.items (all_sessions all) (All-weaker IsFresh P (λ s h. h.1) f.spawned.items none) later)
 

@@ -159,6 +159,12 @@ next_one told finished seen x f brought t low at has more is =
     let long : get_or (map (λ g. length (told g)) finished) x 0 ≡ length (told f) = get_or-map (λ g. length (told g)) finished x f 0 low ∙ ap (λ g. length (told g)) (sym at) in
     ap (λ b. slice_get b (slice_index seen x)) (sym equal) ∙ slice_get-get_or (told f) (slice_index seen x) t (omega (arith, more, long)) ∙ ap (λ u. Some u) (sym is)
 
+-- what a worker brought has what comes next
+pub next_inside : {F : Type 0} (told : F → List Told) (finished : List F) (seen : List ℕ) (x at : ℕ) (f d : F) → x < length finished → f ≡ get_or finished x d → at ≡ slice_index seen x →
+    slice_index seen x < slice_index (map (λ g. length (told g)) finished) x → at < length (told f)
+next_inside told finished seen x at f d low is read more =
+    omega (arith, more, read, get_or-map (λ g. length (told g)) finished x d 0 low ∙ ap (λ g. length (told g)) (sym is))
+
 -- one line more
 pub seen_more : (workers : ℕ) (brought : List (List Told)) (lines : List Line) (i : ℕ) (ts : List Told) (seen after : List ℕ) (l : Line) (t : Told) → 0 < workers → length brought ≡ workers →
     ((x : ℕ) → x < workers → length (get_or brought x []) ≡ count_of workers x lines) → i < length lines → l ≡ get_or lines i l → IsSeen workers brought (take i lines) ts seen →

@@ -1,16 +1,19 @@
 -- Who runs a line, and the lines that each session is given.
-use Rattle.std.proofs.Common.{◌≡◌, ◌≢◌, ◌<◌, ◌≤◌, ◌==◌, ℕ, zero, suc, Bool, true, false, cond, List, [], ◌∷◌, ◌++◌, length, map, get_or, set, Option, Some, None, refl, sym, ap, ◌∙◌, subst, arith, eq-eqb, ne_eqb, eqb-true, append-nil, append_assoc, ⊎_elim}
+use Rattle.std.proofs.Common.{◌≡◌, ◌≢◌, ◌<◌, ◌≤◌, ◌+◌, ◌==◌, ℕ, zero, suc, Bool, true, false, cond, List, [], ◌∷◌, ◌++◌, length, map, get_or, set, drop, Option, Some, None, refl, sym, ap, ◌∙◌, subst, arith, eq-eqb, ne_eqb, eqb-true, append-nil, append_assoc, ⊎_elim}
 use Rattle.std.specs.Prelude.{nat_lt}
 use Rattle.std.specs.List.{All}
 use Rattle.std.specs.Option.{option_map_or}
-use Rattle.std.proofs.lemmas.List.{length-map, length-set, get_or-map, get_or-set_same, get_or-set_other, map-set}
+use Rattle.std.proofs.lemmas.List.{at_drop_all, drop_more, flat_map_more, length-map, length-set, get_or-map, get_or-set_same, get_or-set_other, map-set}
 use Rattle.std.proofs.lemmas.Bool.{cases_eq, ltb-true}
 use Rattle.std.proofs.lemmas.List.Elements.{All-head, All-tail, filter-append}
 use Rattle.std.proofs.lemmas.List.FromFn.{fill_by_all}
 use Rattle.tg_text.specs.declared.line.Line.{Line}
 use Rattle.tg_text.specs.declared.line.Line.TheVariants as line
-use Rattle.tg_weave.specs.Boxes.{Boxed}
-use Rattle.tg_weave.specs.Shares.{runner_of, is_run_by, lines_of, all_lines}
+use Rattle.tg_model.specs.declared.value.Value.{Value}
+use Rattle.tg_weave.specs.Boxes.{Boxed, box_of, boxed, boxed_of, stock_behind}
+use Rattle.tg_weave.specs.declared.task.Task.{Task}
+use Rattle.tg_weave.specs.declared.work.Finished.{Finished}
+use Rattle.tg_weave.specs.Shares.{runner_of, is_run_by, lines_of, all_lines, all_sessions, sessions_in}
 
 pub map_push : {X Y : Type 0} (f : X → Y) (xs : List X) (x : X) → map f (xs ++ x ∷ []) ≡ map f xs ++ f x ∷ []
 map_push f [] x = refl
@@ -24,6 +27,37 @@ one_more {X} yielded rest left all x is was = append_assoc yielded (x ∷ []) re
 pub all_came : {X : Type 0} (yielded rest all : List X) → yielded ++ rest ≡ all → length rest ≡ 0 → yielded ≡ all
 all_came yielded [] all was none = sym (append-nil yielded) ∙ was
 all_came yielded (x ∷ rest) all was none = absurd (omega (arith, none))
+
+-- ---- the lines with their boxes
+
+-- as many as they are made of
+pub as_many : {X Y : Type 0} (f : X → Y) (xs : List X) (ys : List Y) → map f xs ≡ ys → length xs ≡ length ys
+as_many {X} {Y} f xs ys is = sym (length-map xs f) ∙ ap (λ (l : List Y). length l) is
+
+-- one line more has its box
+pub boxed_more : {P : Type 0} (whole : List Boxed) (tasks now : List (Task P)) (task : Task P) (left then : List Value) (lines : List Line) (i : ℕ) (l : Line) → i < length lines → l ≡ get_or lines i l →
+    whole ≡ map boxed_of tasks ++ boxed left (drop i lines) → boxed_of task ≡ record { line = l; value = box_of left l } → then ≡ stock_behind left l → now ≡ tasks ++ task ∷ [] →
+    whole ≡ map boxed_of now ++ boxed then (drop (i + 1) lines)
+boxed_more {P} whole tasks now task left then lines i l inside is was box behind more =
+    let rest : List Line = drop (i + 1) lines in
+    was ∙ ap (λ (ls : List Line). map boxed_of tasks ++ boxed left ls) (drop_more lines i l inside ∙ ap (λ (x : Line). x ∷ rest) (sym is))
+    ∙ ap (λ (b : Boxed). map boxed_of tasks ++ b ∷ boxed (stock_behind left l) rest) (sym box)
+    ∙ ap (λ (vs : List Value). map boxed_of tasks ++ boxed_of task ∷ boxed vs rest) (sym behind)
+    ∙ sym (append_assoc (map boxed_of tasks) (boxed_of task ∷ []) (boxed then rest))
+    ∙ ap (λ (bs : List Boxed). bs ++ boxed then rest) (sym (ap (λ (ts : List (Task P)). map boxed_of ts) more ∙ map_push boxed_of tasks task))
+
+-- and no line is left
+pub boxed_all : {P : Type 0} (whole : List Boxed) (tasks : List (Task P)) (left : List Value) (lines : List Line) (i : ℕ) → length lines ≤ i →
+    whole ≡ map boxed_of tasks ++ boxed left (drop i lines) → map boxed_of tasks ≡ whole
+boxed_all {P} whole tasks left lines i ends was =
+    sym (was ∙ at_drop_all (λ (ls : List Line). map boxed_of tasks ++ boxed left ls) lines i ends ∙ append-nil (map boxed_of tasks))
+
+-- one worker more brought its sessions
+pub sessions_more : {S : Type 0} (yielded : List (Finished S)) (one : Finished S) (sessions then now : List S) → sessions ≡ all_sessions yielded → then ≡ sessions ++ one.session ∷ [] →
+    now ≡ then ++ one.spawned.items → now ≡ all_sessions (yielded ++ one ∷ [])
+sessions_more {S} yielded one sessions then now was first others =
+    others ∙ ap (λ (ss : List S). ss ++ one.spawned.items) first ∙ append_assoc sessions (one.session ∷ []) one.spawned.items
+    ∙ ap (λ (ss : List S). ss ++ one.session ∷ one.spawned.items) was ∙ flat_map_more sessions_in [] yielded one
 
 -- ---- who runs a line
 

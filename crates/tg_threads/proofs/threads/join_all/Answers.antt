@@ -1,9 +1,8 @@
-use Rattle.std.proofs.Common.{◌≡◌, ◌++◌, ◌∷◌, [], ℕ, List, map, sym, subst, rules, arith, append-nil, append_assoc}
-use Rattle.std.proofs.lemmas.Grind.{common_steps}
+use Rattle.std.proofs.Common.{◌≡◌, ◌++◌, ◌∷◌, [], ℕ, List, ◌∙◌, map, sym, subst}
 use Rattle.tg_shared.specs.Sessions.{SessionState}
 use Rattle.tg_weave.specs.declared.work.Finished.{Finished}
 use Rattle.tg_weave.specs.Boxes.{Boxed}
-use Rattle.tg_weave.proofs.ShareLaws.{map_push}
+use Rattle.tg_weave.proofs.ShareLaws.{all_came, map_push, one_more}
 use Rattle.tg_threads.specs.Output.{arena_of}
 use Rattle.tg_threads.specs.Tasks.{AllBring, Brings, promised_by}
 use Rattle.tg_threads.proofs.RunLaws.{all_next}
@@ -12,13 +11,13 @@ use Rattle.tg_threads.proofs.threads.join_all.Goals as goal
 
 pub loop-handle-init : goal.loop-handle-init
 loop-handle-init g c = record {
-  left = search rules;
+  left = c.into_iter-handle-iterator.ensures.into_iter_gives.0;
   brings = λ helpers same. c.new-all.ensures.items;
 }
 
 pub loop-handle-preserved : goal.loop-handle-preserved
 loop-handle-preserved g c =
-    let left : (c.loop-handle.yielded ++ c.in-Some.handle ∷ []) ++ c.next.new.self.rest.items ≡ c.args.handles.items = grind (arith, common_steps, append_assoc, c.loop-handle.invariant.left, c.in-Some.ensures) in
+    let left : (c.loop-handle.yielded ++ c.in-Some.handle ∷ []) ++ c.next.new.self.rest.items ≡ c.args.handles.items = one_more c.loop-handle.yielded c.next.new.self.rest.items c.loop-handle.handle-iterator.rest.items c.args.handles.items c.in-Some.handle c.in-Some.ensures.steps.0 c.loop-handle.invariant.left in
     record {
       left = left;
       brings = λ helpers same.
@@ -32,5 +31,5 @@ loop-handle-preserved g c =
 
 pub returns-clause-brought : goal.returns-clause-brought
 returns-clause-brought g c =
-    let all : c.loop-handle.yielded ≡ c.args.handles.items = grind (arith, common_steps, append-nil, c.loop-handle.invariant.left, c.in-None.ensures) in
+    let all : c.loop-handle.yielded ≡ c.args.handles.items = all_came c.loop-handle.yielded c.loop-handle.handle-iterator.rest.items c.args.handles.items c.loop-handle.invariant.left (sym c.loop-handle.handle-iterator.rest.ok.0 ∙ c.in-None.ensures.steps.0) in
     λ helpers same. subst (λ hs. AllBring (arena_of g.L.Round.start helpers) g.L.Round.start.opening.workers (map promised_by hs) c.loop-handle.all.items) all (c.loop-handle.invariant.brings helpers same)

@@ -3,7 +3,7 @@ use Rattle.std.specs.Prelude.{IfOk}
 use Rattle.tg_model.specs.declared.value.Value.{Value}
 use Rattle.tg_script.specs.Script.{create_of}
 use Rattle.tg_threads.specs.Tasks.{HasMade}
-use Rattle.tg_threads.proofs.RunLaws.{not_made_asked}
+use Rattle.tg_threads.proofs.RunLaws.{has_receipt, not_made_asked}
 use Rattle.tg_threads.proofs.worker.create.Goals as goal
 
 pub returns-in-Err : goal.returns-in-Err
@@ -18,3 +18,6 @@ returns-in-Err g c =
         gone = search rules;
       };
     }
+
+pub last_told-requires : goal.last_told-requires
+last_told-requires g c = has_receipt c.args.session.now.receipts c.create.new.self.receipts _ c.in-Ok.ensures.receipt.3.0.1

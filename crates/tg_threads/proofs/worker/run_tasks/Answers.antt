@@ -1,10 +1,9 @@
-use Rattle.std.proofs.Common.{◌≡◌, ◌<◌, ◌≤◌, ◌+◌, ◌++◌, ◌∷◌, ◌∙◌, [], ap, ℕ, Bool, true, if◌then◌else◌, map, List, refl, sym, subst, rules, arith, append-nil, append_assoc}
+use Rattle.std.proofs.Common.{◌≡◌, ◌<◌, ◌≤◌, ◌+◌, ◌++◌, ◌∷◌, ◌∙◌, [], ap, ℕ, Bool, true, if◌then◌else◌, map, List, refl, sym, subst, rules, arith}
 use Rattle.std.specs.List.{count_by}
 use Rattle.std.proofs.lemmas.Bool.{lt-ltb}
 use Rattle.std.proofs.lemmas.List.Sums.{sum_by-cons}
-use Rattle.std.proofs.lemmas.Grind.{common_steps}
 use Rattle.tg_weave.specs.Boxes.{Boxed, boxed_of}
-use Rattle.tg_weave.proofs.ShareLaws.{map_push}
+use Rattle.tg_weave.proofs.ShareLaws.{all_came, map_push, one_more}
 use Rattle.tg_threads.specs.Tasks.{IsRunBy, Runs, may_make_subject, served_past}
 use Rattle.tg_weave.specs.declared.task.Task.{Task}
 use Rattle.tg_weave.specs.declared.task.Told.{Told}
@@ -32,7 +31,7 @@ run_task-requires-clause-room g c = λ lifetimes outlive is.
 
 pub loop-task-init : goal.loop-task-init
 loop-task-init g c = record {
-  left = search rules;
+  left = c.into_iter-task-iterator.ensures.into_iter_gives.0;
   spawned = none_spawned c.args.session.receipts c.in_ok-spawned.spawned.items c.requires.fresh.0 c.in_ok-spawned.ensures.items;
   room = search rules;
   runs = λ low all. record {
@@ -45,7 +44,7 @@ loop-task-init g c = record {
 
 pub loop-task-preserved : goal.loop-task-preserved
 loop-task-preserved g c =
-    let left : (c.loop-task.yielded ++ c.in-Some.task ∷ []) ++ c.next.new.self.rest.items ≡ c.args.tasks.items = grind (arith, common_steps, append_assoc, c.loop-task.invariant.left, c.in-Some.ensures) in
+    let left : (c.loop-task.yielded ++ c.in-Some.task ∷ []) ++ c.next.new.self.rest.items ≡ c.args.tasks.items = one_more c.loop-task.yielded c.next.new.self.rest.items c.loop-task.task-iterator.rest.items c.args.tasks.items c.in-Some.task c.in-Some.ensures.steps.0 c.loop-task.invariant.left in
     let x = c.args.session.worker in
     record {
       left = left;
@@ -64,7 +63,7 @@ loop-task-preserved g c =
 
 pub returns : goal.returns
 returns g c =
-    let all : c.loop-task.yielded ≡ c.args.tasks.items = grind (arith, common_steps, append-nil, c.loop-task.invariant.left, c.in-None.ensures) in
+    let all : c.loop-task.yielded ≡ c.args.tasks.items = all_came c.loop-task.yielded c.loop-task.task-iterator.rest.items c.args.tasks.items c.loop-task.invariant.left (sym c.loop-task.task-iterator.rest.ok.0 ∙ c.in-None.ensures.steps.0) in
     record {
       ran = record {
         brought = λ low by.

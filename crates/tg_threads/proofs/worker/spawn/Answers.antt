@@ -4,7 +4,7 @@ use Rattle.tg_model.specs.declared.value.Value.{Value}
 use Rattle.tg_script.specs.Script.{spawn_of}
 use Rattle.tg_shared.specs.Sessions.{AreFresh, SessionState}
 use Rattle.tg_threads.specs.Tasks.{HasMade, subjects_spawned}
-use Rattle.tg_threads.proofs.RunLaws.{not_made_asked, not_spawned, ok_where, one_spawned, still_each}
+use Rattle.tg_threads.proofs.RunLaws.{has_receipt, not_made_asked, not_spawned, ok_where, one_spawned, still_each}
 use Rattle.tg_threads.proofs.worker.spawn.Goals as goal
 
 pub returns-in-Err-clause-told : goal.returns-in-Err-clause-told
@@ -39,3 +39,6 @@ returns-in-Err-clause-spawned g c =
       each = ok_where c.not_made.result _ (still_each old new c.args.spawned.now.items same);
       kept = refl;
     }
+
+pub last_told-requires : goal.last_told-requires
+last_told-requires g c = has_receipt c.args.session.now.receipts c.spawn.new.self.receipts _ c.in-Ok.ensures.receipt.3.0.1

@@ -2,7 +2,7 @@ use Rattle.std.proofs.Common.{◌≡◌, ◌++◌, ◌∷◌, [], map, sym, ap, 
 use Rattle.std.specs.List.{All}
 use Rattle.std.proofs.lemmas.List.Elements.{All-push}
 use Rattle.tg_weave.specs.declared.work.Work.{Work}
-use Rattle.tg_weave.proofs.ShareLaws.{map_push, one_more}
+use Rattle.tg_weave.proofs.ShareLaws.{all_came, map_push, one_more}
 use Rattle.tg_weave.proofs.sharing.works_of.Goals as goal
 
 pub loop-session-preserved : goal.loop-session-preserved
@@ -16,3 +16,8 @@ loop-session-preserved g c =
       sessions = ap (map session_of) c.in_ok-push.ensures.items ∙ map_push session_of c.loop-session.works.items work ∙ ap (λ ss. ss ++ session ∷ []) c.loop-session.invariant.sessions;
       none = subst (All None) (sym c.in_ok-push.ensures.items) (All-push None c.loop-session.works.items work c.loop-session.invariant.none c.new.ensures.items);
     }
+
+pub returns-clause-sessions : goal.returns-clause-sessions
+returns-clause-sessions g c =
+    c.loop-session.invariant.sessions
+    ∙ all_came c.loop-session.yielded c.loop-session.session-iterator.rest.items c.args.sessions.items c.loop-session.invariant.left (sym c.loop-session.session-iterator.rest.ok.0 ∙ c.in-None.ensures.steps.0)

@@ -2,7 +2,7 @@ use Rattle.std.proofs.Common.{subst, ap, inl, inr, Ok, Err, refl, sym}
 use Rattle.tg_model.specs.declared.value.Value.{Value}
 use Rattle.tg_model.specs.Graph.{ProtectionGraph, IsSubject}
 use Rattle.tg_store.specs.Store.{graph_of_store}
-use Rattle.tg_c.proofs.MakeLaws.{no_worker_is_no_cell, no_worker_is_no_subject, no_worker_is_no_vertex, not_both, ok_is_no_refusal, same_refusal, unchanged}
+use Rattle.tg_c.proofs.MakeLaws.{no_worker_is_no_cell, no_worker_is_no_subject, no_worker_is_no_vertex, not_both, ok_is_no_refusal, same_refusal, unchanged, want_is_no_cell, want_is_no_subject, want_is_no_vertex, want_is_no_worker}
 use Rattle.tg_c.specs.Calls.{Spawns}
 use Rattle.tg_c.proofs.law_store.LawStore.spawn.Goals as goal
 
@@ -24,6 +24,28 @@ returns-then-not-is_subject c = record {
   crowded = λ g stands subject room many.
       absurd (let holds = (c.is_subject.ensures (graph_of_store c.args.self.now.store) refl).1 (subst (λ (h : ProtectionGraph). IsSubject h c.args.worker) (sym stands) subject) in not_both c.is_subject.result holds c.if-not-is_subject.true);
   too_many_entry = λ is. absurd (no_worker_is_no_subject is);
+  refused = λ _ _. unchanged c.args.self.now.store;
+  same_graph = λ g stands. stands;
+  opening = refl;
+  limits = refl;
+}
+
+-- and then that memory is wanting
+pub returns-in_default : goal.returns-in_default
+returns-in_default c = record {
+  entry = tt;
+  made = tt;
+  no_such_worker = λ g stands. (
+    (λ is. absurd (want_is_no_worker is)),
+    (λ none. absurd (none (subst (λ (h : ProtectionGraph). IsSubject h c.args.worker) stands ((c.is_subject.ensures (graph_of_store c.args.self.now.store) refl).0 c.if-not-is_subject.false)))),
+  );
+  no_more = λ g stands is. absurd (want_is_no_vertex is);
+  exhausted = λ g stands subject full. inr refl;
+  no_more_entry = λ is. absurd (want_is_no_vertex is);
+  full = λ g stands is. absurd (want_is_no_cell is);
+  too_many = λ g stands is. absurd (want_is_no_subject is);
+  crowded = λ g stands subject room many. inr refl;
+  too_many_entry = λ is. absurd (want_is_no_subject is);
   refused = λ _ _. unchanged c.args.self.now.store;
   same_graph = λ g stands. stands;
   opening = refl;
