@@ -5,7 +5,7 @@ use Rattle.std.proofs.lemmas.List.Sums.{sum_by-append, sum_by-cons}
 use Rattle.std.proofs.Common.{max, ◌-◌}
 use Rattle.std.proofs.Math.Nat.{le-max_left, le-max_right, max-le}
 use Rattle.tg_journal.specs.declared.entry.Entry.{Entry}
-use Rattle.tg_shared.specs.Sessions.{GoesOn, LockedState, MayClose, SessionState, count_of, handed_of, held_from, parts_of}
+use Rattle.tg_shared.specs.Sessions.{GoesOn, IsBalanced, LockedState, MayClose, SessionState, count_of, handed_of, held_from, parts_of}
 use Rattle.tg_shared.proofs.Balances.{part_left}
 use Rattle.tg_shared.proofs.Sharing.{held_at_most, shared_out}
 use Rattle.tg_shared.proofs.locked.Locked.reclaim.Goals as goal
@@ -118,6 +118,18 @@ returns-then-not-may_close g c =
           c.self.invariant.0.counted c.audit_all.ensures.counted (ap count_of c.as_mut_slice.ensures.value) (ap (λ (b : LockedState). length b.store.entries) c.self.view_is) (c.self.invariant.2.0 ∙ ap (λ (b : LockedState). b.entered) c.self.view_is);
       handed_back = (c.self.view_is, all_written c.args.sessions.len c.args.sessions.items c.audit_all.new.sessions (c.audit_all.ensures.sessions ∙ c.as_mut_slice.ensures.value) c.args.sessions.ok.0);
     }
+
+pub invariant_of-self : goal.invariant_of-self
+invariant_of-self g c =
+    let start : ℕ = length g.L.Round.start.entries in
+    let rest : IsBalanced c.self.inside.store start c.self.inside.sessions c.self.inside.book.total c.audit_all.new.whole.parts g.L.Ledger.parts =
+    subst (λ (n : ℕ). IsBalanced c.self.inside.store start c.self.inside.sessions c.self.inside.book.total n g.L.Ledger.parts) (sym c.audit_all.ensures.parts) c.self.invariant.0 in (
+      subst (λ (n : ℕ). IsBalanced c.self.inside.store start c.self.inside.sessions n c.audit_all.new.whole.parts g.L.Ledger.parts) (sym c.audit_all.ensures.total) rest,
+      c.self.invariant.1,
+      (c.audit_all.ensures.amount ∙ c.self.invariant.2.0, c.self.invariant.2.1),
+      c.self.invariant.3,
+      c.self.invariant.4,
+    )
 
 pub loop-session-init : goal.loop-session-init
 loop-session-init g c = record {
