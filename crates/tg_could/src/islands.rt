@@ -88,12 +88,12 @@ impl Islands {
         if !take && !grant {
             return true;
         }
-        let from = self.word(u64::from(entry.from));
+        let from = self.word(entry.from as u64);
         if from == 0 {
             return true;
         }
-        let to = self.word(u64::from(entry.to));
-        let granted = self.granted(u64::from(entry.to));
+        let to = self.word(entry.to as u64);
+        let granted = self.granted(entry.to as u64);
         if !leads(take, true, is_within(from, to)) {
             return false;
         }
@@ -125,9 +125,9 @@ fn granted_by(
         if !has(entry.label, Right::G) {
             continue;
         }
-        let word = word_of(reached, u64::from(entry.from));
+        let word = word_of(reached, entry.from as u64);
         if word != 0 {
-            add(&mut granted, u64::from(entry.to), word);
+            add(&mut granted, entry.to as u64, word);
         }
     }
     Ok(granted)
@@ -152,11 +152,11 @@ fn joined(
         if !has(entry.label, Right::G) {
             continue;
         }
-        let from = word_of(reached, u64::from(entry.from));
+        let from = word_of(reached, entry.from as u64);
         if from == 0 {
             continue;
         }
-        let to = word_of(reached, u64::from(entry.to));
+        let to = word_of(reached, entry.to as u64);
         if to != 0 {
             join(&mut joined, from | to);
         }
@@ -170,9 +170,9 @@ fn join(joined: &mut Vec<u64>, word: u64) {
         return;
     }
     let mut all = word;
-    for island in joined.iter().copied() {
-        if meets(island, word) {
-            all |= island;
+    for island in joined.iter() {
+        if meets(*island, word) {
+            all |= *island;
         }
     }
     for island in joined.iter_mut() {
@@ -184,7 +184,7 @@ fn join(joined: &mut Vec<u64>, word: u64) {
 
 // The island of the first in a word.
 fn island_of(joined: &[u64], word: u64) -> u64 {
-    word_of(joined, u64::from(word.trailing_zeros()))
+    word_of(joined, word.trailing_zeros() as u64)
 }
 
 // The islands of all in a word, each by its first.

@@ -78,7 +78,7 @@ pub fn what_could(
 impl Listed {
     // What x holds, and what is held by those whose rights it may get. Fails only when out of memory.
     fn of(alloc: Global, picture: &Picture, found: &Found, x: u64) -> Result<Listed, AllocError> {
-        let names = found.sides.names().copy(alloc)?;
+        let names = found.sides.names.copy(alloc)?;
         let mut listed = Listed {
             rights: vec![in alloc; Rights::empty(); names.len()]?,
             names,
@@ -165,7 +165,7 @@ impl Listed {
             All (λ v. ¬ (Contains silent.now v × (v < picture.now.made)) → ListsActor (sides_against sides.now) self.now picture.now x v) picture.now.subjects }
     {
         for subject in picture.subjects() {
-            if !self.has_actor_or_silent(sides, picture, silent, x, *subject) {
+            if !self.has_actor(sides, picture, silent, x, *subject) {
                 return false;
             }
         }
@@ -173,7 +173,7 @@ impl Listed {
     }
 
     // The same of one subject.
-    fn has_actor_or_silent(
+    fn has_actor(
         &self,
         sides: &Separation,
         picture: &Picture,
@@ -184,13 +184,9 @@ impl Listed {
         ensures { IsTrue result → ¬ (Contains silent.now subject × (subject < picture.now.made)) →
             ListsActor (sides_against sides.now) self.now picture.now x subject }
     {
-        is_silent(silent, picture.made(), subject) || self.has_actor(sides, picture, x, subject)
-    }
-
-    // The same of one who acts.
-    fn has_actor(&self, sides: &Separation, picture: &Picture, x: u64, subject: u64) -> bool
-        ensures { IsTrue result → ListsActor (sides_against sides.now) self.now picture.now x subject }
-    {
+        if is_silent(silent, picture.made(), subject) {
+            return true;
+        }
         let place = sides.place_against(subject);
         if place.forward != place.back {
             return false;
