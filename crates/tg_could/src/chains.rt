@@ -14,9 +14,10 @@ pub(crate) fn place(at: usize) -> u32 {
 
 /// The number in a list at a place, `NONE` past the last.
 pub(crate) fn number_at(list: &[u32], place: usize) -> u32 {
-    match list.get(place) {
-        Some(number) => *number,
-        None => NONE,
+    if place < list.len() {
+        list[place]
+    } else {
+        NONE
     }
 }
 

@@ -29,7 +29,7 @@ impl Islands {
     ) -> Result<Islands, AllocError> {
         let mut reached = walks(alloc, names, entries, actors)?;
         let joined = joined(alloc, names, entries, actors, reached.as_slice())?;
-        tell_islands(joined.as_slice(), &mut reached);
+        tell_islands(joined.as_slice(), reached.as_mut_slice());
         let granted = granted_by(alloc, names.len(), entries, reached.as_slice())?;
         Ok(Islands { reached, granted })
     }
@@ -105,7 +105,7 @@ impl Islands {
 }
 
 // Makes words of islands of words of those who act.
-fn tell_islands(joined: &[u64], reached: &mut Vec<u64>) {
+fn tell_islands(joined: &[u64], reached: &mut [u64]) {
     for word in reached.iter_mut() {
         if *word != 0 {
             *word = island_word(joined, *word);
@@ -127,7 +127,7 @@ fn granted_by(
         }
         let word = word_of(reached, entry.from as u64);
         if word != 0 {
-            add(&mut granted, entry.to as u64, word);
+            add(granted.as_mut_slice(), entry.to as u64, word);
         }
     }
     Ok(granted)
@@ -146,7 +146,10 @@ fn joined(
         joined.push(bit_of(at))?;
     }
     for actor in actors {
-        join(&mut joined, word_of(reached, names.number(*actor)));
+        join(
+            joined.as_mut_slice(),
+            word_of(reached, names.number(*actor)),
+        );
     }
     for entry in entries {
         if !has(entry.label, Right::G) {
@@ -158,15 +161,15 @@ fn joined(
         }
         let to = word_of(reached, entry.to as u64);
         if to != 0 {
-            join(&mut joined, from | to);
+            join(joined.as_mut_slice(), from | to);
         }
     }
     Ok(joined)
 }
 
 // Joins the islands of all in a word.
-fn join(joined: &mut Vec<u64>, word: u64) {
-    if is_within(word, island_of(joined.as_slice(), word)) {
+fn join(joined: &mut [u64], word: u64) {
+    if is_within(word, island_of(joined, word)) {
         return;
     }
     let mut all = word;

@@ -80,8 +80,10 @@ impl<'a> Plan<'a> {
 
     // The same. Fails only when out of memory.
     fn try_turn(&mut self, turn: (u64, Deed)) -> Result<(), AllocError> {
-        self.trial.take_turn(self.picture.edges(), &[], 0, &turn)?;
         self.turns.push(turn)?;
+        if let Some(turn) = self.turns.last() {
+            self.trial.take_turn(self.picture.edges(), &[], 0, turn)?;
+        }
         Ok(())
     }
 

@@ -77,39 +77,26 @@ impl Kept {
     }
 }
 
-/// The least sets that hold those who have the right and that no edge and nobody who acts leads out of. Where y may yet
-/// be made, who acts is taken for one who has the right. Fails only when out of memory.
+/// The least sets that hold those who have the right over a vertex and that no edge and nobody who acts leads out of.
+/// Where the vertex may yet be made, who acts is taken for one who has the right. Where `back`, the same walks go back
+/// from the vertex: the first set has those whose rights it may get, the second those who may hand it what they get,
+/// and where it may yet be made, who acts is taken for it. Fails only when out of memory.
 pub(crate) fn search(
     alloc: Global,
     picture: &Picture,
     silent: &[u64],
     right: Right,
-    y: u64,
+    over: u64,
+    back: bool,
 ) -> Result<Found, AllocError> {
     let mut found = Found::start(alloc, picture, silent)?;
-    if comes_later(picture, y) {
-        found.put_actors(picture, false)?;
+    if comes_later(picture, over) {
+        found.put_actors(picture, back)?;
     }
-    found.search(alloc, picture.edges(), right, y)?;
-    Ok(found)
-}
-
-/// The same walks, gone back from x: the first set has those whose rights x may get, the second those who may hand x
-/// what they get. Where x may yet be made, who acts is taken for x. Fails only when out of memory.
-pub(crate) fn search_back(
-    alloc: Global,
-    picture: &Picture,
-    silent: &[u64],
-    x: u64,
-) -> Result<Found, AllocError> {
-    let mut found = Found::start(alloc, picture, silent)?;
-    if comes_later(picture, x) {
-        found.put_actors(picture, true)?;
+    if back && found.acts(over) {
+        found.put_name(over, true)?;
     }
-    if found.acts(x) {
-        found.put_name(x, true)?;
-    }
-    found.search(alloc, picture.edges(), Right::G, x)?;
+    found.search(alloc, picture.edges(), right, over)?;
     Ok(found)
 }
 

@@ -25,10 +25,10 @@ pub(crate) fn walks(
     let mut walk = Walk::new(alloc, count)?;
     for (at, actor) in actors.iter().enumerate() {
         let number = names.number(*actor);
-        add(&mut words, number, bit_of(at));
+        add(words.as_mut_slice(), number, bit_of(at));
         walk.begin(&takes, number)?;
     }
-    walk.hand_on(&takes, &mut words);
+    walk.hand_on(&takes, words.as_mut_slice());
     Ok(words)
 }
 
@@ -178,13 +178,13 @@ impl Walk {
     }
 
     // From the knot left last to the first one, each hands its bits on.
-    fn hand_on(&mut self, takes: &Links, words: &mut Vec<u64>) {
+    fn hand_on(&mut self, takes: &Links, words: &mut [u64]) {
         let mut end = self.left.len();
         for _ in 0..self.starts.len() {
             let Some(start) = self.starts.pop() else {
                 break;
             };
-            let word = self.word_of_knot(words.as_slice(), start, end);
+            let word = self.word_of_knot(words, start, end);
             for at in start..end {
                 self.hand_on_at(takes, words, at, word);
             }
@@ -193,7 +193,7 @@ impl Walk {
     }
 
     // The vertex left at a place has these bits, and hands them on along each take edge from it.
-    fn hand_on_at(&self, takes: &Links, words: &mut Vec<u64>, at: usize, word: u64) {
+    fn hand_on_at(&self, takes: &Links, words: &mut [u64], at: usize, word: u64) {
         let vertex = number_at(self.left.as_slice(), at);
         add(words, vertex as u64, word);
         let mut next = takes.first(vertex);

@@ -12,7 +12,7 @@ ghost use Rattle.tg_could.specs.Listed.{IsUnlisted, IsLeftOut, ListsEdge, ListsA
 
 use crate::chance::Chance;
 use crate::names::Names;
-use crate::search::{Found, search_back};
+use crate::search::{Found, search};
 use crate::separation::{Separation, are_not_all, comes_later, has, is_silent, leads, stays};
 use std::alloc::{AllocError, Global};
 use tg_model::{Edge, Picture};
@@ -63,7 +63,7 @@ pub fn what_could(
 ) -> Result<What, AllocError>
     ensures { IfOk result (λ what. (g : ProtectionGraph) → IsPictureOf picture.now g → (right : TheRight) (y : ℕ) → IsLeftOut what right y → NeverHolds silent.now g x right y) }
 {
-    let found = search_back(alloc, picture, silent, x)?;
+    let found = search(alloc, picture, silent, Right::G, x, true)?;
     let listed = Listed::of(alloc, picture, &found, x)?;
     let is_shown = listed.leaves_out(&found.sides, picture, silent, x);
     Ok(What {

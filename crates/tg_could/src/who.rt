@@ -63,7 +63,7 @@ pub fn who_could(
 ) -> Result<Who, AllocError>
     ensures { IfOk result (λ who. (g : ProtectionGraph) → IsPictureOf picture.now g → (x : ℕ) → IsLeftOut who x → NeverHolds silent.now g x right y) }
 {
-    let found = search(alloc, picture, silent, right, y)?;
+    let found = search(alloc, picture, silent, right, y, false)?;
     let told = Told::of(alloc, picture, silent, &found, right, y)?;
     let is_shown = told.leaves_out(&found.sides, picture, silent, right, y);
     Ok(Who {
