@@ -31,7 +31,8 @@ fn picture(vertices: u64, edges: u64, seed: u64) -> Vec<Edge> {
         .collect()
 }
 
-// The vertex at the other end four times, two more for take, one more for grant; and the next link of the same vertex.
+// The vertex at the other end four times, two more for take, one more for grant; and the next link of the same vertex, but
+// until the links are tied the vertex.
 #[derive(Clone, Copy)]
 struct Link {
     packed: u32,
@@ -50,8 +51,13 @@ impl Links {
 
     fn add(&mut self, vertex: u64, end: u64, rights: u8) {
         let packed = (end as u32) << 2 | u32::from(rights & T != 0) << 1 | u32::from(rights & G != 0);
-        let next = std::mem::replace(&mut self.first[vertex as usize], self.links.len() as u32);
-        self.links.push(Link { packed, next });
+        self.links.push(Link { packed, next: vertex as u32 });
+    }
+
+    fn tie(&mut self) {
+        for (at, link) in self.links.iter_mut().enumerate() {
+            link.next = std::mem::replace(&mut self.first[link.next as usize], at as u32);
+        }
     }
 
     fn of(&self, vertex: u64) -> impl Iterator<Item = Link> + '_ {
@@ -110,6 +116,8 @@ impl Search<'_> {
                 granters.add(edge.to, edge.from, edge.rights);
             }
         }
+        granters.tie();
+        targets.tie();
         let mut at = 0;
         while let Some(step) = self.steps.get(at).copied() {
             at += 1;
@@ -147,6 +155,7 @@ fn could(edges: &[Edge], vertices: usize, x: u64, y: u64) -> bool {
             search.put(edge.from, false);
         }
     }
+    takers.tie();
     if !search.go_back(&takers) {
         search.spread(vertices, &takers);
     }

@@ -55,7 +55,7 @@ pub fn could_hold(
 ) -> Result<Answer, AllocError>
     ensures { IfOk result (λ answer. (g : ProtectionGraph) → IsPictureOf picture.now g → IsAnswer silent.now g x right y answer) }
 {
-    let found = search(alloc, picture, silent, right, y)?;
+    let found = search(alloc, picture, silent, right, y, false)?;
     if found.sides.parts(picture, silent, x, right, y) {
         return Ok(Answer::Never(found.sides));
     }

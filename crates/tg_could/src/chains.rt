@@ -12,6 +12,15 @@ pub(crate) fn place(at: usize) -> u32 {
     u32::try_from(at).unwrap_or(NONE)
 }
 
+/// The number in a list at a place, `NONE` past the last.
+pub(crate) fn number_at(list: &[u32], place: usize) -> u32 {
+    if place < list.len() {
+        list[place]
+    } else {
+        NONE
+    }
+}
+
 /// The place of an edge, and of the next link of the same vertex.
 #[derive(Clone, Copy, Drop)]
 pub(crate) struct Chained {
@@ -33,24 +42,26 @@ pub(crate) struct Chains {
 impl Chains {
     /// All edges of a picture. Fails only when out of memory.
     pub(crate) fn of(alloc: Global, picture: &Picture) -> Result<Chains, AllocError> {
-        let mut chains = Chains::none(alloc, Names::of(alloc, picture)?, picture.made())?;
+        let mut chains = Chains::none(alloc, Names::of(alloc, picture)?, picture)?;
         for (at, edge) in picture.edges().iter().enumerate() {
             let number = chains.names.number(edge.from);
             chains.put(place(at), number)?;
         }
-        chains.end_list(picture.edges().len());
         Ok(chains)
     }
 
-    /// No chain has an edge; so many vertices were made. Fails only when out of memory.
-    pub(crate) fn none(alloc: Global, names: Names, made: u64) -> Result<Chains, AllocError> {
-        let first = vec![in alloc; NONE; names.len()]?;
+    /// No chain has an edge of a picture. Fails only when out of memory.
+    pub(crate) fn none(
+        alloc: Global,
+        names: Names,
+        picture: &Picture,
+    ) -> Result<Chains, AllocError> {
         Ok(Chains {
+            first: vec![in alloc; NONE; names.len()]?,
             names,
-            made,
-            first,
+            made: picture.made(),
             links: Vec::new(alloc),
-            edges: 0,
+            edges: picture.edges().len(),
         })
     }
 
@@ -75,17 +86,12 @@ impl Chains {
         Ok(())
     }
 
-    /// So many edges are those of the list.
-    pub(crate) fn end_list(&mut self, edges: usize) {
-        self.edges = edges;
-    }
-
     /// Puts an edge behind all others in front of the others from a vertex. Fails only when out of memory.
     pub(crate) fn add(&mut self, vertex: u64) -> Result<(), AllocError> {
         let number = self.number(vertex);
-        self.put(place(self.edges), number)?;
+        let at = place(self.edges);
         self.edges = self.edges.saturating_add(1);
-        Ok(())
+        self.put(at, number)
     }
 
     /// Makes a chain for one vertex more. Fails only when out of memory.
@@ -96,10 +102,7 @@ impl Chains {
 
     /// The place of a vertex's first link, `NONE` where it has none.
     pub(crate) fn first(&self, vertex: u64) -> u32 {
-        self.first
-            .get(self.number(vertex) as usize)
-            .copied()
-            .unwrap_or(NONE)
+        number_at(self.first.as_slice(), self.number(vertex) as usize)
     }
 
     /// The link at a place.

@@ -6,6 +6,7 @@ ghost use Rattle.tg_model.specs.Picture.{IsPictureOf};
 ghost use Rattle.tg_could.specs.Turns.{NeverHolds};
 
 use crate::search::search;
+use crate::trial::leave_out;
 use std::alloc::{AllocError, Global};
 use tg_model::Picture;
 use tg_rights::Right;
@@ -49,8 +50,8 @@ fn is_enough(
         NeverHolds (without_subject silent.now host) g x right y) }
 {
     let mut others = Vec::from_slice(alloc, silent)?;
-    others.retain(|name| *name != host);
-    let found = search(alloc, picture, others.as_slice(), right, y)?;
+    leave_out(&mut others, host);
+    let found = search(alloc, picture, others.as_slice(), right, y, false)?;
     let parts = found.sides.parts(picture, others.as_slice(), x, right, y);
     Ok(!parts)
 }

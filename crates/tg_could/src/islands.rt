@@ -29,7 +29,7 @@ impl Islands {
     ) -> Result<Islands, AllocError> {
         let mut reached = walks(alloc, names, entries, actors)?;
         let joined = joined(alloc, names, entries, actors, reached.as_slice())?;
-        tell_islands(joined.as_slice(), &mut reached);
+        tell_islands(joined.as_slice(), reached.as_mut_slice());
         let granted = granted_by(alloc, names.len(), entries, reached.as_slice())?;
         Ok(Islands { reached, granted })
     }
@@ -88,12 +88,12 @@ impl Islands {
         if !take && !grant {
             return true;
         }
-        let from = self.word(u64::from(entry.from));
+        let from = self.word(entry.from as u64);
         if from == 0 {
             return true;
         }
-        let to = self.word(u64::from(entry.to));
-        let granted = self.granted(u64::from(entry.to));
+        let to = self.word(entry.to as u64);
+        let granted = self.granted(entry.to as u64);
         if !leads(take, true, is_within(from, to)) {
             return false;
         }
@@ -105,7 +105,7 @@ impl Islands {
 }
 
 // Makes words of islands of words of those who act.
-fn tell_islands(joined: &[u64], reached: &mut Vec<u64>) {
+fn tell_islands(joined: &[u64], reached: &mut [u64]) {
     for word in reached.iter_mut() {
         if *word != 0 {
             *word = island_word(joined, *word);
@@ -125,9 +125,9 @@ fn granted_by(
         if !has(entry.label, Right::G) {
             continue;
         }
-        let word = word_of(reached, u64::from(entry.from));
+        let word = word_of(reached, entry.from as u64);
         if word != 0 {
-            add(&mut granted, u64::from(entry.to), word);
+            add(granted.as_mut_slice(), entry.to as u64, word);
         }
     }
     Ok(granted)
@@ -146,33 +146,36 @@ fn joined(
         joined.push(bit_of(at))?;
     }
     for actor in actors {
-        join(&mut joined, word_of(reached, names.number(*actor)));
+        join(
+            joined.as_mut_slice(),
+            word_of(reached, names.number(*actor)),
+        );
     }
     for entry in entries {
         if !has(entry.label, Right::G) {
             continue;
         }
-        let from = word_of(reached, u64::from(entry.from));
+        let from = word_of(reached, entry.from as u64);
         if from == 0 {
             continue;
         }
-        let to = word_of(reached, u64::from(entry.to));
+        let to = word_of(reached, entry.to as u64);
         if to != 0 {
-            join(&mut joined, from | to);
+            join(joined.as_mut_slice(), from | to);
         }
     }
     Ok(joined)
 }
 
 // Joins the islands of all in a word.
-fn join(joined: &mut Vec<u64>, word: u64) {
-    if is_within(word, island_of(joined.as_slice(), word)) {
+fn join(joined: &mut [u64], word: u64) {
+    if is_within(word, island_of(joined, word)) {
         return;
     }
     let mut all = word;
-    for island in joined.iter().copied() {
-        if meets(island, word) {
-            all |= island;
+    for island in joined.iter() {
+        if meets(*island, word) {
+            all |= *island;
         }
     }
     for island in joined.iter_mut() {
@@ -184,7 +187,7 @@ fn join(joined: &mut Vec<u64>, word: u64) {
 
 // The island of the first in a word.
 fn island_of(joined: &[u64], word: u64) -> u64 {
-    word_of(joined, u64::from(word.trailing_zeros()))
+    word_of(joined, word.trailing_zeros() as u64)
 }
 
 // The islands of all in a word, each by its first.

@@ -1,6 +1,6 @@
 //! The edges with take or grant at each vertex, as chains of links, each with the vertex at the edge's other end.
 //! Nothing has to be believed of them: what is found by them is checked.
-use crate::chains::{NONE, place};
+use crate::chains::{NONE, number_at, place};
 use crate::separation::has;
 use std::alloc::{AllocError, Global};
 use tg_rights::{Label, Right};
@@ -18,7 +18,7 @@ pub(crate) fn number_of(vertex: u64) -> Option<u32> {
 }
 
 /// An edge as one of its ends sees it, in 8 bytes: four times the other end, two more for take, one more for grant; and
-/// the place of the next link of the same vertex.
+/// the place of the next link of the same vertex, but until the links are tied the vertex.
 #[derive(Clone, Copy, Drop)]
 pub(crate) struct Link {
     packed: u32,
@@ -47,7 +47,8 @@ impl Link {
     }
 }
 
-/// For each vertex the place of its last link, and all links.
+/// For each vertex the place of its last link, and all links. They are added first, and tied when all are there: so the
+/// edges are gone over without a look at a place that may be far from the processor.
 #[derive(Drop)]
 pub(crate) struct Links {
     first: Vec<u32>,
@@ -65,37 +66,37 @@ impl Links {
         })
     }
 
-    /// Puts a link in front of a vertex's others. Fails only when out of memory.
+    /// Adds a link of a vertex. Fails only when out of memory.
     pub(crate) fn add(&mut self, vertex: u64, end: u64, label: Label) -> Result<(), AllocError> {
-        let Some(end) = number_of(end) else {
+        let (Some(vertex), Some(end)) = (number_of(vertex), number_of(end)) else {
             return Ok(());
         };
-        let at = place(self.links.len());
-        let Some(first) = self.first.get_mut(vertex as usize) else {
-            return Ok(());
-        };
-        let take = u32::from(has(label, Right::T));
-        let grant = u32::from(has(label, Right::G));
+        let take = has(label, Right::T) as u32;
+        let grant = has(label, Right::G) as u32;
         self.links.push(Link {
             packed: end << 2 | take << 1 | grant,
-            next: *first,
+            next: vertex,
         })?;
-        *first = at;
         Ok(())
+    }
+
+    /// Ties the links of each vertex, the last in front.
+    pub(crate) fn tie(&mut self) {
+        for (at, link) in self.links.iter_mut().enumerate() {
+            if let Some(first) = self.first.get_mut(link.next as usize) {
+                link.next = *first;
+                *first = place(at);
+            }
+        }
     }
 
     /// The place of a vertex's first link, `NONE` where it has none.
     pub(crate) fn first(&self, vertex: u32) -> u32 {
-        self.first.get(vertex as usize).copied().unwrap_or(NONE)
+        number_at(self.first.as_slice(), vertex as usize)
     }
 
     /// The link at a place.
     pub(crate) fn at(&self, place: u32) -> Option<Link> {
         self.links.get(place as usize).copied()
-    }
-
-    /// How many links there are.
-    pub(crate) fn len(&self) -> usize {
-        self.links.len()
     }
 }

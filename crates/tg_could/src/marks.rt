@@ -81,7 +81,7 @@ impl Pairs {
     pub(crate) fn put(&mut self, number: u64, first: bool) -> bool {
         match self.words.get_mut((number / PAIRS) as usize) {
             Some(word) => {
-                let bit = 1 << (number % PAIRS * 2 + u64::from(first));
+                let bit = 1 << (number % PAIRS * 2 + first as u64);
                 let new = *word & bit == 0;
                 *word |= bit;
                 new

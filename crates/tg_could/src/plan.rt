@@ -119,7 +119,7 @@ impl<'a> Plan<'a> {
 
     // Makes an object over which x has these rights.
     fn create(&mut self, x: u64, label: Label) -> u64 {
-        let name = self.trial.made();
+        let name = self.trial.made;
         let deed = Deed::Create {
             label,
             law: Law::Cell,
@@ -132,10 +132,10 @@ impl<'a> Plan<'a> {
     // Makes a subject over which x has take and grant. Where as many as may be are active, another who acts retires
     // first.
     fn spawn(&mut self, x: u64) -> u64 {
-        if self.trial.subjects().len() as u64 >= MAX_WORKERS {
+        if self.trial.subjects.len() as u64 >= MAX_WORKERS {
             self.make_room(x);
         }
-        let name = self.trial.made();
+        let name = self.trial.made;
         let deed = Deed::Spawn {
             label: both(),
             law: Law::Cell,
@@ -489,6 +489,6 @@ pub(crate) fn turns_to(
     plan.try_lead(alloc, x)?;
     Ok(Planned {
         turns: plan.turns,
-        made: plan.trial.made(),
+        made: plan.trial.made,
     })
 }

@@ -63,7 +63,7 @@ impl Kept {
     fn of(number: u64, forward: bool, before: u32) -> Option<Kept> {
         let number = number_of(number)?;
         Some(Kept {
-            packed: number << 1 | u32::from(forward),
+            packed: number << 1 | forward as u32,
             before,
         })
     }
@@ -77,39 +77,26 @@ impl Kept {
     }
 }
 
-/// The least sets that hold those who have the right and that no edge and nobody who acts leads out of. Where y may yet
-/// be made, who acts is taken for one who has the right. Fails only when out of memory.
+/// The least sets that hold those who have the right over a vertex and that no edge and nobody who acts leads out of.
+/// Where the vertex may yet be made, who acts is taken for one who has the right. Where `back`, the same walks go back
+/// from the vertex: the first set has those whose rights it may get, the second those who may hand it what they get,
+/// and where it may yet be made, who acts is taken for it. Fails only when out of memory.
 pub(crate) fn search(
     alloc: Global,
     picture: &Picture,
     silent: &[u64],
     right: Right,
-    y: u64,
+    over: u64,
+    back: bool,
 ) -> Result<Found, AllocError> {
     let mut found = Found::start(alloc, picture, silent)?;
-    if comes_later(picture, y) {
-        found.put_actors(picture, false)?;
+    if comes_later(picture, over) {
+        found.put_actors(picture, back)?;
     }
-    found.search(alloc, picture.edges(), right, y)?;
-    Ok(found)
-}
-
-/// The same walks, gone back from x: the first set has those whose rights x may get, the second those who may hand x
-/// what they get. Where x may yet be made, who acts is taken for x. Fails only when out of memory.
-pub(crate) fn search_back(
-    alloc: Global,
-    picture: &Picture,
-    silent: &[u64],
-    x: u64,
-) -> Result<Found, AllocError> {
-    let mut found = Found::start(alloc, picture, silent)?;
-    if comes_later(picture, x) {
-        found.put_actors(picture, true)?;
+    if back && found.acts(over) {
+        found.put_name(over, true)?;
     }
-    if found.acts(x) {
-        found.put_name(x, true)?;
-    }
-    found.search(alloc, picture.edges(), Right::G, x)?;
+    found.search(alloc, picture.edges(), right, over)?;
     Ok(found)
 }
 
@@ -132,7 +119,7 @@ impl Found {
 
     // No vertex has a link; there is room for so many. Fails only when out of memory.
     fn no_links(&self, alloc: Global, room: usize) -> Result<Links, AllocError> {
-        Links::with_room(alloc, self.sides.names().len(), room)
+        Links::with_room(alloc, self.sides.names.len(), room)
     }
 
     // Searches from those who have a right over a vertex too.
@@ -147,6 +134,7 @@ impl Found {
         for edge in edges {
             self.begin_at(&mut takers, edge, right, over)?;
         }
+        takers.tie();
         self.finish(alloc, edges, &takers)
     }
 
@@ -165,7 +153,7 @@ impl Found {
         if !has(edge.label, Right::T) {
             return Ok(());
         }
-        let names = self.sides.names();
+        let names = &self.sides.names;
         takers.add(names.number(edge.to), names.number(edge.from), edge.label)
     }
 
@@ -191,10 +179,10 @@ impl Found {
     // Goes back along take edges from each step. Whether these are all: none leads to one who acts.
     fn go_back(&mut self, takers: &Links) -> Result<bool, AllocError> {
         for at in 0..NONE {
-            let Some(kept) = self.steps.get(at as usize).copied() else {
+            let Some(&kept) = self.steps.get(at as usize) else {
                 break;
             };
-            if kept.is_forward() || self.acting.has(u64::from(kept.number())) {
+            if kept.is_forward() || self.acting.has(kept.number() as u64) {
                 return Ok(false);
             }
             self.enter(takers, at, kept.number())?;
@@ -209,18 +197,20 @@ impl Found {
             targets: self.no_links(alloc, edges.len())?,
         };
         for edge in edges {
-            ways.add(self.sides.names(), edge)?;
+            ways.add(&self.sides.names, edge)?;
         }
+        ways.targets.tie();
+        ways.granters.tie();
         Ok(ways)
     }
 
     // Goes on from each step to what its vertex leads to, until nothing is new.
     fn spread(&mut self, takers: &Links, ways: &Ways) -> Result<(), AllocError> {
         for at in 0..NONE {
-            let Some(kept) = self.steps.get(at as usize).copied() else {
+            let Some(&kept) = self.steps.get(at as usize) else {
                 break;
             };
-            let number = u64::from(kept.number());
+            let number = kept.number() as u64;
             if self.acting.has(number) {
                 self.put(number, !kept.is_forward(), at)?;
             }
@@ -236,13 +226,13 @@ impl Found {
 
     // Puts the vertex with a name into a set, where the search begins.
     fn put_name(&mut self, name: u64, forward: bool) -> Result<(), AllocError> {
-        let number = self.sides.names().number(name);
+        let number = self.sides.names.number(name);
         self.put(number, forward, NONE)
     }
 
     // Puts the vertex with a number into a set.
     fn put(&mut self, number: u64, forward: bool, before: u32) -> Result<(), AllocError> {
-        if self.sides.put(number, forward)
+        if self.sides.pairs.put(number, forward)
             && let Some(kept) = Kept::of(number, forward, before)
         {
             self.steps.push(kept)?;
@@ -253,11 +243,11 @@ impl Found {
     // Goes along the edges from a vertex of the first set.
     fn leave(&mut self, targets: &Links, at: u32, number: u32) -> Result<(), AllocError> {
         let mut next = targets.first(number);
-        for _ in 0..targets.len() {
+        for _ in 0..NONE {
             let Some(link) = targets.at(next) else {
                 break;
             };
-            let end = u64::from(link.end());
+            let end = link.end() as u64;
             if link.has_take() {
                 self.put(end, true, at)?;
             }
@@ -272,11 +262,11 @@ impl Found {
     // Goes back along the edges to a vertex.
     fn enter(&mut self, holders: &Links, at: u32, number: u32) -> Result<(), AllocError> {
         let mut next = holders.first(number);
-        for _ in 0..holders.len() {
+        for _ in 0..NONE {
             let Some(link) = holders.at(next) else {
                 break;
             };
-            self.put(u64::from(link.end()), false, at)?;
+            self.put(link.end() as u64, false, at)?;
             next = link.next();
         }
         Ok(())
@@ -284,7 +274,7 @@ impl Found {
 
     /// Whether a vertex is one who acts.
     pub(crate) fn acts(&self, name: u64) -> bool {
-        self.acting.has(self.sides.names().number(name))
+        self.acting.has(self.sides.names.number(name))
     }
 
     /// The edges from x and from all vertices in a set. Fails only when out of memory.
@@ -294,15 +284,14 @@ impl Found {
         picture: &Picture,
         x: u64,
     ) -> Result<Chains, AllocError> {
-        let names = self.sides.names();
-        let mut rows = Chains::none(alloc, names.copy(alloc)?, picture.made())?;
+        let names = &self.sides.names;
+        let mut rows = Chains::none(alloc, names.copy(alloc)?, picture)?;
         for (at, edge) in picture.edges().iter().enumerate() {
             let number = names.number(edge.from);
             if edge.from == x || self.sides.has_number(number) {
                 rows.put(place(at), number)?;
             }
         }
-        rows.end_list(picture.edges().len());
         Ok(rows)
     }
 
@@ -314,15 +303,15 @@ impl Found {
         vertex: u64,
         forward: bool,
     ) -> Result<Vec<Step>, AllocError> {
-        let names = self.sides.names();
+        let names = &self.sides.names;
         let mut path = Vec::new(alloc);
         let mut next = self.place(names.number(vertex), forward);
         for _ in 0..self.steps.len() {
-            let Some(kept) = self.steps.get(next as usize).copied() else {
+            let Some(kept) = self.steps.get(next as usize) else {
                 break;
             };
             path.push(Step {
-                vertex: names.name(u64::from(kept.number())),
+                vertex: names.name(kept.number() as u64),
                 forward: kept.is_forward(),
             })?;
             next = kept.before;

@@ -18,8 +18,8 @@ use tg_rights::{Label, Right, Rights};
 /// Why x never holds a right: two sets of names, two bits for each name that the picture shows.
 #[derive(Drop)]
 pub struct Separation {
-    names: Names,
-    pairs: Pairs,
+    pub(crate) names: Names,
+    pub(crate) pairs: Pairs,
 }
 
 /// Where a vertex is: in the first set, and in the second.
@@ -41,13 +41,6 @@ pub(crate) fn leads(one: bool, two: bool, third: bool) -> bool
     ensures { IsTrue result → IsTrue one → IsTrue two → IsTrue third }
 {
     !one || !two || third
-}
-
-/// Whether two things hold.
-pub(crate) fn are_both(one: bool, two: bool) -> bool
-    ensures { IsTrue result → IsTrue one × IsTrue two }
-{
-    one && two
 }
 
 /// Whether one of three things doesn't hold.
@@ -146,11 +139,6 @@ impl Separation {
         Ok(Separation { names, pairs })
     }
 
-    /// The numbers of names.
-    pub(crate) fn names(&self) -> &Names {
-        &self.names
-    }
-
     /// Whether a name is in the first set.
     pub(crate) fn is_forward(&self, name: u64) -> bool
         ensures { result ≡ (sides_of self.now).forward name }
@@ -193,11 +181,6 @@ impl Separation {
         is_in_first(pair) || is_in_second(pair)
     }
 
-    /// Puts the name with a number into one of the sets. Whether it wasn't there.
-    pub(crate) fn put(&mut self, number: u64, forward: bool) -> bool {
-        self.pairs.put(number, forward)
-    }
-
     // Whether an edge leads out of neither set, and x is neither its holder nor its gift.
     fn fits(&self, edge: &Edge, x: u64, right: Right, y: u64) -> bool
         ensures { IsTrue result → MayAdd (sides_of self.now) x right y edge.now.from edge.now.to edge.now.label }
@@ -225,10 +208,14 @@ impl Separation {
         true
     }
 
-    // Whether one who acts is in both sets or in none, and where it has to be.
-    fn is_even(&self, picture: &Picture, x: u64, y: u64, subject: u64) -> bool
-        ensures { IsTrue result → IsEven (sides_of self.now) picture.now x y subject }
+    // Whether a subject is silent, or in both sets or in none, and where it has to be.
+    fn is_even(&self, picture: &Picture, silent: &[u64], x: u64, y: u64, subject: u64) -> bool
+        ensures { IsTrue result →
+            ¬ (Contains silent.now subject × (subject < picture.now.made)) → IsEven (sides_of self.now) picture.now x y subject }
     {
+        if is_silent(silent, picture.made(), subject) {
+            return true;
+        }
         let back = self.is_back(subject);
         if self.is_forward(subject) != back {
             return false;
@@ -245,26 +232,11 @@ impl Separation {
             All (λ v. ¬ (Contains silent.now v × (v < picture.now.made)) → IsEven (sides_of self.now) picture.now x y v) picture.now.subjects }
     {
         for subject in picture.subjects() {
-            if !self.is_even_or_silent(picture, silent, x, y, *subject) {
+            if !self.is_even(picture, silent, x, y, *subject) {
                 return false;
             }
         }
         true
-    }
-
-    // Whether a subject is silent, or even.
-    fn is_even_or_silent(
-        &self,
-        picture: &Picture,
-        silent: &[u64],
-        x: u64,
-        y: u64,
-        subject: u64,
-    ) -> bool
-        ensures { IsTrue result →
-            ¬ (Contains silent.now subject × (subject < picture.now.made)) → IsEven (sides_of self.now) picture.now x y subject }
-    {
-        is_silent(silent, picture.made(), subject) || self.is_even(picture, x, y, subject)
     }
 
     /// Whether x never holds the right over y, as far as the two sets show it: after no list of turns of the active
@@ -280,9 +252,10 @@ impl Separation {
         if is_alone(picture, silent, y) {
             return lacks(picture.edges(), x, right, y);
         }
-        let even = self.are_even(picture, silent, x, y);
-        let apart = self.part(picture.edges(), x, right, y);
-        are_both(even, apart)
+        if !self.are_even(picture, silent, x, y) {
+            return false;
+        }
+        self.part(picture.edges(), x, right, y)
     }
 }
 

@@ -3,7 +3,7 @@ ghost use Rattle.std.specs.Prelude.{◌≡◌, ◌≢◌, ◌<◌, true, ◌++�
 ghost use Rattle.std.specs.List.{Contains};
 ghost use Rattle.tg_rights.specs.RightSet.{RightSet, has};
 ghost use Rattle.tg_rights.specs.declared.Right.{Right as TheRight};
-ghost use Rattle.tg_model.specs.Graph.{ProtectionGraph};
+ghost use Rattle.tg_model.specs.Graph.{ProtectionGraph, without_subject};
 ghost use Rattle.tg_model.specs.Picture.{IsPictureOf, AreAmong};
 ghost use Rattle.tg_model.specs.Rules.{HoldsOver, step, with_vertex};
 ghost use Rattle.tg_model.specs.declared.edge.Edge.{Edge as TheEdge};
@@ -25,8 +25,8 @@ use tg_rights::{Label, Right, Rights};
 pub(crate) struct Trial {
     rows: Chains,
     added: Vec<Edge>,
-    subjects: Vec<u64>,
-    made: u64,
+    pub(crate) subjects: Vec<u64>,
+    pub(crate) made: u64,
     limit: u64,
 }
 
@@ -55,6 +55,13 @@ fn rights_between(edge: Edge, x: u64, y: u64) -> Rights
     }
 }
 
+/// Takes a name out of a list.
+pub(crate) fn leave_out(names: &mut Vec<u64>, name: u64)
+    ensures { names.new.items ≡ without_subject names.old.items name }
+{
+    names.retain(|other| *other != name);
+}
+
 impl Trial {
     /// The graph of a picture, on which so many vertices may be made; `rows` are the edges from each vertex. Fails only
     /// when out of memory.
@@ -75,16 +82,6 @@ impl Trial {
             made: picture.made(),
             limit,
         })
-    }
-
-    /// How many vertices were made, and so the name of the next.
-    pub(crate) fn made(&self) -> u64 {
-        self.made
-    }
-
-    /// The active subjects.
-    pub(crate) fn subjects(&self) -> &[u64] {
-        self.subjects.as_slice()
     }
 
     /// Whether one vertex has these rights over another, all on one edge of the list or of those that came since.
@@ -273,7 +270,7 @@ impl Trial {
         ensures { (edges : List TheEdge) (g : ProtectionGraph) → Stands edges self.old g →
             Stands edges self.new (step g worker (deed.Plain command.Retire)) }
     {
-        self.subjects.retain(|subject| *subject != worker);
+        leave_out(&mut self.subjects, worker);
     }
 
     // The next vertex, over which the worker has these rights.

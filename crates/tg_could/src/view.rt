@@ -271,14 +271,7 @@ fn are_listed(actors: &[u64], picture: &Picture, silent: &[u64]) -> bool
 fn is_listed_or_silent(actors: &[u64], picture: &Picture, silent: &[u64], subject: u64) -> bool
     ensures { IsTrue result → ¬ (Contains silent.now subject × (subject < picture.now.made)) → IsListed actors.now subject }
 {
-    is_silent(silent, picture.made(), subject) || is_listed(actors, subject)
-}
-
-// Whether a name is listed.
-fn is_listed(names: &[u64], name: u64) -> bool
-    ensures { IsTrue result → IsListed names.now name }
-{
-    names.contains(&name)
+    is_silent(silent, picture.made(), subject) || actors.contains(&subject)
 }
 
 // Whether the two and the other two are the same.

@@ -2,7 +2,7 @@
 //! vertices + edges: vertices that walk to each other make a knot, and a knot is left behind all that it leads to; so
 //! back from the last one, each knot hands its bits on when it has all. Only what is walked to is looked at. Nothing is
 //! believed of it: what it finds is checked.
-use crate::chains::NONE;
+use crate::chains::{NONE, number_at};
 use crate::entries::Entry;
 use crate::links::{Link, Links, number_of};
 use crate::names::Names;
@@ -25,10 +25,10 @@ pub(crate) fn walks(
     let mut walk = Walk::new(alloc, count)?;
     for (at, actor) in actors.iter().enumerate() {
         let number = names.number(*actor);
-        add(&mut words, number, bit_of(at));
+        add(words.as_mut_slice(), number, bit_of(at));
         walk.begin(&takes, number)?;
     }
-    walk.hand_on(&takes, &mut words);
+    walk.hand_on(&takes, words.as_mut_slice());
     Ok(words)
 }
 
@@ -45,9 +45,10 @@ fn takes_of(alloc: Global, count: usize, entries: &[Entry]) -> Result<Links, All
     let mut takes = Links::with_room(alloc, count, entries.len())?;
     for entry in entries {
         if has(entry.label, Right::T) {
-            takes.add(u64::from(entry.from), u64::from(entry.to), entry.label)?;
+            takes.add(entry.from as u64, entry.to as u64, entry.label)?;
         }
     }
+    takes.tie();
     Ok(takes)
 }
 
@@ -85,22 +86,17 @@ impl Walk {
         })
     }
 
-    // Goes from the vertex with a number, where it is one of those that are kept.
+    // Goes from the vertex with a number to all that it walks to, but for those that were come to.
     fn begin(&mut self, takes: &Links, number: u64) -> Result<(), AllocError> {
-        match number_of(number) {
-            Some(vertex) => self.search(takes, vertex),
-            None => Ok(()),
-        }
-    }
-
-    // Goes from a vertex to all that it walks to, but for those that were come to.
-    fn search(&mut self, takes: &Links, vertex: u32) -> Result<(), AllocError> {
+        let Some(vertex) = number_of(number) else {
+            return Ok(());
+        };
         if self.number(vertex) != 0 {
             return Ok(());
         }
         self.visit(takes, vertex)?;
         for _ in 0..u64::MAX {
-            let Some(visit) = self.path.last().copied() else {
+            let Some(&visit) = self.path.last() else {
                 break;
             };
             match takes.at(visit.next) {
@@ -144,7 +140,7 @@ impl Walk {
         if self.number(visit.vertex) == visit.number {
             self.leave_knot(visit.vertex)?;
         }
-        if let Some(before) = self.path.last().copied() {
+        if let Some(&before) = self.path.last() {
             self.join(before.vertex, visit.vertex);
         }
         Ok(())
@@ -178,17 +174,17 @@ impl Walk {
 
     // The number of a vertex.
     fn number(&self, vertex: u32) -> u32 {
-        self.numbers.get(vertex as usize).copied().unwrap_or(NONE)
+        number_at(self.numbers.as_slice(), vertex as usize)
     }
 
     // From the knot left last to the first one, each hands its bits on.
-    fn hand_on(&mut self, takes: &Links, words: &mut Vec<u64>) {
+    fn hand_on(&mut self, takes: &Links, words: &mut [u64]) {
         let mut end = self.left.len();
         for _ in 0..self.starts.len() {
             let Some(start) = self.starts.pop() else {
                 break;
             };
-            let word = self.word_of_knot(words.as_slice(), start, end);
+            let word = self.word_of_knot(words, start, end);
             for at in start..end {
                 self.hand_on_at(takes, words, at, word);
             }
@@ -197,15 +193,15 @@ impl Walk {
     }
 
     // The vertex left at a place has these bits, and hands them on along each take edge from it.
-    fn hand_on_at(&self, takes: &Links, words: &mut Vec<u64>, at: usize, word: u64) {
-        let vertex = self.left.get(at).copied().unwrap_or(NONE);
-        add(words, u64::from(vertex), word);
+    fn hand_on_at(&self, takes: &Links, words: &mut [u64], at: usize, word: u64) {
+        let vertex = number_at(self.left.as_slice(), at);
+        add(words, vertex as u64, word);
         let mut next = takes.first(vertex);
-        for _ in 0..takes.len() {
+        for _ in 0..NONE {
             let Some(link) = takes.at(next) else {
                 break;
             };
-            add(words, u64::from(link.end()), word);
+            add(words, link.end() as u64, word);
             next = link.next();
         }
     }
@@ -214,8 +210,8 @@ impl Walk {
     fn word_of_knot(&self, words: &[u64], start: usize, end: usize) -> u64 {
         let mut word = 0;
         for at in start..end {
-            let vertex = self.left.get(at).copied().unwrap_or(NONE);
-            word |= word_of(words, u64::from(vertex));
+            let vertex = number_at(self.left.as_slice(), at);
+            word |= word_of(words, vertex as u64);
         }
         word
     }

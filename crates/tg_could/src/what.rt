@@ -12,7 +12,7 @@ ghost use Rattle.tg_could.specs.Listed.{IsUnlisted, IsLeftOut, ListsEdge, ListsA
 
 use crate::chance::Chance;
 use crate::names::Names;
-use crate::search::{Found, search_back};
+use crate::search::{Found, search};
 use crate::separation::{Separation, are_not_all, comes_later, has, is_silent, leads, stays};
 use std::alloc::{AllocError, Global};
 use tg_model::{Edge, Picture};
@@ -63,7 +63,7 @@ pub fn what_could(
 ) -> Result<What, AllocError>
     ensures { IfOk result (λ what. (g : ProtectionGraph) → IsPictureOf picture.now g → (right : TheRight) (y : ℕ) → IsLeftOut what right y → NeverHolds silent.now g x right y) }
 {
-    let found = search_back(alloc, picture, silent, x)?;
+    let found = search(alloc, picture, silent, Right::G, x, true)?;
     let listed = Listed::of(alloc, picture, &found, x)?;
     let is_shown = listed.leaves_out(&found.sides, picture, silent, x);
     Ok(What {
@@ -78,7 +78,7 @@ pub fn what_could(
 impl Listed {
     // What x holds, and what is held by those whose rights it may get. Fails only when out of memory.
     fn of(alloc: Global, picture: &Picture, found: &Found, x: u64) -> Result<Listed, AllocError> {
-        let names = found.sides.names().copy(alloc)?;
+        let names = found.sides.names.copy(alloc)?;
         let mut listed = Listed {
             rights: vec![in alloc; Rights::empty(); names.len()]?,
             names,
@@ -165,7 +165,7 @@ impl Listed {
             All (λ v. ¬ (Contains silent.now v × (v < picture.now.made)) → ListsActor (sides_against sides.now) self.now picture.now x v) picture.now.subjects }
     {
         for subject in picture.subjects() {
-            if !self.has_actor_or_silent(sides, picture, silent, x, *subject) {
+            if !self.has_actor(sides, picture, silent, x, *subject) {
                 return false;
             }
         }
@@ -173,7 +173,7 @@ impl Listed {
     }
 
     // The same of one subject.
-    fn has_actor_or_silent(
+    fn has_actor(
         &self,
         sides: &Separation,
         picture: &Picture,
@@ -184,13 +184,9 @@ impl Listed {
         ensures { IsTrue result → ¬ (Contains silent.now subject × (subject < picture.now.made)) →
             ListsActor (sides_against sides.now) self.now picture.now x subject }
     {
-        is_silent(silent, picture.made(), subject) || self.has_actor(sides, picture, x, subject)
-    }
-
-    // The same of one who acts.
-    fn has_actor(&self, sides: &Separation, picture: &Picture, x: u64, subject: u64) -> bool
-        ensures { IsTrue result → ListsActor (sides_against sides.now) self.now picture.now x subject }
-    {
+        if is_silent(silent, picture.made(), subject) {
+            return true;
+        }
         let place = sides.place_against(subject);
         if place.forward != place.back {
             return false;

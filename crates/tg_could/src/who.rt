@@ -63,7 +63,7 @@ pub fn who_could(
 ) -> Result<Who, AllocError>
     ensures { IfOk result (λ who. (g : ProtectionGraph) → IsPictureOf picture.now g → (x : ℕ) → IsLeftOut who x → NeverHolds silent.now g x right y) }
 {
-    let found = search(alloc, picture, silent, right, y)?;
+    let found = search(alloc, picture, silent, right, y, false)?;
     let told = Told::of(alloc, picture, silent, &found, right, y)?;
     let is_shown = told.leaves_out(&found.sides, picture, silent, right, y);
     Ok(Who {
@@ -86,7 +86,7 @@ impl Told {
         right: Right,
         y: u64,
     ) -> Result<Told, AllocError> {
-        let names = found.sides.names().copy(alloc)?;
+        let names = found.sides.names.copy(alloc)?;
         let marks = Marks::none(alloc, names.len())?;
         let mut told = Told {
             names,
@@ -214,7 +214,7 @@ impl Told {
             All (λ v. ¬ (Contains silent.now v × (v < picture.now.made)) → TellsActor (sides_of sides.now) self.now picture.now y v) picture.now.subjects }
     {
         for subject in picture.subjects() {
-            if !self.has_actor_or_silent(sides, picture, silent, y, *subject) {
+            if !self.has_actor(sides, picture, silent, y, *subject) {
                 return false;
             }
         }
@@ -222,7 +222,7 @@ impl Told {
     }
 
     // The same of one subject.
-    fn has_actor_or_silent(
+    fn has_actor(
         &self,
         sides: &Separation,
         picture: &Picture,
@@ -233,13 +233,9 @@ impl Told {
         ensures { IsTrue result → ¬ (Contains silent.now subject × (subject < picture.now.made)) →
             TellsActor (sides_of sides.now) self.now picture.now y subject }
     {
-        is_silent(silent, picture.made(), subject) || self.has_actor(sides, picture, y, subject)
-    }
-
-    // The same of one who acts.
-    fn has_actor(&self, sides: &Separation, picture: &Picture, y: u64, subject: u64) -> bool
-        ensures { IsTrue result → TellsActor (sides_of sides.now) self.now picture.now y subject }
-    {
+        if is_silent(silent, picture.made(), subject) {
+            return true;
+        }
         let back = sides.is_back(subject);
         if sides.is_forward(subject) != back {
             return false;

@@ -43,8 +43,9 @@ pub(crate) fn word_of(words: &[u64], name: u64) -> u64
 }
 
 /// Adds bits to a name's word.
-pub(crate) fn add(words: &mut Vec<u64>, name: u64, bits: u64) {
-    if let Some(word) = words.get_mut(name as usize) {
-        *word |= bits;
+pub(crate) fn add(words: &mut [u64], name: u64, bits: u64) {
+    let at = name as usize;
+    if at < words.len() {
+        words[at] |= bits;
     }
 }

@@ -1,15 +1,12 @@
-use Rattle.std.proofs.Common.{◌≡◌, not, sym, ◌∙◌, ap, ℕ, List, rules, subst}
+use Rattle.std.proofs.Common.{◌≡◌, not, sym, ◌∙◌, ap, List, ℕ, subst}
 use Rattle.std.proofs.lemmas.Bool.{true_from_ne_false, false≢true}
-use Rattle.std.proofs.lemmas.Fn.{filter_same}
 use Rattle.tg_model.specs.Graph.{without_subject}
 use Rattle.tg_could.specs.Turns.{NeverHolds}
 use Rattle.tg_could.proofs.enough.is_enough.Goals as goal
 
 pub returns : goal.returns
 returns c not_enough g picture =
-    let left : c.retain.new.self.items ≡ without_subject c.in_ok-others.others.items c.args.host =
-    filter_same _ _ _ (λ x b f' k. search rules) _ _ c.retain.ensures.filtered in
     let others : c.as_slice-2.result.now ≡ without_subject c.args.silent.now c.args.host =
-    c.as_slice-2.ensures.value ∙ (left ∙ ap (λ (l : List ℕ). without_subject l c.args.host) c.in_ok-others.ensures.items) in
+    c.as_slice-2.ensures.value ∙ (c.leave_out.ensures ∙ ap (λ (l : List ℕ). without_subject l c.args.host) c.in_ok-others.ensures.items) in
     subst (λ (l : List ℕ). NeverHolds l g c.args.x c.args.right c.args.y) others
     (c.parts-parts.ensures (true_from_ne_false c.parts-parts.result (λ out. false≢true (sym not_enough ∙ ap not out))) g picture)

@@ -24,7 +24,6 @@ returns-then-is_alone c t g picture =
 
 pub returns : goal.returns
 returns c t g picture =
-    let both = c.are_both.ensures t in
     let s = sides_of c.args.self.now in
-    pictured-never c.args.silent.now c.args.picture.now g picture s c.args.x c.args.right c.args.y (c.are_even-even.ensures both.0)
-    (subst (λ (es : List Edge). Parts s c.args.x c.args.right c.args.y (label_in es)) c.edges-2.ensures (c.part-apart.ensures both.1))
+    pictured-never c.args.silent.now c.args.picture.now g picture s c.args.x c.args.right c.args.y (c.are_even.ensures c.if-not-are_even.false)
+    (subst (λ (es : List Edge). Parts s c.args.x c.args.right c.args.y (label_in es)) c.edges-2.ensures (c.part.ensures t))

@@ -9,4 +9,4 @@ pub loop-subject-preserved : goal.loop-subject-preserved
 loop-subject-preserved c =
     let P : ℕ → Type 0 = λ v. ¬ (Contains c.args.silent.now v × (v < c.args.picture.now.made)) → ListsActor (sides_against c.args.sides.now) c.args.self.now c.args.picture.now c.args.x v in
     one-more P c.subjects-subject-items.result.now c.args.picture.now.subjects c.loop-subject.subject-index 0 c.subjects-subject-items.ensures c.loop-subject-test.true
-    c.loop-subject.invariant (c.has_actor_or_silent.ensures c.if-not-has_actor_or_silent.false)
+    c.loop-subject.invariant (c.has_actor.ensures c.if-not-has_actor.false)
