@@ -1,5 +1,6 @@
 /* Counts what the program that it is loaded into (LD_PRELOAD) asks of malloc and of threads, and tells it in the file
-   that HELD_TELL names, as the numbers of struct told. It refuses the request whose number HELD_REFUSE has, from 1 on.
+   that HELD_TELL names, as the numbers of struct told. It refuses the request whose number HELD_REFUSE has, from 1 on, and
+   has the read of standard input fail whose number HELD_READ has, and the write to standard output that HELD_WRITE has.
    Each piece has a header of its own with the bytes that were asked for, so what is told is the same with every C
    library. A piece that was taken before is given back as it is. */
 #define _GNU_SOURCE
@@ -45,7 +46,10 @@ static struct told {
 } first, *told = &first;
 
 static uint64_t refuse_at; /* the number of the one that is refused, or 0 */
+static uint64_t read_at, write_at; /* of the read and of the write that fail, or 0 */
+static _Atomic uint64_t reads, writes;
 static ssize_t (*real_read)(int, void *, size_t);
+static ssize_t (*real_write)(int, const void *, size_t);
 static int (*real_create)(pthread_t *, const pthread_attr_t *, void *(*)(void *), void *);
 
 static void raise_to(_Atomic uint64_t *most, uint64_t value) {
@@ -144,7 +148,18 @@ void *realloc(void *at, size_t size) {
     return NULL;
 }
 
+static ssize_t failed(void) {
+    errno = EIO;
+    return -1;
+}
+
+ssize_t write(int file, const void *bytes, size_t size) {
+    return file == 1 && ++writes == write_at ? failed() : real_write(file, bytes, size);
+}
+
 ssize_t read(int file, void *room, size_t size) {
+    if (file == 0 && ++reads == read_at)
+        return failed();
     ssize_t got = real_read(file, room, size);
     if (file == 0 && got == 0 && size) {
         told->left_blocks = told->end_blocks;
@@ -160,16 +175,25 @@ int pthread_create(pthread_t *thread, const pthread_attr_t *how, void *(*run)(vo
     return status;
 }
 
+/* The number in this variable, or 0. */
+static uint64_t number_in(const char *name) {
+    const char *text = getenv(name);
+    return text ? strtoull(text, NULL, 10) : 0;
+}
+
 /* The program may end without any destructor, so what is told stands in the file from the first on. */
 __attribute__((constructor)) static void begin(void) {
-    const char *path = getenv("HELD_TELL"), *at = getenv("HELD_REFUSE");
+    const char *path = getenv("HELD_TELL");
     int file = path ? open(path, O_RDWR) : -1;
     void *room = file < 0 ? MAP_FAILED : mmap(NULL, sizeof first, PROT_READ | PROT_WRITE, MAP_SHARED, file, 0);
     if (room == MAP_FAILED)
         _exit(70);
     close(file);
-    refuse_at = at ? strtoull(at, NULL, 10) : 0;
+    refuse_at = number_in("HELD_REFUSE");
+    read_at = number_in("HELD_READ");
+    write_at = number_in("HELD_WRITE");
     real_read = dlsym(RTLD_NEXT, "read");
+    real_write = dlsym(RTLD_NEXT, "write");
     real_create = dlsym(RTLD_NEXT, "pthread_create");
     told = memcpy(room, &first, sizeof first);
 }

@@ -14,6 +14,9 @@ class Script:
     status: int = 0
     # the number of the request for memory that is refused, or 0
     refused: int = 0
+    # the number of the read of the script that fails, and of the write of replies, or 0
+    failed_read: int = 0
+    failed_write: int = 0
 
     @property
     def has_rivals(self):
@@ -207,6 +210,16 @@ def a_line_too_long():
     return Script("--workers 1 --stock l100", creates(40) + ["full", "0 list " + "x" * 300, *creates(40)], status=1)
 
 
+def a_read_fails_once():
+    """What was read before it is answered, and what is behind it isn't read."""
+    return Script("--workers 1", ["0 list", "0 read 0"] * 20_000, status=1, failed_read=3)
+
+
+def a_write_fails_once():
+    """What was put before it is written as the run ends, and nothing is run behind it."""
+    return Script("--workers 1", ["0 list", "0 read 0"] * 20_000, status=1, failed_write=3)
+
+
 def one_request_is_refused():
     """One line is refused for want of memory, and all behind it are served."""
     lines = [line for turn in range(100) for line in ("0 create rw", f"0 write {1 + turn} 7", "0 list", "full")]
@@ -267,7 +280,8 @@ SCRIPTS = {
         boxes_that_die, old_cells_that_are_remembered, commands_on_a_small_graph, lists_of_a_row_of_2000,
         lists_of_a_row_of_70000, takes_of_a_row_of_70000, a_heap_of_5000_blocks, old_cells_of_1100000_places,
         sixty_four_blocks,
-        five_thousand_vertices, a_long_command_line, a_line_too_long, one_request_is_refused,
+        five_thousand_vertices, a_long_command_line, a_line_too_long, a_read_fails_once, a_write_fails_once,
+        one_request_is_refused,
         a_collection_of_the_nurseries_is_refused, a_collection_by_helpers_is_refused, a_session_of_25_calls,
         a_race_of_12000_lines, a_race_of_nobodys_boxes, a_race_for_a_row_of_70000, a_race_that_is_denied,
     )

@@ -1,12 +1,11 @@
-//! Tests of sessions of a shared store, of a journal in parts, and of helpers that collect a store.
+//! Tests of sessions of a shared store, by what no program of the repository asks of one.
 //!
 //! They stand apart from those in `store_tests`, so that both are checked side by side. A test is named for what it
-//! shows; each file has one topic. Nothing here is called by any crate.
+//! shows. Nothing here is called by any crate. Sessions at work are the races of `rows/`, and the examples `deputy` and
+//! `service`.
 #![tactic(auto)]
 
 #[cfg(test)]
-mod cut;
+mod opened;
 #[cfg(test)]
-mod helpers;
-#[cfg(test)]
-mod sessions;
+mod story;

@@ -1,4 +1,4 @@
-//! Tests of the store, of scripts and races, and of the payloads that these name. Those of sessions stand in
+//! Tests of the store, of scripts and races in memory, and of the payloads that these name. Those of sessions stand in
 //! `session_tests`.
 //!
 //! They stand here and not beside what they test, since a crate with tests is proved twice. A test is named for what it
@@ -7,28 +7,12 @@
 #![tactic(auto)]
 
 #[cfg(test)]
-mod cell_with;
-#[cfg(test)]
-mod counting_payload;
-#[cfg(test)]
-mod help;
-#[cfg(test)]
-mod helpers;
-#[cfg(test)]
-mod lent;
+mod meet;
 #[cfg(test)]
 mod payloads;
 #[cfg(test)]
-mod races;
-#[cfg(test)]
-mod rows;
-#[cfg(test)]
-mod scripts;
+mod runs;
 #[cfg(test)]
 mod shown;
 #[cfg(test)]
 mod stores;
-#[cfg(test)]
-mod streams;
-#[cfg(test)]
-mod sweeps;

@@ -1,8 +1,0 @@
-use Rattle.tg_shared.specs.Sessions.{start_of_store}
-use Rattle.session_tests.proofs.sessions.story.seen_of.Given as goal
-
-abbrev pub ghosts-seen_of_store-L-Ledger : goal.ghosts-seen_of_store-L-Ledger
-ghosts-seen_of_store-L-Ledger g a = record { name = a.blank.name; parts = a.blank.parts }
-
-abbrev pub ghosts-seen_of_store-L-Round : goal.ghosts-seen_of_store-L-Round
-ghosts-seen_of_store-L-Round g a = record { start = start_of_store a.store }

@@ -1,0 +1,82 @@
+//! A store of two workers, and what its sessions do.
+
+use std::alloc::Global;
+use std::sync::Wait;
+use tg_model::{Command, Law, Numbers, Opening, Value};
+use tg_payload::{CellPayload, Draft};
+use tg_rights::Label;
+use tg_shared::{Round, Session, SharedStore};
+use tg_store::{Limits, Store};
+
+// A cell with 0.
+fn zero() -> Value {
+    Value {
+        law: Law::Cell,
+        state: Numbers::one(0),
+    }
+}
+
+// An opening of two workers, who store cells with 0. Five vertices may be made.
+fn opening(alloc: Global) -> Option<Opening> {
+    let values = vec![in alloc; zero(), zero()].ok()?;
+    Opening::new(2, Vec::new(alloc), values, 5).ok()
+}
+
+// A draft of a cell with 0.
+fn draft(alloc: Global) -> Option<Draft<CellPayload>> {
+    Draft::new(alloc, CellPayload::new(0)).ok()
+}
+
+// The drafts of two workers.
+fn two_drafts(alloc: Global) -> Option<Vec<Draft<CellPayload>>> {
+    match (draft(alloc), draft(alloc)) {
+        (Some(first), Some(second)) => vec![in alloc; first, second].ok(),
+        _ => None,
+    }
+}
+
+/// A store with this opening.
+pub(crate) fn open_store(alloc: Global) -> Option<Store<CellPayload>> {
+    match (Limits::new(64, 16), opening(alloc), two_drafts(alloc)) {
+        (Ok(limits), Some(opening), Some(drafts)) => {
+            Store::open(alloc, opening, limits, drafts).ok()
+        }
+        _ => None,
+    }
+}
+
+/// Lets the session make a vertex, which it may read and write. Whether it does.
+pub(crate) fn makes<L: Round, R: Wait>(
+    rt: &R,
+    alloc: Global,
+    store: &SharedStore<L, CellPayload>,
+    session: &mut Session<L>,
+) -> bool {
+    match (Label::read_text(b"rw"), draft(alloc)) {
+        (Some(label), Some(draft)) => session.create(rt, store, label, draft).is_ok(),
+        _ => false,
+    }
+}
+
+/// Lets the session spawn one, over which it has the same rights.
+pub(crate) fn spawned_by<L: Round, R: Wait>(
+    rt: &R,
+    alloc: Global,
+    store: &SharedStore<L, CellPayload>,
+    session: &mut Session<L>,
+) -> Option<Session<L>> {
+    match (Label::read_text(b"rw"), draft(alloc)) {
+        (Some(label), Some(draft)) => session.spawn(rt, store, label, draft).ok(),
+        _ => None,
+    }
+}
+
+/// Whether a command of the session is answered. The answer is passed over.
+pub(crate) fn is_answered<L: Round, R: Wait>(
+    rt: &R,
+    store: &SharedStore<L, CellPayload>,
+    session: &mut Session<L>,
+    command: Command,
+) -> bool {
+    session.call(rt, store, command).is_ok()
+}

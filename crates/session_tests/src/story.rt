@@ -1,0 +1,268 @@
+//! A shared store of two workers: what its sessions are told, two parts of its journal, a session that is taken over
+//! and a worker that is ended, and what is had back.
+ghost use Rattle.std.specs.Prelude.{◌≡◌, true};
+ghost use Rattle.tg_shared.specs.Sessions.{MayShare};
+
+use crate::opened::{is_answered, makes, open_store, spawned_by};
+use std::alloc::Global;
+use std::marker::Brand;
+use std::sync::Wait;
+use std::sync::ledger::Blank;
+use tg_model::Command;
+use tg_payload::CellPayload;
+use tg_shared::{Keeper, Receipt, Round, Session, Shared, SharedStore, receipts_match};
+use tg_store::{ApplyFault, Store};
+
+// A part of a journal: the place of its first entry, the one behind its last, and whether receipts match it.
+type Part = (u64, u64, bool);
+
+// What is seen while the store is shared.
+#[derive(Clone, Copy)]
+struct Told {
+    // the bits of what each of the two sessions is told that it holds over the vertex that the first one made
+    labels: [u8; 2],
+    // two parts, each with the receipts of the first
+    parts: [Part; 2],
+    // whether a session that another one spawned is taken over with a receipt, and without
+    taken_over: [bool; 2],
+    // how many edges a worker gives up who is ended, and why its session's next line is refused
+    ended: (Option<u64>, Option<ApplyFault>),
+}
+
+// The bits of what the session's worker holds over vertex 2; 0 where it holds nothing.
+fn held_by<L: Round, R: Wait>(
+    rt: &R,
+    store: &SharedStore<L, CellPayload>,
+    session: &Session<L>,
+) -> u8 {
+    match session.label(rt, store, 2) {
+        Some(label) => label.rights().bits(),
+        None => 0,
+    }
+}
+
+// Takes a part of the journal, and looks at it with these receipts.
+fn take_part<L: Round, R: Wait>(
+    rt: &R,
+    store: &SharedStore<L, CellPayload>,
+    keeper: &mut Keeper<L>,
+    receipts: &[Receipt],
+) -> Part
+    requires in_parts { L.start.in_parts ≡ true }
+{
+    let part = keeper.take_journal(rt, store);
+    (part.start(), part.len(), receipts_match(&part, 0, receipts))
+}
+
+// Whether the session takes over the spawned one with its receipts, and without.
+fn take_over_twice<L: Round>(session: &mut Session<L>, spawned: Session<L>) -> [bool; 2] {
+    match session.take_over(spawned) {
+        Ok(()) => [true, false],
+        Err(mut spawned) => {
+            drop(spawned.take_receipts());
+            [false, session.take_over(spawned).is_ok()]
+        }
+    }
+}
+
+// Lets the session spawn one, which retires, and take it over.
+fn spawn_and_take_over<L: Round, R: Wait>(
+    rt: &R,
+    alloc: Global,
+    store: &SharedStore<L, CellPayload>,
+    session: &mut Session<L>,
+) -> [bool; 2] {
+    match spawned_by(rt, alloc, store, session) {
+        Some(mut spawned) => {
+            let _retired = is_answered(rt, store, &mut spawned, Command::Retire);
+            take_over_twice(session, spawned)
+        }
+        None => [false, false],
+    }
+}
+
+// Takes the part so far, and another one once the session has read, spawned and taken over.
+fn take_parts<L: Round, R: Wait>(
+    rt: &R,
+    alloc: Global,
+    store: &SharedStore<L, CellPayload>,
+    keeper: &mut Keeper<L>,
+    session: &mut Session<L>,
+) -> ([Part; 2], [bool; 2])
+    requires in_parts { L.start.in_parts ≡ true }
+{
+    let receipts = session.take_receipts();
+    let first = take_part(rt, store, keeper, &receipts);
+    let _read = is_answered(rt, store, session, Command::Read { target: 2 });
+    let taken_over = spawn_and_take_over(rt, alloc, store, session);
+    let second = take_part(rt, store, keeper, &receipts);
+    ([first, second], taken_over)
+}
+
+// Ends the session's worker.
+fn end<L: Round, R: Wait>(
+    rt: &R,
+    store: &SharedStore<L, CellPayload>,
+    keeper: &mut Keeper<L>,
+    session: &mut Session<L>,
+) -> (Option<u64>, Option<ApplyFault>)
+    requires may_end { L.start.may_end ≡ true }
+{
+    let given_up = keeper.end(rt, store, session.worker()).ok();
+    (given_up, session.call(rt, store, Command::List).err())
+}
+
+// Lets the first session make a vertex, and asks both what they hold over it. Takes two parts of the journal. Then the
+// second makes one, and its worker is ended.
+fn tell_of_two<L: Round, R: Wait>(
+    rt: &R,
+    alloc: Global,
+    store: &SharedStore<L, CellPayload>,
+    keeper: &mut Keeper<L>,
+    first: &mut Session<L>,
+    second: &mut Session<L>,
+) -> Told
+    requires in_parts { L.start.in_parts ≡ true }
+    requires may_end { L.start.may_end ≡ true }
+{
+    let _made = makes(rt, alloc, store, first);
+    let labels = [held_by(rt, store, first), held_by(rt, store, second)];
+    let (parts, taken_over) = take_parts(rt, alloc, store, keeper, first);
+    let _made = makes(rt, alloc, store, second);
+    let ended = end(rt, store, keeper, second);
+    drop(first.take_receipts());
+    Told {
+        labels,
+        parts,
+        taken_over,
+        ended,
+    }
+}
+
+// The same of the sessions of a store, of which there have to be two.
+fn tell<L: Round, R: Wait>(
+    rt: &R,
+    alloc: Global,
+    store: &SharedStore<L, CellPayload>,
+    keeper: &mut Keeper<L>,
+    sessions: &mut [Session<L>],
+) -> Option<Told>
+    requires in_parts { L.start.in_parts ≡ true }
+    requires may_end { L.start.may_end ≡ true }
+{
+    match sessions {
+        [first, second] => Some(tell_of_two(rt, alloc, store, keeper, first, second)),
+        _ => None,
+    }
+}
+
+// What is seen, and of the store that is had back with both sessions: how many entries its keeper made, how many there
+// are, and from which place on it holds them.
+type Seen = (Option<Told>, Option<[u64; 3]>);
+
+// The numbers of the entries, where the store was had back.
+fn entries_of(entered: u64, closed: Option<&Store<CellPayload>>) -> Option<[u64; 3]> {
+    let journal = closed?.journal();
+    Some([entered, journal.len(), journal.start()])
+}
+
+fn seen_of_shared<L: Round, R: Wait>(rt: &R, alloc: Global, shared: Shared<L, CellPayload>) -> Seen
+    requires in_parts { L.start.in_parts ≡ true }
+    requires may_end { L.start.may_end ≡ true }
+{
+    let Shared {
+        store,
+        mut sessions,
+        mut keeper,
+    } = shared;
+    let told = tell(rt, alloc, &store, &mut keeper, &mut sessions);
+    let locked = store.into_locked();
+    let entered = locked.entered();
+    let closed = locked.close(sessions).ok();
+    let entries = entries_of(entered, closed.as_ref());
+    drop(closed);
+    (told, entries)
+}
+
+fn seen_of_store<L: Round, R: Wait>(
+    rt: &R,
+    alloc: Global,
+    blank: Blank,
+    store: Store<CellPayload>,
+) -> Seen
+    requires shareable { MayShare L.name L.parts L.start blank store }
+    requires in_parts { L.start.in_parts ≡ true }
+    requires may_end { L.start.may_end ≡ true }
+{
+    match SharedStore::<L, CellPayload>::new(alloc, blank, store) {
+        Ok(shared) => seen_of_shared(rt, alloc, shared),
+        Err(_) => (None, None),
+    }
+}
+
+// Shares the store, so that its keeper may take parts and end workers.
+fn share<R: Wait>(rt: &R, alloc: Global, store: Store<CellPayload>) -> Seen {
+    let blank = Blank::new(store.opening().max_vertices() + 1);
+    seen_of_store::<Brand, R>(rt, alloc, blank, store)
+}
+
+fn story<R: Wait>(rt: &R, alloc: Global) -> Seen {
+    match open_store(alloc) {
+        Some(store) => share(rt, alloc, store),
+        None => (None, None),
+    }
+}
+
+// What is told of the store while it is shared.
+fn while_shared<R: Wait>(rt: &R, alloc: Global) -> Option<Told> {
+    story(rt, alloc).0
+}
+
+// The labels, where they were told; and so on.
+fn labels<R: Wait>(rt: &R, alloc: Global) -> Option<[u8; 2]> {
+    Some(while_shared(rt, alloc)?.labels)
+}
+
+fn parts<R: Wait>(rt: &R, alloc: Global) -> Option<[Part; 2]> {
+    Some(while_shared(rt, alloc)?.parts)
+}
+
+fn taken_over<R: Wait>(rt: &R, alloc: Global) -> Option<[bool; 2]> {
+    Some(while_shared(rt, alloc)?.taken_over)
+}
+
+fn ended<R: Wait>(rt: &R, alloc: Global) -> Option<(Option<u64>, Option<ApplyFault>)> {
+    Some(while_shared(rt, alloc)?.ended)
+}
+
+// A session is told the label of its own worker.
+#[test]
+fn labels_are_told(rt: HostRuntime) {
+    assert_eq!(rt; labels(&rt, rt.alloc()), Some([3, 0]));
+}
+
+// A part begins where the last one ended, and the receipts so far match the first.
+#[test]
+fn a_journal_is_taken_in_parts(rt: HostRuntime) {
+    assert_eq!(rt; parts(&rt, rt.alloc()), Some([(0, 1, true), (1, 4, false)]));
+}
+
+// A session with a receipt isn't taken over, and then it is.
+#[test]
+fn a_session_is_taken_over(rt: HostRuntime) {
+    assert_eq!(rt; taken_over(&rt, rt.alloc()), Some([false, true]));
+}
+
+// A worker that is ended gives up its edge, and its session is answered that there is no such worker.
+#[test]
+fn a_worker_is_ended(rt: HostRuntime) {
+    let wanted = (Some(1), Some(ApplyFault::NoSuchWorker));
+    assert_eq!(rt; ended(&rt, rt.alloc()), Some(wanted));
+}
+
+// The store is closed without the session that was taken over, and with that of the worker that was ended; it holds
+// the entries that are in no part.
+#[test]
+fn a_shared_store_is_cut_and_closes(rt: HostRuntime) {
+    assert_eq!(rt; story(&rt, rt.alloc()).1, Some([2, 7, 4]));
+}

@@ -1,0 +1,128 @@
+//! Scripts in memory: replies of any length, and a race whose workers have threads of their own.
+ghost use Rattle.tg_script.specs.Counting.{MayCountInMemory};
+
+use crate::meet::Meet;
+use std::alloc::{AllocError, Global};
+use std::marker::Brand;
+use std::sync::Wait;
+use std::sync::ledger::{Blank, Ledger};
+use std::test::Fail;
+use std::thread::Threads;
+use tg_payload::{CellPayload, Draft};
+use tg_script::{
+    Bytes, Count, Helpers, Limits, OneThread, ScriptFault, Settings, Written, drafts_of,
+    run_in_memory,
+};
+use tg_threads::{RaceFault, Turnstile, run_race};
+
+// How many turns a worker waits for another one that is to come.
+const MANY_TURNS: u64 = 100_000_000;
+
+// The settings of a run of two workers, who make no vertex.
+fn settings() -> Option<Settings> {
+    let limits = Limits::new(2, 2).ok()?;
+    Some(Settings {
+        workers: 2,
+        helpers: Helpers::one(),
+        max_vertices: 2,
+        limits,
+    })
+}
+
+// What two workers store: cells with 0.
+fn cells(alloc: Global) -> Option<Vec<Draft<CellPayload>>> {
+    let cells = vec![in alloc; CellPayload::new(0), CellPayload::new(0)].ok()?;
+    drafts_of(alloc, cells).ok()
+}
+
+// As many lines as have more than 65,536 bytes of replies.
+fn many_lines(alloc: Global) -> Result<Vec<u8>, AllocError> {
+    let mut lines = Vec::new(alloc);
+    for _ in 0..4_000 {
+        lines.extend_from_slice(b"0 read 9\n")?;
+    }
+    Ok(lines)
+}
+
+// How many bytes a run of the script writes, and how it ends.
+fn length_written(alloc: Global, script: &[u8]) -> Option<(usize, Result<(), ScriptFault>)> {
+    let settings = settings()?;
+    let cells = cells(alloc)?;
+    if settings.workers != 2 || cells.len() != 2 {
+        return None;
+    }
+    let ran = run_in_memory(alloc, &OneThread, script, settings, cells, Vec::new(alloc));
+    Some((ran.written.len(), ran.outcome))
+}
+
+// What is written to memory may be long.
+#[test]
+fn long_replies(rt: HostRuntime) -> Result<(), Fail> {
+    let lines = many_lines(rt.alloc())?;
+    assert_eq!(rt; length_written(rt.alloc(), &lines), Some((76_000, Ok(()))));
+    Ok(())
+}
+
+// Runs the script as a race of the two, and answers how it ends. The counts of the source and of the sink are those of
+// the ledgers A and F.
+fn race_counted<A: Ledger, F: Ledger, G: Turnstile + Sync, R: Threads + Wait + Sync>(
+    rt: &R,
+    alloc: Global,
+    turnstile: &G,
+    script: &[u8],
+    asked: Blank,
+    failures: Blank,
+) -> Option<Result<(), RaceFault>>
+    requires countable { MayCountInMemory A.name A.parts F.name F.parts asked failures }
+{
+    let settings = settings()?;
+    let cells = cells(alloc)?;
+    if settings.workers != 2 || cells.len() != 2 {
+        return None;
+    }
+    let mut source = Bytes::new(script, Count::<A>::new(asked));
+    let mut sink = Written::new(alloc, Count::<F>::new(failures));
+    let stock = Vec::new(alloc);
+    Some(run_race(
+        rt,
+        alloc,
+        &mut source,
+        &mut sink,
+        turnstile,
+        settings,
+        cells,
+        stock,
+    ))
+}
+
+// The same, with counts of its own.
+fn race<G: Turnstile + Sync, R: Threads + Wait + Sync>(
+    rt: &R,
+    alloc: Global,
+    turnstile: &G,
+    script: &[u8],
+) -> Option<Result<(), RaceFault>> {
+    let (asked, failures) = (Blank::new(1), Blank::new(1));
+    race_counted::<Brand, Brand, G, R>(rt, alloc, turnstile, script, asked, failures)
+}
+
+// How a race of the script ends whose workers meet at a turnstile, and whether one missed the other within so many
+// turns.
+fn missed_within<R: Threads + Wait + Sync>(
+    rt: &R,
+    alloc: Global,
+    script: &[u8],
+    turns: u64,
+) -> Option<(Result<(), RaceFault>, bool)> {
+    let turnstile = Meet::of(alloc, 2, turns).ok()?;
+    let ended = race(rt, alloc, &turnstile, script)?;
+    Some((ended, turnstile.is_missed()))
+}
+
+// Two workers meet at a turnstile, and lines of one thread can't.
+#[test]
+fn workers_at_one_gate(rt: HostRuntime) {
+    let two = missed_within(&rt, rt.alloc(), b"0 list\n1 list\n", MANY_TURNS);
+    let one = missed_within(&rt, rt.alloc(), b"0 list\n0 list\n", 1000);
+    assert_eq!(rt; [two, one], [Some((Ok(()), false)), Some((Ok(()), true))]);
+}
