@@ -7,9 +7,13 @@ use Rattle.tg_could.specs.Turns.{Turn}
 use Rattle.tg_text.specs.Deeds.{deed_line}
 use Rattle.tg_text.specs.Grammar.{line_text}
 
+-- a line with its line feed
+abbrev pub ended : List ℕ → List ℕ
+ended line = line ++ 10 ∷ []
+
 -- a turn as a line of a script, with its line feed
 abbrev pub turn_text : Turn → List ℕ
-turn_text turn = line_text (deed_line turn.0 turn.1) ++ 10 ∷ []
+turn_text turn = ended (line_text (deed_line turn.0 turn.1))
 
 -- the words behind the number of names that are wanting
 abbrev pub more_text : ℕ → List ℕ

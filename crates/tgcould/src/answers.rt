@@ -3,7 +3,7 @@
 use crate::ask::{Scene, Told, tell};
 use crate::options::Asked;
 use crate::text::put;
-use std::alloc::{AllocError, Global};
+use std::alloc::Global;
 
 /// A question that was answered.
 #[derive(Clone, Copy)]
@@ -40,31 +40,36 @@ impl<'a> Answers<'a> {
     }
 
     /// Adds the answers to the questions. Where there are several, each stands behind its question, and an empty line
-    /// behind it. Fails only when out of memory.
-    pub fn add_all(&mut self, scene: &Scene, questions: &[Asked<'a>]) -> Result<(), AllocError> {
+    /// behind it. False only when out of memory.
+    pub fn add_all(&mut self, scene: &Scene, questions: &[Asked<'a>]) -> bool {
         let are_several = questions.len() > 1;
         for asked in questions {
-            if are_several {
-                self.head(asked.text)?;
-            }
-            self.add(scene, *asked)?;
-            if are_several {
-                put(&mut self.text, b"\n")?;
+            if !self.add_next(scene, *asked, are_several) {
+                return false;
             }
         }
-        Ok(())
+        true
+    }
+
+    // Adds the answer to a question, one of several or the only one.
+    fn add_next(&mut self, scene: &Scene, asked: Asked<'a>, are_several: bool) -> bool {
+        if are_several {
+            self.head(asked.text) && self.add(scene, asked) && put(&mut self.text, b"\n")
+        } else {
+            self.add(scene, asked)
+        }
     }
 
     // Adds a question, in front of its answer.
-    fn head(&mut self, text: &str) -> Result<(), AllocError> {
-        put(&mut self.text, text.as_bytes())?;
-        put(&mut self.text, b": ")
+    fn head(&mut self, text: &str) -> bool {
+        put(&mut self.text, text.as_bytes()) && put(&mut self.text, b": ")
     }
 
     // Adds the answer to a question.
-    fn add(&mut self, scene: &Scene, asked: Asked<'a>) -> Result<(), AllocError> {
-        let told = tell(&mut self.text, scene, asked.question)?;
-        self.all.push(Answered { asked, told })?;
-        Ok(())
+    fn add(&mut self, scene: &Scene, asked: Asked<'a>) -> bool {
+        match tell(&mut self.text, scene, asked.question) {
+            Some(told) => self.all.push(Answered { asked, told }).is_ok(),
+            None => false,
+        }
     }
 }

@@ -1,5 +1,5 @@
 //! What is asked of a picture, and told.
-ghost use Rattle.std.specs.Prelude.{◌≡◌, ℕ, IfOk, OnOk, IsTrue};
+ghost use Rattle.std.specs.Prelude.{◌≡◌, ℕ, IfOk, OnSome, IsTrue};
 ghost use Rattle.std.specs.List.{Contains};
 ghost use Rattle.tg_could.specs.Told.{IsLeftOut};
 ghost use Rattle.tgcould.specs.Told.{Answers, IsNever, LeavesOut, ListsWho, TellsHold, named_in};
@@ -12,7 +12,7 @@ use tg_model::{Deed, Picture};
 use tg_rights::{Right, Rights};
 
 // All rights, in the order of their letters.
-const RIGHTS: [Right; 8] = [
+const RIGHTS: &[Right] = &[
     Right::R,
     Right::W,
     Right::T,
@@ -45,8 +45,8 @@ pub struct Told {
     pub made: u64,
 }
 
-/// Adds the answer to a question. Fails only when out of memory.
-pub fn tell(text: &mut Vec<u8>, scene: &Scene, question: Question) -> Result<Told, AllocError> {
+/// Adds the answer to a question. `None` only when out of memory.
+pub fn tell(text: &mut Vec<u8>, scene: &Scene, question: Question) -> Option<Told> {
     match question {
         Question::Hold { x, right, y } => tell_hold(text, scene, x, right, y),
         Question::Who { right, y } => tell_who(text, scene, right, y),
@@ -72,29 +72,29 @@ fn ask(scene: &Scene, x: u64, right: Right, y: u64) -> Result<Answer, AllocError
 }
 
 // Adds whether x could come to hold the right over y.
-fn tell_hold(
-    text: &mut Vec<u8>,
-    scene: &Scene,
-    x: Vertex,
-    right: Right,
-    y: Vertex,
-) -> Result<Told, AllocError>
-    ensures { OnOk result (TellsHold scene.now.picture.now scene.now.silent.now
+fn tell_hold(text: &mut Vec<u8>, scene: &Scene, x: Vertex, right: Right, y: Vertex) -> Option<Told>
+    ensures { OnSome result (TellsHold scene.now.picture.now scene.now.silent.now
         (named_in scene.now.picture.now x) right (named_in scene.now.picture.now y) text.old.items text.new.items) }
 {
-    let answer = ask(scene, name_of(scene, x), right, name_of(scene, y))?;
-    add_answer(text, &answer)?;
-    Ok(told_of(&answer))
+    match ask(scene, name_of(scene, x), right, name_of(scene, y)) {
+        Ok(answer) => add_answer(text, &answer).then_some(told_of(&answer)),
+        Err(_) => None,
+    }
 }
 
 // What was told by an answer.
 fn told_of(answer: &Answer) -> Told {
-    Told {
-        is_never: matches!(answer, Answer::Never(_)),
-        is_open: matches!(answer, Answer::Open),
-        made: match answer {
-            Answer::Could(turns) | Answer::WantsNames { turns, .. } => { makings(turns.as_slice()) }
-            _ => 0,
+    match answer {
+        Answer::Never(_) => listed(true),
+        Answer::Could(turns) | Answer::WantsNames { turns, .. } => Told {
+            is_never: false,
+            is_open: false,
+            made: makings(turns.as_slice()),
+        },
+        Answer::Open => Told {
+            is_never: false,
+            is_open: true,
+            made: 0,
         },
     }
 }
@@ -111,24 +111,21 @@ fn makings(turns: &[(u64, Deed)]) -> u64 {
 }
 
 // Adds who could come to hold the right over y.
-fn tell_who(
-    text: &mut Vec<u8>,
-    scene: &Scene,
-    right: Right,
-    y: Vertex,
-) -> Result<Told, AllocError> {
-    let names = who(scene, right, name_of(scene, y))?;
-    add_who(text, scene.picture.made(), names.as_slice())
+fn tell_who(text: &mut Vec<u8>, scene: &Scene, right: Right, y: Vertex) -> Option<Told> {
+    match who(scene, right, name_of(scene, y)) {
+        Ok(names) => add_who(text, scene.picture.made(), names.as_slice()),
+        Err(_) => None,
+    }
 }
 
 // Adds these names, or that there are none.
-fn add_who(text: &mut Vec<u8>, made: u64, names: &[u64]) -> Result<Told, AllocError> {
-    if names.is_empty() {
-        put(text, b"nobody\n")?;
+fn add_who(text: &mut Vec<u8>, made: u64, names: &[u64]) -> Option<Told> {
+    let is_added = if names.is_empty() {
+        put(text, b"nobody\n")
     } else {
-        add_names(text, made, names)?;
-    }
-    Ok(listed(names.is_empty()))
+        add_names(text, made, names)
+    };
+    is_added.then_some(listed(names.is_empty()))
 }
 
 // What was told by a list.
@@ -141,39 +138,65 @@ fn listed(is_never: bool) -> Told {
 }
 
 // Adds names, with a space between two.
-fn add_names(text: &mut Vec<u8>, made: u64, names: &[u64]) -> Result<(), AllocError> {
+fn add_names(text: &mut Vec<u8>, made: u64, names: &[u64]) -> bool {
     let first = text.len();
     for name in names {
-        add_space(text, first)?;
-        add_vertex(text, made, *name)?;
+        if !add_name(text, first, made, *name) {
+            return false;
+        }
     }
     put(text, b"\n")
 }
 
+// Adds a name to the list that begins here.
+fn add_name(text: &mut Vec<u8>, first: usize, made: u64, name: u64) -> bool {
+    add_space(text, first) && add_vertex(text, made, name)
+}
+
 // Adds a space, unless the list that begins here is empty.
-fn add_space(text: &mut Vec<u8>, first: usize) -> Result<(), AllocError> {
-    if text.len() == first {
-        return Ok(());
-    }
-    put(text, b" ")
+fn add_space(text: &mut Vec<u8>, first: usize) -> bool {
+    text.len() == first || put(text, b" ")
 }
 
 // Of all vertices and the next, those of whom it isn't shown that they never hold the right over y.
 fn who(scene: &Scene, right: Right, y: u64) -> Result<Vec<u64>, AllocError>
     ensures { IfOk result (λ names. ListsWho scene.now.picture.now scene.now.silent.now right y names.items) }
 {
-    let mut names = Vec::new(scene.alloc);
-    let made = scene.picture.made();
-    let who = who_could(scene.alloc, scene.picture, scene.silent, right, y)?;
-    for x in 0..made {
-        add_unless_never(&mut names, scene, &who, x, right, y)?;
+    match who_could(scene.alloc, scene.picture, scene.silent, right, y) {
+        Ok(who) => listed_by(scene, &who, right, y),
+        Err(error) => Err(error),
     }
-    add_unless_never(&mut names, scene, &who, made, right, y)?;
-    Ok(names)
+}
+
+// The same, by the search that told of all at once.
+fn listed_by(scene: &Scene, who: &Who, right: Right, y: u64) -> Result<Vec<u64>, AllocError>
+    ensures { IfOk result (λ names. LeavesOut scene.now.picture.now scene.now.silent.now right y who.now →
+        ListsWho scene.now.picture.now scene.now.silent.now right y names.items) }
+{
+    let mut names = Vec::new(scene.alloc);
+    if add_all_but_never(&mut names, scene, who, right, y) {
+        Ok(names)
+    } else {
+        Err(AllocError)
+    }
+}
+
+// Adds all those of whom it isn't shown. False only when out of memory.
+fn add_all_but_never(names: &mut Vec<u64>, scene: &Scene, who: &Who, right: Right, y: u64) -> bool
+    ensures { IsTrue result → LeavesOut scene.now.picture.now scene.now.silent.now right y who.now →
+        ListsWho scene.now.picture.now scene.now.silent.now right y names.new.items }
+{
+    let made = scene.picture.made();
+    for x in 0..made {
+        if !add_unless_never(names, scene, who, x, right, y) {
+            return false;
+        }
+    }
+    add_unless_never(names, scene, who, made, right, y)
 }
 
 // Adds x, unless it is shown that x never holds the right over y: by the search that told of all at once, else by one
-// of its own.
+// of its own. False only when out of memory.
 fn add_unless_never(
     names: &mut Vec<u64>,
     scene: &Scene,
@@ -181,19 +204,19 @@ fn add_unless_never(
     x: u64,
     right: Right,
     y: u64,
-) -> Result<(), AllocError>
-    ensures kept { OnOk result ((k : ℕ) → Contains names.old.items k → Contains names.new.items k) }
-    ensures shown { OnOk result (LeavesOut scene.now.picture.now scene.now.silent.now right y who.now →
-        (¬ Contains names.new.items x) → IsNever scene.now.picture.now scene.now.silent.now x right y) }
+) -> bool
+    ensures kept { IsTrue result → (k : ℕ) → Contains names.old.items k → Contains names.new.items k }
+    ensures shown { IsTrue result → LeavesOut scene.now.picture.now scene.now.silent.now right y who.now →
+        (¬ Contains names.new.items x) → IsNever scene.now.picture.now scene.now.silent.now x right y }
 {
     if is_left_out(who, x) {
-        return Ok(());
+        return true;
     }
-    if is_never(scene, x, right, y)? {
-        return Ok(());
+    match is_never(scene, x, right, y) {
+        Ok(true) => true,
+        Ok(false) => names.push(x).is_ok(),
+        Err(_) => false,
     }
-    names.push(x)?;
-    Ok(())
 }
 
 // Whether it is shown that x never holds the right over y.
@@ -218,53 +241,65 @@ fn is_left_out(who: &Who, x: u64) -> bool
 }
 
 // Adds which rights x could come to hold, and over whom.
-fn tell_what(text: &mut Vec<u8>, scene: &Scene, x: Vertex) -> Result<Told, AllocError> {
+fn tell_what(text: &mut Vec<u8>, scene: &Scene, x: Vertex) -> Option<Told> {
     let first = text.len();
-    add_what(text, scene, name_of(scene, x))?;
+    let is_added = add_what(text, scene, name_of(scene, x));
     let is_never = text.len() == first;
-    put(text, if is_never { b"nothing\n" } else { b"\n" })?;
-    Ok(listed(is_never))
+    let end: &[u8] = if is_never { b"nothing\n" } else { b"\n" };
+    (is_added && put(text, end)).then_some(listed(is_never))
 }
 
 // Adds each vertex over which x could come to hold a right, with these rights, and a space between two.
-fn add_what(text: &mut Vec<u8>, scene: &Scene, x: u64) -> Result<(), AllocError> {
-    let first = text.len();
-    let told = what_could(scene.alloc, scene.picture, scene.silent, x)?;
-    for y in 0..=scene.picture.made() {
-        let rights = what(scene, &told, x, y)?;
-        add_held(text, first, scene.picture.made(), y, rights)?;
+fn add_what(text: &mut Vec<u8>, scene: &Scene, x: u64) -> bool {
+    match what_could(scene.alloc, scene.picture, scene.silent, x) {
+        Ok(told) => add_all_held(text, scene, &told, x),
+        Err(_) => false,
     }
-    Ok(())
+}
+
+// The same, by the search that told of all at once.
+fn add_all_held(text: &mut Vec<u8>, scene: &Scene, told: &What, x: u64) -> bool {
+    let first = text.len();
+    for y in 0..=scene.picture.made() {
+        if !add_held(text, first, scene, told, x, y) {
+            return false;
+        }
+    }
+    true
 }
 
 // Adds a vertex and the rights over it, unless there are none, to the list that begins here.
-fn add_held(
-    text: &mut Vec<u8>,
-    first: usize,
-    made: u64,
-    y: u64,
-    rights: Rights,
-) -> Result<(), AllocError> {
-    if rights.is_empty() {
-        return Ok(());
+fn add_held(text: &mut Vec<u8>, first: usize, scene: &Scene, told: &What, x: u64, y: u64) -> bool {
+    match what(scene, told, x, y) {
+        Ok(rights) => {
+            rights.is_empty()
+                || (add_name(text, first, scene.picture.made(), y) && add_rights(text, rights))
+        }
+        Err(_) => false,
     }
-    add_space(text, first)?;
-    add_vertex(text, made, y)?;
-    add_rights(text, rights)
 }
 
-// The rights of which it isn't shown that x never holds them over y: by the search that told of all at once, else by
-// one of its own.
+// The rights of which it isn't shown that x never holds them over y.
 fn what(scene: &Scene, told: &What, x: u64, y: u64) -> Result<Rights, AllocError> {
     let mut rights = Rights::empty();
     for right in RIGHTS {
-        let could = match told.of(right, y) {
-            Chance::Never => false,
-            Chance::Perhaps => !is_never(scene, x, right, y)?,
-        };
-        if could {
-            rights = rights.union(Rights::of(right));
+        match could(scene, told, x, *right, y) {
+            Ok(true) => rights = rights.union(Rights::of(*right)),
+            Ok(false) => (),
+            Err(error) => return Err(error),
         }
     }
     Ok(rights)
+}
+
+// Whether it isn't shown that x never holds the right over y: by the search that told of all at once, else by one of
+// its own.
+fn could(scene: &Scene, told: &What, x: u64, right: Right, y: u64) -> Result<bool, AllocError> {
+    match told.of(right, y) {
+        Chance::Never => Ok(false),
+        Chance::Perhaps => match is_never(scene, x, right, y) {
+            Ok(never) => Ok(!never),
+            Err(error) => Err(error),
+        },
+    }
 }

@@ -21,41 +21,38 @@ use clap::ArgMatches;
 use fault::AskFault;
 use options::{AskOptions, Asked, BadValue, COMMAND_LINE};
 use std::alloc::{AllocError, Global};
+use std::io;
 use std::process::ExitCode;
-use std::{env, io};
 use tg_model::{Edge, Picture};
-use tg_plain::{PlainRun, Script, print_error, read_words};
+use tg_plain::{PlainRun, Program, Script, obey};
 
 fn main(rt: HostRuntime) -> ExitCode {
-    match obey(&rt) {
-        Ok(status) => ExitCode::from(status),
-        Err(AskFault::WasSaid) => ExitCode::from(2),
-        Err(fault) => {
-            let _ = eprintln!(rt; "tgcould: {fault}");
-            ExitCode::from(fault.status())
+    ExitCode::from(obey(&rt, &COMMAND_LINE, &Asking))
+}
+
+// The program.
+#[derive(Clone, Copy)]
+struct Asking;
+
+impl<R: AllocGlobal + Print + Eprint + Input> Program<R> for Asking {
+    fn run(&self, rt: &R, matches: &ArgMatches) -> u8 {
+        match answer_matches(rt, rt.alloc(), matches) {
+            Ok(status) => status,
+            Err(AskFault::WasSaid) => 2,
+            Err(fault) => {
+                let _ = eprintln!(rt; "tgcould: {fault}");
+                fault.status()
+            }
         }
     }
 }
 
-// Does what the command line asks for. The exit status. Each word has to be text.
-fn obey(rt: &HostRuntime) -> Result<u8, AskFault> {
-    let Ok(words) = env::args(rt) else {
-        return Err(AskFault::BadWords);
-    };
-    let words: Vec<String> = words.collect(rt.alloc())?;
-    obey_words(rt, words.as_slice())
-}
-
-// Does what the words ask for. The exit status.
-fn obey_words(rt: &HostRuntime, words: &[String]) -> Result<u8, AskFault> {
-    match read_words(rt.alloc(), &COMMAND_LINE, words) {
-        Ok(matches) => answer_matches(rt, rt.alloc(), &matches),
-        Err(error) => Ok(print_error(rt, &error)?),
-    }
-}
-
-// Does what these options ask for. The exit status.
-fn answer_matches(rt: &HostRuntime, alloc: Global, matches: &ArgMatches) -> Result<u8, AskFault> {
+// Answers what these options ask. The exit status.
+fn answer_matches<R: Print + Eprint + Input>(
+    rt: &R,
+    alloc: Global,
+    matches: &ArgMatches,
+) -> Result<u8, AskFault> {
     let options = AskOptions::of(alloc, matches);
     answer(rt, alloc, &options)
 }
@@ -174,16 +171,28 @@ fn answer_on<R: Print + Eprint>(
     boxes: u64,
 ) -> Result<u8, AskFault> {
     let mut answers = Answers::new(scene.alloc);
-    answers.add_all(scene, questions)?;
-    rt.write_all(answers.text.as_slice())?;
-    Ok(note_all(rt, answers.all.as_slice(), boxes)?)
+    if answers.add_all(scene, questions) {
+        print(rt, &answers, boxes).map_err(AskFault::Stream)
+    } else {
+        Err(AskFault::OutOfMemory(AllocError))
+    }
+}
+
+// Prints these answers. The exit status.
+fn print<R: Print + Eprint>(rt: &R, answers: &Answers, boxes: u64) -> io::Result<u8> {
+    match rt.write_all(answers.text.as_slice()) {
+        Ok(()) => note_all(rt, answers.all.as_slice(), boxes),
+        Err(error) => Err(error),
+    }
 }
 
 // Says of each answer on standard error what is to be said there. The exit status.
 fn note_all<R: Eprint>(rt: &R, answered: &[Answered], boxes: u64) -> io::Result<u8> {
     let mut status = 0;
     for answer in answered {
-        note(rt, answer, boxes)?;
+        if let Err(error) = note(rt, answer, boxes) {
+            return Err(error);
+        }
         if answer.is_breach() {
             status = 1;
         }
@@ -195,13 +204,16 @@ fn note_all<R: Eprint>(rt: &R, answered: &[Answered], boxes: u64) -> io::Result<
 // about could.
 fn note<R: Eprint>(rt: &R, answer: &Answered, boxes: u64) -> io::Result<()> {
     let more = answer.told.made.saturating_sub(boxes);
-    if more > 0 {
-        say_stock(rt, answer.asked.text, more)?;
+    let said = if more > 0 {
+        say_stock(rt, answer.asked.text, more)
+    } else {
+        Ok(())
+    };
+    if said.is_ok() && answer.is_breach() {
+        say_breach(rt, answer)
+    } else {
+        said
     }
-    if answer.is_breach() {
-        return say_breach(rt, answer);
-    }
-    Ok(())
 }
 
 // Says on standard error that an answer's lines want so many boxes more.
