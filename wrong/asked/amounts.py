@@ -65,14 +65,15 @@ NAMED = {
     ("tgdot/src/draft.rt", "pad", "first.saturating_add(columns)"): "the longest text of a kind that is drawn",
     ("tg_could/src/plan.rt", "make_names", "last.saturating_add(1)"): "a turn for each name up to the one that is asked about, which is 65,536 ahead at most",
     ("tg_could/src/walks.rt", "hand_on", "start"): "a place in the list",
-    ("tg_could/src/incoming.rt", "bounds_of", "bound.1"):
-        "how many of the entries have this target, of those that there are",
     # Loops that end where there is no more.
     ("tg_could/src/search.rt", "go_back", "NONE"): "a step that was found each",
     ("tg_shared/src/session.rt", "audit_all", "audit_all"):
         "nothing grows there: a function that asks for memory has the name of one that is called",
     ("tg_could/src/search.rt", "spread", "NONE"): "a step that was found each",
-    ("tg_could/src/walks.rt", "search", "u64::MAX"): "an edge along a path each",
+    ("tg_could/src/search.rt", "leave", "NONE"): "an edge of the vertex each",
+    ("tg_could/src/search.rt", "enter", "NONE"): "the same",
+    ("tg_could/src/walks.rt", "begin", "u64::MAX"): "an edge along a path each",
+    ("tg_could/src/walks.rt", "hand_on_at", "NONE"): "a take edge of the vertex each",
     ("tg_entries/src/stream.rt", "audit_lines", "u64::MAX"): "a line of the reader each",
     ("tg_plain/src/script.rt", "read", "u64::MAX"): "a line of the input each",
     ("tg_evac/src/copies.rt", "scan", "while next<claimer.len()"): "a cell that was won each",

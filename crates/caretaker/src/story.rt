@@ -48,7 +48,7 @@ pub fn run_story<P: Payload, R: Print + AllocGlobal>(
     } = boxes;
     let mut store = open_store(rt.alloc(), caretaker, visitor, rights)?;
     let told = tell_story(rt, &mut store, document);
-    drop(store);
+    store.let_go();
     told
 }
 

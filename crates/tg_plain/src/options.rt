@@ -4,7 +4,6 @@ use clap::builder::ValueParser;
 use clap::{Arg, ArgAction, ArgMatches, Command, Error};
 use std::alloc::{AllocError, Global};
 use std::convert::AsStr;
-use std::io;
 use tg_model::{MAX_VERTICES, MAX_WORKERS};
 
 /// An option of a command line.
@@ -87,20 +86,14 @@ pub struct CommandLine {
     pub choices: &'static [Choice],
 }
 
-/// Reads the words, the first of which is the program's name: the options that are found in them. An `Err` is the text
-/// for the user, of the help as of a fault, or want of memory.
-pub fn read_words<'a, S: AsStr>(
+// Reads the words, the first of which is the program's name: the options that are found in them. An `Err` is the text
+// for the user, of the help as of a fault, or want of memory.
+pub(crate) fn read_words<'a, S: AsStr>(
     alloc: Global,
     line: &CommandLine,
     words: &'a [S],
 ) -> Result<ArgMatches<'a>, Error> {
     command(alloc, line)?.try_get_matches_from(words)
-}
-
-/// Prints the text of an `Err` of [`read_words`]. The exit status.
-pub fn print_error<R: Print + Eprint>(rt: &R, error: &Error) -> io::Result<u8> {
-    error.print(rt)?;
-    Ok(error.exit_code() as u8)
 }
 
 // The command line, as clap has it.

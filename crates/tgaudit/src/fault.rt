@@ -8,26 +8,13 @@ use thiserror::Error;
 /// Why the program ends early: the line on standard error, after its name.
 #[derive(Clone, Copy, Debug, Error)]
 pub enum AuditEnd {
-    /// There was no memory for a buffer or the words.
+    /// There was no memory for a buffer.
     #[error("out of memory")]
     OutOfMemory(#[from(alloc)] AllocError),
-    /// The words of the command line can't be had as text.
-    #[error("bad words")]
-    BadWords,
     /// The text isn't that of a legal history, or can't be read.
     #[error(transparent)]
     Text(#[from] TextFault),
     /// Standard output failed.
     #[error(transparent)]
     Stream(#[from] io::Error),
-}
-
-impl AuditEnd {
-    /// The exit status: 2 where the words of the command line are at fault, else 1.
-    pub fn status(&self) -> u8 {
-        match self {
-            AuditEnd::BadWords => 2,
-            _ => 1,
-        }
-    }
 }

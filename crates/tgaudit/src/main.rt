@@ -8,45 +8,40 @@
 mod fault;
 mod words;
 
+use clap::ArgMatches;
 use fault::AuditEnd;
-use std::env;
 use std::io::BufReader;
 use std::process::ExitCode;
 use tg_entries::audit_text;
-use words::read_words;
+use tg_plain::{Program, obey};
+use words::COMMAND_LINE;
 
 // How many bytes are read at once.
 const BLOCK: usize = 65536;
 
 fn main(rt: HostRuntime) -> ExitCode {
-    match obey(&rt) {
-        Ok(status) => ExitCode::from(status),
-        Err(end) => {
-            let _ = eprintln!(rt; "tgaudit: {end}");
-            ExitCode::from(end.status())
-        }
-    }
+    ExitCode::from(obey(&rt, &COMMAND_LINE, &Auditing))
 }
 
-// Does what the command line asks for. The exit status. Each word has to be text.
-fn obey(rt: &HostRuntime) -> Result<u8, AuditEnd> {
-    let Ok(words) = env::args(rt) else {
-        return Err(AuditEnd::BadWords);
-    };
-    let words: Vec<String> = words.collect(rt.alloc())?;
-    match read_words(rt.alloc(), words.as_slice()) {
-        Ok(()) => audit(rt),
-        Err(error) => {
-            error.print(rt)?;
-            Ok(error.exit_code() as u8)
+// The program.
+#[derive(Clone, Copy)]
+struct Auditing;
+
+impl Program<HostRuntime> for Auditing {
+    fn run(&self, rt: &HostRuntime, _matches: &ArgMatches) -> u8 {
+        match audit(rt) {
+            Ok(()) => 0,
+            Err(end) => {
+                let _ = eprintln!(rt; "tgaudit: {end}");
+                1
+            }
         }
     }
 }
 
 // Audits the text on standard input, and says how many entries it has.
-fn audit(rt: &HostRuntime) -> Result<u8, AuditEnd> {
+fn audit(rt: &HostRuntime) -> Result<(), AuditEnd> {
     let mut reader = BufReader::with_capacity(rt.alloc(), BLOCK, rt.stdin())?;
     let count = audit_text(rt.alloc(), &mut reader)?;
-    println!(rt; "audit ok, {count} entries")?;
-    Ok(0)
+    Ok(println!(rt; "audit ok, {count} entries")?)
 }

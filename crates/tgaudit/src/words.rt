@@ -1,8 +1,6 @@
 //! The words of the command line.
 
-use clap::{Command, Error};
-use std::alloc::Global;
-use std::convert::AsStr;
+use tg_plain::CommandLine;
 
 const ABOUT: &str =
     "Audits the text of a history: its opening, and a line for each entry with its reply
@@ -38,12 +36,10 @@ Example:
   printf 'kovshenul entries 1\\nopening 1 9\\nworker c0\\n0 create r c5 = ok 1\\n0 read 1 = ok 5\\nentries 2\\n' | tgaudit
   writes 'audit ok, 2 entries'.";
 
-/// Reads the words, the first of which is the program's name: there are no options but for the help. An `Err` is the
-/// text for the user, of the help as of a fault.
-pub fn read_words<S: AsStr>(alloc: Global, words: &[S]) -> Result<(), Error> {
-    let command = Command::new(alloc, "tgaudit").about(ABOUT).after_help(FORM);
-    match command.try_get_matches_from(words) {
-        Ok(_) => Ok(()),
-        Err(error) => Err(error),
-    }
-}
+/// The command line: there are no options but for the help.
+pub const COMMAND_LINE: CommandLine = CommandLine {
+    name: "tgaudit",
+    about: ABOUT,
+    manual: FORM,
+    choices: &[],
+};

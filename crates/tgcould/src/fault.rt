@@ -11,9 +11,6 @@ pub enum AskFault {
     /// There was no memory for a list, an answer or the graph.
     #[error("out of memory")]
     OutOfMemory(#[from(alloc)] AllocError),
-    /// The words of the command line can't be had as text.
-    #[error("bad words")]
-    BadWords,
     /// A word of an option was none of its own, and that was said.
     #[error("bad words")]
     WasSaid,
@@ -32,7 +29,7 @@ impl AskFault {
     /// The exit status: 2 where the words of the command line are at fault, else 1.
     pub fn status(&self) -> u8 {
         match self {
-            AskFault::BadWords | AskFault::WasSaid | AskFault::NoQuestion => 2,
+            AskFault::WasSaid | AskFault::NoQuestion => 2,
             AskFault::Plain(fault) => fault.status(),
             _ => 1,
         }

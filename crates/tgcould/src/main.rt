@@ -21,41 +21,38 @@ use clap::ArgMatches;
 use fault::AskFault;
 use options::{AskOptions, Asked, BadValue, COMMAND_LINE};
 use std::alloc::{AllocError, Global};
+use std::io;
 use std::process::ExitCode;
-use std::{env, io};
 use tg_model::{Edge, Picture};
-use tg_plain::{PlainRun, Script, print_error, read_words};
+use tg_plain::{PlainRun, Program, Script, obey};
 
 fn main(rt: HostRuntime) -> ExitCode {
-    match obey(&rt) {
-        Ok(status) => ExitCode::from(status),
-        Err(AskFault::WasSaid) => ExitCode::from(2),
-        Err(fault) => {
-            let _ = eprintln!(rt; "tgcould: {fault}");
-            ExitCode::from(fault.status())
+    ExitCode::from(obey(&rt, &COMMAND_LINE, &Asking))
+}
+
+// The program.
+#[derive(Clone, Copy)]
+struct Asking;
+
+impl<R: AllocGlobal + Print + Eprint + Input> Program<R> for Asking {
+    fn run(&self, rt: &R, matches: &ArgMatches) -> u8 {
+        match answer_matches(rt, rt.alloc(), matches) {
+            Ok(status) => status,
+            Err(AskFault::WasSaid) => 2,
+            Err(fault) => {
+                let _ = eprintln!(rt; "tgcould: {fault}");
+                fault.status()
+            }
         }
     }
 }
 
-// Does what the command line asks for. The exit status. Each word has to be text.
-fn obey(rt: &HostRuntime) -> Result<u8, AskFault> {
-    let Ok(words) = env::args(rt) else {
-        return Err(AskFault::BadWords);
-    };
-    let words: Vec<String> = words.collect(rt.alloc())?;
-    obey_words(rt, words.as_slice())
-}
-
-// Does what the words ask for. The exit status.
-fn obey_words(rt: &HostRuntime, words: &[String]) -> Result<u8, AskFault> {
-    match read_words(rt.alloc(), &COMMAND_LINE, words) {
-        Ok(matches) => answer_matches(rt, rt.alloc(), &matches),
-        Err(error) => Ok(print_error(rt, &error)?),
-    }
-}
-
-// Does what these options ask for. The exit status.
-fn answer_matches(rt: &HostRuntime, alloc: Global, matches: &ArgMatches) -> Result<u8, AskFault> {
+// Answers what these options ask. The exit status.
+fn answer_matches<R: Print + Eprint + Input>(
+    rt: &R,
+    alloc: Global,
+    matches: &ArgMatches,
+) -> Result<u8, AskFault> {
     let options = AskOptions::of(alloc, matches);
     answer(rt, alloc, &options)
 }

@@ -11,9 +11,6 @@ pub enum DrawFault {
     /// There was no memory for a list, a line or the graph.
     #[error("out of memory")]
     OutOfMemory(#[from(alloc)] AllocError),
-    /// The words of the command line can't be had as text.
-    #[error("bad words")]
-    BadWords,
     /// The script isn't run, or ends at a bad line.
     #[error(transparent)]
     Plain(#[from] PlainFault),
@@ -35,7 +32,7 @@ impl DrawFault {
     /// The exit status: 2 where the words of the command line are at fault, else 1.
     pub fn status(&self) -> u8 {
         match self {
-            DrawFault::BadWords | DrawFault::BadRange { .. } => 2,
+            DrawFault::BadRange { .. } => 2,
             DrawFault::Plain(fault) => fault.status(),
             _ => 1,
         }

@@ -27,43 +27,33 @@ mod run;
 mod shot;
 mod steps;
 
+use clap::ArgMatches;
 use draft::Draft;
 use drawing::write_last;
 use fault::DrawFault;
 use options::{COMMAND_LINE, DotOptions, LineRange, options_of};
 use std::alloc::Global;
-use std::env;
 use std::process::ExitCode;
 use steps::write_steps;
-use tg_plain::{Script, print_error, read_words};
+use tg_plain::{Program, Script, obey};
 
 fn main(rt: HostRuntime) -> ExitCode {
-    match obey(&rt) {
-        Ok(status) => ExitCode::from(status),
-        Err(fault) => {
-            let _ = eprintln!(rt; "tgdot: {fault}");
-            ExitCode::from(fault.status())
-        }
-    }
+    ExitCode::from(obey(&rt, &COMMAND_LINE, &Plotting))
 }
 
-// Does what the command line asks for. The exit status. Each word has to be text.
-fn obey(rt: &HostRuntime) -> Result<u8, DrawFault> {
-    let Ok(words) = env::args(rt) else {
-        return Err(DrawFault::BadWords);
-    };
-    let words: Vec<String> = words.collect(rt.alloc())?;
-    obey_words(rt, words.as_slice())
-}
+// The program.
+#[derive(Clone, Copy)]
+struct Plotting;
 
-// Does what the words ask for. The exit status.
-fn obey_words(rt: &HostRuntime, words: &[String]) -> Result<u8, DrawFault> {
-    match read_words(rt.alloc(), &COMMAND_LINE, words) {
-        Ok(matches) => {
-            draw_script(rt, rt.alloc(), options_of(&matches))?;
-            Ok(0)
+impl<R: AllocGlobal + Print + Eprint + Input> Program<R> for Plotting {
+    fn run(&self, rt: &R, matches: &ArgMatches) -> u8 {
+        match draw_script(rt, rt.alloc(), options_of(matches)) {
+            Ok(()) => 0,
+            Err(fault) => {
+                let _ = eprintln!(rt; "tgdot: {fault}");
+                fault.status()
+            }
         }
-        Err(error) => Ok(print_error(rt, &error)?),
     }
 }
 

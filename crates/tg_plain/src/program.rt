@@ -1,0 +1,56 @@
+//! A program with a command line: from its words to its exit status.
+
+use crate::fault::PlainFault;
+use crate::options::{CommandLine, read_words};
+use clap::{ArgMatches, Error};
+use std::rt::Env;
+use std::{env, io};
+
+/// What a program does with the options that were found in its words.
+pub trait Program<R> {
+    /// Does what they ask for. The exit status.
+    fn run(&self, rt: &R, matches: &ArgMatches) -> u8;
+}
+
+/// Has the program do what the words of its command line ask for, or prints its help, or what is wrong with the words.
+/// Each word has to be text. The exit status.
+pub fn obey<R, P>(rt: &R, line: &CommandLine, program: &P) -> u8
+where
+    R: AllocGlobal + Env + Print + Eprint,
+    P: Program<R>,
+{
+    match obey_words(rt, line, program) {
+        Ok(status) => status,
+        Err(fault) => {
+            let _ = eprintln!(rt; "{}: {fault}", line.name);
+            fault.status()
+        }
+    }
+}
+
+// The same, or why the words can't be had, or the text of an error wasn't printed.
+fn obey_words<R, P>(rt: &R, line: &CommandLine, program: &P) -> Result<u8, PlainFault>
+where
+    R: AllocGlobal + Env + Print + Eprint,
+    P: Program<R>,
+{
+    let words = words_of(rt)?;
+    match read_words(rt.alloc(), line, words.as_slice()) {
+        Ok(matches) => Ok(program.run(rt, &matches)),
+        Err(error) => Ok(print_error(rt, &error)?),
+    }
+}
+
+// The words of the command line.
+fn words_of<R: AllocGlobal + Env>(rt: &R) -> Result<Vec<String>, PlainFault> {
+    match env::args(rt) {
+        Ok(words) => Ok(words.collect(rt.alloc())?),
+        Err(_) => Err(PlainFault::BadWords),
+    }
+}
+
+// Prints the text of an error. The exit status.
+fn print_error<R: Print + Eprint>(rt: &R, error: &Error) -> io::Result<u8> {
+    error.print(rt)?;
+    Ok(error.exit_code() as u8)
+}
