@@ -135,6 +135,12 @@ impl<P: Payload> Desk<P> {
         Ok(answered(&mut self.store, OWNER, write)?)
     }
 
+    /// Lets the desk go, with its store.
+    pub fn let_go(self) {
+        let Desk { store, .. } = self;
+        store.let_go();
+    }
+
     /// The owner puts a number into the thing. Answers the store's reply.
     pub fn change(&mut self, value: u64) -> Result<Reply, DeskFault>
         ensures left { shown_at self.new ≡ shown_at self.old }
@@ -181,12 +187,17 @@ fn desk_of<P: Payload>(
 ) -> Result<Desk<P>, StoreFault>
     requires untaken { IsUntaken OWNER (graph_of_store store) }
 {
-    let names = furnish(&mut store, rights, thing, stand_in)?;
-    Ok(Desk {
-        store,
-        thing: names.0,
-        stand_in: names.1,
-    })
+    match furnish(&mut store, rights, thing, stand_in) {
+        Ok(names) => Ok(Desk {
+            store,
+            thing: names.0,
+            stand_in: names.1,
+        }),
+        Err(fault) => {
+            store.let_go();
+            Err(fault)
+        }
+    }
 }
 
 // A store of this opening. Nobody may take from its owner.
@@ -214,9 +225,16 @@ fn furnish<P: Payload>(
     requires untaken { IsUntaken OWNER (graph_of_store store.old) }
     ensures { IfOk result (λ names. IsKept (record { store = store.new; thing = names.0; stand_in = names.1 })) }
 {
-    let thing = made(store, rights, thing)?;
-    let stand_in = made(store, rights, stand_in)?;
-    Ok((thing, stand_in))
+    match made(store, rights, thing) {
+        Ok(thing) => match made(store, rights, stand_in) {
+            Ok(stand_in) => Ok((thing, stand_in)),
+            Err(fault) => Err(fault),
+        },
+        Err(fault) => {
+            drop(stand_in);
+            Err(fault)
+        }
+    }
 }
 
 // The name of a vertex that the owner has made, which is its own alone.

@@ -15,7 +15,7 @@ pub fn run_story<R: Print + AllocGlobal>(rt: &R) -> Result<(), StoryFault> {
     let alloc = rt.alloc();
     let mut desk = open_desk(alloc, label("g")?, label("rw")?)?;
     let told = tell_story(rt, &mut desk);
-    drop(desk);
+    desk.let_go();
     told
 }
 
@@ -31,10 +31,16 @@ fn tell_story<R: Print + AllocGlobal>(
     Ok(())
 }
 
-// The client is handed the right to read what stands in, and asks for more.
-fn hand_out<R: Print>(rt: &R, desk: &mut Desk<CellPayload>) -> Result<(), StoryFault> {
+// The owner hands the right to read what stands in to the client.
+fn hand<R: Print>(rt: &R, desk: &mut Desk<CellPayload>) -> Result<(), StoryFault> {
     let handed = desk.hand_out(CLIENT)?;
     tell_reply(rt, "owner hands r over the stand-in out", &handed)?;
+    Ok(())
+}
+
+// The client is handed the right to read what stands in, and asks for more.
+fn hand_out<R: Print>(rt: &R, desk: &mut Desk<CellPayload>) -> Result<(), StoryFault> {
+    hand(rt, desk)?;
     let thing = desk.thing();
     ask(
         rt,
@@ -68,11 +74,16 @@ fn serve<R: Print>(rt: &R, desk: &mut Desk<CellPayload>) -> Result<(), StoryFaul
 
 // The owner empties what stands in, and stops.
 fn take_back<R: Print>(rt: &R, desk: &mut Desk<CellPayload>) -> Result<(), StoryFault> {
-    let emptied = desk.put(0)?;
-    tell_reply(rt, "owner empties the stand-in", &emptied)?;
+    empty(rt, desk)?;
     change(rt, desk, 42)?;
     read(rt, desk, CLIENT, "client reads the stand-in")?;
     read(rt, desk, FRIEND, "friend reads the stand-in")
+}
+
+fn empty<R: Print>(rt: &R, desk: &mut Desk<CellPayload>) -> Result<(), StoryFault> {
+    let emptied = desk.put(0)?;
+    tell_reply(rt, "owner empties the stand-in", &emptied)?;
+    Ok(())
 }
 
 fn fill<R: Print>(rt: &R, desk: &mut Desk<CellPayload>) -> Result<(), StoryFault> {

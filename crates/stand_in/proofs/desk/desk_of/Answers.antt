@@ -5,4 +5,4 @@ pub furnish-requires : goal.furnish-requires
 furnish-requires g c = record { untaken = c.requires.untaken }
 
 pub invariant_of-result : goal.invariant_of-result
-invariant_of-result g c = c.in_ok-names.ensures
+invariant_of-result g c = c.in-Ok.ensures

@@ -6,14 +6,14 @@ use Rattle.stand_in.proofs.desk.furnish.Goals as goal
 pub made-requires : goal.made-requires
 made-requires g c = record { untaken = c.requires.untaken }
 
-pub made-requires-2 : goal.made-requires-2
-made-requires-2 g c = record { untaken = (c.in_ok-thing.ensures.made each).untaken }
+pub made-requires-in-Ok : goal.made-requires-in-Ok
+made-requires-in-Ok g c = record { untaken = (c.in-Ok.ensures.made each).untaken }
 
-pub returns : goal.returns
-returns g c =
-    let thing = c.in_ok-thing.ensures.made each in
+pub returns-in-Ok-made : goal.returns-in-Ok-made
+returns-in-Ok-made g c =
+    let thing = c.in-Ok.ensures.made each in
     record {
-      apart = (λ same. let below = thing.made in let next = c.in_ok-stand_in.ensures.next in omega (arith, same, below, next));
-      thing = c.in_ok-stand_in.ensures.kept each c.in_ok-thing.thing thing;
-      stand_in = c.in_ok-stand_in.ensures.made changes;
+      apart = (λ same. let below = thing.made in let next = c.in-Ok-made.ensures.next in omega (arith, same, below, next));
+      thing = c.in-Ok-made.ensures.kept each c.in-Ok.thing thing;
+      stand_in = c.in-Ok-made.ensures.made changes;
     }
