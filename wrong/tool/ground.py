@@ -2,12 +2,13 @@
 import hashlib
 import re
 from collections.abc import Iterable, Iterator
+from dataclasses import dataclass
 from functools import lru_cache
 from pathlib import Path
 
 from .body import Body
 from .kit import ANSWERS, INVARIANTS
-from .source import FUNCTION, PUBLIC, Function, functions_as_they_are
+from .source import FUNCTION, PUBLIC, Function, functions_as_they_are, owner_at
 from .tree import Tree, files_below, read_text
 
 WORD = re.compile(r"[A-Za-z_]\w*")
@@ -22,9 +23,30 @@ DECLARED = re.compile(
     r"|impl\b.*? for (?:&|dyn )*(?:\w+::)*(\w+)|(?:\w+::)*\w+! "
 )
 MODEL = re.compile(r"^impl\b.*? Model for (\w+)")
+# What no other crate can name, as `declared` tells it.
+PRIVATE = re.compile(r"(?:struct|enum|trait|const|static|type) ")
 
-# A file of specs, as its crate and its path; or a word that stands for what a source declares.
-Cited = tuple[str, str] | str
+# The attributes in front of what stands behind an item.
+ATTRIBUTES = re.compile(r"(?:^#\[[^\]]*\]\n?)+\Z", re.M)
+
+
+@dataclass(frozen=True)
+class Spec:
+    """A file of a crate's specs, by its path."""
+
+    crate: str
+    path: str
+
+
+@dataclass(frozen=True)
+class Word:
+    """A word in a text of a crate, or that is cited of one."""
+
+    crate: str
+    text: str
+
+
+Named = Spec | Word
 
 
 class Ground:
@@ -54,13 +76,14 @@ class Ground:
         texts, files = self.checked(body)
         parts = {read_text(body.path), *texts}
         called = {name for text in texts for name in CALL.findall(text)}
+        standing = [(body.crate, text) for text in texts]
         for crate in crates:
-            for name, file, text in contracts(self.tree.source(crate)):
+            for name, file, text in contracts(self.tree.source(crate), crate == body.crate):
                 if name in called:
-                    texts.append(text)
+                    standing.append((crate, text))
                     parts.add(f"{crate} {file}: {text}")
                     files.add((crate, file))
-        return parts | self.named(crates, texts, files)
+        return parts | self.named(crates, standing, files)
 
     def functions_of(self, body: Body) -> list[Function]:
         there = functions_as_they_are(self.tree.source(body.crate))
@@ -83,33 +106,37 @@ class Ground:
             texts.append(code_of(source / file))
         return texts, files
 
-    def named(self, crates: list[str], texts: Iterable[str], files: Iterable[tuple[str, str]]) -> set[str]:
+    def named(
+        self, crates: list[str], texts: Iterable[tuple[str, str]], files: Iterable[tuple[str, str]]
+    ) -> set[str]:
         """What is declared under the words in these texts, and the specs that these files cite, with what is named and
-        cited there."""
+        cited there. Each text and each file stands behind its crate."""
         parts: set[str] = set()
-        known: set[Cited] = set()
-        todo: list[Cited] = [word for text in texts for word in (*WORD.findall(text), *cited(text))]
-        todo += [word for crate, file in files for word in cited(code_of(self.tree.source(crate) / file))]
+        known: set[Named] = set()
+        todo: list[Named] = [name for crate, text in texts for name in (*words_of(crate, text), *cited(text))]
+        todo += [name for crate, file in files for name in cited(code_of(self.tree.source(crate) / file))]
         declarations = {crate: declared(self.tree.source(crate), crate == crates[0]) for crate in crates}
         while todo:
-            word = todo.pop()
-            if word in known:
+            name = todo.pop()
+            if name in known:
                 continue
-            known.add(word)
-            for crate, text in self.standing_under(word, declarations):
-                parts.add(f"{crate} {word}: {text}")
+            known.add(name)
+            for crate, text in self.standing_under(name, declarations):
+                parts.add(f"{crate}: {text}")
                 todo += cited(text)
-                todo += WORD.findall(text) if isinstance(word, str) else ()
+                todo += words_of(crate, text) if isinstance(name, Word) else ()
         return parts
 
-    def standing_under(self, word: Cited, declarations: dict[str, dict[str, list[str]]]) -> Iterator[tuple[str, str]]:
-        """The texts that stand under a word in these crates, or the one that is cited, each with its crate."""
-        if isinstance(word, str):
+    def standing_under(self, name: Named, declarations: dict[str, dict[str, list[str]]]) -> Iterator[tuple[str, str]]:
+        """The texts that stand under a name in these crates, each with its crate. What isn't public is named in its own
+        crate alone."""
+        if isinstance(name, Word):
             for crate, by_name in declarations.items():
-                yield from ((crate, text) for text in by_name.get(word, ()))
-        elif word[0] in declarations:
-            crate, path = word
-            yield crate, code_of(self.tree.folder(crate) / f"specs/{path}.antt")
+                for text in by_name.get(name.text, ()):
+                    if crate == name.crate or not PRIVATE.match(text):
+                        yield crate, text
+        elif name.crate in declarations:
+            yield name.crate, code_of(self.tree.folder(name.crate) / f"specs/{name.path}.antt")
 
 
 def sum_over(texts: Iterable[str]) -> str:
@@ -124,28 +151,34 @@ def code_of(path: Path) -> str:
     return "\n".join(line for line in read_text(path).split("\n") if not re.match(r" *(//|--)", line))
 
 
+def words_of(crate: str, text: str) -> list[Named]:
+    return [Word(crate, word) for word in WORD.findall(text)]
+
+
 @lru_cache(maxsize=None)
-def cited(text: str) -> tuple[Cited, ...]:
+def cited(text: str) -> tuple[Named, ...]:
     """The files of specs that a text cites, and the words that stand for what a source file declares."""
-    found: list[Cited] = []
+    found: list[Named] = []
     for crate, path, names in CITES.findall(text):
         if path.startswith("declared"):
-            found += WORD.findall(f"{path} {names}")
+            found += words_of(crate, f"{path} {names}")
         else:
-            found.append((crate, path.replace(".", "/")))
+            found.append(Spec(crate, path.replace(".", "/")))
     return tuple(found)
 
 
 @lru_cache(maxsize=None)
-def contracts(source: Path) -> list[tuple[str, str, str]]:
+def contracts(source: Path, is_own: bool) -> list[tuple[str, str, str]]:
     """The name, the file and the contract of each function in the files below a folder: all that stands in front of its
-    body."""
+    body. Of a crate below only those that can be called from above: what is public, and what a trait has."""
     found = []
     for file in files_below(source, ".rt"):
         lines = code_of(source / file).split("\n")
+        owner: str | None = ""
         for number, line in enumerate(lines):
+            owner = owner_at(line, owner)
             head = HEAD.match(line)
-            if head:
+            if head and (is_own or owner is None or line.startswith("pub ", len(head[1]))):
                 indent, name = head.groups()
                 last = next(end for end in range(number, len(lines)) if is_last(lines[end], indent))
                 found.append((name, file, "\n".join(lines[number : last + 1])))
@@ -160,7 +193,8 @@ def is_last(line: str, indent: str) -> bool:
 @lru_cache(maxsize=None)
 def declared(source: Path, is_own: bool) -> dict[str, list[str]]:
     """What the files below a folder declare beside functions, by the names that are in it. A type of a crate below that
-    has a model is left out: what it is made of can't be named above."""
+    has a model is left out: what it is made of can't be named above. Which modules of a crate may name a field is no
+    matter."""
     items = [item for file in files_below(source, ".rt") for item in items_of(code_of(source / file))]
     modelled = {model[1] for item in items if (model := MODEL.match(item))}
     found: dict[str, list[str]] = {}
@@ -169,10 +203,17 @@ def declared(source: Path, is_own: bool) -> dict[str, list[str]]:
         is_hidden = not is_own and bool(TYPE.match(item) or MODEL.match(item))
         for name in names:
             if not is_hidden or name not in modelled:
-                found.setdefault(name, []).append(item.rstrip())
+                found.setdefault(name, []).append(item.rstrip().replace("pub(crate) ", ""))
     return found
 
 
 def items_of(text: str) -> list[str]:
-    """The texts of what a source declares beside functions."""
-    return [item for item in re.split(r"^(?=[^\s)\]}{>#])", text, flags=re.M) if DECLARED.match(item)]
+    """The texts of what a source declares beside functions, each with its attributes behind it."""
+    found, attributes = [], ""
+    for item in re.split(r"^(?=[^\s)\]}{>#])", text, flags=re.M):
+        behind = ATTRIBUTES.search(item)
+        own = item[: behind.start()] if behind else item
+        if DECLARED.match(own):
+            found.append(f"{own.rstrip()}\n{attributes}")
+        attributes = behind[0] if behind else ""
+    return found
