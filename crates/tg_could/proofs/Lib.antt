@@ -7,3 +7,6 @@ pub mod ToldLaws
 pub mod ListedLaws
 pub mod WordLaws
 pub mod ViewLaws
+pub mod MoveLaws
+pub mod ShareLaws
+pub mod LedLaws

@@ -7,3 +7,4 @@ pub mod Reached
 pub mod Told
 pub mod Listed
 pub mod View
+pub mod Led

@@ -1,15 +1,16 @@
 //! Laws of the definitions alone. A function here does nothing: what it ensures is the law.
-ghost use Rattle.std.specs.Prelude.{◌≡◌, ◌<◌, ℕ, List, Bool, true};
+ghost use Rattle.std.specs.Prelude.{◌≡◌, ◌≢◌, ◌+◌, ◌<◌, ℕ, List, Bool, true};
 ghost use Rattle.std.specs.List.{Contains};
 ghost use Rattle.tg_rights.specs.RightSet.{RightSet};
 ghost use Rattle.tg_rights.specs.declared.Right.{Right};
 ghost use Rattle.tg_model.specs.declared.command.Command.TheVariants.{Grant};
 ghost use Rattle.tg_model.specs.declared.command.Deed.TheVariants.{Plain};
-ghost use Rattle.tg_model.specs.Graph.{ProtectionGraph};
+ghost use Rattle.tg_model.specs.Graph.{ProtectionGraph, IsSound};
 ghost use Rattle.tg_model.specs.Picture.{Holds, IsMade, with_edge};
 ghost use Rattle.tg_model.specs.Rules.{Permits, step};
-ghost use Rattle.tg_could.specs.Turns.{IsSilent, NeverHolds};
+ghost use Rattle.tg_could.specs.Turns.{IsSilent, NeverHolds, CouldHold, with_names};
 ghost use Rattle.tg_could.specs.Separation.{Sides, Separates, IsConfined};
+ghost use Rattle.tg_could.specs.Led.{IsBrought, HasHelp};
 
 /// Where two sets part x from a right over y, x never holds it, whatever any who act do.
 pub fn the_separated_never_hold()
@@ -33,4 +34,12 @@ pub fn a_grant_is_asked_about_before_it_is_made()
         Contains silent host → Permits g.label g.value host (Grant rights via target) →
         NeverHolds silent (with_edge g via target rights) x right y →
         NeverHolds silent (step g host (Plain (Grant rights via target))) x right y }
+{}
+
+/// Where the walks of a search lead the right over y to x, x could come to hold it: with some more names there are turns
+/// of those who act behind which it does. No walk leads it past a separation, so what nothing parts could come about.
+pub fn what_is_brought_could_come_about()
+    ensures { (silent : List ℕ) (g : ProtectionGraph) (x : ℕ) (right : Right) (y : ℕ) →
+        IsSound g → x ≢ y → HasHelp (IsSilent silent g) g y → IsBrought (IsSilent silent g) right y g x →
+        (names : ℕ) × CouldHold silent (with_names g names) x right y }
 {}

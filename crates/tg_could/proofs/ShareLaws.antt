@@ -1,0 +1,243 @@
+-- Who acts and may get the right shares it with others, through objects that it makes.
+use Rattle.std.proofs.Common.{◌≡◌, ◌≢◌, ◌⊎◌, inl, inr, ⊎_elim, ℕ, ◌+◌, ◌<◌, ◌≤◌, refl, sym, ap, ◌∙◌, subst, arith}
+use Rattle.std.proofs.lemmas.Bool.Decides.{eqb_tells}
+use Rattle.tg_rights.specs.declared.Right.{Right}
+use Rattle.tg_rights.specs.declared.Right.TheVariants.{T, G}
+use Rattle.tg_model.specs.Graph.{ProtectionGraph}
+use Rattle.tg_model.specs.Picture.{Holds}
+use Rattle.tg_model.specs.Walks.{Walk, begins, goes}
+use Rattle.tg_could.specs.Turns.{Acts}
+use Rattle.tg_could.proofs.MoveLaws.{IsFit, Grows, Grows-self, Grows-on, Grows-acts, Leads, stays, leads_on, takes, grants, makes}
+
+-- two are one, or they aren't
+pub same_or_other : (a b : ℕ) → (a ≡ b) ⊎ (a ≢ b)
+same_or_other a b = ⊎_elim (λ k. inl k.1) (λ k. inr k.1) (eqb_tells a b)
+
+-- the right over y can be fetched out of an object: it holds it, or take over one who does
+pub record IsFull (right : Right) (y : ℕ) (h : ProtectionGraph) (box : ℕ) : Type 0 where
+  pub either : Holds h.label box right y ⊎ ((s : ℕ) × Holds h.label box T s × Holds h.label s right y)
+
+-- one who acts holds take and grant over an object that was made later, out of which the right can be fetched
+pub record HasBox (right : Right) (y : ℕ) (first : ℕ) (h : ProtectionGraph) (p : ℕ) : Type 0 where
+  pub box : ℕ
+  pub later : first ≤ box
+  pub take : Holds h.label p T box
+  pub grant : Holds h.label p G box
+  pub full : IsFull right y h box
+
+-- two hold take and grant over one object
+pub record AreLinked (link : ℕ) (h : ProtectionGraph) (p q : ℕ) : Type 0 where
+  pub take : Holds h.label p T link
+  pub grant : Holds h.label p G link
+  pub other_take : Holds h.label q T link
+  pub other_grant : Holds h.label q G link
+
+pub IsFull-on : (right : Right) (y : ℕ) (h k : ProtectionGraph) → ((a : ℕ) (q : Right) (b : ℕ) → Holds h.label a q b → Holds k.label a q b) → (box : ℕ) → IsFull right y h box → IsFull right y k box
+IsFull-on right y h k still box full = record {
+  either = ⊎_elim (λ is. inl (still box right y is))
+      (λ (s, taker, held). inr (s, still box T s taker, still s right y held)) full.either;
+}
+
+module _ (silent : ℕ → Type 0) (g : ProtectionGraph) where
+  -- a walk of take edges leads from p to a vertex
+  abbrev pub TakeWalk : ℕ → ℕ → Type 0
+  TakeWalk p = Walk (λ c. c ≡ p) (λ a b. Holds g.label a T b)
+
+  -- from each graph that has grown from the first one, some turns give p such an object
+  pub record Shares (right : Right) (y : ℕ) (p : ℕ) : Type 0 where
+    pub names : ℕ
+    pub share : (h : ProtectionGraph) → Grows g h → h.made + names ≤ h.limit → Leads silent h names (λ k. HasBox right y g.made k p)
+
+  module _ (h : ProtectionGraph) (grows : Grows g h) where
+    acts_on : (p : ℕ) → Acts silent g p → Acts silent h p
+    acts_on p acts = Grows-acts silent g h grows p acts
+
+    was_made : (p : ℕ) → Acts silent g p → p < h.made
+    was_made p acts = grows.fit.made.subjects p (acts_on p acts).0
+
+  -- ---- taking along a walk
+
+  -- who acts gets each right of a vertex that a walk leads to
+  pub gets : (h : ProtectionGraph) → Grows g h → (p : ℕ) → Acts silent g p → (v : ℕ) → TakeWalk p v → (q : Right) (z : ℕ) → Holds g.label v q z → p ≢ z → Leads silent h 0 (λ k. Holds k.label p q z)
+  gets h grows p acts v (begins at) q z held differ =
+      stays silent h grows.fit (subst (λ (c : ℕ). Holds h.label c q z) at (grows.labels v q z held))
+  gets h grows p acts v (goes {b = b} walk edge) q z held differ =
+      ⊎_elim
+      (λ same. stays silent h grows.fit (subst (λ (c : ℕ). Holds h.label c q z) (sym same) (grows.labels v q z held)))
+      (λ other.
+      leads_on silent h 0 0 0 (omega arith) (gets h grows p acts b walk T v edge other)
+      (λ k more used taker.
+      takes silent k more.fit p (acts_on k (Grows-on g h k grows more) p acts) v z q differ taker (more.labels v q z (grows.labels v q z held))))
+      (same_or_other p v)
+
+  -- and take over the vertex itself
+  comes_to : (h : ProtectionGraph) → Grows g h → (p : ℕ) → Acts silent g p → (v : ℕ) → TakeWalk p v → p ≢ v → Leads silent h 0 (λ k. Holds k.label p T v)
+  comes_to h grows p acts v (begins at) differ = absurd (differ (sym at))
+  comes_to h grows p acts v (goes {b = b} walk edge) differ = gets h grows p acts b walk T v edge differ
+
+  -- who holds take over one takes both take and grant of that one's over an object
+  takes_both : (h : ProtectionGraph) → Grows g h → (p : ℕ) → Acts silent g p → (via z : ℕ) → p ≢ z → Holds h.label p T via → Holds h.label via T z → Holds h.label via G z → Leads silent h 0 (λ k. Holds k.label p T z × Holds k.label p G z)
+  takes_both h grows p acts via z differ taker take grant =
+      leads_on silent h 0 0 0 (omega arith) (takes silent h grows.fit p (acts_on h grows p acts) via z T differ taker take)
+      (λ k more used got.
+      leads_on silent k 0 0 0 (omega arith)
+      (takes silent k more.fit p (acts_on k (Grows-on g h k grows more) p acts) via z G differ (more.labels p T via taker) (more.labels via G z grant))
+      (λ l last used_too got_too. stays silent l last.fit (last.labels p T z got, got_too)))
+
+  -- who holds grant over one grants to that one both take and grant over an object
+  grants_both : (h : ProtectionGraph) → Grows g h → (p : ℕ) → Acts silent g p → (via z : ℕ) → via ≢ z → Holds h.label p G via → Holds h.label p T z → Holds h.label p G z → Leads silent h 0 (λ k. Holds k.label via T z × Holds k.label via G z)
+  grants_both h grows p acts via z differ granter take grant =
+      leads_on silent h 0 0 0 (omega arith) (grants silent h grows.fit p (acts_on h grows p acts) via z T differ granter take)
+      (λ k more used got.
+      leads_on silent k 0 0 0 (omega arith)
+      (grants silent k more.fit p (acts_on k (Grows-on g h k grows more) p acts) via z G differ (more.labels p G via granter) (more.labels p G z grant))
+      (λ l last used_too got_too. stays silent l last.fit (last.labels via T z got, got_too)))
+
+  -- ---- links
+
+  module _ (p q : ℕ) (p_acts : Acts silent g p) (q_acts : Acts silent g q) (differ : p ≢ q) where
+    abbrev pub Link : Type 0
+    Link = (h : ProtectionGraph) → Grows g h → h.made < h.limit → Leads silent h 1 (λ k. AreLinked h.made k p q)
+
+    -- q comes to take over p, and takes what p made
+    pub link_by_walk : TakeWalk q p → Link
+    link_by_walk walk h grows room =
+        let p_made = was_made h grows p p_acts in
+        let q_made = was_made h grows q q_acts in
+        leads_on silent h 1 0 1 (omega arith) (makes silent h grows.fit p (acts_on h grows p p_acts) room)
+        (λ k more used (take, grant).
+        let from = Grows-on g h k grows more in
+        leads_on silent k 0 0 0 (omega arith) (comes_to k from q q_acts p walk (λ same. differ (sym same)))
+        (λ l more_l used_l taker.
+        let from_l = Grows-on g k l from more_l in
+        leads_on silent l 0 0 0 (omega arith)
+        (takes_both l from_l q q_acts p h.made (λ same. omega (arith, same, q_made)) taker (more_l.labels p T h.made take) (more_l.labels p G h.made grant))
+        (λ m more_m used_m (other_take, other_grant).
+        stays silent m more_m.fit (record {
+          take = more_m.labels p T h.made (more_l.labels p T h.made take);
+          grant = more_m.labels p G h.made (more_l.labels p G h.made grant);
+          other_take = other_take;
+          other_grant = other_grant;
+        }))))
+
+    -- p comes to grant over b and puts there what it made, and q is b or takes it from there
+    module _ (a b : ℕ) (to_a : TakeWalk p a) (granter : Holds g.label a G b) (to_b : TakeWalk q b) where
+      fetched : (h : ProtectionGraph) → Grows g h → (link : ℕ) → q < link → Holds h.label p T link → Holds h.label p G link → Holds h.label b T link → Holds h.label b G link → Leads silent h 0 (λ k. AreLinked link k p q)
+      fetched h grows link later take grant there_take there_grant =
+          ⊎_elim
+          (λ same. stays silent h grows.fit (record {
+            take = take;
+            grant = grant;
+            other_take = subst (λ (v : ℕ). Holds h.label v T link) (sym same) there_take;
+            other_grant = subst (λ (v : ℕ). Holds h.label v G link) (sym same) there_grant;
+          }))
+          (λ other.
+          leads_on silent h 0 0 0 (omega arith) (comes_to h grows q q_acts b to_b other)
+          (λ k more used taker.
+          leads_on silent k 0 0 0 (omega arith)
+          (takes_both k (Grows-on g h k grows more) q q_acts b link (λ same. omega (arith, same, later)) taker (more.labels b T link there_take) (more.labels b G link there_grant))
+          (λ l more_l used_l (other_take, other_grant).
+          stays silent l more_l.fit (record {
+            take = more_l.labels p T link (more.labels p T link take);
+            grant = more_l.labels p G link (more.labels p G link grant);
+            other_take = other_take;
+            other_grant = other_grant;
+          }))))
+          (same_or_other q b)
+
+      over_other : p ≢ b → Link
+      over_other other h grows room =
+          let q_made = was_made h grows q q_acts in
+          let b_made = (grows.fit.made.ends a b G (grows.labels a G b granter)).1 in
+          leads_on silent h 1 0 1 (omega arith) (makes silent h grows.fit p (acts_on h grows p p_acts) room)
+          (λ k more used (take, grant).
+          let from = Grows-on g h k grows more in
+          leads_on silent k 0 0 0 (omega arith) (gets k from p p_acts a to_a G b granter other)
+          (λ l more_l used_l holds.
+          let from_l = Grows-on g k l from more_l in
+          let take_l = more_l.labels p T h.made take in
+          let grant_l = more_l.labels p G h.made grant in
+          leads_on silent l 0 0 0 (omega arith)
+          (grants_both l from_l p p_acts b h.made (λ same. omega (arith, same, b_made)) holds take_l grant_l)
+          (λ m more_m used_m (there_take, there_grant).
+          fetched m (Grows-on g l m from_l more_m) h.made q_made (more_m.labels p T h.made take_l) (more_m.labels p G h.made grant_l) there_take there_grant)))
+
+      pub link_over : Link
+      link_over =
+          ⊎_elim (λ same. link_by_walk (subst (TakeWalk q) (sym same) to_b)) over_other (same_or_other p b)
+
+  -- ---- handing on
+
+  -- p hands on its object through a link
+  module _ (right : Right) (y : ℕ) (p q : ℕ) (p_acts : Acts silent g p) (q_acts : Acts silent g q) where
+    hands_on : (h : ProtectionGraph) → Grows g h → HasBox right y g.made h p → q < g.made → (k : ProtectionGraph) → Grows h k → AreLinked h.made k p q → Leads silent k 0 (λ l. HasBox right y g.made l q)
+    hands_on h grows has q_made k more linked =
+        let box_made = (grows.fit.made.ends p has.box T has.take).1 in
+        let grown = grows.made in
+        let from = Grows-on g h k grows more in
+        let later = has.later in
+        leads_on silent k 0 0 0 (omega arith)
+        (grants_both k from p p_acts h.made has.box (λ same. omega (arith, same, box_made)) linked.grant (more.labels p T has.box has.take) (more.labels p G has.box has.grant))
+        (λ l more_l used_l (there_take, there_grant).
+        let from_l = Grows-on g k l from more_l in
+        leads_on silent l 0 0 0 (omega arith)
+        (takes_both l from_l q q_acts h.made has.box (λ same. omega (arith, same, later, q_made)) (more_l.labels q T h.made linked.other_take) there_take there_grant)
+        (λ m more_m used_m (take, grant).
+        stays silent m more_m.fit (record {
+          box = has.box;
+          later = has.later;
+          take = take;
+          grant = grant;
+          full = IsFull-on right y l m more_m.labels has.box (IsFull-on right y k l more_l.labels has.box (IsFull-on right y h k more.labels has.box has.full));
+        })))
+
+    pub shares_on : Shares right y p → ((h : ProtectionGraph) → Grows g h → h.made < h.limit → Leads silent h 1 (λ k. AreLinked h.made k p q)) → q < g.made → Shares right y q
+    shares_on shares link q_made = record {
+      names = shares.names + 1;
+      share = λ h grows room.
+          let n = shares.names in
+          leads_on silent h n 1 (n + 1) (omega arith) (shares.share h grows (omega (arith, room)))
+          (λ k more used has.
+          let from = Grows-on g h k grows more in
+          let wide = more.limit in
+          leads_on silent k 1 0 1 (omega arith) (link k from (omega (arith, room, used, wide)))
+          (λ l more_l used_l linked. hands_on k from has q_made l more_l linked));
+    }
+
+  -- ---- where it begins
+
+  module _ (right : Right) (y : ℕ) (p s : ℕ) (acts : Acts silent g p) (source : Holds g.label s right y) where
+    -- p makes an object, and puts a right into it
+    puts : (h : ProtectionGraph) → Grows g h → h.made < h.limit → (q : Right) (z : ℕ) → Holds h.label p q z → ((k : ProtectionGraph) → Grows h k → (box : ℕ) → Holds k.label box q z → IsFull right y k box) → Leads silent h 1 (λ k. HasBox right y g.made k p)
+    puts h grows room q z held fills =
+        let z_made = (grows.fit.made.ends p z q held).1 in
+        leads_on silent h 1 0 1 (omega arith) (makes silent h grows.fit p (acts_on h grows p acts) room)
+        (λ k more used (take, grant).
+        leads_on silent k 0 0 0 (omega arith)
+        (grants silent k more.fit p (acts_on k (Grows-on g h k grows more) p acts) h.made z q (λ same. omega (arith, same, z_made)) grant (more.labels p q z held))
+        (λ l more_l used_l there.
+        stays silent l more_l.fit (record {
+          box = h.made;
+          later = grows.made;
+          take = more_l.labels p T h.made take;
+          grant = more_l.labels p G h.made grant;
+          full = fills l (Grows-on h k l more more_l) h.made there;
+        })))
+
+    pub shares_first : TakeWalk p s → Shares right y p
+    shares_first walk = record {
+      names = 1;
+      share = λ h grows room.
+          ⊎_elim
+          (λ same.
+          puts h grows (omega (arith, room)) right y (subst (λ (v : ℕ). Holds h.label v right y) (sym same) (grows.labels s right y source))
+          (λ k more box there. record { either = inl there }))
+          (λ other.
+          leads_on silent h 0 1 1 (omega arith) (comes_to h grows p acts s walk other)
+          (λ k more used taker.
+          let from = Grows-on g h k grows more in
+          let wide = more.limit in
+          puts k from (omega (arith, room, used, wide)) T s taker
+          (λ l more_l box there. record { either = inr (s, there, more_l.labels s right y (from.labels s right y source)) })))
+          (same_or_other p s);
+    }
