@@ -213,8 +213,8 @@ module _ (silent : ℕ → Type 0) where
 
 -- ---- what is brought could come about
 
--- the rights of a graph that is sound
-IsFit-sound : (g : ProtectionGraph) → IsSound g → IsFit g
+-- a sound graph is fit
+pub IsFit-sound : (g : ProtectionGraph) → IsSound g → IsFit g
 IsFit-sound g sound = record {
   made = record {
     subjects = sound.subjects_made;

@@ -10,3 +10,4 @@ pub mod ViewLaws
 pub mod MoveLaws
 pub mod ShareLaws
 pub mod LedLaws
+pub mod ExactLaws

@@ -1,5 +1,5 @@
 //! Laws of the definitions alone. A function here does nothing: what it ensures is the law.
-ghost use Rattle.std.specs.Prelude.{◌≡◌, ◌≢◌, ◌+◌, ◌<◌, ℕ, List, Bool, true};
+ghost use Rattle.std.specs.Prelude.{◌≡◌, ◌≢◌, ◌⊎◌, ◌<◌, ℕ, List, Bool, true};
 ghost use Rattle.std.specs.List.{Contains};
 ghost use Rattle.tg_rights.specs.RightSet.{RightSet};
 ghost use Rattle.tg_rights.specs.declared.Right.{Right};
@@ -37,9 +37,25 @@ pub fn a_grant_is_asked_about_before_it_is_made()
 {}
 
 /// Where the walks of a search lead the right over y to x, x could come to hold it: with some more names there are turns
-/// of those who act behind which it does. No walk leads it past a separation, so what nothing parts could come about.
+/// of those who act behind which it does. Where nobody but y acts it takes room for one subject more.
 pub fn what_is_brought_could_come_about()
     ensures { (silent : List ℕ) (g : ProtectionGraph) (x : ℕ) (right : Right) (y : ℕ) →
         IsSound g → x ≢ y → HasHelp (IsSilent silent g) g y → IsBrought (IsSilent silent g) right y g x →
         (names : ℕ) × CouldHold silent (with_names g names) x right y }
+{}
+
+/// Of x and y that were made one of two is so: two sets part x from the right over y, or walks lead it to x.
+pub fn what_is_not_brought_is_parted()
+    ensures { (silent : List ℕ) (g : ProtectionGraph) (x : ℕ) (right : Right) (y : ℕ) →
+        IsMade g → x < g.made → y < g.made →
+        ((s : Sides) × Separates (IsSilent silent g) s x right y g) ⊎ IsBrought (IsSilent silent g) right y g x }
+{}
+
+/// So each question about x and y that were made has an answer: x never holds the right over y, however many vertices may
+/// yet be made; or where enough may, it could come to hold it.
+pub fn each_question_has_an_answer()
+    ensures { (silent : List ℕ) (g : ProtectionGraph) (x : ℕ) (right : Right) (y : ℕ) →
+        IsSound g → x < g.made → y < g.made →
+        ((names : ℕ) → NeverHolds silent (with_names g names) x right y) ⊎
+        ((names : ℕ) × CouldHold silent (with_names g names) x right y) }
 {}

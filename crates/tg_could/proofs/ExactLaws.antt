@@ -1,0 +1,388 @@
+-- Of each question one of two is so: two sets part x from the right, or the right is brought to x; so x never holds it, however
+-- many names there are, or could with some number of them.
+use Rattle.std.proofs.Common.{◌≡◌, ◌≢◌, ◌⊎◌, inl, inr, ⊎_elim, ℕ, zero, suc, ◌+◌, ◌<◌, ◌≤◌, ◌==◌, ◌||◌, Bool, true, false, List, [], ◌∷◌, length, get_or, refl, sym, ap, ◌∙◌, subst, arith, eq-eqb}
+use Rattle.std.proofs.lemmas.Bool.{eqb-true, ne_eqb, false≢true, cases_Bool, cases_eq, cases_lt}
+use Rattle.std.specs.List.{Contains}
+use Rattle.tg_rights.specs.RightSet.{has}
+use Rattle.tg_rights.specs.declared.Right.{Right}
+use Rattle.tg_rights.specs.declared.Right.TheVariants.{T, G}
+use Rattle.tg_model.specs.declared.opening.TheConstants.{MAX_WORKERS}
+use Rattle.tg_model.specs.Graph.{ProtectionGraph, IsSound}
+use Rattle.tg_model.specs.Picture.{Holds, IsMade}
+use Rattle.tg_model.proofs.PictureLaws.{or_true}
+use Rattle.tg_could.specs.Turns.{Acts, IsSilent, NeverHolds, CouldHold, with_names}
+use Rattle.tg_could.specs.Separation.{Sides, Keeps, Separates}
+use Rattle.tg_could.specs.Led.{Way, back, forward, Led, source, take_back, take_on, grant_on, grant_back, turns_forward, turns_back, IsBrought, is_held, is_got, is_given, HasHelp}
+use Rattle.tg_could.proofs.SeparationLaws.{parted-never}
+use Rattle.tg_could.proofs.StillLaws.{IsAlone, same-never, alone-never}
+use Rattle.tg_could.proofs.LedLaws.{IsFit-sound, brought_ends}
+
+-- ---- tests
+
+-- two things lead to a third, or they don't
+leads_or : (p q r : Bool) → (p ≡ true → q ≡ true → r ≡ true) ⊎ ((p ≡ true) × (q ≡ true) × (r ≡ false))
+leads_or true true true = inl (λ h k. refl)
+leads_or true true false = inr (refl, refl, refl)
+leads_or true false r = inl (λ h k. absurd (false≢true k))
+leads_or false q r = inl (λ h. absurd (false≢true h))
+
+-- two things don't both hold, or they do
+apart_or : (p q : Bool) → (p ≡ true → q ≡ true → ⊥) ⊎ ((p ≡ true) × (q ≡ true))
+apart_or true true = inr (refl, refl)
+apart_or true false = inl (λ h k. false≢true k)
+apart_or false q = inl (λ h. absurd (false≢true h))
+
+alike_or : (p q : Bool) → (p ≡ q) ⊎ ((p ≡ true) × (q ≡ false)) ⊎ ((p ≡ false) × (q ≡ true))
+alike_or true true = inl refl
+alike_or true false = inr (inl (refl, refl))
+alike_or false true = inr (inr (refl, refl))
+alike_or false false = inl refl
+
+-- each number below n has it, or something else was found
+each_or : {F : Type 0} (P : ℕ → Type 0) → ((k : ℕ) → P k ⊎ F) → (n : ℕ) → ((k : ℕ) → k < n → P k) ⊎ F
+each_or P one zero = inl (λ k low. absurd (omega (arith, low)))
+each_or P one (suc n) =
+    ⊎_elim
+    (λ below.
+    ⊎_elim
+    (λ here.
+    inl (λ k low.
+    ⊎_elim (λ (same : k ≡ n). subst P (sym same) here) (λ (other : k ≡ n → ⊥). below k (omega (arith, low, other))) (cases_eq k n)))
+    (λ found. inr found) (one n))
+    (λ found. inr found) (each_or P one n)
+
+-- a list has a number, or it hasn't
+contains_or : (xs : List ℕ) (x : ℕ) → Contains xs x ⊎ (Contains xs x → ⊥)
+contains_or [] x = inr (λ (k, inside, at). omega (arith, inside))
+contains_or (first ∷ xs) x =
+    ⊎_elim (λ (same : first ≡ x). inl (0, omega arith, same))
+    (λ other.
+    ⊎_elim (λ (k, inside, at). inl (suc k, omega (arith, inside), at))
+    (λ none. inr (λ (k, inside, at). neither k inside at other none)) (contains_or xs x))
+    (cases_eq first x)
+  where
+    neither : (k : ℕ) → k < length (first ∷ xs) → get_or (first ∷ xs) k x ≡ x → (first ≡ x → ⊥) → (Contains xs x → ⊥) → ⊥
+    neither zero inside at other none = other at
+    neither (suc k) inside at other none = none (k, omega (arith, inside), at)
+
+-- ---- who isn't in a set yet
+
+-- one where it isn't there
+one_out : Bool → ℕ
+one_out true = 0
+one_out false = 1
+
+-- how many numbers below n aren't in a set
+left_out : (ℕ → Bool) → ℕ → ℕ
+left_out f zero = 0
+left_out f (suc n) = one_out (f n) + left_out f n
+
+out_le : (p q : Bool) → (p ≡ true → q ≡ true) → one_out q ≤ one_out p
+unfolding one_out
+out_le true true on = omega arith
+out_le true false on = absurd (false≢true (on refl))
+out_le false true on = omega arith
+out_le false false on = omega arith
+
+out_lt : (p q : Bool) → p ≡ false → q ≡ true → one_out q < one_out p
+unfolding one_out
+out_lt true q h k = absurd (false≢true (sym h))
+out_lt false true h k = omega arith
+out_lt false false h k = absurd (false≢true k)
+
+module _ (f more : ℕ → Bool) (on : (c : ℕ) → f c ≡ true → more c ≡ true) where
+  left_le : (n : ℕ) → left_out more n ≤ left_out f n
+  unfolding left_out
+  left_le zero = omega arith
+  left_le (suc n) = let a = out_le (f n) (more n) (on n) in let b = left_le n in omega (arith, a, b)
+
+  left_less : (n v : ℕ) → v < n → f v ≡ false → more v ≡ true → left_out more n < left_out f n
+  unfolding left_out
+  left_less zero v low out into = absurd (omega (arith, low))
+  left_less (suc n) v low out into =
+      ⊎_elim
+      (λ (same : v ≡ n).
+      let a = out_lt (f n) (more n) (ap f (sym same) ∙ out) (ap more (sym same) ∙ into) in
+      let b = left_le n in
+      omega (arith, a, b))
+      (λ (other : v ≡ n → ⊥).
+      let a = out_le (f n) (more n) (on n) in
+      let b = left_less n v (omega (arith, low, other)) out into in
+      omega (arith, a, b))
+      (cases_eq v n)
+
+-- ---- two sets that hold none but those whom walks lead to
+
+-- whether a vertex is in the set of this way
+abbrev is_in : Sides → Way → ℕ → Bool
+is_in s back v = s.back v
+is_in s forward v = s.forward v
+
+-- with v in one of the sets
+abbrev with_one : Sides → Way → ℕ → Sides
+with_one s back v = record { forward = s.forward; back = λ c. s.back c || (c == v) }
+with_one s forward v = record { forward = λ c. s.forward c || (c == v); back = s.back }
+
+or_first : (p q : Bool) → p ≡ true → (p || q) ≡ true
+or_first true q h = refl
+or_first false q h = absurd (false≢true h)
+
+or_second : (p q : Bool) → q ≡ true → (p || q) ≡ true
+or_second true q h = refl
+or_second false q h = h
+
+module _ (silent : ℕ → Type 0) (right : Right) (y : ℕ) (g : ProtectionGraph) where
+  record HoldsLed (s : Sides) : Type 0 where
+    of : (way : Way) (v : ℕ) → is_in s way v ≡ true → Led silent right y g way v
+
+  -- one whom a walk leads to and who isn't in its set
+  record IsMissed (s : Sides) : Type 0 where
+    way : Way
+    v : ℕ
+    led : Led silent right y g way v
+    out : is_in s way v ≡ false
+
+  Led-made : IsMade g → (way : Way) (v : ℕ) → Led silent right y g way v → v < g.made
+  Led-made made way v (source held) = (made.ends v y right held).0
+  Led-made made way v (take_back {b = b} edge led) = (made.ends v b T edge).0
+  Led-made made way v (take_on {a = a} edge led) = (made.ends a v T edge).1
+  Led-made made way v (grant_on {a = a} edge led) = (made.ends a v G edge).1
+  Led-made made way v (grant_back {b = b} edge led) = (made.ends v b G edge).0
+  Led-made made way v (turns_forward acts led) = made.subjects v acts.0
+  Led-made made way v (turns_back acts led) = made.subjects v acts.0
+
+  HoldsLed-with_one : (s : Sides) → HoldsLed s → (way : Way) (v : ℕ) → Led silent right y g way v → HoldsLed (with_one s way v)
+  HoldsLed-with_one s holds back v led = record { of = λ way c is. by_way way c is }
+    where
+      by_way : (way : Way) (c : ℕ) → is_in (with_one s back v) way c ≡ true → Led silent right y g way c
+      by_way back c is =
+          ⊎_elim (λ old. holds.of back c old) (λ new. subst (Led silent right y g back) (sym (eqb-true c v new)) led) (or_true (s.back c) (c == v) is)
+      by_way forward c is = holds.of forward c is
+  HoldsLed-with_one s holds forward v led = record { of = λ way c is. by_way way c is }
+    where
+      by_way : (way : Way) (c : ℕ) → is_in (with_one s forward v) way c ≡ true → Led silent right y g way c
+      by_way back c is = holds.of back c is
+      by_way forward c is =
+          ⊎_elim (λ old. holds.of forward c old) (λ new. subst (Led silent right y g forward) (sym (eqb-true c v new)) led) (or_true (s.forward c) (c == v) is)
+
+  -- how many are in neither set
+  abbrev room_in : Sides → ℕ
+  room_in s = left_out s.forward g.made + left_out s.back g.made
+
+  room_less : (s : Sides) (way : Way) (v : ℕ) → v < g.made → is_in s way v ≡ false → room_in (with_one s way v) < room_in s
+  room_less s back v made out =
+      let less = left_less s.back (λ c. s.back c || (c == v)) (λ c is. or_first (s.back c) (c == v) is) g.made v made out (or_second (s.back v) (v == v) (eq-eqb v v refl)) in
+      omega (arith, less)
+  room_less s forward v made out =
+      let less = left_less s.forward (λ c. s.forward c || (c == v)) (λ c is. or_first (s.forward c) (c == v) is) g.made v made out (or_second (s.forward v) (v == v) (eq-eqb v v refl)) in
+      omega (arith, less)
+
+  -- ---- what is wrong where two sets don't part
+
+  module _ (x : ℕ) (s : Sides) (holds : HoldsLed s) where
+    abbrev Fault : Type 0
+    Fault = IsMissed s ⊎ IsBrought silent right y g x
+
+    missed : (way : Way) (v : ℕ) → Led silent right y g way v → is_in s way v ≡ false → Fault
+    missed way v led out = inl (record { way = way; v = v; led = led; out = out })
+
+    -- an edge leads out of neither set, or to one who is missed
+    edge_or : (a b : ℕ) → Keeps s right y g.label a b ⊎ Fault
+    edge_or a b =
+        ⊎_elim (λ take_on_h.
+        ⊎_elim (λ take_back_h.
+        ⊎_elim (λ grant_on_h.
+        ⊎_elim (λ grant_back_h.
+        ⊎_elim (λ source_h.
+        inl (record {
+          take_on = take_on_h;
+          take_back = take_back_h;
+          grant_on = grant_on_h;
+          grant_back = grant_back_h;
+          source = λ h at_y. source_h h (eq-eqb b y at_y);
+        }))
+        (λ (h, at_y, out). inr (missed back a (source (subst (λ (v : ℕ). Holds g.label a right v) (eqb-true b y at_y) h)) out))
+        (leads_or (has (g.label a b) right) (b == y) (s.back a)))
+        (λ (h, is, out). inr (missed back a (grant_back h (holds.of forward b is)) out))
+        (leads_or (has (g.label a b) G) (s.forward b) (s.back a)))
+        (λ (h, is, out). inr (missed back b (grant_on h (holds.of forward a is)) out))
+        (leads_or (has (g.label a b) G) (s.forward a) (s.back b)))
+        (λ (h, is, out). inr (missed back a (take_back h (holds.of back b is)) out))
+        (leads_or (has (g.label a b) T) (s.back b) (s.back a)))
+        (λ (h, is, out). inr (missed forward b (take_on h (holds.of forward a is)) out))
+        (leads_or (has (g.label a b) T) (s.forward a) (s.forward b))
+
+    -- one who acts is in both sets or in none, or is missed in one
+    actor_or : (p : ℕ) → Acts silent g p ⊎ (Acts silent g p → ⊥) → (Acts silent g p → s.forward p ≡ s.back p) ⊎ Fault
+    actor_or p acts_or =
+        ⊎_elim
+        (λ acts.
+        ⊎_elim (λ same. inl (λ is. same))
+        (λ differ.
+        ⊎_elim (λ (is, out). inr (missed back p (turns_back acts (holds.of forward p is)) out))
+        (λ (out, is). inr (missed forward p (turns_forward acts (holds.of back p is)) out)) differ)
+        (alike_or (s.forward p) (s.back p)))
+        (λ none. inl (λ acts. absurd (none acts))) acts_or
+
+    given_or : (a : ℕ) → (Holds g.label a G x → ¬ (s.forward a ≡ true)) ⊎ Fault
+    given_or a =
+        ⊎_elim (λ apart. inl apart) (λ (h, is). inr (inr (is_given h (holds.of forward a is)))) (apart_or (has (g.label a x) G) (s.forward a))
+
+    taken_or : Acts silent g x ⊎ (Acts silent g x → ⊥) → (Acts silent g x → ¬ (s.back x ≡ true)) ⊎ Fault
+    taken_or acts_or =
+        ⊎_elim
+        (λ acts.
+        ⊎_elim (λ is. inr (inr (is_got acts (holds.of back x is)))) (λ out. inl (λ _ is. false≢true (sym out ∙ is))) (cases_Bool (s.back x)))
+        (λ none. inl (λ acts. absurd (none acts))) acts_or
+
+    held_or : (¬ Holds g.label x right y) ⊎ Fault
+    held_or =
+        ⊎_elim (λ is. inr (inr (is_held is))) (λ out. inl (λ is. false≢true (sym out ∙ is))) (cases_Bool (has (g.label x y) right))
+
+    -- the two sets part x from the right, or one is missed, or the right is brought to x
+    module _ (made : IsMade g) (x_made : x < g.made) (y_made : y < g.made) (decided : (p : ℕ) → Acts silent g p ⊎ (Acts silent g p → ⊥)) where
+      below_all : ((a : ℕ) → a < g.made → (b : ℕ) → b < g.made → Keeps s right y g.label a b) → (a b : ℕ) → Keeps s right y g.label a b
+      below_all keeps a b = record {
+        take_on = λ h. let e = made.ends a b T h in (keeps a e.0 b e.1).take_on h;
+        take_back = λ h. let e = made.ends a b T h in (keeps a e.0 b e.1).take_back h;
+        grant_on = λ h. let e = made.ends a b G h in (keeps a e.0 b e.1).grant_on h;
+        grant_back = λ h. let e = made.ends a b G h in (keeps a e.0 b e.1).grant_back h;
+        source = λ h. let e = made.ends a b right h in (keeps a e.0 b e.1).source h;
+      }
+
+      parts_or : Separates silent s x right y g ⊎ Fault
+      parts_or =
+          ⊎_elim (λ keeps.
+          ⊎_elim (λ alike.
+          ⊎_elim (λ not_given.
+          ⊎_elim (λ not_taken.
+          ⊎_elim (λ without.
+          inl (record {
+            labels = record {
+              edges = below_all keeps;
+              without = without;
+              not_given = λ a h. not_given a (made.ends a x G h).0 h;
+            };
+            alike = λ p acts. alike p (made.subjects p acts.0) acts;
+            not_taken = not_taken;
+            y_may_come = λ comes. absurd (omega (arith, comes.0, y_made));
+            x_may_come = λ comes. absurd (omega (arith, comes.0, x_made));
+          }))
+          (λ fault. inr fault) held_or)
+          (λ fault. inr fault) (taken_or (decided x)))
+          (λ fault. inr fault) (each_or (λ a. Holds g.label a G x → ¬ (s.forward a ≡ true)) given_or g.made))
+          (λ fault. inr fault) (each_or (λ p. Acts silent g p → s.forward p ≡ s.back p) (λ p. actor_or p (decided p)) g.made))
+          (λ fault. inr fault)
+          (each_or (λ a. (b : ℕ) → b < g.made → Keeps s right y g.label a b)
+          (λ a. each_or (λ b. Keeps s right y g.label a b) (λ b. edge_or a b) g.made) g.made)
+
+  -- some sides part x from the right
+  abbrev IsParted : ℕ → Type 0
+  IsParted x = (s : Sides) × Separates silent s x right y g
+
+  module _ (x : ℕ) (made : IsMade g) (x_made : x < g.made) (y_made : y < g.made) (decided : (p : ℕ) → Acts silent g p ⊎ (Acts silent g p → ⊥)) where
+    -- with one more who is missed each time
+    parted_or : (fuel : ℕ) (s : Sides) → HoldsLed s → room_in s < fuel → IsParted x ⊎ IsBrought silent right y g x
+    parted_or zero s holds low = absurd (omega (arith, low))
+    parted_or (suc fuel) s holds low =
+        ⊎_elim (λ parts. inl (s, parts))
+        (λ fault.
+        ⊎_elim
+        (λ (miss : IsMissed s).
+        let less = room_less s miss.way miss.v (Led-made made miss.way miss.v miss.led) miss.out in
+        parted_or fuel (with_one s miss.way miss.v) (HoldsLed-with_one s holds miss.way miss.v miss.led) (omega (arith, less, low)))
+        (λ brought. inr brought) fault)
+        (parts_or x s holds made x_made y_made decided)
+
+    pub parted_or_brought : IsParted x ⊎ IsBrought silent right y g x
+    parted_or_brought =
+        let s : Sides = record { forward = λ c. false; back = λ c. false } in
+        parted_or (room_in s + 1) s (record { of = none }) (omega arith)
+      where
+        none : (way : Way) (v : ℕ) → is_in (record { forward = λ c. false; back = λ c. false }) way v ≡ true → Led silent right y g way v
+        none back v is = absurd (false≢true is)
+        none forward v is = absurd (false≢true is)
+
+  -- ---- whether y is alone
+
+  module _ (made : IsMade g) (decided : (p : ℕ) → Acts silent g p ⊎ (Acts silent g p → ⊥)) where
+    pub help_or_alone : HasHelp silent g y ⊎ IsAlone silent y right y g
+    help_or_alone =
+        ⊎_elim (λ few. inl (inl few))
+        (λ many.
+        ⊎_elim (λ alone. inr (record { alone = λ p acts. alone p (made.subjects p acts.0) acts; full = inl many })) (λ other. inl (inr other))
+        (each_or (λ p. Acts silent g p → p ≡ y) one g.made))
+        (cases_lt (length g.subjects) MAX_WORKERS)
+      where
+        one : (p : ℕ) → (Acts silent g p → p ≡ y) ⊎ ((q : ℕ) × Acts silent g q × (q ≢ y))
+        one p =
+            ⊎_elim
+            (λ acts. ⊎_elim (λ (same : p ≡ y). inl (λ _. same)) (λ other. inr (p, acts, other)) (cases_eq p y))
+            (λ none. inl (λ acts. absurd (none acts))) (decided p)
+
+-- whether one acts where a list says who is silent
+pub acts_or : (silent : List ℕ) (g : ProtectionGraph) (p : ℕ) → Acts (IsSilent silent g) g p ⊎ (Acts (IsSilent silent g) g p → ⊥)
+acts_or silent g p =
+    ⊎_elim
+    (λ subject.
+    ⊎_elim
+    (λ listed.
+    ⊎_elim (λ low. inr (λ acts. acts.1 (listed, low))) (λ high. inl (subject, λ is. let low = is.1 in omega (arith, low, high)))
+    (cases_lt p g.made))
+    (λ unlisted. inl (subject, λ is. unlisted is.0))
+    (contains_or silent p))
+    (λ none. inr (λ acts. none acts.0))
+    (contains_or g.subjects p)
+
+-- ---- each question
+
+module _ (silent : List ℕ) (g : ProtectionGraph) (x : ℕ) (right : Right) (y : ℕ) (made : IsMade g) (x_made : x < g.made) (y_made : y < g.made) where
+  -- never, however many names there are
+  abbrev NeverAtAll : Type 0
+  NeverAtAll = (names : ℕ) → NeverHolds silent (with_names g names) x right y
+
+  abbrev CouldSomehow : Type 0
+  CouldSomehow = (names : ℕ) × CouldHold silent (with_names g names) x right y
+
+  widened_made : (names : ℕ) → IsMade (with_names g names)
+  widened_made names = record { subjects = made.subjects; ends = made.ends }
+
+  parted_at_all : (s : Sides) → Separates (IsSilent silent g) s x right y g → NeverAtAll
+  parted_at_all s separates names =
+      parted-never (IsSilent silent g) x right y (with_names g names)
+      (record {
+        made = widened_made names;
+        sides = s;
+        separates = record {
+          labels = separates.labels;
+          alike = separates.alike;
+          not_taken = separates.not_taken;
+          y_may_come = λ comes. absurd (omega (arith, comes.0, y_made));
+          x_may_come = λ comes. absurd (omega (arith, comes.0, x_made));
+        };
+      })
+
+  -- where x comes to hold no more than it holds
+  held_or_never : (¬ Holds g.label x right y → NeverAtAll) → NeverAtAll ⊎ CouldSomehow
+  held_or_never never =
+      ⊎_elim (λ is. inr (0, record { turns = []; lead_there = (tt, is) }))
+      (λ out. inl (never (λ is. false≢true (sym out ∙ is))))
+      (cases_Bool (has (g.label x y) right))
+
+  pub each_question : IsSound g → NeverAtAll ⊎ CouldSomehow
+  each_question sound =
+      ⊎_elim
+      (λ (same : x ≡ y). held_or_never (λ lacks names. same-never (IsSilent silent g) x right y same (with_names g names) (widened_made names) lacks))
+      (λ differ.
+      ⊎_elim
+      (λ help.
+      ⊎_elim (λ (s, separates). inl (parted_at_all s separates))
+      (λ brought.
+      let (names, ends) = brought_ends (IsSilent silent g) g sound (λ p is. is.1) x right y differ help brought in
+      inr (names, record { turns = ends.turns; lead_there = (ends.are, ends.there) }))
+      (parted_or_brought (IsSilent silent g) right y g x made x_made y_made (acts_or silent g)))
+      (λ alone.
+      held_or_never (λ lacks names.
+      alone-never (IsSilent silent g) x right y (with_names g names) (widened_made names) (record { alone = alone.alone; full = alone.full }) lacks))
+      (help_or_alone (IsSilent silent g) right y g made (acts_or silent g)))
+      (cases_eq x y)
