@@ -1,5 +1,5 @@
 -- Of each question one of two is so: two sets part x from the right, or the right is brought to x; so x never holds it, however
--- many names there are, or could with some number of them.
+-- many names there are, or could where there are 64.
 use Rattle.std.proofs.Common.{◌≡◌, ◌≢◌, ◌⊎◌, inl, inr, ⊎_elim, ℕ, zero, suc, ◌+◌, ◌<◌, ◌≤◌, ◌==◌, ◌||◌, Bool, true, false, List, [], ◌∷◌, length, get_or, refl, sym, ap, ◌∙◌, subst, arith, eq-eqb}
 use Rattle.std.proofs.lemmas.Bool.{eqb-true, ne_eqb, false≢true, cases_Bool, cases_eq, cases_lt}
 use Rattle.std.specs.List.{Contains}
@@ -15,7 +15,7 @@ use Rattle.tg_could.specs.Separation.{Sides, Keeps, Separates}
 use Rattle.tg_could.specs.Led.{Way, back, forward, Led, source, take_back, take_on, grant_on, grant_back, turns_forward, turns_back, IsBrought, is_held, is_got, is_given, HasHelp}
 use Rattle.tg_could.proofs.SeparationLaws.{parted-never}
 use Rattle.tg_could.proofs.StillLaws.{IsAlone, same-never, alone-never}
-use Rattle.tg_could.proofs.LedLaws.{IsFit-sound, brought_ends}
+use Rattle.tg_could.proofs.LedLaws.{contains_or, brought_ends}
 
 -- ---- tests
 
@@ -50,20 +50,6 @@ each_or P one (suc n) =
     ⊎_elim (λ (same : k ≡ n). subst P (sym same) here) (λ (other : k ≡ n → ⊥). below k (omega (arith, low, other))) (cases_eq k n)))
     (λ found. inr found) (one n))
     (λ found. inr found) (each_or P one n)
-
--- a list has a number, or it hasn't
-contains_or : (xs : List ℕ) (x : ℕ) → Contains xs x ⊎ (Contains xs x → ⊥)
-contains_or [] x = inr (λ (k, inside, at). omega (arith, inside))
-contains_or (first ∷ xs) x =
-    ⊎_elim (λ (same : first ≡ x). inl (0, omega arith, same))
-    (λ other.
-    ⊎_elim (λ (k, inside, at). inl (suc k, omega (arith, inside), at))
-    (λ none. inr (λ (k, inside, at). neither k inside at other none)) (contains_or xs x))
-    (cases_eq first x)
-  where
-    neither : (k : ℕ) → k < length (first ∷ xs) → get_or (first ∷ xs) k x ≡ x → (first ≡ x → ⊥) → (Contains xs x → ⊥) → ⊥
-    neither zero inside at other none = other at
-    neither (suc k) inside at other none = none (k, omega (arith, inside), at)
 
 -- ---- who isn't in a set yet
 
@@ -341,9 +327,6 @@ module _ (silent : List ℕ) (g : ProtectionGraph) (x : ℕ) (right : Right) (y 
   abbrev NeverAtAll : Type 0
   NeverAtAll = (names : ℕ) → NeverHolds silent (with_names g names) x right y
 
-  abbrev CouldSomehow : Type 0
-  CouldSomehow = (names : ℕ) × CouldHold silent (with_names g names) x right y
-
   widened_made : (names : ℕ) → IsMade (with_names g names)
   widened_made names = record { subjects = made.subjects; ends = made.ends }
 
@@ -363,14 +346,14 @@ module _ (silent : List ℕ) (g : ProtectionGraph) (x : ℕ) (right : Right) (y 
       })
 
   -- where x comes to hold no more than it holds
-  held_or_never : (¬ Holds g.label x right y → NeverAtAll) → NeverAtAll ⊎ CouldSomehow
+  held_or_never : (¬ Holds g.label x right y → NeverAtAll) → NeverAtAll ⊎ CouldHold silent g x right y
   held_or_never never =
-      ⊎_elim (λ is. inr (0, record { turns = []; lead_there = (tt, is) }))
+      ⊎_elim (λ is. inr (record { turns = []; lead_there = (tt, is) }))
       (λ out. inl (never (λ is. false≢true (sym out ∙ is))))
       (cases_Bool (has (g.label x y) right))
 
-  pub each_question : IsSound g → NeverAtAll ⊎ CouldSomehow
-  each_question sound =
+  pub each_question : IsSound g → g.made + MAX_WORKERS ≤ g.limit → NeverAtAll ⊎ CouldHold silent g x right y
+  each_question sound room =
       ⊎_elim
       (λ (same : x ≡ y). held_or_never (λ lacks names. same-never (IsSilent silent g) x right y same (with_names g names) (widened_made names) lacks))
       (λ differ.
@@ -378,8 +361,8 @@ module _ (silent : List ℕ) (g : ProtectionGraph) (x : ℕ) (right : Right) (y 
       (λ help.
       ⊎_elim (λ (s, separates). inl (parted_at_all s separates))
       (λ brought.
-      let (names, ends) = brought_ends (IsSilent silent g) g sound (λ p is. is.1) x right y differ help brought in
-      inr (names, record { turns = ends.turns; lead_there = (ends.are, ends.there) }))
+      let ends = brought_ends (IsSilent silent g) g sound room (λ p is. is.1) x right y differ help brought in
+      inr (record { turns = ends.turns; lead_there = (ends.are, ends.there) }))
       (parted_or_brought (IsSilent silent g) right y g x made x_made y_made (acts_or silent g)))
       (λ alone.
       held_or_never (λ lacks names.

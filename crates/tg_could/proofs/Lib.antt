@@ -9,5 +9,6 @@ pub mod WordLaws
 pub mod ViewLaws
 pub mod MoveLaws
 pub mod ShareLaws
+pub mod EndLaws
 pub mod LedLaws
 pub mod ExactLaws

@@ -38,15 +38,65 @@ IsFull-on right y h k still box full = record {
       (λ (s, taker, held). inr (s, still box T s taker, still s right y held)) full.either;
 }
 
+pub HasBox-on : (right : Right) (y first : ℕ) (h k : ProtectionGraph) → Grows h k → (p : ℕ) → HasBox right y first h p → HasBox right y first k p
+HasBox-on right y first h k grows p has = record {
+  box = has.box;
+  later = has.later;
+  take = grows.labels p T has.box has.take;
+  grant = grows.labels p G has.box has.grant;
+  full = IsFull-on right y h k grows.labels has.box has.full;
+}
+
 module _ (silent : ℕ → Type 0) (g : ProtectionGraph) where
   -- a walk of take edges leads from p to a vertex
   abbrev pub TakeWalk : ℕ → ℕ → Type 0
   TakeWalk p = Walk (λ c. c ≡ p) (λ a b. Holds g.label a T b)
 
-  -- from each graph that has grown from the first one, some turns give p such an object
-  pub record Shares (right : Right) (y : ℕ) (p : ℕ) : Type 0 where
-    pub names : ℕ
-    pub share : (h : ProtectionGraph) → Grows g h → h.made + names ≤ h.limit → Leads silent h names (λ k. HasBox right y g.made k p)
+  -- from each graph that has grown from the first one this comes about, where so many names are left
+  abbrev pub InTime : ℕ → (ProtectionGraph → Type 0) → Type 0
+  InTime names P = (h : ProtectionGraph) → Grows g h → h.made + names ≤ h.limit → Leads silent h names P
+
+  -- another one who acts has such an object, and is linked to p by one that was made later
+  pub record HasCompanion (right : Right) (y : ℕ) (h : ProtectionGraph) (p : ℕ) : Type 0 where
+    pub other : ℕ
+    pub acts : Acts silent g other
+    pub differ : p ≢ other
+    pub box : HasBox right y g.made h other
+    pub link : ℕ
+    pub later : g.made ≤ link
+    pub linked : AreLinked link h p other
+
+  pub HasCompanion-on : (right : Right) (y : ℕ) (h k : ProtectionGraph) → Grows h k → (p : ℕ) → HasCompanion right y h p → HasCompanion right y k p
+  HasCompanion-on right y h k grows p has = record {
+    other = has.other;
+    acts = has.acts;
+    differ = has.differ;
+    box = HasBox-on right y g.made h k grows has.other has.box;
+    link = has.link;
+    later = has.later;
+    linked = record {
+      take = grows.labels p T has.link has.linked.take;
+      grant = grows.labels p G has.link has.linked.grant;
+      other_take = grows.labels has.other T has.link has.linked.other_take;
+      other_grant = grows.labels has.other G has.link has.linked.other_grant;
+    };
+  }
+
+  -- p comes to have such an object with so many names: with one alone, or from another one
+  pub record Shares (right : Right) (y : ℕ) (names : ℕ) (p : ℕ) : Type 0 where
+    pub share : InTime names (λ k. HasBox right y g.made k p)
+    pub from : InTime 1 (λ k. HasBox right y g.made k p) ⊎ InTime names (λ k. HasCompanion right y k p)
+
+  InTime-more : {P : ProtectionGraph → Type 0} (n m : ℕ) → n ≤ m → InTime n P → InTime m P
+  InTime-more n m more leads h grows room =
+      leads_on silent h n 0 m (omega (arith, more)) (leads h grows (omega (arith, room, more)))
+      (λ k grown used there. stays silent k grown.fit there)
+
+  pub Shares-more : (right : Right) (y p n m : ℕ) → n ≤ m → Shares right y n p → Shares right y m p
+  Shares-more right y p n m more shares = record {
+    share = InTime-more n m more shares.share;
+    from = ⊎_elim (λ once. inl once) (λ from. inr (InTime-more n m more from)) shares.from;
+  }
 
   module _ (h : ProtectionGraph) (grows : Grows g h) where
     acts_on : (p : ℕ) → Acts silent g p → Acts silent h p
@@ -191,17 +241,37 @@ module _ (silent : ℕ → Type 0) (g : ProtectionGraph) where
           full = IsFull-on right y l m more_m.labels has.box (IsFull-on right y k l more_l.labels has.box (IsFull-on right y h k more.labels has.box has.full));
         })))
 
-    pub shares_on : Shares right y p → ((h : ProtectionGraph) → Grows g h → h.made < h.limit → Leads silent h 1 (λ k. AreLinked h.made k p q)) → q < g.made → Shares right y q
-    shares_on shares link q_made = record {
-      names = shares.names + 1;
+    pub shares_on : (n : ℕ) → Shares right y n p → (p ≢ q) → ((h : ProtectionGraph) → Grows g h → h.made < h.limit → Leads silent h 1 (λ k. AreLinked h.made k p q)) → q < g.made → Shares right y (n + 1) q
+    shares_on n shares differ link q_made = record {
       share = λ h grows room.
-          let n = shares.names in
           leads_on silent h n 1 (n + 1) (omega arith) (shares.share h grows (omega (arith, room)))
           (λ k more used has.
           let from = Grows-on g h k grows more in
           let wide = more.limit in
           leads_on silent k 1 0 1 (omega arith) (link k from (omega (arith, room, used, wide)))
           (λ l more_l used_l linked. hands_on k from has q_made l more_l linked));
+      from = inr
+          (λ h grows room.
+          leads_on silent h n 1 (n + 1) (omega arith) (shares.share h grows (omega (arith, room)))
+          (λ k more used has.
+          let from = Grows-on g h k grows more in
+          let wide = more.limit in
+          leads_on silent k 1 0 1 (omega arith) (link k from (omega (arith, room, used, wide)))
+          (λ l more_l used_l linked.
+          stays silent l more_l.fit (record {
+            other = p;
+            acts = p_acts;
+            differ = λ same. differ (sym same);
+            box = HasBox-on right y g.made k l more_l p has;
+            link = k.made;
+            later = from.made;
+            linked = record {
+              take = linked.other_take;
+              grant = linked.other_grant;
+              other_take = linked.take;
+              other_grant = linked.grant;
+            };
+          }))));
     }
 
   -- ---- where it begins
@@ -224,20 +294,20 @@ module _ (silent : ℕ → Type 0) (g : ProtectionGraph) where
           full = fills l (Grows-on h k l more more_l) h.made there;
         })))
 
-    pub shares_first : TakeWalk p s → Shares right y p
-    shares_first walk = record {
-      names = 1;
-      share = λ h grows room.
-          ⊎_elim
-          (λ same.
-          puts h grows (omega (arith, room)) right y (subst (λ (v : ℕ). Holds h.label v right y) (sym same) (grows.labels s right y source))
-          (λ k more box there. record { either = inl there }))
-          (λ other.
-          leads_on silent h 0 1 1 (omega arith) (comes_to h grows p acts s walk other)
-          (λ k more used taker.
-          let from = Grows-on g h k grows more in
-          let wide = more.limit in
-          puts k from (omega (arith, room, used, wide)) T s taker
-          (λ l more_l box there. record { either = inr (s, there, more_l.labels s right y (from.labels s right y source)) })))
-          (same_or_other p s);
-    }
+    first : TakeWalk p s → InTime 1 (λ k. HasBox right y g.made k p)
+    first walk h grows room =
+        ⊎_elim
+        (λ same.
+        puts h grows (omega (arith, room)) right y (subst (λ (v : ℕ). Holds h.label v right y) (sym same) (grows.labels s right y source))
+        (λ k more box there. record { either = inl there }))
+        (λ other.
+        leads_on silent h 0 1 1 (omega arith) (comes_to h grows p acts s walk other)
+        (λ k more used taker.
+        let from = Grows-on g h k grows more in
+        let wide = more.limit in
+        puts k from (omega (arith, room, used, wide)) T s taker
+        (λ l more_l box there. record { either = inr (s, there, more_l.labels s right y (from.labels s right y source)) })))
+        (same_or_other p s)
+
+    pub shares_first : TakeWalk p s → Shares right y 1 p
+    shares_first walk = record { share = first walk; from = inl (first walk) }

@@ -1,10 +1,11 @@
 //! Laws of the definitions alone. A function here does nothing: what it ensures is the law.
-ghost use Rattle.std.specs.Prelude.{◌≡◌, ◌≢◌, ◌⊎◌, ◌<◌, ℕ, List, Bool, true};
+ghost use Rattle.std.specs.Prelude.{◌≡◌, ◌≢◌, ◌⊎◌, ◌+◌, ◌<◌, ◌≤◌, ℕ, List, Bool, true};
 ghost use Rattle.std.specs.List.{Contains};
 ghost use Rattle.tg_rights.specs.RightSet.{RightSet};
 ghost use Rattle.tg_rights.specs.declared.Right.{Right};
 ghost use Rattle.tg_model.specs.declared.command.Command.TheVariants.{Grant};
 ghost use Rattle.tg_model.specs.declared.command.Deed.TheVariants.{Plain};
+ghost use Rattle.tg_model.specs.declared.opening.TheConstants.{MAX_WORKERS};
 ghost use Rattle.tg_model.specs.Graph.{ProtectionGraph, IsSound};
 ghost use Rattle.tg_model.specs.Picture.{Holds, IsMade, with_edge};
 ghost use Rattle.tg_model.specs.Rules.{Permits, step};
@@ -36,12 +37,12 @@ pub fn a_grant_is_asked_about_before_it_is_made()
         NeverHolds silent (step g host (Plain (Grant rights via target))) x right y }
 {}
 
-/// Where the walks of a search lead the right over y to x, x could come to hold it: with some more names there are turns
-/// of those who act behind which it does. Where nobody but y acts it takes room for one subject more.
+/// Where the walks of a search lead the right over y to x, x could come to hold it: there are turns of those who act behind
+/// which it does, where 64 vertices may yet be made. An y alone needs room for one subject more.
 pub fn what_is_brought_could_come_about()
     ensures { (silent : List ℕ) (g : ProtectionGraph) (x : ℕ) (right : Right) (y : ℕ) →
-        IsSound g → x ≢ y → HasHelp (IsSilent silent g) g y → IsBrought (IsSilent silent g) right y g x →
-        (names : ℕ) × CouldHold silent (with_names g names) x right y }
+        IsSound g → g.made + MAX_WORKERS ≤ g.limit → x ≢ y → HasHelp (IsSilent silent g) g y →
+        IsBrought (IsSilent silent g) right y g x → CouldHold silent g x right y }
 {}
 
 /// Of x and y that were made one of two is so: two sets part x from the right over y, or walks lead it to x.
@@ -51,11 +52,10 @@ pub fn what_is_not_brought_is_parted()
         ((s : Sides) × Separates (IsSilent silent g) s x right y g) ⊎ IsBrought (IsSilent silent g) right y g x }
 {}
 
-/// So each question about x and y that were made has an answer: x never holds the right over y, however many vertices may
-/// yet be made; or where enough may, it could come to hold it.
+/// So each question about x and y that were made has an answer, where 64 vertices may yet be made: x could come to hold
+/// the right over y, or never does, however many more may be.
 pub fn each_question_has_an_answer()
     ensures { (silent : List ℕ) (g : ProtectionGraph) (x : ℕ) (right : Right) (y : ℕ) →
-        IsSound g → x < g.made → y < g.made →
-        ((names : ℕ) → NeverHolds silent (with_names g names) x right y) ⊎
-        ((names : ℕ) × CouldHold silent (with_names g names) x right y) }
+        IsSound g → g.made + MAX_WORKERS ≤ g.limit → x < g.made → y < g.made →
+        ((names : ℕ) → NeverHolds silent (with_names g names) x right y) ⊎ CouldHold silent g x right y }
 {}
