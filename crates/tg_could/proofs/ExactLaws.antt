@@ -1,9 +1,8 @@
 -- Of each question one of two is so: two sets part x from the right, or the right is brought to x; so x never holds it, however
 -- many names there are, or could where there are 64.
-use Rattle.std.proofs.Common.{◌≡◌, ◌≢◌, ◌⊎◌, inl, inr, ⊎_elim, ℕ, zero, suc, ◌+◌, ◌<◌, ◌≤◌, ◌==◌, ◌||◌, Bool, true, false, List, [], ◌∷◌, length, get_or, refl, sym, ap, ◌∙◌, subst, arith, eq-eqb}
-use Rattle.std.proofs.lemmas.Bool.{eqb-true, ne_eqb, false≢true, cases_Bool, cases_eq, cases_lt}
-use Rattle.std.specs.List.{Contains}
-use Rattle.tg_rights.specs.RightSet.{has}
+use Rattle.std.proofs.Common.{◌≡◌, ◌≢◌, ◌⊎◌, inl, inr, ⊎_elim, ℕ, zero, suc, ◌+◌, ◌<◌, ◌≤◌, ◌==◌, ◌||◌, Bool, true, false, List, [], length, refl, sym, ap, ◌∙◌, subst, arith, eq-eqb}
+use Rattle.std.proofs.lemmas.Bool.{eqb-true, false≢true, cases_Bool, cases_eq, cases_lt}
+use Rattle.tg_rights.specs.RightSet.{RightSet, has}
 use Rattle.tg_rights.specs.declared.Right.{Right}
 use Rattle.tg_rights.specs.declared.Right.TheVariants.{T, G}
 use Rattle.tg_model.specs.declared.opening.TheConstants.{MAX_WORKERS}
@@ -11,7 +10,7 @@ use Rattle.tg_model.specs.Graph.{ProtectionGraph, IsSound}
 use Rattle.tg_model.specs.Picture.{Holds, IsMade}
 use Rattle.tg_model.proofs.PictureLaws.{or_true}
 use Rattle.tg_could.specs.Turns.{Acts, IsSilent, NeverHolds, CouldHold, with_names}
-use Rattle.tg_could.specs.Separation.{Sides, Keeps, Separates}
+use Rattle.tg_could.specs.Separation.{Sides, MayAdd, Parts, Separates}
 use Rattle.tg_could.specs.Led.{Way, back, forward, Led, source, take_back, take_on, grant_on, grant_back, turns_forward, turns_back, IsBrought, is_held, is_got, is_given, HasHelp}
 use Rattle.tg_could.proofs.SeparationLaws.{parted-never}
 use Rattle.tg_could.proofs.StillLaws.{IsAlone, same-never, alone-never}
@@ -26,11 +25,12 @@ leads_or true true false = inr (refl, refl, refl)
 leads_or true false r = inl (λ h k. absurd (false≢true k))
 leads_or false q r = inl (λ h. absurd (false≢true h))
 
--- two things don't both hold, or they do
-apart_or : (p q : Bool) → (p ≡ true → q ≡ true → ⊥) ⊎ ((p ≡ true) × (q ≡ true))
-apart_or true true = inr (refl, refl)
-apart_or true false = inl (λ h k. false≢true k)
-apart_or false q = inl (λ h. absurd (false≢true h))
+-- three things don't all hold, or they do
+apart_or : (p q r : Bool) → (p ≡ true → q ≡ true → ¬ (r ≡ true)) ⊎ ((p ≡ true) × (q ≡ true) × (r ≡ true))
+apart_or true true true = inr (refl, refl, refl)
+apart_or true true false = inl (λ h k l. false≢true l)
+apart_or true false r = inl (λ h k. absurd (false≢true k))
+apart_or false q r = inl (λ h. absurd (false≢true h))
 
 alike_or : (p q : Bool) → (p ≡ q) ⊎ ((p ≡ true) × (q ≡ false)) ⊎ ((p ≡ false) × (q ≡ true))
 alike_or true true = inl refl
@@ -172,31 +172,45 @@ module _ (silent : ℕ → Type 0) (right : Right) (y : ℕ) (g : ProtectionGrap
     missed : (way : Way) (v : ℕ) → Led silent right y g way v → is_in s way v ≡ false → Fault
     missed way v led out = inl (record { way = way; v = v; led = led; out = out })
 
-    -- an edge leads out of neither set, or to one who is missed
-    edge_or : (a b : ℕ) → Keeps s right y g.label a b ⊎ Fault
-    edge_or a b =
+    -- rights that stand from a to b lead out of neither set, and x is neither their holder nor their gift, or else
+    may_add_or : (a b : ℕ) (rights : RightSet) → ((q : Right) → has rights q ≡ true → Holds g.label a q b) → MayAdd s x right y a b rights ⊎ Fault
+    may_add_or a b rights stands =
         ⊎_elim (λ take_on_h.
         ⊎_elim (λ take_back_h.
         ⊎_elim (λ grant_on_h.
         ⊎_elim (λ grant_back_h.
         ⊎_elim (λ source_h.
+        ⊎_elim (λ not_held_h.
+        ⊎_elim (λ not_granted_h.
         inl (record {
-          take_on = take_on_h;
-          take_back = take_back_h;
-          grant_on = grant_on_h;
-          grant_back = grant_back_h;
-          source = λ h at_y. source_h h (eq-eqb b y at_y);
+          keeps = record {
+            take_on = take_on_h;
+            take_back = take_back_h;
+            grant_on = grant_on_h;
+            grant_back = grant_back_h;
+            source = λ h at_y. source_h h (eq-eqb b y at_y);
+          };
+          not_held = λ at_x at_y. not_held_h (eq-eqb a x at_x) (eq-eqb b y at_y);
+          not_granted = λ at_x. not_granted_h (eq-eqb b x at_x);
         }))
-        (λ (h, at_y, out). inr (missed back a (source (subst (λ (v : ℕ). Holds g.label a right v) (eqb-true b y at_y) h)) out))
-        (leads_or (has (g.label a b) right) (b == y) (s.back a)))
-        (λ (h, is, out). inr (missed back a (grant_back h (holds.of forward b is)) out))
-        (leads_or (has (g.label a b) G) (s.forward b) (s.back a)))
-        (λ (h, is, out). inr (missed back b (grant_on h (holds.of forward a is)) out))
-        (leads_or (has (g.label a b) G) (s.forward a) (s.back b)))
-        (λ (h, is, out). inr (missed back a (take_back h (holds.of back b is)) out))
-        (leads_or (has (g.label a b) T) (s.back b) (s.back a)))
-        (λ (h, is, out). inr (missed forward b (take_on h (holds.of forward a is)) out))
-        (leads_or (has (g.label a b) T) (s.forward a) (s.forward b))
+        (λ (at_x, h, is). inr (inr (is_given (subst (λ (v : ℕ). Holds g.label a G v) (eqb-true b x at_x) (stands G h)) (holds.of forward a is))))
+        (apart_or (b == x) (has rights G) (s.forward a)))
+        (λ (at_x, at_y, h).
+        inr (inr (is_held (subst (λ (v : ℕ). Holds g.label v right y) (eqb-true a x at_x) (over_y at_y h)))))
+        (apart_or (a == x) (b == y) (has rights right)))
+        (λ (h, at_y, out). inr (missed back a (source (over_y at_y h)) out))
+        (leads_or (has rights right) (b == y) (s.back a)))
+        (λ (h, is, out). inr (missed back a (grant_back (stands G h) (holds.of forward b is)) out))
+        (leads_or (has rights G) (s.forward b) (s.back a)))
+        (λ (h, is, out). inr (missed back b (grant_on (stands G h) (holds.of forward a is)) out))
+        (leads_or (has rights G) (s.forward a) (s.back b)))
+        (λ (h, is, out). inr (missed back a (take_back (stands T h) (holds.of back b is)) out))
+        (leads_or (has rights T) (s.back b) (s.back a)))
+        (λ (h, is, out). inr (missed forward b (take_on (stands T h) (holds.of forward a is)) out))
+        (leads_or (has rights T) (s.forward a) (s.forward b))
+      where
+        over_y : (b == y) ≡ true → has rights right ≡ true → Holds g.label a right y
+        over_y at_y h = subst (λ (v : ℕ). Holds g.label a right v) (eqb-true b y at_y) (stands right h)
 
     -- one who acts is in both sets or in none, or is missed in one
     actor_or : (p : ℕ) → Acts silent g p ⊎ (Acts silent g p → ⊥) → (Acts silent g p → s.forward p ≡ s.back p) ⊎ Fault
@@ -210,10 +224,6 @@ module _ (silent : ℕ → Type 0) (right : Right) (y : ℕ) (g : ProtectionGrap
         (alike_or (s.forward p) (s.back p)))
         (λ none. inl (λ acts. absurd (none acts))) acts_or
 
-    given_or : (a : ℕ) → (Holds g.label a G x → ¬ (s.forward a ≡ true)) ⊎ Fault
-    given_or a =
-        ⊎_elim (λ apart. inl apart) (λ (h, is). inr (inr (is_given h (holds.of forward a is)))) (apart_or (has (g.label a x) G) (s.forward a))
-
     taken_or : Acts silent g x ⊎ (Acts silent g x → ⊥) → (Acts silent g x → ¬ (s.back x ≡ true)) ⊎ Fault
     taken_or acts_or =
         ⊎_elim
@@ -221,46 +231,41 @@ module _ (silent : ℕ → Type 0) (right : Right) (y : ℕ) (g : ProtectionGrap
         ⊎_elim (λ is. inr (inr (is_got acts (holds.of back x is)))) (λ out. inl (λ _ is. false≢true (sym out ∙ is))) (cases_Bool (s.back x)))
         (λ none. inl (λ acts. absurd (none acts))) acts_or
 
-    held_or : (¬ Holds g.label x right y) ⊎ Fault
-    held_or =
-        ⊎_elim (λ is. inr (inr (is_held is))) (λ out. inl (λ is. false≢true (sym out ∙ is))) (cases_Bool (has (g.label x y) right))
-
     -- the two sets part x from the right, or one is missed, or the right is brought to x
     module _ (made : IsMade g) (x_made : x < g.made) (y_made : y < g.made) (decided : (p : ℕ) → Acts silent g p ⊎ (Acts silent g p → ⊥)) where
-      below_all : ((a : ℕ) → a < g.made → (b : ℕ) → b < g.made → Keeps s right y g.label a b) → (a b : ℕ) → Keeps s right y g.label a b
-      below_all keeps a b = record {
-        take_on = λ h. let e = made.ends a b T h in (keeps a e.0 b e.1).take_on h;
-        take_back = λ h. let e = made.ends a b T h in (keeps a e.0 b e.1).take_back h;
-        grant_on = λ h. let e = made.ends a b G h in (keeps a e.0 b e.1).grant_on h;
-        grant_back = λ h. let e = made.ends a b G h in (keeps a e.0 b e.1).grant_back h;
-        source = λ h. let e = made.ends a b right h in (keeps a e.0 b e.1).source h;
+      abbrev Adds : ℕ → ℕ → Type 0
+      Adds a b = MayAdd s x right y a b (g.label a b)
+
+      parts_of : ((a : ℕ) → a < g.made → (b : ℕ) → b < g.made → Adds a b) → Parts s x right y g.label
+      parts_of adds = record {
+        edges = λ a b. record {
+          take_on = λ h. let e = made.ends a b T h in (adds a e.0 b e.1).keeps.take_on h;
+          take_back = λ h. let e = made.ends a b T h in (adds a e.0 b e.1).keeps.take_back h;
+          grant_on = λ h. let e = made.ends a b G h in (adds a e.0 b e.1).keeps.grant_on h;
+          grant_back = λ h. let e = made.ends a b G h in (adds a e.0 b e.1).keeps.grant_back h;
+          source = λ h. let e = made.ends a b right h in (adds a e.0 b e.1).keeps.source h;
+        };
+        without = λ h. (adds x x_made y y_made).not_held refl refl h;
+        not_given = λ a h. (adds a (made.ends a x G h).0 x x_made).not_granted refl h;
       }
 
       parts_or : Separates silent s x right y g ⊎ Fault
       parts_or =
-          ⊎_elim (λ keeps.
+          ⊎_elim (λ adds.
           ⊎_elim (λ alike.
-          ⊎_elim (λ not_given.
           ⊎_elim (λ not_taken.
-          ⊎_elim (λ without.
           inl (record {
-            labels = record {
-              edges = below_all keeps;
-              without = without;
-              not_given = λ a h. not_given a (made.ends a x G h).0 h;
-            };
+            labels = parts_of adds;
             alike = λ p acts. alike p (made.subjects p acts.0) acts;
             not_taken = not_taken;
             y_may_come = λ comes. absurd (omega (arith, comes.0, y_made));
             x_may_come = λ comes. absurd (omega (arith, comes.0, x_made));
           }))
-          (λ fault. inr fault) held_or)
           (λ fault. inr fault) (taken_or (decided x)))
-          (λ fault. inr fault) (each_or (λ a. Holds g.label a G x → ¬ (s.forward a ≡ true)) given_or g.made))
           (λ fault. inr fault) (each_or (λ p. Acts silent g p → s.forward p ≡ s.back p) (λ p. actor_or p (decided p)) g.made))
           (λ fault. inr fault)
-          (each_or (λ a. (b : ℕ) → b < g.made → Keeps s right y g.label a b)
-          (λ a. each_or (λ b. Keeps s right y g.label a b) (λ b. edge_or a b) g.made) g.made)
+          (each_or (λ a. (b : ℕ) → b < g.made → Adds a b)
+          (λ a. each_or (λ b. Adds a b) (λ b. may_add_or a b (g.label a b) (λ q h. h)) g.made) g.made)
 
   -- some sides part x from the right
   abbrev IsParted : ℕ → Type 0

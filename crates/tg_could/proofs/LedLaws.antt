@@ -14,7 +14,7 @@ use Rattle.tg_model.proofs.SubjectLaws.{is_without}
 use Rattle.tg_could.specs.Turns.{Acts}
 use Rattle.tg_could.specs.Led.{Way, back, forward, Led, source, take_back, take_on, grant_on, grant_back, turns_forward, turns_back, IsBrought, is_held, is_got, is_given, HasHelp}
 use Rattle.tg_could.proofs.MoveLaws.{IsFit, Leads, Grows, Grows-self, Grows-on, Grows-acts, stays, leads_on}
-use Rattle.tg_could.proofs.ShareLaws.{same_or_other, IsFull, IsFull-on, HasBox, HasCompanion, HasCompanion-on, TakeWalk, InTime, Shares, Shares-more, gets, Link, link_by_walk, link_over, shares_on, shares_first}
+use Rattle.tg_could.proofs.ShareLaws.{same_or_other, IsFull-on, HasBox, HasCompanion, HasCompanion-on, TakeWalk, InTime, Shares, Shares-more, gets, Link, link_by_walk, link_over, shares_on, shares_first}
 use Rattle.tg_could.proofs.EndLaws.{shorter, Ends, ends_now, ends_on, fetches, gives, by_help, by_companion}
 
 -- ---- lists of names

@@ -1,5 +1,5 @@
 -- Who acts and may get the right shares it with others, through objects that it makes.
-use Rattle.std.proofs.Common.{◌≡◌, ◌≢◌, ◌⊎◌, inl, inr, ⊎_elim, ℕ, ◌+◌, ◌<◌, ◌≤◌, refl, sym, ap, ◌∙◌, subst, arith}
+use Rattle.std.proofs.Common.{◌≡◌, ◌≢◌, ◌⊎◌, inl, inr, ⊎_elim, ℕ, ◌+◌, ◌<◌, ◌≤◌, sym, subst, arith}
 use Rattle.std.proofs.lemmas.Bool.Decides.{eqb_tells}
 use Rattle.tg_rights.specs.declared.Right.{Right}
 use Rattle.tg_rights.specs.declared.Right.TheVariants.{T, G}
@@ -7,7 +7,7 @@ use Rattle.tg_model.specs.Graph.{ProtectionGraph}
 use Rattle.tg_model.specs.Picture.{Holds}
 use Rattle.tg_model.specs.Walks.{Walk, begins, goes}
 use Rattle.tg_could.specs.Turns.{Acts}
-use Rattle.tg_could.proofs.MoveLaws.{IsFit, Grows, Grows-self, Grows-on, Grows-acts, Leads, stays, leads_on, takes, grants, makes}
+use Rattle.tg_could.proofs.MoveLaws.{Grows, Grows-on, Grows-acts, Leads, stays, leads_on, takes, grants, makes}
 
 -- two are one, or they aren't
 pub same_or_other : (a b : ℕ) → (a ≡ b) ⊎ (a ≢ b)

@@ -37,8 +37,8 @@ pub fn a_grant_is_asked_about_before_it_is_made()
         NeverHolds silent (step g host (Plain (Grant rights via target))) x right y }
 {}
 
-/// Where the walks of a search lead the right over y to x, x could come to hold it: there are turns of those who act behind
-/// which it does, where 64 vertices may yet be made. An y alone needs room for one subject more.
+/// Where walks lead the right over y to x, x could come to hold it: there are turns of those who act behind which it
+/// does, where 64 vertices may yet be made, and y isn't the only one who acts among 64 subjects.
 pub fn what_is_brought_could_come_about()
     ensures { (silent : List ℕ) (g : ProtectionGraph) (x : ℕ) (right : Right) (y : ℕ) →
         IsSound g → g.made + MAX_WORKERS ≤ g.limit → x ≢ y → HasHelp (IsSilent silent g) g y →
