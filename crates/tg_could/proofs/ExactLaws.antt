@@ -9,9 +9,9 @@ use Rattle.tg_model.specs.declared.opening.TheConstants.{MAX_WORKERS}
 use Rattle.tg_model.specs.Graph.{ProtectionGraph, IsSound}
 use Rattle.tg_model.specs.Picture.{Holds, IsMade}
 use Rattle.tg_model.proofs.PictureLaws.{or_true}
-use Rattle.tg_could.specs.Turns.{Acts, IsSilent, NeverHolds, CouldHold, with_names}
+use Rattle.tg_could.specs.Turns.{Acts, MayCome, IsSilent, NeverHolds, CouldHold, with_names}
 use Rattle.tg_could.specs.Separation.{Sides, MayAdd, Parts, Separates}
-use Rattle.tg_could.specs.Led.{Way, back, forward, Led, source, take_back, take_on, grant_on, grant_back, turns_forward, turns_back, IsBrought, is_held, is_got, is_given, HasHelp}
+use Rattle.tg_could.specs.Led.{Way, back, forward, Led, source, maker, take_back, take_on, grant_on, grant_back, turns_forward, turns_back, IsBrought, is_held, is_got, is_given, is_made, HasHelp}
 use Rattle.tg_could.proofs.SeparationLaws.{parted-never}
 use Rattle.tg_could.proofs.StillLaws.{IsAlone, same-never, alone-never}
 use Rattle.tg_could.proofs.LedLaws.{contains_or, brought_ends}
@@ -130,6 +130,7 @@ module _ (silent : ℕ → Type 0) (right : Right) (y : ℕ) (g : ProtectionGrap
 
   Led-made : IsMade g → (way : Way) (v : ℕ) → Led silent right y g way v → v < g.made
   Led-made made way v (source held) = (made.ends v y right held).0
+  Led-made made way v (maker may acts) = made.subjects v acts.0
   Led-made made way v (take_back {b = b} edge led) = (made.ends v b T edge).0
   Led-made made way v (take_on {a = a} edge led) = (made.ends a v T edge).1
   Led-made made way v (grant_on {a = a} edge led) = (made.ends a v G edge).1
@@ -162,6 +163,14 @@ module _ (silent : ℕ → Type 0) (right : Right) (y : ℕ) (g : ProtectionGrap
   room_less s forward v made out =
       let less = left_less s.forward (λ c. s.forward c || (c == v)) (λ c is. or_first (s.forward c) (c == v) is) g.made v made out (or_second (s.forward v) (v == v) (eq-eqb v v refl)) in
       omega (arith, less)
+
+  -- a name may yet be made, or it may not
+  may_come_or : (v : ℕ) → MayCome g v ⊎ (MayCome g v → ⊥)
+  may_come_or v =
+      ⊎_elim (λ was. inr (λ comes. let low = comes.0 in omega (arith, low, was)))
+      (λ later.
+      ⊎_elim (λ below. inl (later, below)) (λ past. inr (λ comes. let low = comes.1 in omega (arith, low, past))) (cases_lt v g.limit))
+      (cases_lt v g.made)
 
   -- ---- what is wrong where two sets don't part
 
@@ -231,8 +240,31 @@ module _ (silent : ℕ → Type 0) (right : Right) (y : ℕ) (g : ProtectionGrap
         ⊎_elim (λ is. inr (inr (is_got acts (holds.of back x is)))) (λ out. inl (λ _ is. false≢true (sym out ∙ is))) (cases_Bool (s.back x)))
         (λ none. inl (λ acts. absurd (none acts))) acts_or
 
+    -- one who may make y is in the second set, or is missed
+    y_later_or : (p : ℕ) → Acts silent g p ⊎ (Acts silent g p → ⊥) → (MayCome g y → Acts silent g p → s.back p ≡ true) ⊎ Fault
+    y_later_or p acts_or =
+        ⊎_elim
+        (λ acts.
+        ⊎_elim (λ is. inl (λ comes _. is))
+        (λ out.
+        ⊎_elim (λ comes. inr (missed back p (maker comes acts) out)) (λ none. inl (λ comes. absurd (none comes))) (may_come_or y))
+        (cases_Bool (s.back p)))
+        (λ none. inl (λ comes acts. absurd (none acts))) acts_or
+
+    -- one who may make x isn't in the second set, or the right is brought to x
+    x_later_or : (p : ℕ) → Acts silent g p ⊎ (Acts silent g p → ⊥) → (MayCome g x → Acts silent g p → ¬ (s.back p ≡ true)) ⊎ Fault
+    x_later_or p acts_or =
+        ⊎_elim
+        (λ acts.
+        ⊎_elim
+        (λ is.
+        ⊎_elim (λ comes. inr (inr (is_made comes acts (holds.of back p is)))) (λ none. inl (λ comes. absurd (none comes))) (may_come_or x))
+        (λ out. inl (λ comes _ is. false≢true (sym out ∙ is)))
+        (cases_Bool (s.back p)))
+        (λ none. inl (λ comes acts. absurd (none acts))) acts_or
+
     -- the two sets part x from the right, or one is missed, or the right is brought to x
-    module _ (made : IsMade g) (x_made : x < g.made) (y_made : y < g.made) (decided : (p : ℕ) → Acts silent g p ⊎ (Acts silent g p → ⊥)) where
+    module _ (made : IsMade g) (decided : (p : ℕ) → Acts silent g p ⊎ (Acts silent g p → ⊥)) where
       abbrev Adds : ℕ → ℕ → Type 0
       Adds a b = MayAdd s x right y a b (g.label a b)
 
@@ -245,8 +277,8 @@ module _ (silent : ℕ → Type 0) (right : Right) (y : ℕ) (g : ProtectionGrap
           grant_back = λ h. let e = made.ends a b G h in (adds a e.0 b e.1).keeps.grant_back h;
           source = λ h. let e = made.ends a b right h in (adds a e.0 b e.1).keeps.source h;
         };
-        without = λ h. (adds x x_made y y_made).not_held refl refl h;
-        not_given = λ a h. (adds a (made.ends a x G h).0 x x_made).not_granted refl h;
+        without = λ h. let e = made.ends x y right h in (adds x e.0 y e.1).not_held refl refl h;
+        not_given = λ a h. let e = made.ends a x G h in (adds a e.0 x e.1).not_granted refl h;
       }
 
       parts_or : Separates silent s x right y g ⊎ Fault
@@ -254,13 +286,17 @@ module _ (silent : ℕ → Type 0) (right : Right) (y : ℕ) (g : ProtectionGrap
           ⊎_elim (λ adds.
           ⊎_elim (λ alike.
           ⊎_elim (λ not_taken.
+          ⊎_elim (λ y_later.
+          ⊎_elim (λ x_later.
           inl (record {
             labels = parts_of adds;
             alike = λ p acts. alike p (made.subjects p acts.0) acts;
             not_taken = not_taken;
-            y_may_come = λ comes. absurd (omega (arith, comes.0, y_made));
-            x_may_come = λ comes. absurd (omega (arith, comes.0, x_made));
+            y_may_come = λ comes p acts. y_later p (made.subjects p acts.0) comes acts;
+            x_may_come = λ comes p acts. x_later p (made.subjects p acts.0) comes acts;
           }))
+          (λ fault. inr fault) (each_or (λ p. MayCome g x → Acts silent g p → ¬ (s.back p ≡ true)) (λ p. x_later_or p (decided p)) g.made))
+          (λ fault. inr fault) (each_or (λ p. MayCome g y → Acts silent g p → s.back p ≡ true) (λ p. y_later_or p (decided p)) g.made))
           (λ fault. inr fault) (taken_or (decided x)))
           (λ fault. inr fault) (each_or (λ p. Acts silent g p → s.forward p ≡ s.back p) (λ p. actor_or p (decided p)) g.made))
           (λ fault. inr fault)
@@ -271,7 +307,7 @@ module _ (silent : ℕ → Type 0) (right : Right) (y : ℕ) (g : ProtectionGrap
   abbrev IsParted : ℕ → Type 0
   IsParted x = (s : Sides) × Separates silent s x right y g
 
-  module _ (x : ℕ) (made : IsMade g) (x_made : x < g.made) (y_made : y < g.made) (decided : (p : ℕ) → Acts silent g p ⊎ (Acts silent g p → ⊥)) where
+  module _ (x : ℕ) (made : IsMade g) (decided : (p : ℕ) → Acts silent g p ⊎ (Acts silent g p → ⊥)) where
     -- with one more who is missed each time
     parted_or : (fuel : ℕ) (s : Sides) → HoldsLed s → room_in s < fuel → IsParted x ⊎ IsBrought silent right y g x
     parted_or zero s holds low = absurd (omega (arith, low))
@@ -283,7 +319,7 @@ module _ (silent : ℕ → Type 0) (right : Right) (y : ℕ) (g : ProtectionGrap
         let less = room_less s miss.way miss.v (Led-made made miss.way miss.v miss.led) miss.out in
         parted_or fuel (with_one s miss.way miss.v) (HoldsLed-with_one s holds miss.way miss.v miss.led) (omega (arith, less, low)))
         (λ brought. inr brought) fault)
-        (parts_or x s holds made x_made y_made decided)
+        (parts_or x s holds made decided)
 
     pub parted_or_brought : IsParted x ⊎ IsBrought silent right y g x
     parted_or_brought =
@@ -366,9 +402,9 @@ module _ (silent : List ℕ) (g : ProtectionGraph) (x : ℕ) (right : Right) (y 
       (λ help.
       ⊎_elim (λ (s, separates). inl (parted_at_all s separates))
       (λ brought.
-      let ends = brought_ends (IsSilent silent g) g sound room (λ p is. is.1) x right y differ help brought in
+      let ends = brought_ends (IsSilent silent g) g sound room (λ p is. is.1) x right y differ x_made y_made help brought in
       inr (record { turns = ends.turns; lead_there = (ends.are, ends.there) }))
-      (parted_or_brought (IsSilent silent g) right y g x made x_made y_made (acts_or silent g)))
+      (parted_or_brought (IsSilent silent g) right y g x made (acts_or silent g)))
       (λ alone.
       held_or_never (λ lacks names.
       alone-never (IsSilent silent g) x right y (with_names g names) (widened_made names) (record { alone = alone.alone; full = alone.full }) lacks))

@@ -12,7 +12,7 @@ use Rattle.tg_model.specs.Picture.{Holds}
 use Rattle.tg_model.specs.Walks.{begins, goes}
 use Rattle.tg_model.proofs.SubjectLaws.{is_without}
 use Rattle.tg_could.specs.Turns.{Acts}
-use Rattle.tg_could.specs.Led.{Way, back, forward, Led, source, take_back, take_on, grant_on, grant_back, turns_forward, turns_back, IsBrought, is_held, is_got, is_given, HasHelp}
+use Rattle.tg_could.specs.Led.{Way, back, forward, Led, source, maker, take_back, take_on, grant_on, grant_back, turns_forward, turns_back, IsBrought, is_held, is_got, is_given, is_made, HasHelp}
 use Rattle.tg_could.proofs.MoveLaws.{IsFit, Leads, Grows, Grows-self, Grows-on, Grows-acts, stays, leads_on}
 use Rattle.tg_could.proofs.ShareLaws.{same_or_other, IsFull-on, HasBox, HasCompanion, HasCompanion-on, TakeWalk, InTime, Shares, Shares-more, gets, Link, link_by_walk, link_over, shares_on, shares_first}
 use Rattle.tg_could.proofs.EndLaws.{shorter, Ends, ends_now, ends_on, fetches, gives, by_help, by_companion}
@@ -147,18 +147,19 @@ module _ (silent : ℕ → Type 0) (g : ProtectionGraph) (fit : IsFit g) (right 
         let other : q ≢ p = λ same. differ (sym same) in
         flip p q p_acts q_acts differ other (link_over silent g q p q_acts p_acts other a b to_a edge to_b))
 
-  comes : (way : Way) (v : ℕ) → Led silent right y g way v → DoesCome way v
-  comes way v (source held) =
+  comes : y < g.made → (way : Way) (v : ℕ) → Led silent right y g way v → DoesCome way v
+  comes y_made way v (source held) =
       record { sharers = []; chain = tt; comes = λ p acts walk. shares_first silent g right y p v acts held walk }
-  comes way v (take_back {b = b} edge led) =
-      let c = comes back b led in
+  comes y_made way v (maker may acts) = absurd (omega (arith, may.0, y_made))
+  comes y_made way v (take_back {b = b} edge led) =
+      let c = comes y_made back b led in
       record { sharers = c.sharers; chain = c.chain; comes = λ p acts walk. c.comes p acts (goes walk edge) }
-  comes way v (take_on {a = a} edge led) =
-      let c = comes forward a led in
+  comes y_made way v (take_on {a = a} edge led) =
+      let c = comes y_made forward a led in
       let f = c.comes in
       record { sharers = c.sharers; chain = c.chain; comes = record { p = f.p; has = f.has; walk = goes f.walk edge } }
-  comes way v (grant_on {a = a} edge led) =
-      let c = comes forward a led in
+  comes y_made way v (grant_on {a = a} edge led) =
+      let c = comes y_made forward a led in
       let f = c.comes in
       let s = sharer c.sharers c.chain f.p f.has in
       record {
@@ -166,8 +167,8 @@ module _ (silent : ℕ → Type 0) (g : ProtectionGraph) (fit : IsFit g) (right 
         chain = c.chain;
         comes = λ q acts walk. on_grant (length c.sharers) f.p q s.acts acts s.shares a v edge f.walk walk;
       }
-  comes way v (grant_back {b = b} edge led) =
-      let c = comes forward b led in
+  comes y_made way v (grant_back {b = b} edge led) =
+      let c = comes y_made forward b led in
       let f = c.comes in
       let s = sharer c.sharers c.chain f.p f.has in
       record {
@@ -175,12 +176,12 @@ module _ (silent : ℕ → Type 0) (g : ProtectionGraph) (fit : IsFit g) (right 
         chain = c.chain;
         comes = λ q acts walk. back_grant (length c.sharers) f.p q s.acts acts s.shares v b edge f.walk walk;
       }
-  comes way v (turns_forward acts led) =
-      let c = comes back v led in
+  comes y_made way v (turns_forward acts led) =
+      let c = comes y_made back v led in
       let w = with_one c.sharers c.chain v acts (c.comes v acts (begins refl)) in
       record { sharers = w.sharers; chain = w.chain; comes = record { p = v; has = w.has; walk = begins refl } }
-  comes way v (turns_back acts led) =
-      let c = comes forward v led in
+  comes y_made way v (turns_back acts led) =
+      let c = comes y_made forward v led in
       let f = c.comes in
       let s = sharer c.sharers c.chain f.p f.has in
       let w = with_one c.sharers c.chain v acts (of_start (length c.sharers) f.p v s.acts acts s.shares f.walk) in
@@ -290,17 +291,18 @@ module _ (silent : ℕ → Type 0) (g : ProtectionGraph) (sound : IsSound g) (ro
         (λ not_y. other_than_y not_y shares)
         (same_or_other p y)
 
-  pub brought_ends : HasHelp silent g y → IsBrought silent right y g x → EndsSo g
-  brought_ends help (is_held held) = ends_now silent g held
-  brought_ends help (is_got acts led) =
-      let c = comes silent g fit right y back x led in
+  pub brought_ends : x < g.made → y < g.made → HasHelp silent g y → IsBrought silent right y g x → EndsSo g
+  brought_ends x_made y_made help (is_held held) = ends_now silent g held
+  brought_ends x_made y_made help (is_got acts led) =
+      let c = comes silent g fit right y y_made back x led in
       let w = with_one silent g fit right y c.sharers c.chain x acts (c.comes x acts (begins refl)) in
       x_fetches acts (in_room w.sharers w.chain x w.has)
-  brought_ends help (is_given {a = a} granter led) =
-      let c = comes silent g fit right y forward a led in
+  brought_ends x_made y_made help (is_given {a = a} granter led) =
+      let c = comes silent g fit right y y_made forward a led in
       let f = c.comes in
       let acts = (sharer silent g fit right y c.sharers c.chain f.p f.has).acts in
       let shares = in_room c.sharers c.chain f.p f.has in
       ⊎_elim (λ same. x_fetches (subst (Acts silent g) same acts) (subst (Shares silent g right y MAX_WORKERS) same shares))
       (λ not_x. is_granted a f.p granter acts f.walk not_x help shares)
       (same_or_other f.p x)
+  brought_ends x_made y_made help (is_made may acts led) = absurd (omega (arith, may.0, x_made))

@@ -37,18 +37,18 @@ pub fn a_grant_is_asked_about_before_it_is_made()
         NeverHolds silent (step g host (Plain (Grant rights via target))) x right y }
 {}
 
-/// Where walks lead the right over y to x, x could come to hold it: there are turns of those who act behind which it
-/// does, where 64 vertices may yet be made, and y isn't the only one who acts among 64 subjects.
+/// Where walks lead the right over y to x, both made, x could come to hold it: there are turns of those who act behind
+/// which it does, where 64 vertices may yet be made, and y isn't the only one who acts among 64 subjects.
 pub fn what_is_brought_could_come_about()
     ensures { (silent : List ℕ) (g : ProtectionGraph) (x : ℕ) (right : Right) (y : ℕ) →
-        IsSound g → g.made + MAX_WORKERS ≤ g.limit → x ≢ y → HasHelp (IsSilent silent g) g y →
-        IsBrought (IsSilent silent g) right y g x → CouldHold silent g x right y }
+        IsSound g → g.made + MAX_WORKERS ≤ g.limit → x < g.made → y < g.made → x ≢ y →
+        HasHelp (IsSilent silent g) g y → IsBrought (IsSilent silent g) right y g x → CouldHold silent g x right y }
 {}
 
-/// Of x and y that were made one of two is so: two sets part x from the right over y, or walks lead it to x.
+/// Of each x and y one of two is so: two sets part x from the right over y, or walks lead it to x.
 pub fn what_is_not_brought_is_parted()
     ensures { (silent : List ℕ) (g : ProtectionGraph) (x : ℕ) (right : Right) (y : ℕ) →
-        IsMade g → x < g.made → y < g.made →
+        IsMade g →
         ((s : Sides) × Separates (IsSilent silent g) s x right y g) ⊎ IsBrought (IsSilent silent g) right y g x }
 {}
 
