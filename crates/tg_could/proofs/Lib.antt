@@ -12,3 +12,4 @@ pub mod ShareLaws
 pub mod EndLaws
 pub mod LedLaws
 pub mod ExactLaws
+pub mod SettledLaws

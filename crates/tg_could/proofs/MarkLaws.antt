@@ -19,7 +19,7 @@ use Rattle.tg_could.proofs.SeparationLaws.{parted-never}
 use Rattle.tg_could.proofs.StillLaws.{same-never, alone-never}
 use Rattle.tg_model.specs.declared.opening.TheConstants.{MAX_WORKERS}
 
-no_right : (right : Right) → has no_rights right ≡ true → ⊥
+pub no_right : (right : Right) → has no_rights right ≡ true → ⊥
 no_right right h = false≢true (sym (has-no_rights right) ∙ h)
 
 -- a right of the first edge, or of the others
@@ -27,7 +27,7 @@ of_edges : (t : Bool) (rights m : RightSet) (x : Right) → has (cond t (union r
 of_edges true rights m x h = ⊎_elim (λ k. inl (refl, k)) (λ k. inr k) (or_true (has rights x) (has m x) (sym (has-union rights m x) ∙ h))
 of_edges false rights m x h = inr h
 
-Holds-edges : (edge : Edge) (edges : List Edge) (a : ℕ) (right : Right) (b : ℕ) → Holds (label_in (edge ∷ edges)) a right b → ((a ≡ edge.from) × (b ≡ edge.to) × (has edge.label right ≡ true)) ⊎ Holds (label_in edges) a right b
+pub Holds-edges : (edge : Edge) (edges : List Edge) (a : ℕ) (right : Right) (b : ℕ) → Holds (label_in (edge ∷ edges)) a right b → ((a ≡ edge.from) × (b ≡ edge.to) × (has edge.label right ≡ true)) ⊎ Holds (label_in edges) a right b
 Holds-edges edge edges a right b h =
     ⊎_elim (λ (t, is). let e = and_parts (a == edge.from) (b == edge.to) t in inl (eqb-true a edge.from e.0, eqb-true b edge.to e.1, is))
     (λ k. inr k)

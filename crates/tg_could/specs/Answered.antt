@@ -6,6 +6,7 @@ use Rattle.tg_model.specs.Graph.{ProtectionGraph}
 use Rattle.tg_could.specs.declared.answer.Answer.{Answer}
 use Rattle.tg_could.specs.declared.answer.Answer.TheVariants.{Never, Could, WantsNames, Open}
 use Rattle.tg_could.specs.Turns.{NeverHolds, LeadThere, MayCome, with_names}
+use Rattle.tg_could.specs.LedNames.{HasTurns}
 
 -- fewer than 64 names are left, or, where x or y may yet be made, fewer behind it
 abbrev pub IsShort : ProtectionGraph → ℕ → ℕ → Type 0
@@ -18,4 +19,4 @@ abbrev pub IsAnswer : List ℕ → ProtectionGraph → ℕ → Right → ℕ →
 IsAnswer silent g x right y (Never separation) = NeverHolds silent g x right y
 IsAnswer silent g x right y (Could turns) = LeadThere silent g turns.items x right y
 IsAnswer silent g x right y (WantsNames turns names) = LeadThere silent (with_names g names) turns.items x right y × IsShort g x y
-IsAnswer silent g x right y Open = Unit {0}
+IsAnswer silent g x right y Open = HasTurns silent g x right y

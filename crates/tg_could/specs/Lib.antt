@@ -8,3 +8,4 @@ pub mod Told
 pub mod Listed
 pub mod View
 pub mod Led
+pub mod LedNames

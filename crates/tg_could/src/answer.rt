@@ -1,10 +1,11 @@
 //! The question and its answers.
-ghost use Rattle.std.specs.Prelude.{◌≡◌, ◌+◌, ◌<◌, ◌⊎◌, IfOk, IsTrue};
+ghost use Rattle.std.specs.Prelude.{◌≡◌, ◌+◌, ◌<◌, ◌⊎◌, IfOk, IfSome, IsTrue};
 ghost use Rattle.tg_model.specs.Graph.{ProtectionGraph};
 ghost use Rattle.tg_model.specs.Picture.{IsPictureOf};
 ghost use Rattle.tg_could.specs.Separation.{ComesLater};
 ghost use Rattle.tg_could.specs.Answered.{IsAnswer, IsShort};
 
+use crate::led::may_come_about;
 use crate::plan::turns_to;
 use crate::search::{Found, search};
 use crate::separation::{Separation, comes_later};
@@ -20,8 +21,8 @@ const MOST_MADE: u64 = 1 << 16;
 /// isn't silent; whoever is spawned later acts too.
 #[derive(Drop)]
 pub enum Answer {
-    /// x never holds it, after no list of turns of those who act. The separation shows it, and may be kept and asked
-    /// again ([`Separation::parts`]) when the graph has changed.
+    /// x never holds it, after no list of turns of those who act. The separation may be kept and asked again
+    /// ([`Separation::parts`]) when the graph has changed.
     Never(Separation),
     /// x holds it after these turns, each of one who acts by then.
     Could(Vec<(u64, Deed)>),
@@ -33,9 +34,9 @@ pub enum Answer {
         /// How many names are wanting.
         names: u64,
     },
-    /// Neither was shown: the sets that the search found don't part x from the right, nor do its turns lead there. It
-    /// is told of a name that isn't made yet and over 65,536 others come before, since turns would have to make all of
-    /// them: ask about the next name in its place. Otherwise it never came.
+    /// The turns that the search leads to don't lead there. Where x and y were made some others do, if 64 vertices may
+    /// yet be made: so it could come about. This never came. Of a name that isn't made yet and over 65,536 others come
+    /// before it says nothing, since turns would have to make all of them: ask about the next name in its place.
     Open,
 }
 
@@ -59,10 +60,20 @@ pub fn could_hold(
     if found.sides.parts(picture, silent, x, right, y) {
         return Ok(Answer::Never(found.sides));
     }
-    tell_turns(alloc, picture, silent, &found, x, right, y)
+    if let Some(answer) = tell_turns(alloc, picture, silent, &found, x, right, y)? {
+        return Ok(answer);
+    }
+    if x >= picture.made() || y >= picture.made() {
+        return Ok(Answer::Open);
+    }
+    if may_come_about(alloc, picture, silent, x, right, y)? {
+        return Ok(Answer::Open);
+    }
+    Ok(Answer::Never(found.sides))
 }
 
-// The turns that the search leads to, where they lead there. Fails only when out of memory.
+// The turns that the search leads to; none where they don't lead there, or want more names though many are left. Fails
+// only when out of memory.
 fn tell_turns(
     alloc: Global,
     picture: &Picture,
@@ -71,11 +82,11 @@ fn tell_turns(
     x: u64,
     right: Right,
     y: u64,
-) -> Result<Answer, AllocError>
-    ensures { IfOk result (λ answer. (g : ProtectionGraph) → IsPictureOf picture.now g → IsAnswer silent.now g x right y answer) }
+) -> Result<Option<Answer>, AllocError>
+    ensures { IfOk result (λ told. (g : ProtectionGraph) → IsPictureOf picture.now g → IfSome told (IsAnswer silent.now g x right y)) }
 {
     if is_far(picture, x) || is_far(picture, y) {
-        return Ok(Answer::Open);
+        return Ok(None);
     }
     let rows = found.rows(alloc, picture, x)?;
     let planned = turns_to(alloc, picture, found, rows.copy(alloc)?, x, right, y)?;
@@ -93,15 +104,15 @@ fn tell_turns(
         y,
     )?;
     if !leads {
-        return Ok(Answer::Open);
+        return Ok(None);
     }
     if names == 0 {
-        return Ok(Answer::Could(turns));
+        return Ok(Some(Answer::Could(turns)));
     }
     if is_short(picture, x, y) {
-        return Ok(Answer::WantsNames { turns, names });
+        return Ok(Some(Answer::WantsNames { turns, names }));
     }
-    Ok(Answer::Open)
+    Ok(None)
 }
 
 // Whether more names than turns make come before one that isn't made yet and may be made.

@@ -38,6 +38,7 @@ mod entries;
 mod incoming;
 mod islands;
 pub mod laws;
+mod led;
 mod links;
 mod marks;
 mod names;

@@ -1,5 +1,5 @@
 //! Separations: two sets of vertices, and whether they part someone from a right.
-ghost use Rattle.std.specs.Prelude.{◌≡◌, ◌≢◌, ◌↔◌, ◌<◌, ◌≤◌, IsTrue, length};
+ghost use Rattle.std.specs.Prelude.{◌≡◌, ◌≢◌, ◌⊎◌, ◌↔◌, ℕ, false, ◌<◌, ◌≤◌, IsTrue, length};
 ghost use Rattle.std.specs.List.{All, Contains};
 ghost use Rattle.tg_rights.specs.RightSet.{has as has_right};
 ghost use Rattle.tg_model.specs.Graph.{ProtectionGraph};
@@ -7,6 +7,7 @@ ghost use Rattle.tg_model.specs.Opened.{label_in};
 ghost use Rattle.tg_model.specs.declared.opening.TheConstants.{MAX_WORKERS};
 ghost use Rattle.tg_model.specs.Picture.{Holds, IsPictureOf};
 ghost use Rattle.tg_could.specs.Turns.{NeverHolds};
+ghost use Rattle.tg_could.specs.LedNames.{ActsIn};
 ghost use Rattle.tg_could.specs.Separation.{MayAdd, Parts, Stays, sides_of, sides_against, place_in, ComesLater, IsEven, IsIdle, AreApart, Suits};
 
 use crate::marks::{Pairs, is_in_first, is_in_second};
@@ -45,7 +46,8 @@ pub(crate) fn leads(one: bool, two: bool, third: bool) -> bool
 
 /// Whether one of three things doesn't hold.
 pub(crate) fn are_not_all(one: bool, two: bool, third: bool) -> bool
-    ensures { IsTrue result → IsTrue one → IsTrue two → ¬ IsTrue third }
+    ensures not_all { IsTrue result → IsTrue one → IsTrue two → ¬ IsTrue third }
+    ensures all { result ≡ false → IsTrue one × IsTrue two × IsTrue third }
 {
     !one || !two || !third
 }
@@ -65,8 +67,9 @@ pub(crate) fn comes_later(picture: &Picture, name: u64) -> bool
 }
 
 // Whether no edge from x to y has a right.
-fn lacks(edges: &[Edge], x: u64, right: Right, y: u64) -> bool
-    ensures { IsTrue result → ¬ Holds (label_in edges.now) x right y }
+pub(crate) fn lacks(edges: &[Edge], x: u64, right: Right, y: u64) -> bool
+    ensures lacks { IsTrue result → ¬ Holds (label_in edges.now) x right y }
+    ensures held { result ≡ false → Holds (label_in edges.now) x right y }
 {
     for edge in edges {
         if !are_not_all(edge.from == x, edge.to == y, has(edge.label, right)) {
@@ -264,6 +267,7 @@ pub(crate) fn is_alone(picture: &Picture, silent: &[u64], y: u64) -> bool
     ensures many { IsTrue result → MAX_WORKERS ≤ length picture.now.subjects }
     ensures alone { IsTrue result →
         All (λ v. ¬ (Contains silent.now v × (v < picture.now.made)) → v ≡ y) picture.now.subjects }
+    ensures helped { result ≡ false → (length picture.now.subjects < MAX_WORKERS) ⊎ ((v : ℕ) × ActsIn silent.now picture.now v × (v ≢ y)) }
 {
     if (picture.subjects().len() as u64) < MAX_WORKERS {
         return false;
@@ -278,7 +282,8 @@ pub(crate) fn is_alone(picture: &Picture, silent: &[u64], y: u64) -> bool
 
 // Whether a subject is silent, or is y.
 fn is_or_is_silent(picture: &Picture, silent: &[u64], subject: u64, y: u64) -> bool
-    ensures { IsTrue result → ¬ (Contains silent.now subject × (subject < picture.now.made)) → subject ≡ y }
+    ensures is { IsTrue result → ¬ (Contains silent.now subject × (subject < picture.now.made)) → subject ≡ y }
+    ensures other { result ≡ false → ¬ (Contains silent.now subject × (subject < picture.now.made)) × (subject ≢ y) }
 {
     is_silent(silent, picture.made(), subject) || subject == y
 }

@@ -1,4 +1,5 @@
-use Rattle.std.proofs.Common.{◌≡◌, ◌<◌, ℕ}
+use Rattle.std.proofs.Common.{◌≡◌, ◌<◌, ℕ, inr, List, get_or, subst}
+use Rattle.std.proofs.lemmas.List.{get_or_default}
 use Rattle.std.specs.List.{Contains}
 use Rattle.tg_could.proofs.MarkLaws.{one-more}
 use Rattle.tg_could.proofs.separation.is_alone.Goals as goal
@@ -7,4 +8,14 @@ pub loop-subject-preserved : goal.loop-subject-preserved
 loop-subject-preserved c =
     let P : ℕ → Type 0 = λ v. ¬ (Contains c.args.silent.now v × (v < c.args.picture.now.made)) → v ≡ c.args.y in
     one-more P c.subjects-subject-items.result.now c.args.picture.now.subjects c.loop-subject.subject-index 0 c.subjects-subject-items.ensures c.loop-subject-test.true
-    c.loop-subject.invariant (c.is_or_is_silent.ensures c.if-not-is_or_is_silent.false)
+    c.loop-subject.invariant (c.is_or_is_silent.ensures.is c.if-not-is_or_is_silent.false)
+
+pub returns-then-not-is_or_is_silent-clause-helped : goal.returns-then-not-is_or_is_silent-clause-helped
+returns-then-not-is_or_is_silent-clause-helped c same =
+    let seen = c.subjects-subject-items.result.now in
+    let subjects = c.args.picture.now.subjects in
+    let i = c.loop-subject.subject-index in
+    let v = get_or seen i 0 in
+    let other = c.is_or_is_silent.ensures.other c.if-not-is_or_is_silent.true in
+    let there : Contains seen v = (i, c.loop-subject-test.true, get_or_default seen i v 0 c.loop-subject-test.true) in
+    inr (v, (subst (λ (l : List ℕ). Contains l v) c.subjects-subject-items.ensures there, other.0), other.1)

@@ -1,6 +1,19 @@
-use Rattle.std.proofs.Common.{arith}
+use Rattle.std.proofs.Common.{ℕ, ◌∙◌, sym, subst, arith}
+use Rattle.std.proofs.lemmas.Bool.{eqb-true}
+use Rattle.tg_model.specs.Opened.{label_in}
+use Rattle.tg_model.specs.Picture.{Holds}
+use Rattle.tg_could.proofs.TurnLaws.{Holds-member}
 use Rattle.tg_could.proofs.MarkLaws.{none_holds}
 use Rattle.tg_could.proofs.separation.lacks.Goals as goal
 
-pub returns : goal.returns
-returns c t = none_holds c.args.x c.args.right c.args.y c.args.edges.now (λ k d inside. c.loop-edge.invariant k d (omega arith) (omega arith))
+pub returns-clause-lacks : goal.returns-clause-lacks
+returns-clause-lacks c t = none_holds c.args.x c.args.right c.args.y c.args.edges.now (λ k d inside. c.loop-edge.invariant k d (omega arith) (omega arith))
+
+pub returns-then-not-are_not_all-clause-held : goal.returns-then-not-are_not_all-clause-held
+returns-then-not-are_not_all-clause-held c same =
+    let all = c.are_not_all.ensures.all c.if-not-are_not_all.true in
+    let es = c.args.edges.now in
+    let e = c.edge-item.result in
+    let there = Holds-member es c.loop-edge.edge-index e c.loop-edge-test.true c.edge-item.is c.args.right (sym c.has.ensures ∙ all.2) in
+    subst (λ (v : ℕ). Holds (label_in es) v c.args.right c.args.y) (eqb-true e.from c.args.x all.0)
+    (subst (λ (v : ℕ). Holds (label_in es) e.from c.args.right v) (eqb-true e.to c.args.y all.1) there)

@@ -12,7 +12,7 @@ returns-then-x-y c t g picture =
     let r = c.args.right in
     let y = c.args.y in
     pictured-same c.args.silent.now c.args.picture.now g picture x r y c.if-x-y.true
-    (subst (λ (es : List Edge). ¬ Holds (label_in es) x r y) c.edges.ensures (c.lacks.ensures t))
+    (subst (λ (es : List Edge). ¬ Holds (label_in es) x r y) c.edges.ensures (c.lacks.ensures.lacks t))
 
 pub returns-then-is_alone : goal.returns-then-is_alone
 returns-then-is_alone c t g picture =
@@ -20,7 +20,7 @@ returns-then-is_alone c t g picture =
     let r = c.args.right in
     let y = c.args.y in
     pictured-alone c.args.silent.now c.args.picture.now g picture x r y (c.is_alone.ensures.many c.if-is_alone.true) (c.is_alone.ensures.alone c.if-is_alone.true)
-    (subst (λ (es : List Edge). ¬ Holds (label_in es) x r y) c.edges-then-is_alone.ensures (c.lacks-then-is_alone.ensures t))
+    (subst (λ (es : List Edge). ¬ Holds (label_in es) x r y) c.edges-then-is_alone.ensures (c.lacks-then-is_alone.ensures.lacks t))
 
 pub returns : goal.returns
 returns c t g picture =

@@ -22,5 +22,5 @@ returns c t =
           ∙ c.leads-2.ensures c.if-not-leads-2.false (ap not (ne_eqb e.to c.args.x differ))
           (ap not (ap (λ (p : Place). p.back) c.place_against-from.ensures ∙ out));
       not_given = λ at_x is f.
-          c.are_not_all.ensures t (eq-eqb e.to c.args.x at_x) (c.has.ensures ∙ is) (ap (λ (p : Place). p.forward) c.place_against-from.ensures ∙ f);
+          c.are_not_all.ensures.not_all t (eq-eqb e.to c.args.x at_x) (c.has.ensures ∙ is) (ap (λ (p : Place). p.forward) c.place_against-from.ensures ∙ f);
     }

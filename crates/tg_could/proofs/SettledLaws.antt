@@ -1,0 +1,215 @@
+-- What is led on stays led to; and sets that nothing is led out of decide what could come about.
+use Rattle.std.proofs.Common.{◌≡◌, ◌≢◌, ◌⊎◌, inl, inr, ⊎_elim, ℕ, ◌+◌, ◌<◌, ◌≤◌, length, get_or, not, Bool, true, false, List, [], ◌∷◌, refl, sym, ap, ◌∙◌, subst, arith}
+use Rattle.std.specs.List.{All, AllWithin, Contains}
+use Rattle.std.proofs.lemmas.Bool.{false≢true, true≢false}
+use Rattle.std.proofs.lemmas.List.{get_or_default}
+use Rattle.std.proofs.lemmas.List.Elements.{All-head, All-tail, All-contains, AllWithin-more, at_read}
+use Rattle.tg_rights.specs.RightSet.{has}
+use Rattle.tg_rights.specs.declared.Right.{Right}
+use Rattle.tg_rights.specs.declared.Right.TheVariants.{T, G}
+use Rattle.tg_model.specs.declared.edge.Edge.{Edge}
+use Rattle.tg_model.specs.declared.opening.TheConstants.{MAX_WORKERS}
+use Rattle.tg_model.specs.Graph.{ProtectionGraph, IsSound}
+use Rattle.tg_model.specs.Opened.{label_in}
+use Rattle.tg_model.specs.Picture.{Holds, Shown, IsPictureOf, AreAmong}
+use Rattle.tg_could.specs.declared.led.LedNames.{LedNames}
+use Rattle.tg_could.specs.Turns.{Acts, IsSilent, NeverHolds, CouldHold, with_names}
+use Rattle.tg_could.specs.Separation.{Sides, Keeps, Parts, IsEven}
+use Rattle.tg_could.specs.Led.{Way, back, forward, Led, source, maker, take_back, take_on, grant_on, grant_back, turns_forward, turns_back, IsBrought, is_held, is_got, is_given, is_made, HasHelp}
+use Rattle.tg_could.specs.LedNames.{AreLed, IsPut, ActsIn, LeadsOn, from_source, takes_back, grants_back, takes_on, grants_on, IsDecided, HasTurns, way_of, is_in, sides_led, number_led}
+use Rattle.tg_could.proofs.TurnLaws.{Holds-member}
+use Rattle.tg_could.proofs.LedLaws.{brought_ends}
+use Rattle.tg_could.proofs.MarkLaws.{Fits, Parts-edges, Holds-edges, no_right, pictured-never}
+
+-- a step that was told by its two parts
+pub as_told : (s : Sides) (r : Right) (y : ℕ) (edge : Edge) (f was : Bool) (v at : ℕ) → f ≡ was → v ≡ at → LeadsOn s r y edge was at → LeadsOn s r y edge f v
+as_told s r y edge f was v at is_f is_v leads =
+    subst (λ (v : ℕ). LeadsOn s r y edge f v) (sym is_v) (subst (λ (f : Bool). LeadsOn s r y edge f at) (sym is_f) leads)
+
+module _ (silent : ℕ → Type 0) (r : Right) (y : ℕ) (g : ProtectionGraph) where
+  -- an edge of the graph leads from who is led to whom it says
+  pub led_along : (s : Sides) (edge : Edge) (f : Bool) (v : ℕ) → AreLed silent r y g s → ((q : Right) → has edge.label q ≡ true → Holds g.label edge.from q edge.to) → LeadsOn s r y edge f v → Led silent r y g (way_of f) v
+  led_along s edge f v led there (from_source held at_y) =
+      source (subst (λ (z : ℕ). Holds g.label edge.from r z) at_y (there r held))
+  led_along s edge f v led there (takes_back take inside) = take_back (there T take) (led.behind edge.to inside)
+  led_along s edge f v led there (grants_back grant inside) = grant_back (there G grant) (led.on edge.to inside)
+  led_along s edge f v led there (takes_on take inside) = take_on (there T take) (led.on edge.from inside)
+  led_along s edge f v led there (grants_on grant inside) = grant_on (there G grant) (led.on edge.from inside)
+
+  -- with one more who is led to, all are
+  pub led_put : (s new : Sides) (f : Bool) (v : ℕ) → IsPut s f v new → AreLed silent r y g s → Led silent r y g (way_of f) v → AreLed silent r y g new
+  led_put s new f v put led more = record {
+    on = λ w inside. ⊎_elim (λ was. led.on w was)
+        (λ (is_f, is_v). subst (λ (w : ℕ). Led silent r y g (way_of true) w) (sym is_v) (subst (λ (f : Bool). Led silent r y g (way_of f) v) is_f more))
+        (put.on w inside);
+    behind = λ w inside. ⊎_elim (λ was. led.behind w was)
+        (λ (is_f, is_v). subst (λ (w : ℕ). Led silent r y g (way_of false) w) (sym is_v) (subst (λ (f : Bool). Led silent r y g (way_of f) v) is_f more))
+        (put.behind w inside);
+  }
+
+  -- who acts turns from one set into the other
+  pub led_turn : (s : Sides) (f : Bool) (v : ℕ) → AreLed silent r y g s → Acts silent g v → is_in s (not f) v ≡ true → Led silent r y g (way_of f) v
+  led_turn s true v led acts inside = turns_forward acts (led.behind v inside)
+  led_turn s false v led acts inside = turns_back acts (led.on v inside)
+
+-- ---- the edges gone along so far
+
+abbrev pub KeepsAt : Sides → Right → ℕ → Edge → Type 0
+KeepsAt s r y e = Keeps s r y (λ a b. e.label) e.from e.to
+
+-- what holds of the sets behind some of the edges
+pub record GoesAlong (r : Right) (y : ℕ) (edges : List Edge) (start now : LedNames) (i : ℕ) : Type 0 where
+  pub led : (silent : List ℕ) (g : ProtectionGraph) → AreAmong edges g.label → AreLed (IsSilent silent g) r y g (sides_led start) → AreLed (IsSilent silent g) r y g (sides_led now)
+  pub more : number_led start ≤ number_led now
+  pub still : number_led now ≡ number_led start → (sides_led now ≡ sides_led start) × AllWithin (KeepsAt (sides_led now) r y) edges 0 i
+
+module _ (r : Right) (y : ℕ) (edges : List Edge) (start : LedNames) where
+  pub along_begins : GoesAlong r y edges start start 0
+  along_begins = record { led = λ silent g among led. led; more = omega arith; still = λ same. (refl, λ k d low below. absurd (omega (arith, low, below))) }
+
+  pub along_still : (now : LedNames) (i : ℕ) (e : Edge) → GoesAlong r y edges start now i → i < length edges → e ≡ get_or edges i e → KeepsAt (sides_led now) r y e → GoesAlong r y edges start now (i + 1)
+  along_still now i e was inside is keeps = record {
+    led = was.led;
+    more = was.more;
+    still = λ same. let before = was.still same in (
+      before.0,
+      AllWithin-more (KeepsAt (sides_led now) r y) edges 0 i before.1 (at_read edges (KeepsAt (sides_led now) r y) i e inside is keeps),
+    );
+  }
+
+  pub along_more : (now new : LedNames) (i : ℕ) (e : Edge) (f : Bool) (v : ℕ) → GoesAlong r y edges start now i → i < length edges → e ≡ get_or edges i e → LeadsOn (sides_led now) r y e f v → IsPut (sides_led now) f v (sides_led new) → number_led now < number_led new → GoesAlong r y edges start new (i + 1)
+  along_more now new i e f v was inside is leads put more = record {
+    led = λ silent g among led.
+        let before = was.led silent g among led in
+        led_put (IsSilent silent g) r y g (sides_led now) (sides_led new) f v put before
+        (led_along (IsSilent silent g) r y g (sides_led now) e f v before (λ q h. among e.from e.to q (Holds-member edges i e inside is q h)) leads);
+    more = omega (arith, was.more, more);
+    still = λ same. absurd (omega (arith, was.more, more, same));
+  }
+
+-- ---- the subjects looked at so far
+
+abbrev pub IsAlike : List ℕ → ℕ → Sides → ℕ → Type 0
+IsAlike silent made s v = ¬ (Contains silent v × (v < made)) → s.forward v ≡ s.back v
+
+pub record Turns (silent : List ℕ) (p : Shown) (start now : LedNames) (i : ℕ) : Type 0 where
+  pub led : (r : Right) (y : ℕ) (g : ProtectionGraph) → IsPictureOf p g → AreLed (IsSilent silent g) r y g (sides_led start) → AreLed (IsSilent silent g) r y g (sides_led now)
+  pub more : number_led start ≤ number_led now
+  pub still : number_led now ≡ number_led start → (sides_led now ≡ sides_led start) × AllWithin (IsAlike silent p.made (sides_led now)) p.subjects 0 i
+
+module _ (silent : List ℕ) (p : Shown) (start : LedNames) where
+  pub turns_begin : Turns silent p start start 0
+  turns_begin = record { led = λ r y g picture led. led; more = omega arith; still = λ same. (refl, λ k d low below. absurd (omega (arith, low, below))) }
+
+  pub turns_still : (now : LedNames) (i v : ℕ) → Turns silent p start now i → i < length p.subjects → v ≡ get_or p.subjects i v → IsAlike silent p.made (sides_led now) v → Turns silent p start now (i + 1)
+  turns_still now i v was inside is alike = record {
+    led = was.led;
+    more = was.more;
+    still = λ same. let before = was.still same in (
+      before.0,
+      AllWithin-more (IsAlike silent p.made (sides_led now)) p.subjects 0 i before.1 (at_read p.subjects (IsAlike silent p.made (sides_led now)) i v inside is alike),
+    );
+  }
+
+  pub turns_more : (now new : LedNames) (i v : ℕ) (f : Bool) → Turns silent p start now i → i < length p.subjects → v ≡ get_or p.subjects i v → ¬ (Contains silent v × (v < p.made)) → is_in (sides_led now) (not f) v ≡ true → IsPut (sides_led now) f v (sides_led new) → number_led now < number_led new → Turns silent p start new (i + 1)
+  turns_more now new i v f was inside is acts there put more = record {
+    led = λ r y g picture led.
+        let before = was.led r y g picture led in
+        let stands : Contains g.subjects v = subst (λ (l : List ℕ). Contains l v) (sym picture.subjects) (i, inside, sym is) in
+        led_put (IsSilent silent g) r y g (sides_led now) (sides_led new) f v put before
+        (led_turn (IsSilent silent g) r y g (sides_led now) f v before (stands, λ (within, below). acts (within, omega (arith, below, picture.made))) there);
+    more = omega (arith, was.more, more);
+    still = λ same. absurd (omega (arith, was.more, more, same));
+  }
+
+-- ---- who is granted to
+
+pub none_given : (f : ℕ → Bool) (x : ℕ) (edges : List Edge) → All (λ e. e.to ≡ x → has e.label G ≡ true → ¬ (f e.from ≡ true)) edges → (a : ℕ) → Holds (label_in edges) a G x → ¬ (f a ≡ true)
+none_given f x [] all a h inside = no_right G h
+none_given f x (e ∷ edges) all a h inside =
+    let P : Edge → Type 0 = λ e. e.to ≡ x → has e.label G ≡ true → ¬ (f e.from ≡ true) in
+    ⊎_elim (λ (at_a, at_x, grant). All-head P e edges all (sym at_x) grant (ap f (sym at_a) ∙ inside))
+    (λ old. none_given f x edges (All-tail P e edges all) a old inside)
+    (Holds-edges e edges a G x h)
+
+-- ---- more names
+
+module _ (silent : List ℕ) (g : ProtectionGraph) (r : Right) (y : ℕ) (y_made : y < g.made) (names : ℕ) where
+  abbrev wide : ProtectionGraph
+  wide = with_names g names
+
+  led_wide : {way : Way} {v : ℕ} → Led (IsSilent silent g) r y g way v → Led (IsSilent silent wide) r y wide way v
+  led_wide (source h) = source h
+  led_wide (maker comes acts) = absurd (omega (arith, comes.0, y_made))
+  led_wide (take_back h led) = take_back h (led_wide led)
+  led_wide (take_on h led) = take_on h (led_wide led)
+  led_wide (grant_on h led) = grant_on h (led_wide led)
+  led_wide (grant_back h led) = grant_back h (led_wide led)
+  led_wide (turns_forward acts led) = turns_forward acts (led_wide led)
+  led_wide (turns_back acts led) = turns_back acts (led_wide led)
+
+  brought_wide : (x : ℕ) → x < g.made → IsBrought (IsSilent silent g) r y g x → IsBrought (IsSilent silent wide) r y wide x
+  brought_wide x x_made (is_held h) = is_held h
+  brought_wide x x_made (is_got acts led) = is_got acts (led_wide led)
+  brought_wide x x_made (is_given h led) = is_given h (led_wide led)
+  brought_wide x x_made (is_made comes acts led) = absurd (omega (arith, comes.0, x_made))
+
+  sound_wide : IsSound g → IsSound wide
+  sound_wide sound = record {
+    rising = sound.rising;
+    subjects_made = sound.subjects_made;
+    few_subjects = sound.few_subjects;
+    ends_made = sound.ends_made;
+    no_loop = sound.no_loop;
+    values = sound.values;
+  }
+
+-- what is brought has turns, where 64 vertices may yet be made
+brought_turns : (silent : List ℕ) (g : ProtectionGraph) (x : ℕ) (r : Right) (y : ℕ) → x ≢ y → HasHelp (IsSilent silent g) g y → IsBrought (IsSilent silent g) r y g x → HasTurns silent g x r y
+brought_turns silent g x r y differ help brought sound x_made y_made names room =
+    let more = with_names g names in
+    let ends = brought_ends (IsSilent silent more) more (sound_wide silent g r y y_made names sound) room (λ p is. is.1) x r y differ x_made y_made help (brought_wide silent g r y y_made names x x_made brought) in
+    record { turns = ends.turns; lead_there = (ends.are, ends.there) }
+
+-- ---- what is decided
+
+module _ (silent : List ℕ) (p : Shown) (g : ProtectionGraph) (picture : IsPictureOf p g) (x : ℕ) (r : Right) (y : ℕ) (x_made : x < g.made) (y_made : y < g.made) (names : LedNames) where
+  abbrev pub s : Sides
+  s = sides_led names
+
+  fits_all : (edges : List Edge) → All (KeepsAt s r y) edges → ¬ Holds (label_in edges) x r y → ((a : ℕ) → Holds (label_in edges) a G x → ¬ (s.forward a ≡ true)) → All (Fits s x r y) edges
+  fits_all edges keeps lacks ungiven = λ k d inside. record {
+    keeps = keeps k d inside;
+    not_held = λ at_x at_y held.
+        let e = get_or edges k d in
+        let there : Holds (label_in edges) e.from r e.to = Holds-member edges k e inside (get_or_default edges k d (get_or edges k d) inside) r held in
+        lacks (subst (λ (v : ℕ). Holds (label_in edges) v r y) at_x (subst (λ (v : ℕ). Holds (label_in edges) e.from r v) at_y there));
+    not_granted = λ at_x grant.
+        let e = get_or edges k d in
+        let there : Holds (label_in edges) e.from G e.to = Holds-member edges k e inside (get_or_default edges k d (get_or edges k d) inside) G grant in
+        ungiven e.from (subst (λ (v : ℕ). Holds (label_in edges) e.from G v) at_x there);
+  }
+
+  pub closed_never : All (KeepsAt s r y) p.edges → ((v : ℕ) → ActsIn silent p v → s.forward v ≡ s.back v) → ¬ Holds (label_in p.edges) x r y → (ActsIn silent p x → s.back x ≡ false) → ((a : ℕ) → Holds (label_in p.edges) a G x → ¬ (s.forward a ≡ true)) → NeverHolds silent g x r y
+  closed_never keeps alike lacks untaken ungiven =
+      pictured-never silent p g picture s x r y
+      (λ k d inside acts.
+      let v = get_or p.subjects k d in
+      let is : ActsIn silent p v = ((k, inside, get_or_default p.subjects k v d inside), acts) in
+      record {
+        alike = alike v is;
+        not_x = λ at_x in_back. false≢true (sym (untaken (subst (λ (v : ℕ). ActsIn silent p v) at_x is)) ∙ ap s.back (sym at_x) ∙ in_back);
+        y_may_come = λ later. absurd (omega (arith, later.0, y_made, picture.made));
+        x_may_come = λ later. absurd (omega (arith, later.0, x_made, picture.made));
+      })
+      (Parts-edges s x r y p.edges (fits_all p.edges keeps lacks ungiven))
+
+  pub helped : (length p.subjects < MAX_WORKERS) ⊎ ((v : ℕ) × ActsIn silent p v × (v ≢ y)) → HasHelp (IsSilent silent g) g y
+  helped (inl few) = inl (subst (λ (l : List ℕ). length l < MAX_WORKERS) (sym picture.subjects) few)
+  helped (inr (v, (there, acts), other)) =
+      inr (v, (subst (λ (l : List ℕ). Contains l v) (sym picture.subjects) there, λ (within, below). acts (within, omega (arith, below, picture.made))), other)
+
+  -- either way it is decided
+  pub decided : (found : Bool) → (found ≡ true → IsBrought (IsSilent silent g) r y g x) → (found ≡ false → NeverHolds silent g x r y) → x ≢ y → HasHelp (IsSilent silent g) g y → IsDecided silent g x r y found
+  decided true brought never differ help = brought_turns silent g x r y differ help (brought refl)
+  decided false brought never differ help = never refl

@@ -1,0 +1,14 @@
+use Rattle.std.proofs.Common.{◌∙◌, List, ap, subst}
+use Rattle.tg_rights.specs.RightSet.{has}
+use Rattle.tg_rights.specs.declared.Right.TheVariants.{G}
+use Rattle.tg_model.specs.declared.edge.Edge.{Edge}
+use Rattle.tg_model.specs.Opened.{label_in}
+use Rattle.tg_model.specs.Picture.{Holds}
+use Rattle.tg_could.specs.Led.IsBrought.{is_given}
+use Rattle.tg_could.proofs.led.LedNames.lead_to.Goals as goal
+
+pub returns-else-place-clause-brought : goal.returns-else-place-clause-brought
+returns-else-place-clause-brought c t right y g picture led =
+    let (a, granted, inside) = c.grant_to.ensures.given t in
+    let shown = subst (λ (es : List Edge). Holds (label_in es) a G c.args.x) c.edges.ensures granted in
+    is_given (ap (λ m. has m G) (picture.labels a c.args.x) ∙ shown) (led.on a inside)

@@ -1,0 +1,38 @@
+use Rattle.std.proofs.Common.{◌≡◌, ◌≢◌, List, subst}
+use Rattle.tg_model.specs.declared.edge.Edge.{Edge}
+use Rattle.tg_model.specs.Opened.{label_in}
+use Rattle.tg_model.specs.Picture.{Holds}
+use Rattle.tg_could.proofs.MarkLaws.{pictured-same, pictured-alone}
+use Rattle.tg_could.proofs.SettledLaws.{closed_never, helped, decided}
+use Rattle.tg_could.proofs.led.may_come_about.Goals as goal
+
+pub returns-then-x-y : goal.returns-then-x-y
+returns-then-x-y c g picture x_made y_made =
+    let x = c.args.x in
+    let r = c.args.right in
+    let y = c.args.y in
+    pictured-same c.args.silent.now c.args.picture.now g picture x r y c.if-x-y.true
+    (subst (λ (es : List Edge). ¬ Holds (label_in es) x r y) c.edges.ensures (c.lacks.ensures.lacks c.if-not-lacks.false))
+
+pub returns-then-is_alone : goal.returns-then-is_alone
+returns-then-is_alone c g picture x_made y_made =
+    let x = c.args.x in
+    let r = c.args.right in
+    let y = c.args.y in
+    pictured-alone c.args.silent.now c.args.picture.now g picture x r y (c.is_alone.ensures.many c.if-is_alone.true) (c.is_alone.ensures.alone c.if-is_alone.true)
+    (subst (λ (es : List Edge). ¬ Holds (label_in es) x r y) c.edges.ensures (c.lacks.ensures.lacks c.if-not-lacks.false))
+
+pub returns : goal.returns
+returns c g picture x_made y_made =
+    let silent = c.args.silent.now in
+    let p = c.args.picture.now in
+    let x = c.args.x in
+    let r = c.args.right in
+    let y = c.args.y in
+    let names = c.in_ok-led.led in
+    let lacks = subst (λ (es : List Edge). ¬ Holds (label_in es) x r y) c.edges.ensures (c.lacks.ensures.lacks c.if-not-lacks.false) in
+    decided silent p g picture x r y x_made y_made names c.lead_to.result
+    (λ found. c.lead_to.ensures.brought found r y g picture (c.in_ok-led.ensures.led g picture))
+    (λ none. closed_never silent p g picture x r y x_made y_made names c.in_ok-led.ensures.edges c.in_ok-led.ensures.actors lacks (c.lead_to.ensures.not_taken none) (c.lead_to.ensures.not_given none))
+    c.if-x-y.false
+    (helped silent p g picture x r y x_made y_made names (c.is_alone.ensures.helped c.if-is_alone.false))

@@ -1,0 +1,263 @@
+//! To whom a right is led, by going over all edges until nothing is new. The search (`search`) is quick, and nothing of
+//! it has to be believed; this is slow and believed, and only asked where the turns that the search found lead nowhere.
+ghost use Rattle.std.specs.Prelude.{◌≡◌, ◌≢◌, ◌≤◌, ◌<◌, ◌^◌, ℕ, List, true, false, not, IsTrue, IfSome, IfNone, IfOk, OnOk};
+ghost use Rattle.std.specs.List.{All, Contains};
+ghost use Rattle.tg_rights.specs.declared.Right.TheVariants.{G};
+ghost use Rattle.tg_model.specs.Graph.{ProtectionGraph};
+ghost use Rattle.tg_model.specs.Opened.{label_in};
+ghost use Rattle.tg_model.specs.Picture.{Holds, IsPictureOf, AreAmong};
+ghost use Rattle.tg_could.specs.Turns.{IsSilent};
+ghost use Rattle.tg_could.specs.Separation.{Keeps, place_in};
+ghost use Rattle.tg_could.specs.Led.{Led, IsBrought};
+ghost use Rattle.tg_could.specs.LedNames.{AreLed, IsPut, IsDecided, ActsIn, way_of, is_in, LeadsOn, sides_led, number_led};
+
+use crate::search::Step;
+use crate::separation::{Place, has, is_alone, is_silent, lacks};
+use indexmap::IndexSet;
+use std::alloc::{AllocError, Global};
+use tg_model::{Edge, Picture};
+use tg_rights::Right;
+
+/// The names that walks lead to, forward and back.
+#[derive(Drop)]
+pub(crate) struct LedNames {
+    forward: IndexSet<u64>,
+    back: IndexSet<u64>,
+}
+
+/// Whether x may come to hold a right over y, of vertices that were made: with some more names it does, after turns
+/// that aren't told; else it never does. Goes over all edges as often as something is new. Fails only when out of
+/// memory.
+pub(crate) fn may_come_about(
+    alloc: Global,
+    picture: &Picture,
+    silent: &[u64],
+    x: u64,
+    right: Right,
+    y: u64,
+) -> Result<bool, AllocError>
+    ensures { IfOk result (λ may. (g : ProtectionGraph) → IsPictureOf picture.now g → x < g.made → y < g.made →
+        IsDecided silent.now g x right y may) }
+{
+    if !lacks(picture.edges(), x, right, y) {
+        return Ok(true);
+    }
+    if x == y {
+        return Ok(false);
+    }
+    if is_alone(picture, silent, y) {
+        return Ok(false);
+    }
+    let led = led_from(alloc, picture, silent, right, y)?;
+    Ok(led.lead_to(picture, silent, x))
+}
+
+// All names that walks lead to from those who hold a right over y. Fails only when out of memory.
+fn led_from(
+    alloc: Global,
+    picture: &Picture,
+    silent: &[u64],
+    right: Right,
+    y: u64,
+) -> Result<LedNames, AllocError>
+    ensures led { IfOk result (λ led. (g : ProtectionGraph) → IsPictureOf picture.now g →
+        AreLed (IsSilent silent.now g) right y g (sides_led led)) }
+    ensures edges { IfOk result (λ led. All (λ e. Keeps (sides_led led) right y (λ a b. e.label) e.from e.to) picture.now.edges) }
+    ensures actors { IfOk result (λ led. (v : ℕ) → ActsIn silent.now picture.now v → (sides_led led).forward v ≡ (sides_led led).back v) }
+{
+    let mut led = LedNames {
+        forward: IndexSet::new(alloc),
+        back: IndexSet::new(alloc),
+    };
+    while led.goes_on(picture, silent, right, y)? {}
+    Ok(led)
+}
+
+// Whether two things hold, and a third doesn't.
+fn leads_out(one: bool, two: bool, third: bool) -> bool
+    ensures yes { IsTrue result → IsTrue one × IsTrue two × (third ≡ false) }
+    ensures no { result ≡ false → IsTrue one → IsTrue two → IsTrue third }
+{
+    one && two && !third
+}
+
+// A vertex for the first set.
+fn forward(vertex: u64) -> Step
+    ensures vertex { result.vertex ≡ vertex }
+    ensures forward { result.forward ≡ true }
+{
+    Step {
+        vertex,
+        forward: true,
+    }
+}
+
+// A vertex for the second set.
+fn back(vertex: u64) -> Step
+    ensures vertex { result.vertex ≡ vertex }
+    ensures back { result.forward ≡ false }
+{
+    Step {
+        vertex,
+        forward: false,
+    }
+}
+
+impl LedNames {
+    // Whether a name is in the sets.
+    fn place(&self, name: u64) -> Place
+        ensures { result ≡ place_in (sides_led self.now) name }
+    {
+        Place {
+            forward: self.forward.contains(&name),
+            back: self.back.contains(&name),
+        }
+    }
+
+    // How many there are in both sets.
+    fn len(&self) -> usize
+        ensures { result ≡ number_led self.now }
+    {
+        self.forward.len() + self.back.len()
+    }
+
+    // Puts a vertex into a set.
+    fn put(&mut self, step: Step) -> Result<(), AllocError>
+        ensures put { OnOk result (IsPut (sides_led self.old) step.forward step.vertex (sides_led self.new)) }
+        ensures more { OnOk result (is_in (sides_led self.old) step.forward step.vertex ≡ false → number_led self.old < number_led self.new) }
+    {
+        if step.forward {
+            self.forward.insert(step.vertex)?;
+        } else {
+            self.back.insert(step.vertex)?;
+        }
+        Ok(())
+    }
+
+    // Where an edge leads to that isn't in the sets yet.
+    fn led_on(&self, edge: &Edge, right: Right, y: u64) -> Option<Step>
+        ensures leads { IfSome result (λ step. LeadsOn (sides_led self.now) right y edge.now step.forward step.vertex) }
+        ensures new { IfSome result (λ step. is_in (sides_led self.now) step.forward step.vertex ≡ false) }
+        ensures keeps { IfNone result (Keeps (sides_led self.now) right y (λ a b. edge.now.label) edge.now.from edge.now.to) }
+    {
+        let from = self.place(edge.from);
+        let to = self.place(edge.to);
+        let take = has(edge.label, Right::T);
+        let grant = has(edge.label, Right::G);
+        let held = has(edge.label, right);
+        if leads_out(edge.to == y, held, from.back) {
+            return Some(back(edge.from));
+        }
+        if leads_out(take, to.back, from.back) {
+            return Some(back(edge.from));
+        }
+        if leads_out(grant, to.forward, from.back) {
+            return Some(back(edge.from));
+        }
+        if leads_out(grant, from.forward, to.back) {
+            return Some(back(edge.to));
+        }
+        if leads_out(take, from.forward, to.forward) {
+            return Some(forward(edge.to));
+        }
+        None
+    }
+
+    // Puts whatever each edge leads to.
+    fn go_along(&mut self, edges: &[Edge], right: Right, y: u64) -> Result<(), AllocError>
+        ensures led { OnOk result ((silent : List ℕ) (g : ProtectionGraph) → AreAmong edges.now g.label →
+            AreLed (IsSilent silent g) right y g (sides_led self.old) → AreLed (IsSilent silent g) right y g (sides_led self.new)) }
+        ensures more { OnOk result (number_led self.old ≤ number_led self.new) }
+        ensures still { OnOk result (number_led self.new ≡ number_led self.old → (sides_led self.new ≡ sides_led self.old) ×
+            All (λ e. Keeps (sides_led self.new) right y (λ a b. e.label) e.from e.to) edges.now) }
+    {
+        for edge in edges {
+            let Some(step) = self.led_on(edge, right, y) else {
+                continue;
+            };
+            self.put(step)?;
+        }
+        Ok(())
+    }
+
+    // Puts whoever acts and is in one set into the other.
+    fn turn(&mut self, picture: &Picture, silent: &[u64]) -> Result<(), AllocError>
+        ensures led { OnOk result ((right : Right) (y : ℕ) (g : ProtectionGraph) → IsPictureOf picture.now g →
+            AreLed (IsSilent silent.now g) right y g (sides_led self.old) → AreLed (IsSilent silent.now g) right y g (sides_led self.new)) }
+        ensures more { OnOk result (number_led self.old ≤ number_led self.new) }
+        ensures still { OnOk result (number_led self.new ≡ number_led self.old → (sides_led self.new ≡ sides_led self.old) ×
+            ((v : ℕ) → ActsIn silent.now picture.now v → (sides_led self.new).forward v ≡ (sides_led self.new).back v)) }
+    {
+        for subject in picture.subjects() {
+            let Some(step) = self.turned(picture, silent, *subject) else {
+                continue;
+            };
+            self.put(step)?;
+        }
+        Ok(())
+    }
+
+    // The set in which a subject isn't yet, where it acts and is in the other.
+    fn turned(&self, picture: &Picture, silent: &[u64], subject: u64) -> Option<Step>
+        ensures vertex { IfSome result (λ step. step.vertex ≡ subject) }
+        ensures acts { IfSome result (λ step. ¬ (Contains silent.now step.vertex × (step.vertex < picture.now.made))) }
+        ensures leads { IfSome result (λ step. is_in (sides_led self.now) (not step.forward) step.vertex ≡ true) }
+        ensures new { IfSome result (λ step. is_in (sides_led self.now) step.forward step.vertex ≡ false) }
+        ensures alike { IfNone result (¬ (Contains silent.now subject × (subject < picture.now.made)) →
+            (sides_led self.now).forward subject ≡ (sides_led self.now).back subject) }
+    {
+        let at = self.place(subject);
+        if at.forward == at.back || is_silent(silent, picture.made(), subject) {
+            return None;
+        }
+        Some(Step {
+            vertex: subject,
+            forward: at.back,
+        })
+    }
+
+    // Goes over all edges and subjects once. Whether something was new.
+    fn goes_on(
+        &mut self,
+        picture: &Picture,
+        silent: &[u64],
+        right: Right,
+        y: u64,
+    ) -> Result<bool, AllocError>
+        ensures led { OnOk result ((g : ProtectionGraph) → IsPictureOf picture.now g →
+            AreLed (IsSilent silent.now g) right y g (sides_led self.old) → AreLed (IsSilent silent.now g) right y g (sides_led self.new)) }
+        ensures more { IfOk result (λ more. more ≡ true → number_led self.old < number_led self.new) }
+        ensures few { OnOk result (number_led self.new < 2 ^ 64) }
+        ensures edges { IfOk result (λ more. more ≡ false → All (λ e. Keeps (sides_led self.new) right y (λ a b. e.label) e.from e.to) picture.now.edges) }
+        ensures actors { IfOk result (λ more. more ≡ false → (v : ℕ) → ActsIn silent.now picture.now v → (sides_led self.new).forward v ≡ (sides_led self.new).back v) }
+    {
+        let before = self.len();
+        self.go_along(picture.edges(), right, y)?;
+        self.turn(picture, silent)?;
+        Ok(self.len() > before)
+    }
+
+    // Whether the right is led to x, who doesn't hold it: x acts and may get it, or whoever may grants to x.
+    fn lead_to(&self, picture: &Picture, silent: &[u64], x: u64) -> bool
+        ensures brought { IsTrue result → (right : Right) (y : ℕ) (g : ProtectionGraph) → IsPictureOf picture.now g →
+            AreLed (IsSilent silent.now g) right y g (sides_led self.now) → IsBrought (IsSilent silent.now g) right y g x }
+        ensures not_taken { result ≡ false → ActsIn silent.now picture.now x → (sides_led self.now).back x ≡ false }
+        ensures not_given { result ≡ false → (a : ℕ) → Holds (label_in picture.now.edges) a G x → ¬ ((sides_led self.now).forward a ≡ true) }
+    {
+        let acts = picture.subjects().contains(&x) && !is_silent(silent, picture.made(), x);
+        acts && self.place(x).back || self.grant_to(picture.edges(), x)
+    }
+
+    // Whether someone in the first set has grant over x.
+    fn grant_to(&self, edges: &[Edge], x: u64) -> bool
+        ensures given { IsTrue result → (a : ℕ) × Holds (label_in edges.now) a G x × ((sides_led self.now).forward a ≡ true) }
+        ensures not_given { result ≡ false → (a : ℕ) → Holds (label_in edges.now) a G x → ¬ ((sides_led self.now).forward a ≡ true) }
+    {
+        for edge in edges {
+            if edge.to == x && has(edge.label, Right::G) && self.place(edge.from).forward {
+                return true;
+            }
+        }
+        false
+    }
+}
