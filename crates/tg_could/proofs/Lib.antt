@@ -11,4 +11,5 @@ pub mod MoveLaws
 pub mod ShareLaws
 pub mod EndLaws
 pub mod LedLaws
+pub mod LaterLaws
 pub mod ExactLaws
