@@ -1,5 +1,5 @@
--- Of each question one of two is so: two sets part x from the right, or the right is brought to x; so x never holds it, however
--- many names there are, or could where there are 64.
+-- Of each question one of two is so: two sets part x from the right, or the right is brought to x; so x never holds it, or
+-- could where names aren't short.
 use Rattle.std.proofs.Common.{◌≡◌, ◌≢◌, ◌⊎◌, inl, inr, ⊎_elim, ℕ, zero, suc, ◌+◌, ◌<◌, ◌≤◌, ◌==◌, ◌||◌, Bool, true, false, List, [], length, refl, sym, ap, ◌∙◌, subst, arith, eq-eqb}
 use Rattle.std.proofs.lemmas.Bool.{eqb-true, false≢true, cases_Bool, cases_eq, cases_lt}
 use Rattle.tg_rights.specs.RightSet.{RightSet, has}
@@ -9,12 +9,15 @@ use Rattle.tg_model.specs.declared.opening.TheConstants.{MAX_WORKERS}
 use Rattle.tg_model.specs.Graph.{ProtectionGraph, IsSound}
 use Rattle.tg_model.specs.Picture.{Holds, IsMade}
 use Rattle.tg_model.proofs.PictureLaws.{or_true}
-use Rattle.tg_could.specs.Turns.{Acts, MayCome, IsSilent, NeverHolds, CouldHold, with_names}
+use Rattle.tg_could.specs.Turns.{Acts, MayCome, IsSilent, NeverHolds, CouldHold}
+use Rattle.tg_could.specs.Answered.{IsShort}
 use Rattle.tg_could.specs.Separation.{Sides, MayAdd, Parts, Separates}
 use Rattle.tg_could.specs.Led.{Way, back, forward, Led, source, maker, take_back, take_on, grant_on, grant_back, turns_forward, turns_back, IsBrought, is_held, is_got, is_given, is_made, HasHelp}
 use Rattle.tg_could.proofs.SeparationLaws.{parted-never}
 use Rattle.tg_could.proofs.StillLaws.{IsAlone, same-never, alone-never}
-use Rattle.tg_could.proofs.LedLaws.{contains_or, brought_ends}
+use Rattle.tg_could.proofs.EndLaws.{Ends, ends_on}
+use Rattle.tg_could.proofs.LedLaws.{contains_or, IsFit-sound, few_on, help_on, brought_ends}
+use Rattle.tg_could.proofs.LaterLaws.{may_come_or, HasRoom, make_both}
 
 -- ---- tests
 
@@ -164,14 +167,6 @@ module _ (silent : ℕ → Type 0) (right : Right) (y : ℕ) (g : ProtectionGrap
       let less = left_less s.forward (λ c. s.forward c || (c == v)) (λ c is. or_first (s.forward c) (c == v) is) g.made v made out (or_second (s.forward v) (v == v) (eq-eqb v v refl)) in
       omega (arith, less)
 
-  -- a name may yet be made, or it may not
-  may_come_or : (v : ℕ) → MayCome g v ⊎ (MayCome g v → ⊥)
-  may_come_or v =
-      ⊎_elim (λ was. inr (λ comes. let low = comes.0 in omega (arith, low, was)))
-      (λ later.
-      ⊎_elim (λ below. inl (later, below)) (λ past. inr (λ comes. let low = comes.1 in omega (arith, low, past))) (cases_lt v g.limit))
-      (cases_lt v g.made)
-
   -- ---- what is wrong where two sets don't part
 
   module _ (x : ℕ) (s : Sides) (holds : HoldsLed s) where
@@ -247,7 +242,7 @@ module _ (silent : ℕ → Type 0) (right : Right) (y : ℕ) (g : ProtectionGrap
         (λ acts.
         ⊎_elim (λ is. inl (λ comes _. is))
         (λ out.
-        ⊎_elim (λ comes. inr (missed back p (maker comes acts) out)) (λ none. inl (λ comes. absurd (none comes))) (may_come_or y))
+        ⊎_elim (λ comes. inr (missed back p (maker comes acts) out)) (λ none. inl (λ comes. absurd (none comes))) (may_come_or g y))
         (cases_Bool (s.back p)))
         (λ none. inl (λ comes acts. absurd (none acts))) acts_or
 
@@ -258,7 +253,7 @@ module _ (silent : ℕ → Type 0) (right : Right) (y : ℕ) (g : ProtectionGrap
         (λ acts.
         ⊎_elim
         (λ is.
-        ⊎_elim (λ comes. inr (inr (is_made comes acts (holds.of back p is)))) (λ none. inl (λ comes. absurd (none comes))) (may_come_or x))
+        ⊎_elim (λ comes. inr (inr (is_made comes acts (holds.of back p is)))) (λ none. inl (λ comes. absurd (none comes))) (may_come_or g x))
         (λ out. inl (λ comes _ is. false≢true (sym out ∙ is)))
         (cases_Bool (s.back p)))
         (λ none. inl (λ comes acts. absurd (none acts))) acts_or
@@ -333,8 +328,8 @@ module _ (silent : ℕ → Type 0) (right : Right) (y : ℕ) (g : ProtectionGrap
   -- ---- whether y is alone
 
   module _ (made : IsMade g) (decided : (p : ℕ) → Acts silent g p ⊎ (Acts silent g p → ⊥)) where
-    pub help_or_alone : HasHelp silent g y ⊎ IsAlone silent y right y g
-    help_or_alone =
+    help_or_alone : (x : ℕ) → HasHelp silent g y ⊎ IsAlone silent x right y g
+    help_or_alone x =
         ⊎_elim (λ few. inl (inl few))
         (λ many.
         ⊎_elim (λ alone. inr (record { alone = λ p acts. alone p (made.subjects p acts.0) acts; full = inl many })) (λ other. inl (inr other))
@@ -363,50 +358,53 @@ acts_or silent g p =
 
 -- ---- each question
 
-module _ (silent : List ℕ) (g : ProtectionGraph) (x : ℕ) (right : Right) (y : ℕ) (made : IsMade g) (x_made : x < g.made) (y_made : y < g.made) where
-  -- never, however many names there are
-  abbrev NeverAtAll : Type 0
-  NeverAtAll = (names : ℕ) → NeverHolds silent (with_names g names) x right y
+module _ (silent : ℕ → Type 0) (g : ProtectionGraph) (x : ℕ) (right : Right) (y : ℕ) where
+  -- names that aren't short leave room
+  has_room : ¬ IsShort g x y → HasRoom silent right y x g
+  has_room long = record {
+    here = ⊎_elim (λ less. absurd (long (inl less))) (λ wide. omega (arith, wide)) (cases_lt g.limit (g.made + 64));
+    behind_x = λ comes.
+        ⊎_elim (λ less. absurd (long (inr (inl (comes, less))))) (λ wide. omega (arith, wide)) (cases_lt g.limit (x + 65));
+    behind_y = λ comes.
+        ⊎_elim (λ less. absurd (long (inr (inr (comes, less))))) (λ wide. omega (arith, wide)) (cases_lt g.limit (y + 65));
+  }
 
-  widened_made : (names : ℕ) → IsMade (with_names g names)
-  widened_made names = record { subjects = made.subjects; ends = made.ends }
+  -- what is brought to x ends there
+  pub brought_comes : IsSound g → ((p : ℕ) → silent p → p < g.made) → ¬ IsShort g x y → x ≢ y → HasHelp silent g y → IsBrought silent right y g x → Ends silent g (λ k. Holds k.label x right y)
+  brought_comes sound was_made long differ help brought =
+      ends_on silent g (x + 1 + (y + 1))
+      (make_both silent right y x differ g (IsFit-sound g sound) (has_room long) brought)
+      (λ k more used both.
+      let later = more.made in
+      brought_ends silent k more.fit (few_on g k more sound.few_subjects) both.room.here
+      (λ p is. let low = was_made p is in omega (arith, low, later)) x right y differ both.not_x both.not_y
+      (help_on silent y g k more help) both.brought)
 
-  parted_at_all : (s : Sides) → Separates (IsSilent silent g) s x right y g → NeverAtAll
-  parted_at_all s separates names =
-      parted-never (IsSilent silent g) x right y (with_names g names)
-      (record {
-        made = widened_made names;
-        sides = s;
-        separates = record {
-          labels = separates.labels;
-          alike = separates.alike;
-          not_taken = separates.not_taken;
-          y_may_come = λ comes. absurd (omega (arith, comes.0, y_made));
-          x_may_come = λ comes. absurd (omega (arith, comes.0, x_made));
-        };
-      })
+module _ (silent : List ℕ) (g : ProtectionGraph) (x : ℕ) (right : Right) (y : ℕ) where
+  pub brought_could : IsSound g → ¬ IsShort g x y → x ≢ y → HasHelp (IsSilent silent g) g y → IsBrought (IsSilent silent g) right y g x → CouldHold silent g x right y
+  brought_could sound long differ help brought =
+      let ends = brought_comes (IsSilent silent g) g x right y sound (λ p is. is.1) long differ help brought in
+      record { turns = ends.turns; lead_there = (ends.are, ends.there) }
 
   -- where x comes to hold no more than it holds
-  held_or_never : (¬ Holds g.label x right y → NeverAtAll) → NeverAtAll ⊎ CouldHold silent g x right y
+  held_or_never : (¬ Holds g.label x right y → NeverHolds silent g x right y) → NeverHolds silent g x right y ⊎ CouldHold silent g x right y
   held_or_never never =
       ⊎_elim (λ is. inr (record { turns = []; lead_there = (tt, is) }))
       (λ out. inl (never (λ is. false≢true (sym out ∙ is))))
       (cases_Bool (has (g.label x y) right))
 
-  pub each_question : IsSound g → g.made + MAX_WORKERS ≤ g.limit → NeverAtAll ⊎ CouldHold silent g x right y
-  each_question sound room =
-      ⊎_elim
-      (λ (same : x ≡ y). held_or_never (λ lacks names. same-never (IsSilent silent g) x right y same (with_names g names) (widened_made names) lacks))
+  pub each_question : IsSound g → ¬ IsShort g x y → NeverHolds silent g x right y ⊎ CouldHold silent g x right y
+  each_question sound long =
+      let made = (IsFit-sound g sound).made in
+      ⊎_elim (λ (same : x ≡ y). held_or_never (λ lacks. same-never (IsSilent silent g) x right y same g made lacks))
       (λ differ.
       ⊎_elim
       (λ help.
-      ⊎_elim (λ (s, separates). inl (parted_at_all s separates))
-      (λ brought.
-      let ends = brought_ends (IsSilent silent g) g sound room (λ p is. is.1) x right y differ x_made y_made help brought in
-      inr (record { turns = ends.turns; lead_there = (ends.are, ends.there) }))
+      ⊎_elim
+      (λ (s, separates).
+      inl (parted-never (IsSilent silent g) x right y g (record { made = made; sides = s; separates = separates })))
+      (λ brought. inr (brought_could sound long differ help brought))
       (parted_or_brought (IsSilent silent g) right y g x made (acts_or silent g)))
-      (λ alone.
-      held_or_never (λ lacks names.
-      alone-never (IsSilent silent g) x right y (with_names g names) (widened_made names) (record { alone = alone.alone; full = alone.full }) lacks))
-      (help_or_alone (IsSilent silent g) right y g made (acts_or silent g)))
+      (λ alone. held_or_never (λ lacks. alone-never (IsSilent silent g) x right y g made alone lacks))
+      (help_or_alone (IsSilent silent g) right y g made (acts_or silent g) x))
       (cases_eq x y)

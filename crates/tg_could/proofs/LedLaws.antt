@@ -11,7 +11,7 @@ use Rattle.tg_model.specs.Graph.{ProtectionGraph, IsSound, without_subject}
 use Rattle.tg_model.specs.Picture.{Holds}
 use Rattle.tg_model.specs.Walks.{begins, goes}
 use Rattle.tg_model.proofs.SubjectLaws.{is_without}
-use Rattle.tg_could.specs.Turns.{Acts}
+use Rattle.tg_could.specs.Turns.{Acts, MayCome}
 use Rattle.tg_could.specs.Led.{Way, back, forward, Led, source, maker, take_back, take_on, grant_on, grant_back, turns_forward, turns_back, IsBrought, is_held, is_got, is_given, is_made, HasHelp}
 use Rattle.tg_could.proofs.MoveLaws.{IsFit, Leads, Grows, Grows-self, Grows-on, Grows-acts, stays, leads_on}
 use Rattle.tg_could.proofs.ShareLaws.{same_or_other, IsFull-on, HasBox, HasCompanion, HasCompanion-on, TakeWalk, InTime, Shares, Shares-more, gets, Link, link_by_walk, link_over, shares_on, shares_first}
@@ -147,19 +147,19 @@ module _ (silent : ℕ → Type 0) (g : ProtectionGraph) (fit : IsFit g) (right 
         let other : q ≢ p = λ same. differ (sym same) in
         flip p q p_acts q_acts differ other (link_over silent g q p q_acts p_acts other a b to_a edge to_b))
 
-  comes : y < g.made → (way : Way) (v : ℕ) → Led silent right y g way v → DoesCome way v
-  comes y_made way v (source held) =
+  comes : ¬ MayCome g y → (way : Way) (v : ℕ) → Led silent right y g way v → DoesCome way v
+  comes not_y way v (source held) =
       record { sharers = []; chain = tt; comes = λ p acts walk. shares_first silent g right y p v acts held walk }
-  comes y_made way v (maker may acts) = absurd (omega (arith, may.0, y_made))
-  comes y_made way v (take_back {b = b} edge led) =
-      let c = comes y_made back b led in
+  comes not_y way v (maker may acts) = absurd (not_y may)
+  comes not_y way v (take_back {b = b} edge led) =
+      let c = comes not_y back b led in
       record { sharers = c.sharers; chain = c.chain; comes = λ p acts walk. c.comes p acts (goes walk edge) }
-  comes y_made way v (take_on {a = a} edge led) =
-      let c = comes y_made forward a led in
+  comes not_y way v (take_on {a = a} edge led) =
+      let c = comes not_y forward a led in
       let f = c.comes in
       record { sharers = c.sharers; chain = c.chain; comes = record { p = f.p; has = f.has; walk = goes f.walk edge } }
-  comes y_made way v (grant_on {a = a} edge led) =
-      let c = comes y_made forward a led in
+  comes not_y way v (grant_on {a = a} edge led) =
+      let c = comes not_y forward a led in
       let f = c.comes in
       let s = sharer c.sharers c.chain f.p f.has in
       record {
@@ -167,8 +167,8 @@ module _ (silent : ℕ → Type 0) (g : ProtectionGraph) (fit : IsFit g) (right 
         chain = c.chain;
         comes = λ q acts walk. on_grant (length c.sharers) f.p q s.acts acts s.shares a v edge f.walk walk;
       }
-  comes y_made way v (grant_back {b = b} edge led) =
-      let c = comes y_made forward b led in
+  comes not_y way v (grant_back {b = b} edge led) =
+      let c = comes not_y forward b led in
       let f = c.comes in
       let s = sharer c.sharers c.chain f.p f.has in
       record {
@@ -176,12 +176,12 @@ module _ (silent : ℕ → Type 0) (g : ProtectionGraph) (fit : IsFit g) (right 
         chain = c.chain;
         comes = λ q acts walk. back_grant (length c.sharers) f.p q s.acts acts s.shares v b edge f.walk walk;
       }
-  comes y_made way v (turns_forward acts led) =
-      let c = comes y_made back v led in
+  comes not_y way v (turns_forward acts led) =
+      let c = comes not_y back v led in
       let w = with_one c.sharers c.chain v acts (c.comes v acts (begins refl)) in
       record { sharers = w.sharers; chain = w.chain; comes = record { p = v; has = w.has; walk = begins refl } }
-  comes y_made way v (turns_back acts led) =
-      let c = comes y_made forward v led in
+  comes not_y way v (turns_back acts led) =
+      let c = comes not_y forward v led in
       let f = c.comes in
       let s = sharer c.sharers c.chain f.p f.has in
       let w = with_one c.sharers c.chain v acts (of_start (length c.sharers) f.p v s.acts acts s.shares f.walk) in
@@ -211,19 +211,24 @@ IsFit-sound g sound = record {
           | false ↦ λ is_some. refl
         ] refl
 
-module _ (silent : ℕ → Type 0) (g : ProtectionGraph) (sound : IsSound g) (room : g.made + MAX_WORKERS ≤ g.limit) (was_made : (p : ℕ) → silent p → p < g.made) (x : ℕ) (right : Right) (y : ℕ) (differ : x ≢ y) where
+-- a graph that has grown has the same subjects, and the same help
+pub few_on : (h k : ProtectionGraph) → Grows h k → length h.subjects ≤ MAX_WORKERS → length k.subjects ≤ MAX_WORKERS
+few_on h k grows few = subst (λ (s : List ℕ). length s ≤ MAX_WORKERS) (sym grows.subjects) few
+
+pub help_on : (silent : ℕ → Type 0) (y : ℕ) (h k : ProtectionGraph) → Grows h k → HasHelp silent h y → HasHelp silent k y
+help_on silent y h k grows help =
+    ⊎_elim (λ less. inl (subst (λ (s : List ℕ). length s < MAX_WORKERS) (sym grows.subjects) less))
+    (λ (other, acts, differ). inr (other, Grows-acts silent h k grows other acts, differ)) help
+
+module _ (silent : ℕ → Type 0) (g : ProtectionGraph) (fit : IsFit g) (few : length g.subjects ≤ MAX_WORKERS) (room : g.made + MAX_WORKERS ≤ g.limit) (was_made : (p : ℕ) → silent p → p < g.made) (x : ℕ) (right : Right) (y : ℕ) (differ : x ≢ y) where
   abbrev EndsSo : ProtectionGraph → Type 0
   EndsSo h = Ends silent h (λ k. Holds k.label x right y)
-
-  fit : IsFit g
-  fit = IsFit-sound g sound
 
   -- one of those who share the right does with no more names than may be made
   in_room : (sharers : List ℕ) → Chain silent g fit right y sharers → (p : ℕ) → Contains sharers p → Shares silent g right y MAX_WORKERS p
   in_room sharers chain p is =
-      let few = few_sharers silent g fit right y sharers chain g.subjects (λ q there. (sharer silent g fit right y sharers chain q there).acts.0) in
-      let most = sound.few_subjects in
-      Shares-more silent g right y p (length sharers) MAX_WORKERS (omega (arith, few, most)) (sharer silent g fit right y sharers chain p is).shares
+      let fewer = few_sharers silent g fit right y sharers chain g.subjects (λ q there. (sharer silent g fit right y sharers chain q there).acts.0) in
+      Shares-more silent g right y p (length sharers) MAX_WORKERS (omega (arith, fewer, few)) (sharer silent g fit right y sharers chain p is).shares
 
   x_fetches : Acts silent g x → Shares silent g right y MAX_WORKERS x → EndsSo g
   x_fetches acts shares =
@@ -259,12 +264,9 @@ module _ (silent : ℕ → Type 0) (g : ProtectionGraph) (sound : IsSound g) (ro
         let grown = Grows-on g k l more more_l in
         let wide = grown.limit in
         let made_l = grown.made in
-        let few : length l.subjects ≤ MAX_WORKERS = subst (λ (s : List ℕ). length s ≤ MAX_WORKERS) (sym grown.subjects) sound.few_subjects in
-        let help_l : HasHelp silent l y =
-        ⊎_elim (λ less. inl (subst (λ (s : List ℕ). length s < MAX_WORKERS) (sym grown.subjects) less))
-        (λ (other, other_acts, not_y). inr (other, Grows-acts silent g l grown other other_acts, not_y)) help in
         by_help silent right y x differ box.box l more_l.fit
-        (subst (Acts silent l) same (Grows-acts silent g l grown p acts)) (omega (arith, room, used, used_l, wide)) few help_l
+        (subst (Acts silent l) same (Grows-acts silent g l grown p acts)) (omega (arith, room, used, used_l, wide))
+        (few_on g l grown few) (help_on silent y g l grown help)
         (λ is. let low = was_made l.made is in omega (arith, low, made_l))
         (more_l.labels y T box.box box.take) (IsFull-on right y k l more_l.labels box.box box.full)
         (subst (λ (v : ℕ). Holds l.label v G x) same holds)))
@@ -291,18 +293,18 @@ module _ (silent : ℕ → Type 0) (g : ProtectionGraph) (sound : IsSound g) (ro
         (λ not_y. other_than_y not_y shares)
         (same_or_other p y)
 
-  pub brought_ends : x < g.made → y < g.made → HasHelp silent g y → IsBrought silent right y g x → EndsSo g
-  brought_ends x_made y_made help (is_held held) = ends_now silent g held
-  brought_ends x_made y_made help (is_got acts led) =
-      let c = comes silent g fit right y y_made back x led in
+  pub brought_ends : ¬ MayCome g x → ¬ MayCome g y → HasHelp silent g y → IsBrought silent right y g x → EndsSo g
+  brought_ends not_x not_y help (is_held held) = ends_now silent g held
+  brought_ends not_x not_y help (is_got acts led) =
+      let c = comes silent g fit right y not_y back x led in
       let w = with_one silent g fit right y c.sharers c.chain x acts (c.comes x acts (begins refl)) in
       x_fetches acts (in_room w.sharers w.chain x w.has)
-  brought_ends x_made y_made help (is_given {a = a} granter led) =
-      let c = comes silent g fit right y y_made forward a led in
+  brought_ends not_x not_y help (is_given {a = a} granter led) =
+      let c = comes silent g fit right y not_y forward a led in
       let f = c.comes in
       let acts = (sharer silent g fit right y c.sharers c.chain f.p f.has).acts in
       let shares = in_room c.sharers c.chain f.p f.has in
       ⊎_elim (λ same. x_fetches (subst (Acts silent g) same acts) (subst (Shares silent g right y MAX_WORKERS) same shares))
-      (λ not_x. is_granted a f.p granter acts f.walk not_x help shares)
+      (λ other. is_granted a f.p granter acts f.walk other help shares)
       (same_or_other f.p x)
-  brought_ends x_made y_made help (is_made may acts led) = absurd (omega (arith, may.0, x_made))
+  brought_ends not_x not_y help (is_made may acts led) = absurd (not_x may)

@@ -11,5 +11,6 @@ pub mod MoveLaws
 pub mod ShareLaws
 pub mod EndLaws
 pub mod LedLaws
+pub mod LaterLaws
 pub mod ExactLaws
 pub mod SettledLaws

@@ -67,7 +67,7 @@ Grows-on h k l one two =
       fit = two.fit;
     }
 
-has_itself : (q : Right) → has (only q) q ≡ true
+pub has_itself : (q : Right) → has (only q) q ≡ true
 has_itself R = refl
 has_itself W = refl
 has_itself T = refl

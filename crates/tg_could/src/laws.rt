@@ -1,15 +1,15 @@
 //! Laws of the definitions alone. A function here does nothing: what it ensures is the law.
-ghost use Rattle.std.specs.Prelude.{◌≡◌, ◌≢◌, ◌⊎◌, ◌+◌, ◌<◌, ◌≤◌, ℕ, List, Bool, true};
+ghost use Rattle.std.specs.Prelude.{◌≡◌, ◌≢◌, ◌⊎◌, ◌<◌, ℕ, List, Bool, true};
 ghost use Rattle.std.specs.List.{Contains};
 ghost use Rattle.tg_rights.specs.RightSet.{RightSet};
 ghost use Rattle.tg_rights.specs.declared.Right.{Right};
 ghost use Rattle.tg_model.specs.declared.command.Command.TheVariants.{Grant};
 ghost use Rattle.tg_model.specs.declared.command.Deed.TheVariants.{Plain};
-ghost use Rattle.tg_model.specs.declared.opening.TheConstants.{MAX_WORKERS};
 ghost use Rattle.tg_model.specs.Graph.{ProtectionGraph, IsSound};
 ghost use Rattle.tg_model.specs.Picture.{Holds, IsMade, with_edge};
 ghost use Rattle.tg_model.specs.Rules.{Permits, step};
-ghost use Rattle.tg_could.specs.Turns.{IsSilent, NeverHolds, CouldHold, with_names};
+ghost use Rattle.tg_could.specs.Turns.{IsSilent, NeverHolds, CouldHold};
+ghost use Rattle.tg_could.specs.Answered.{IsShort};
 ghost use Rattle.tg_could.specs.Separation.{Sides, Separates, IsConfined};
 ghost use Rattle.tg_could.specs.Led.{IsBrought, HasHelp};
 
@@ -37,25 +37,23 @@ pub fn a_grant_is_asked_about_before_it_is_made()
         NeverHolds silent (step g host (Plain (Grant rights via target))) x right y }
 {}
 
-/// Where walks lead the right over y to x, both made, x could come to hold it: there are turns of those who act behind
-/// which it does, where 64 vertices may yet be made, and y isn't the only one who acts among 64 subjects.
+/// Where walks lead the right over y to x, x could come to hold it: there are turns of those who act behind which it
+/// does, where names aren't short, and y isn't the only one who acts among 64 subjects.
 pub fn what_is_brought_could_come_about()
     ensures { (silent : List ℕ) (g : ProtectionGraph) (x : ℕ) (right : Right) (y : ℕ) →
-        IsSound g → g.made + MAX_WORKERS ≤ g.limit → x < g.made → y < g.made → x ≢ y →
-        HasHelp (IsSilent silent g) g y → IsBrought (IsSilent silent g) right y g x → CouldHold silent g x right y }
+        IsSound g → ¬ IsShort g x y → x ≢ y → HasHelp (IsSilent silent g) g y →
+        IsBrought (IsSilent silent g) right y g x → CouldHold silent g x right y }
 {}
 
-/// Of each x and y one of two is so: two sets part x from the right over y, or walks lead it to x.
+/// One of two is so: two sets part x from the right over y, or walks lead it to x.
 pub fn what_is_not_brought_is_parted()
     ensures { (silent : List ℕ) (g : ProtectionGraph) (x : ℕ) (right : Right) (y : ℕ) →
         IsMade g →
         ((s : Sides) × Separates (IsSilent silent g) s x right y g) ⊎ IsBrought (IsSilent silent g) right y g x }
 {}
 
-/// So each question about x and y that were made has an answer, where 64 vertices may yet be made: x could come to hold
-/// the right over y, or never does, however many more may be.
+/// So each question has an answer where names aren't short: x never holds the right over y, or it could come to hold it.
 pub fn each_question_has_an_answer()
     ensures { (silent : List ℕ) (g : ProtectionGraph) (x : ℕ) (right : Right) (y : ℕ) →
-        IsSound g → g.made + MAX_WORKERS ≤ g.limit → x < g.made → y < g.made →
-        ((names : ℕ) → NeverHolds silent (with_names g names) x right y) ⊎ CouldHold silent g x right y }
+        IsSound g → ¬ IsShort g x y → NeverHolds silent g x right y ⊎ CouldHold silent g x right y }
 {}
