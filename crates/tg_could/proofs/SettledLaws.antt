@@ -14,11 +14,12 @@ use Rattle.tg_model.specs.Opened.{label_in}
 use Rattle.tg_model.specs.Picture.{Holds, Shown, IsPictureOf, AreAmong}
 use Rattle.tg_could.specs.declared.led.LedNames.{LedNames}
 use Rattle.tg_could.specs.Turns.{Acts, IsSilent, NeverHolds, CouldHold, with_names}
-use Rattle.tg_could.specs.Separation.{Sides, Keeps, Parts, IsEven}
+use Rattle.tg_could.specs.Separation.{Sides, Keeps, Parts, IsEven, ComesLater}
+use Rattle.tg_could.specs.Answered.{IsShort, HasTurns, IsDecided}
 use Rattle.tg_could.specs.Led.{Way, back, forward, Led, source, maker, take_back, take_on, grant_on, grant_back, turns_forward, turns_back, IsBrought, is_held, is_got, is_given, is_made, HasHelp}
-use Rattle.tg_could.specs.LedNames.{AreLed, IsPut, ActsIn, LeadsOn, from_source, takes_back, grants_back, takes_on, grants_on, IsDecided, HasTurns, way_of, is_in, sides_led, number_led}
+use Rattle.tg_could.specs.LedNames.{AreLed, IsPut, ActsIn, LeadsOn, from_source, takes_back, grants_back, takes_on, grants_on, IsTurned, TurnsTo, from_back, from_forward, from_later, way_of, is_in, sides_led, number_led}
 use Rattle.tg_could.proofs.TurnLaws.{Holds-member}
-use Rattle.tg_could.proofs.LedLaws.{brought_ends}
+use Rattle.tg_could.proofs.ExactLaws.{brought_could}
 use Rattle.tg_could.proofs.MarkLaws.{Fits, Parts-edges, Holds-edges, no_right, pictured-never}
 
 -- a step that was told by its two parts
@@ -47,11 +48,6 @@ module _ (silent : ℕ → Type 0) (r : Right) (y : ℕ) (g : ProtectionGraph) w
         (put.behind w inside);
   }
 
-  -- who acts turns from one set into the other
-  pub led_turn : (s : Sides) (f : Bool) (v : ℕ) → AreLed silent r y g s → Acts silent g v → is_in s (not f) v ≡ true → Led silent r y g (way_of f) v
-  led_turn s true v led acts inside = turns_forward acts (led.behind v inside)
-  led_turn s false v led acts inside = turns_back acts (led.on v inside)
-
 -- ---- the edges gone along so far
 
 abbrev pub KeepsAt : Sides → Right → ℕ → Edge → Type 0
@@ -64,19 +60,6 @@ pub record GoesAlong (r : Right) (y : ℕ) (edges : List Edge) (start now : LedN
   pub still : number_led now ≡ number_led start → (sides_led now ≡ sides_led start) × AllWithin (KeepsAt (sides_led now) r y) edges 0 i
 
 module _ (r : Right) (y : ℕ) (edges : List Edge) (start : LedNames) where
-  pub along_begins : GoesAlong r y edges start start 0
-  along_begins = record { led = λ silent g among led. led; more = omega arith; still = λ same. (refl, λ k d low below. absurd (omega (arith, low, below))) }
-
-  pub along_still : (now : LedNames) (i : ℕ) (e : Edge) → GoesAlong r y edges start now i → i < length edges → e ≡ get_or edges i e → KeepsAt (sides_led now) r y e → GoesAlong r y edges start now (i + 1)
-  along_still now i e was inside is keeps = record {
-    led = was.led;
-    more = was.more;
-    still = λ same. let before = was.still same in (
-      before.0,
-      AllWithin-more (KeepsAt (sides_led now) r y) edges 0 i before.1 (at_read edges (KeepsAt (sides_led now) r y) i e inside is keeps),
-    );
-  }
-
   pub along_more : (now new : LedNames) (i : ℕ) (e : Edge) (f : Bool) (v : ℕ) → GoesAlong r y edges start now i → i < length edges → e ≡ get_or edges i e → LeadsOn (sides_led now) r y e f v → IsPut (sides_led now) f v (sides_led new) → number_led now < number_led new → GoesAlong r y edges start new (i + 1)
   along_more now new i e f v was inside is leads put more = record {
     led = λ silent g among led.
@@ -89,35 +72,37 @@ module _ (r : Right) (y : ℕ) (edges : List Edge) (start : LedNames) where
 
 -- ---- the subjects looked at so far
 
-abbrev pub IsAlike : List ℕ → ℕ → Sides → ℕ → Type 0
-IsAlike silent made s v = ¬ (Contains silent v × (v < made)) → s.forward v ≡ s.back v
+abbrev pub IsTurnedAt : List ℕ → Shown → ℕ → Sides → ℕ → Type 0
+IsTurnedAt silent p y s v = ¬ (Contains silent v × (v < p.made)) → IsTurned s p y v
 
-pub record Turns (silent : List ℕ) (p : Shown) (start now : LedNames) (i : ℕ) : Type 0 where
-  pub led : (r : Right) (y : ℕ) (g : ProtectionGraph) → IsPictureOf p g → AreLed (IsSilent silent g) r y g (sides_led start) → AreLed (IsSilent silent g) r y g (sides_led now)
+pub record Turns (silent : List ℕ) (p : Shown) (y : ℕ) (start now : LedNames) (i : ℕ) : Type 0 where
+  pub led : (r : Right) (g : ProtectionGraph) → IsPictureOf p g → AreLed (IsSilent silent g) r y g (sides_led start) → AreLed (IsSilent silent g) r y g (sides_led now)
   pub more : number_led start ≤ number_led now
-  pub still : number_led now ≡ number_led start → (sides_led now ≡ sides_led start) × AllWithin (IsAlike silent p.made (sides_led now)) p.subjects 0 i
+  pub still : number_led now ≡ number_led start → (sides_led now ≡ sides_led start) × AllWithin (IsTurnedAt silent p y (sides_led now)) p.subjects 0 i
 
-module _ (silent : List ℕ) (p : Shown) (start : LedNames) where
-  pub turns_begin : Turns silent p start start 0
-  turns_begin = record { led = λ r y g picture led. led; more = omega arith; still = λ same. (refl, λ k d low below. absurd (omega (arith, low, below))) }
+-- who acts on a picture does on its graph
+acts_on : (silent : List ℕ) (p : Shown) (g : ProtectionGraph) → IsPictureOf p g → (v : ℕ) → ActsIn silent p v → Acts (IsSilent silent g) g v
+acts_on silent p g picture v (there, acts) =
+    (subst (λ (l : List ℕ). Contains l v) (sym picture.subjects) there, λ (within, below). acts (within, omega (arith, below, picture.made)))
 
-  pub turns_still : (now : LedNames) (i v : ℕ) → Turns silent p start now i → i < length p.subjects → v ≡ get_or p.subjects i v → IsAlike silent p.made (sides_led now) v → Turns silent p start now (i + 1)
-  turns_still now i v was inside is alike = record {
-    led = was.led;
-    more = was.more;
-    still = λ same. let before = was.still same in (
-      before.0,
-      AllWithin-more (IsAlike silent p.made (sides_led now)) p.subjects 0 i before.1 (at_read p.subjects (IsAlike silent p.made (sides_led now)) i v inside is alike),
-    );
-  }
+-- whom one turns to is led to
+led_turn : (silent : List ℕ) (p : Shown) (g : ProtectionGraph) → IsPictureOf p g → (r : Right) (y : ℕ) (s : Sides) (f : Bool) (v : ℕ) → AreLed (IsSilent silent g) r y g s → Acts (IsSilent silent g) g v → TurnsTo s p y f v → Led (IsSilent silent g) r y g (way_of f) v
+led_turn silent p g picture r y s f v led acts (from_back inside) = turns_forward acts (led.behind v inside)
+led_turn silent p g picture r y s f v led acts (from_forward inside) = turns_back acts (led.on v inside)
+led_turn silent p g picture r y s f v led acts (from_later later) = maker (omega (arith, later.0, picture.made), omega (arith, later.1, picture.limit)) acts
 
-  pub turns_more : (now new : LedNames) (i v : ℕ) (f : Bool) → Turns silent p start now i → i < length p.subjects → v ≡ get_or p.subjects i v → ¬ (Contains silent v × (v < p.made)) → is_in (sides_led now) (not f) v ≡ true → IsPut (sides_led now) f v (sides_led new) → number_led now < number_led new → Turns silent p start new (i + 1)
+-- a turn that was told by its two parts
+pub turn_told : (s : Sides) (p : Shown) (y : ℕ) (f was : Bool) (v at : ℕ) → f ≡ was → v ≡ at → TurnsTo s p y was at → TurnsTo s p y f v
+turn_told s p y f was v at is_f is_v leads =
+    subst (λ (v : ℕ). TurnsTo s p y f v) (sym is_v) (subst (λ (f : Bool). TurnsTo s p y f at) (sym is_f) leads)
+
+module _ (silent : List ℕ) (p : Shown) (y : ℕ) (start : LedNames) where
+  pub turns_more : (now new : LedNames) (i v : ℕ) (f : Bool) → Turns silent p y start now i → i < length p.subjects → v ≡ get_or p.subjects i v → ¬ (Contains silent v × (v < p.made)) → TurnsTo (sides_led now) p y f v → IsPut (sides_led now) f v (sides_led new) → number_led now < number_led new → Turns silent p y start new (i + 1)
   turns_more now new i v f was inside is acts there put more = record {
-    led = λ r y g picture led.
-        let before = was.led r y g picture led in
-        let stands : Contains g.subjects v = subst (λ (l : List ℕ). Contains l v) (sym picture.subjects) (i, inside, sym is) in
+    led = λ r g picture led.
+        let before = was.led r g picture led in
         led_put (IsSilent silent g) r y g (sides_led now) (sides_led new) f v put before
-        (led_turn (IsSilent silent g) r y g (sides_led now) f v before (stands, λ (within, below). acts (within, omega (arith, below, picture.made))) there);
+        (led_turn silent p g picture r y (sides_led now) f v before (acts_on silent p g picture v ((i, inside, sym is), acts)) there);
     more = omega (arith, was.more, more);
     still = λ same. absurd (omega (arith, was.more, more, same));
   }
@@ -164,16 +149,27 @@ module _ (silent : List ℕ) (g : ProtectionGraph) (r : Right) (y : ℕ) (y_made
     values = sound.values;
   }
 
--- what is brought has turns, where 64 vertices may yet be made
+-- what is brought has turns
 brought_turns : (silent : List ℕ) (g : ProtectionGraph) (x : ℕ) (r : Right) (y : ℕ) → x ≢ y → HasHelp (IsSilent silent g) g y → IsBrought (IsSilent silent g) r y g x → HasTurns silent g x r y
-brought_turns silent g x r y differ help brought sound x_made y_made names room =
-    let more = with_names g names in
-    let ends = brought_ends (IsSilent silent more) more (sound_wide silent g r y y_made names sound) room (λ p is. is.1) x r y differ x_made y_made help (brought_wide silent g r y y_made names x x_made brought) in
-    record { turns = ends.turns; lead_there = (ends.are, ends.there) }
+brought_turns silent g x r y differ help brought = record {
+  enough = λ sound long. brought_could silent g x r y sound long differ help brought;
+  with_more = λ sound x_made y_made names room.
+      brought_could silent (with_names g names) x r y (sound_wide silent g r y y_made names sound)
+      (λ short. ⊎_elim (λ few. absurd (omega (arith, few, room)))
+      (λ behind. ⊎_elim (λ at_x. absurd (omega (arith, at_x.0.0, x_made))) (λ at_y. absurd (omega (arith, at_y.0.0, y_made))) behind) short)
+      differ help (brought_wide silent g r y y_made names x x_made brought);
+}
+
+-- and so has what is held already
+pub held_turns : (silent : List ℕ) (g : ProtectionGraph) (x : ℕ) (r : Right) (y : ℕ) → Holds g.label x r y → HasTurns silent g x r y
+held_turns silent g x r y h = record {
+  enough = λ sound long. record { turns = []; lead_there = (tt, h) };
+  with_more = λ sound x_made y_made names room. record { turns = []; lead_there = (tt, h) };
+}
 
 -- ---- what is decided
 
-module _ (silent : List ℕ) (p : Shown) (g : ProtectionGraph) (picture : IsPictureOf p g) (x : ℕ) (r : Right) (y : ℕ) (x_made : x < g.made) (y_made : y < g.made) (names : LedNames) where
+module _ (silent : List ℕ) (p : Shown) (g : ProtectionGraph) (picture : IsPictureOf p g) (x : ℕ) (r : Right) (y : ℕ) (names : LedNames) where
   abbrev pub s : Sides
   s = sides_led names
 
@@ -190,24 +186,30 @@ module _ (silent : List ℕ) (p : Shown) (g : ProtectionGraph) (picture : IsPict
         ungiven e.from (subst (λ (v : ℕ). Holds (label_in edges) e.from G v) at_x there);
   }
 
-  pub closed_never : All (KeepsAt s r y) p.edges → ((v : ℕ) → ActsIn silent p v → s.forward v ≡ s.back v) → ¬ Holds (label_in p.edges) x r y → (ActsIn silent p x → s.back x ≡ false) → ((a : ℕ) → Holds (label_in p.edges) a G x → ¬ (s.forward a ≡ true)) → NeverHolds silent g x r y
-  closed_never keeps alike lacks untaken ungiven =
+  pub closed_never : All (KeepsAt s r y) p.edges → ((v : ℕ) → ActsIn silent p v → IsTurned s p y v) → ¬ Holds (label_in p.edges) x r y → ((v : ℕ) → ActsIn silent p v → (v ≡ x) ⊎ ComesLater p x → s.back v ≡ false) → ((a : ℕ) → Holds (label_in p.edges) a G x → ¬ (s.forward a ≡ true)) → NeverHolds silent g x r y
+  closed_never keeps turned lacks untaken ungiven =
       pictured-never silent p g picture s x r y
       (λ k d inside acts.
       let v = get_or p.subjects k d in
       let is : ActsIn silent p v = ((k, inside, get_or_default p.subjects k v d inside), acts) in
       record {
-        alike = alike v is;
-        not_x = λ at_x in_back. false≢true (sym (untaken (subst (λ (v : ℕ). ActsIn silent p v) at_x is)) ∙ ap s.back (sym at_x) ∙ in_back);
-        y_may_come = λ later. absurd (omega (arith, later.0, y_made, picture.made));
-        x_may_come = λ later. absurd (omega (arith, later.0, x_made, picture.made));
+        alike = (turned v is).alike;
+        not_x = λ at_x in_back. false≢true (sym (untaken v is (inl at_x)) ∙ in_back);
+        y_may_come = λ later. (turned v is).makes later;
+        x_may_come = λ later in_back. false≢true (sym (untaken v is (inr later)) ∙ in_back);
       })
       (Parts-edges s x r y p.edges (fits_all p.edges keeps lacks ungiven))
 
   pub helped : (length p.subjects < MAX_WORKERS) ⊎ ((v : ℕ) × ActsIn silent p v × (v ≢ y)) → HasHelp (IsSilent silent g) g y
   helped (inl few) = inl (subst (λ (l : List ℕ). length l < MAX_WORKERS) (sym picture.subjects) few)
-  helped (inr (v, (there, acts), other)) =
-      inr (v, (subst (λ (l : List ℕ). Contains l v) (sym picture.subjects) there, λ (within, below). acts (within, omega (arith, below, picture.made))), other)
+  helped (inr (v, acts, other)) = inr (v, acts_on silent p g picture v acts, other)
+
+  -- one who acts and may get the right is x, or may make x
+  pub reached_brings : AreLed (IsSilent silent g) r y g s → (v : ℕ) → ActsIn silent p v → (v ≡ x) ⊎ ComesLater p x → s.back v ≡ true → IsBrought (IsSilent silent g) r y g x
+  reached_brings led v acts (inl same) inside =
+      subst (IsBrought (IsSilent silent g) r y g) same (is_got (acts_on silent p g picture v acts) (led.behind v inside))
+  reached_brings led v acts (inr later) inside =
+      is_made (omega (arith, later.0, picture.made), omega (arith, later.1, picture.limit)) (acts_on silent p g picture v acts) (led.behind v inside)
 
   -- either way it is decided
   pub decided : (found : Bool) → (found ≡ true → IsBrought (IsSilent silent g) r y g x) → (found ≡ false → NeverHolds silent g x r y) → x ≢ y → HasHelp (IsSilent silent g) g y → IsDecided silent g x r y found

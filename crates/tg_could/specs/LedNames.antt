@@ -1,16 +1,14 @@
 -- What is known of two sets of names while they grow by going over all edges.
-use Rattle.std.specs.Prelude.{◌≡◌, ◌⊎◌, ℕ, ◌+◌, ◌<◌, ◌≤◌, nat_eq, Bool, true, false, List, length, if◌then◌else◌}
+use Rattle.std.specs.Prelude.{◌≡◌, ◌⊎◌, ℕ, ◌+◌, ◌<◌, nat_eq, Bool, true, false, List, length, if◌then◌else◌}
 use Rattle.std.specs.List.{Contains}
 use Rattle.std.specs.Set.{is_member}
 use Rattle.tg_rights.specs.RightSet.{has}
 use Rattle.tg_rights.specs.declared.Right.{Right}
 use Rattle.tg_rights.specs.declared.Right.TheVariants.{T, G}
-use Rattle.tg_model.specs.declared.opening.TheConstants.{MAX_WORKERS}
 use Rattle.tg_model.specs.declared.edge.Edge.{Edge}
-use Rattle.tg_model.specs.Graph.{ProtectionGraph, IsSound}
-use Rattle.tg_model.specs.Picture.{Holds, Shown}
-use Rattle.tg_could.specs.Turns.{NeverHolds, CouldHold, with_names}
-use Rattle.tg_could.specs.Separation.{Sides}
+use Rattle.tg_model.specs.Graph.{ProtectionGraph}
+use Rattle.tg_model.specs.Picture.{Shown}
+use Rattle.tg_could.specs.Separation.{Sides, ComesLater}
 use Rattle.tg_could.specs.Led.{Way, Led}
 use Rattle.tg_could.specs.Led.Way.{back, forward}
 use Rattle.tg_could.specs.declared.led.LedNames.{LedNames}
@@ -48,16 +46,17 @@ pub record IsPut (s : Sides) (is_forward : Bool) (name : ℕ) (new : Sides) : Ty
   pub on : (v : ℕ) → new.forward v ≡ true → (s.forward v ≡ true) ⊎ ((is_forward ≡ true) × (v ≡ name))
   pub behind : (v : ℕ) → new.back v ≡ true → (s.back v ≡ true) ⊎ ((is_forward ≡ false) × (v ≡ name))
 
+-- where one who acts turns: from one set into the other, or into the second where y may yet be made
+pub data TurnsTo (s : Sides) (p : Shown) (y : ℕ) : Bool → ℕ → Type 0 where
+  from_back : {v : ℕ} → s.back v ≡ true → TurnsTo s p y true v
+  from_forward : {v : ℕ} → s.forward v ≡ true → TurnsTo s p y false v
+  from_later : {v : ℕ} → ComesLater p y → TurnsTo s p y false v
+
+-- one who acts turns nowhere else
+pub record IsTurned (s : Sides) (p : Shown) (y : ℕ) (v : ℕ) : Type 0 where
+  pub alike : s.forward v ≡ s.back v
+  pub makes : ComesLater p y → s.back v ≡ true
+
 -- someone who acts on a picture
 abbrev pub ActsIn : List ℕ → Shown → ℕ → Type 0
 ActsIn silent p v = Contains p.subjects v × ¬ (Contains silent v × (v < p.made))
-
--- x could come to hold the right over y where 64 vertices may yet be made
-abbrev pub HasTurns : List ℕ → ProtectionGraph → ℕ → Right → ℕ → Type 0
-HasTurns silent g x right y =
-    IsSound g → x < g.made → y < g.made → (names : ℕ) → g.made + MAX_WORKERS ≤ g.limit + names → CouldHold silent (with_names g names) x right y
-
--- of two that were made: x could come to hold the right over y, or never does
-abbrev pub IsDecided : List ℕ → ProtectionGraph → ℕ → Right → ℕ → Bool → Type 0
-IsDecided silent g x right y true = HasTurns silent g x right y
-IsDecided silent g x right y false = NeverHolds silent g x right y

@@ -34,9 +34,9 @@ pub enum Answer {
         /// How many names are wanting.
         names: u64,
     },
-    /// The turns that the search leads to don't lead there. Where x and y were made some others do, if 64 vertices may
-    /// yet be made: so it could come about. This never came. Of a name that isn't made yet and over 65,536 others come
-    /// before it says nothing, since turns would have to make all of them: ask about the next name in its place.
+    /// It could come about, after turns that aren't told: x holds the right after some, where 64 names are left behind
+    /// those asked about. It comes of a name that isn't made yet and over 65,536 others come before, since turns would
+    /// have to make all of them: ask about the next name in its place. Otherwise it never came.
     Open,
 }
 
@@ -62,9 +62,6 @@ pub fn could_hold(
     }
     if let Some(answer) = tell_turns(alloc, picture, silent, &found, x, right, y)? {
         return Ok(answer);
-    }
-    if x >= picture.made() || y >= picture.made() {
-        return Ok(Answer::Open);
     }
     if may_come_about(alloc, picture, silent, x, right, y)? {
         return Ok(Answer::Open);

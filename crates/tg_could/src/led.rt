@@ -1,18 +1,19 @@
 //! To whom a right is led, by going over all edges until nothing is new. The search (`search`) is quick, and nothing of
 //! it has to be believed; this is slow and believed, and only asked where the turns that the search found lead nowhere.
-ghost use Rattle.std.specs.Prelude.{◌≡◌, ◌≢◌, ◌≤◌, ◌<◌, ◌^◌, ℕ, List, true, false, not, IsTrue, IfSome, IfNone, IfOk, OnOk};
+ghost use Rattle.std.specs.Prelude.{◌≡◌, ◌⊎◌, ◌≤◌, ◌<◌, ◌^◌, ℕ, List, true, false, not, IsTrue, IfSome, IfNone, IfOk, OnOk};
 ghost use Rattle.std.specs.List.{All, Contains};
 ghost use Rattle.tg_rights.specs.declared.Right.TheVariants.{G};
 ghost use Rattle.tg_model.specs.Graph.{ProtectionGraph};
 ghost use Rattle.tg_model.specs.Opened.{label_in};
 ghost use Rattle.tg_model.specs.Picture.{Holds, IsPictureOf, AreAmong};
 ghost use Rattle.tg_could.specs.Turns.{IsSilent};
-ghost use Rattle.tg_could.specs.Separation.{Keeps, place_in};
+ghost use Rattle.tg_could.specs.Separation.{Keeps, ComesLater, place_in};
+ghost use Rattle.tg_could.specs.Answered.{IsDecided};
 ghost use Rattle.tg_could.specs.Led.{Led, IsBrought};
-ghost use Rattle.tg_could.specs.LedNames.{AreLed, IsPut, IsDecided, ActsIn, way_of, is_in, LeadsOn, sides_led, number_led};
+ghost use Rattle.tg_could.specs.LedNames.{AreLed, IsPut, ActsIn, IsTurned, TurnsTo, way_of, is_in, LeadsOn, sides_led, number_led};
 
 use crate::search::Step;
-use crate::separation::{Place, has, is_alone, is_silent, lacks};
+use crate::separation::{Place, comes_later, has, is_alone, is_silent, lacks};
 use indexmap::IndexSet;
 use std::alloc::{AllocError, Global};
 use tg_model::{Edge, Picture};
@@ -25,9 +26,8 @@ pub(crate) struct LedNames {
     back: IndexSet<u64>,
 }
 
-/// Whether x may come to hold a right over y, of vertices that were made: with some more names it does, after turns
-/// that aren't told; else it never does. Goes over all edges as often as something is new. Fails only when out of
-/// memory.
+/// Whether x could come to hold a right over y, after turns that aren't told; else it never does. Goes over all edges
+/// as often as something is new. Fails only when out of memory.
 pub(crate) fn may_come_about(
     alloc: Global,
     picture: &Picture,
@@ -36,8 +36,7 @@ pub(crate) fn may_come_about(
     right: Right,
     y: u64,
 ) -> Result<bool, AllocError>
-    ensures { IfOk result (λ may. (g : ProtectionGraph) → IsPictureOf picture.now g → x < g.made → y < g.made →
-        IsDecided silent.now g x right y may) }
+    ensures { IfOk result (λ may. (g : ProtectionGraph) → IsPictureOf picture.now g → IsDecided silent.now g x right y may) }
 {
     if !lacks(picture.edges(), x, right, y) {
         return Ok(true);
@@ -63,7 +62,7 @@ fn led_from(
     ensures led { IfOk result (λ led. (g : ProtectionGraph) → IsPictureOf picture.now g →
         AreLed (IsSilent silent.now g) right y g (sides_led led)) }
     ensures edges { IfOk result (λ led. All (λ e. Keeps (sides_led led) right y (λ a b. e.label) e.from e.to) picture.now.edges) }
-    ensures actors { IfOk result (λ led. (v : ℕ) → ActsIn silent.now picture.now v → (sides_led led).forward v ≡ (sides_led led).back v) }
+    ensures actors { IfOk result (λ led. (v : ℕ) → ActsIn silent.now picture.now v → IsTurned (sides_led led) picture.now y v) }
 {
     let mut led = LedNames {
         forward: IndexSet::new(alloc),
@@ -180,16 +179,16 @@ impl LedNames {
         Ok(())
     }
 
-    // Puts whoever acts and is in one set into the other.
-    fn turn(&mut self, picture: &Picture, silent: &[u64]) -> Result<(), AllocError>
-        ensures led { OnOk result ((right : Right) (y : ℕ) (g : ProtectionGraph) → IsPictureOf picture.now g →
+    // Puts whoever acts and is in one set into the other, and into the second where y may yet be made.
+    fn turn(&mut self, picture: &Picture, silent: &[u64], y: u64) -> Result<(), AllocError>
+        ensures led { OnOk result ((right : Right) (g : ProtectionGraph) → IsPictureOf picture.now g →
             AreLed (IsSilent silent.now g) right y g (sides_led self.old) → AreLed (IsSilent silent.now g) right y g (sides_led self.new)) }
         ensures more { OnOk result (number_led self.old ≤ number_led self.new) }
         ensures still { OnOk result (number_led self.new ≡ number_led self.old → (sides_led self.new ≡ sides_led self.old) ×
-            ((v : ℕ) → ActsIn silent.now picture.now v → (sides_led self.new).forward v ≡ (sides_led self.new).back v)) }
+            ((v : ℕ) → ActsIn silent.now picture.now v → IsTurned (sides_led self.new) picture.now y v)) }
     {
         for subject in picture.subjects() {
-            let Some(step) = self.turned(picture, silent, *subject) else {
+            let Some(step) = self.turned(picture, silent, y, *subject) else {
                 continue;
             };
             self.put(step)?;
@@ -197,23 +196,28 @@ impl LedNames {
         Ok(())
     }
 
-    // The set in which a subject isn't yet, where it acts and is in the other.
-    fn turned(&self, picture: &Picture, silent: &[u64], subject: u64) -> Option<Step>
+    // The set in which a subject that acts isn't yet and is to be.
+    fn turned(&self, picture: &Picture, silent: &[u64], y: u64, subject: u64) -> Option<Step>
         ensures vertex { IfSome result (λ step. step.vertex ≡ subject) }
         ensures acts { IfSome result (λ step. ¬ (Contains silent.now step.vertex × (step.vertex < picture.now.made))) }
-        ensures leads { IfSome result (λ step. is_in (sides_led self.now) (not step.forward) step.vertex ≡ true) }
+        ensures leads { IfSome result (λ step. TurnsTo (sides_led self.now) picture.now y step.forward step.vertex) }
         ensures new { IfSome result (λ step. is_in (sides_led self.now) step.forward step.vertex ≡ false) }
-        ensures alike { IfNone result (¬ (Contains silent.now subject × (subject < picture.now.made)) →
-            (sides_led self.now).forward subject ≡ (sides_led self.now).back subject) }
+        ensures turned { IfNone result (¬ (Contains silent.now subject × (subject < picture.now.made)) → IsTurned (sides_led self.now) picture.now y subject) }
     {
-        let at = self.place(subject);
-        if at.forward == at.back || is_silent(silent, picture.made(), subject) {
+        if is_silent(silent, picture.made(), subject) {
             return None;
         }
-        Some(Step {
-            vertex: subject,
-            forward: at.back,
-        })
+        let at = self.place(subject);
+        if !at.back && at.forward {
+            return Some(back(subject));
+        }
+        if !at.back && comes_later(picture, y) {
+            return Some(back(subject));
+        }
+        if at.back && !at.forward {
+            return Some(forward(subject));
+        }
+        None
     }
 
     // Goes over all edges and subjects once. Whether something was new.
@@ -229,23 +233,50 @@ impl LedNames {
         ensures more { IfOk result (λ more. more ≡ true → number_led self.old < number_led self.new) }
         ensures few { OnOk result (number_led self.new < 2 ^ 64) }
         ensures edges { IfOk result (λ more. more ≡ false → All (λ e. Keeps (sides_led self.new) right y (λ a b. e.label) e.from e.to) picture.now.edges) }
-        ensures actors { IfOk result (λ more. more ≡ false → (v : ℕ) → ActsIn silent.now picture.now v → (sides_led self.new).forward v ≡ (sides_led self.new).back v) }
+        ensures actors { IfOk result (λ more. more ≡ false → (v : ℕ) → ActsIn silent.now picture.now v → IsTurned (sides_led self.new) picture.now y v) }
     {
         let before = self.len();
         self.go_along(picture.edges(), right, y)?;
-        self.turn(picture, silent)?;
+        self.turn(picture, silent, y)?;
         Ok(self.len() > before)
     }
 
-    // Whether the right is led to x, who doesn't hold it: x acts and may get it, or whoever may grants to x.
+    // Whether the right is led to x, who doesn't hold it: x acts and may get it, or may yet be made by one who may, or
+    // is granted to.
     fn lead_to(&self, picture: &Picture, silent: &[u64], x: u64) -> bool
         ensures brought { IsTrue result → (right : Right) (y : ℕ) (g : ProtectionGraph) → IsPictureOf picture.now g →
             AreLed (IsSilent silent.now g) right y g (sides_led self.now) → IsBrought (IsSilent silent.now g) right y g x }
-        ensures not_taken { result ≡ false → ActsIn silent.now picture.now x → (sides_led self.now).back x ≡ false }
+        ensures not_taken { result ≡ false → (v : ℕ) → ActsIn silent.now picture.now v → (v ≡ x) ⊎ ComesLater picture.now x → (sides_led self.now).back v ≡ false }
         ensures not_given { result ≡ false → (a : ℕ) → Holds (label_in picture.now.edges) a G x → ¬ ((sides_led self.now).forward a ≡ true) }
     {
-        let acts = picture.subjects().contains(&x) && !is_silent(silent, picture.made(), x);
-        acts && self.place(x).back || self.grant_to(picture.edges(), x)
+        self.reach(picture, silent, x) || self.grant_to(picture.edges(), x)
+    }
+
+    // Whether one who acts is in the second set, and is x, or may make x.
+    fn reach(&self, picture: &Picture, silent: &[u64], x: u64) -> bool
+        ensures reached { IsTrue result → (v : ℕ) × ActsIn silent.now picture.now v × ((v ≡ x) ⊎ ComesLater picture.now x) × ((sides_led self.now).back v ≡ true) }
+        ensures not_taken { result ≡ false → (v : ℕ) → ActsIn silent.now picture.now v → (v ≡ x) ⊎ ComesLater picture.now x → (sides_led self.now).back v ≡ false }
+    {
+        for subject in picture.subjects() {
+            if self.reaches_by(picture, silent, x, *subject) {
+                return true;
+            }
+        }
+        false
+    }
+
+    // Whether a subject acts, is in the second set, and is x, or may make x.
+    fn reaches_by(&self, picture: &Picture, silent: &[u64], x: u64, subject: u64) -> bool
+        ensures reached { IsTrue result → ¬ (Contains silent.now subject × (subject < picture.now.made)) × ((subject ≡ x) ⊎ ComesLater picture.now x) × ((sides_led self.now).back subject ≡ true) }
+        ensures not_taken { result ≡ false → ¬ (Contains silent.now subject × (subject < picture.now.made)) → (subject ≡ x) ⊎ ComesLater picture.now x → (sides_led self.now).back subject ≡ false }
+    {
+        if is_silent(silent, picture.made(), subject) {
+            return false;
+        }
+        if subject != x && !comes_later(picture, x) {
+            return false;
+        }
+        self.place(subject).back
     }
 
     // Whether someone in the first set has grant over x.

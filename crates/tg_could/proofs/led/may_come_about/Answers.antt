@@ -7,7 +7,7 @@ use Rattle.tg_could.proofs.SettledLaws.{closed_never, helped, decided}
 use Rattle.tg_could.proofs.led.may_come_about.Goals as goal
 
 pub returns-then-x-y : goal.returns-then-x-y
-returns-then-x-y c g picture x_made y_made =
+returns-then-x-y c g picture =
     let x = c.args.x in
     let r = c.args.right in
     let y = c.args.y in
@@ -15,7 +15,7 @@ returns-then-x-y c g picture x_made y_made =
     (subst (λ (es : List Edge). ¬ Holds (label_in es) x r y) c.edges.ensures (c.lacks.ensures.lacks c.if-not-lacks.false))
 
 pub returns-then-is_alone : goal.returns-then-is_alone
-returns-then-is_alone c g picture x_made y_made =
+returns-then-is_alone c g picture =
     let x = c.args.x in
     let r = c.args.right in
     let y = c.args.y in
@@ -23,7 +23,7 @@ returns-then-is_alone c g picture x_made y_made =
     (subst (λ (es : List Edge). ¬ Holds (label_in es) x r y) c.edges.ensures (c.lacks.ensures.lacks c.if-not-lacks.false))
 
 pub returns : goal.returns
-returns c g picture x_made y_made =
+returns c g picture =
     let silent = c.args.silent.now in
     let p = c.args.picture.now in
     let x = c.args.x in
@@ -31,8 +31,8 @@ returns c g picture x_made y_made =
     let y = c.args.y in
     let names = c.in_ok-led.led in
     let lacks = subst (λ (es : List Edge). ¬ Holds (label_in es) x r y) c.edges.ensures (c.lacks.ensures.lacks c.if-not-lacks.false) in
-    decided silent p g picture x r y x_made y_made names c.lead_to.result
+    decided silent p g picture x r y names c.lead_to.result
     (λ found. c.lead_to.ensures.brought found r y g picture (c.in_ok-led.ensures.led g picture))
-    (λ none. closed_never silent p g picture x r y x_made y_made names c.in_ok-led.ensures.edges c.in_ok-led.ensures.actors lacks (c.lead_to.ensures.not_taken none) (c.lead_to.ensures.not_given none))
+    (λ none. closed_never silent p g picture x r y names c.in_ok-led.ensures.edges c.in_ok-led.ensures.actors lacks (c.lead_to.ensures.not_taken none) (c.lead_to.ensures.not_given none))
     c.if-x-y.false
-    (helped silent p g picture x r y x_made y_made names (c.is_alone.ensures.helped c.if-is_alone.false))
+    (helped silent p g picture x r y names (c.is_alone.ensures.helped c.if-is_alone.false))
