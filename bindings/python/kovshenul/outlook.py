@@ -61,8 +61,8 @@ class Unreached:
 
 @dataclass(frozen=True)
 class Open:
-    """Neither was shown. So it is of a name that isn't made yet and over 65,536 others come before: turns would have to make all of
-    them. Ask about the next name in its place."""
+    """It could where 64 names are left, by turns that aren't told. So it is of a name that isn't made yet and over 65,536
+    others come before: turns would have to make all of them. Ask about the next name in its place."""
 
 
 @dataclass(frozen=True)
