@@ -52,7 +52,7 @@ pub fn what_is_not_brought_is_parted()
         ((s : Sides) × Separates (IsSilent silent g) s x right y g) ⊎ IsBrought (IsSilent silent g) right y g x }
 {}
 
-/// So each question has an answer where names aren't short: x never holds the right over y, or it could come to hold it.
+/// So each question has an answer where names aren't short: x never holds the right over y, or could come to hold it.
 pub fn each_question_has_an_answer()
     ensures { (silent : List ℕ) (g : ProtectionGraph) (x : ℕ) (right : Right) (y : ℕ) →
         IsSound g → ¬ IsShort g x y → NeverHolds silent g x right y ⊎ CouldHold silent g x right y }
