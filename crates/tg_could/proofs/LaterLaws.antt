@@ -1,19 +1,15 @@
 -- Names that aren't made yet: who may make them does, and then all is made that a question is about.
-use Rattle.std.proofs.Common.{◌≡◌, ◌≢◌, ◌⊎◌, inl, inr, ⊎_elim, ℕ, zero, suc, ◌+◌, ◌-◌, ◌<◌, ◌≤◌, [], ◌∷◌, refl, ◌∙◌, subst, arith}
+use Rattle.std.proofs.Common.{◌≡◌, ◌≢◌, ◌⊎◌, inl, inr, ⊎_elim, ℕ, zero, suc, ◌+◌, ◌-◌, ◌<◌, ◌≤◌, refl, ◌∙◌, subst, arith}
 use Rattle.std.proofs.lemmas.Bool.{cases_lt}
 use Rattle.tg_rights.specs.RightSet.{only}
 use Rattle.tg_rights.specs.declared.Right.{Right}
 use Rattle.tg_rights.specs.declared.Right.TheVariants.{T, G}
-use Rattle.tg_model.specs.declared.law.Law.TheVariants.{Cell}
 use Rattle.tg_model.specs.declared.opening.TheConstants.{MAX_WORKERS}
-use Rattle.tg_model.specs.declared.command.Deed.TheVariants.{Create}
 use Rattle.tg_model.specs.Graph.{ProtectionGraph}
 use Rattle.tg_model.specs.Picture.{Holds}
-use Rattle.tg_model.proofs.AllowedLaws.{step-created}
-use Rattle.tg_model.proofs.PictureLaws.{Holds-still, Holds-added}
 use Rattle.tg_could.specs.Turns.{Acts, MayCome}
 use Rattle.tg_could.specs.Led.{Way, back, forward, Led, source, maker, take_back, take_on, grant_on, grant_back, turns_forward, turns_back, IsBrought, is_held, is_got, is_given, is_made}
-use Rattle.tg_could.proofs.MoveLaws.{IsFit, IsFit-step, Grows, Grows-acts, Leads, stays, leads_on, has_itself}
+use Rattle.tg_could.proofs.MoveLaws.{IsFit, Grows, Grows-acts, Leads, stays, leads_on, has_itself, makes_one}
 
 -- a name may yet be made, or it may not
 pub may_come_or : (h : ProtectionGraph) (v : ℕ) → MayCome h v ⊎ (MayCome h v → ⊥)
@@ -26,42 +22,28 @@ may_come_or h v =
 module _ (silent : ℕ → Type 0) where
   -- ---- making names one after the other
 
-  -- who made names up to one holds a right over it
-  record HasMade (limit p : ℕ) (q : Right) (v : ℕ) (k : ProtectionGraph) : Type 0 where
+  -- who made all names up to one holds a right over it
+  record HasMadeUpTo (limit p : ℕ) (q : Right) (v : ℕ) (k : ProtectionGraph) : Type 0 where
     held : Holds k.label p q v
     made : k.made ≡ v + 1
     same : k.limit ≡ limit
 
-  makes_one : (h : ProtectionGraph) → IsFit h → (p : ℕ) → Acts silent h p → (q : Right) → h.made < h.limit → Leads silent h 1 (HasMade h.limit p q h.made)
-  makes_one h fit p acts q room =
-      let is = step-created h p (only q) Cell [] room in
-      record {
-        turns = (p, Create (only q) Cell []) ∷ [];
-        are = (acts, tt);
-        to = _;
-        reached = is;
-        grows = record {
-          labels = λ a r b there. Holds-still h.label p h.made (only q) a r b there;
-          subjects = refl;
-          made = omega arith;
-          limit = omega arith;
-          fit = subst IsFit is (IsFit-step h fit p acts.0 (Create (only q) Cell []));
-        };
-        used = omega arith;
-        there = record { held = Holds-added h.label p h.made (only q) q (has_itself q); made = refl; same = refl };
-      }
-
-  makes_up_to : (n : ℕ) (h : ProtectionGraph) → IsFit h → (p : ℕ) → Acts silent h p → (q : Right) (v : ℕ) → h.made + n ≡ v → v < h.limit → Leads silent h (n + 1) (HasMade h.limit p q v)
+  makes_up_to : (n : ℕ) (h : ProtectionGraph) → IsFit h → (p : ℕ) → Acts silent h p → (q : Right) (v : ℕ) → h.made + n ≡ v → v < h.limit → Leads silent h (n + 1) (HasMadeUpTo h.limit p q v)
   makes_up_to zero h fit p acts q v at room =
       let here : h.made ≡ v = omega (arith, at) in
-      leads_on silent h 1 0 (0 + 1) (omega arith) (makes_one h fit p acts q (omega (arith, here, room)))
-      (λ k more used has.
-      stays silent k more.fit (subst (λ (w : ℕ). HasMade h.limit p q w k) here has))
-  makes_up_to (suc n) h fit p acts q v at room =
-      leads_on silent h 1 (n + 1) (suc n + 1) (omega arith) (makes_one h fit p acts q (omega (arith, at, room)))
+      leads_on silent h 1 0 (0 + 1) (omega arith) (makes_one silent h fit p acts (only q) (omega (arith, here, room)))
       (λ k more used has.
       let made = has.made in
-      let same = has.same in
+      stays silent k more.fit (record {
+        held = subst (λ (w : ℕ). Holds k.label p q w) here (has.held q (has_itself q));
+        made = omega (arith, made, here);
+        same = has.limit;
+      }))
+  makes_up_to (suc n) h fit p acts q v at room =
+      leads_on silent h 1 (n + 1) (suc n + 1) (omega arith) (makes_one silent h fit p acts (only q) (omega (arith, at, room)))
+      (λ k more used has.
+      let made = has.made in
+      let same = has.limit in
       leads_on silent k (n + 1) 0 (n + 1) (omega arith)
       (makes_up_to n k more.fit p (Grows-acts silent h k more p acts) q v (omega (arith, made, at)) (omega (arith, same, room)))
       (λ l more_l used_l there.
@@ -150,7 +132,7 @@ module _ (silent : ℕ → Type 0) where
           leads_on silent h 0 0 n (omega arith) (stays silent h fit none) (λ k more used there. stays silent k more.fit there)
 
       -- up to v, which is x or y, by one who acts
-      made_up_to : (h : ProtectionGraph) → IsFit h → HasRoom h → (p : ℕ) → Acts silent h p → (q : Right) (v : ℕ) → MayCome h v → v + 1 + MAX_WORKERS ≤ h.limit → ((k : ProtectionGraph) → Grows h k → HasMade h.limit p q v k → IsBrought silent right y k x) → Leads silent h (v + 1) (IsReady h v)
+      made_up_to : (h : ProtectionGraph) → IsFit h → HasRoom h → (p : ℕ) → Acts silent h p → (q : Right) (v : ℕ) → MayCome h v → v + 1 + MAX_WORKERS ≤ h.limit → ((k : ProtectionGraph) → Grows h k → HasMadeUpTo h.limit p q v k → IsBrought silent right y k x) → Leads silent h (v + 1) (IsReady h v)
       made_up_to h fit room p acts q v comes wide brings =
           let low = comes.0 in
           let n : ℕ = v - h.made in

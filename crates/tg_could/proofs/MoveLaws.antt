@@ -80,6 +80,12 @@ has_itself V = refl
 over : (label : ℕ → ℕ → RightSet) (a : ℕ) (q : Right) (b : ℕ) → Holds label a q b → HoldsOver label a b (only q)
 over label a q b is = holds_all-only (label a b) q ∙ is
 
+-- an object was made, over which p holds these rights
+pub record HasMade (h : ProtectionGraph) (p : ℕ) (rights : RightSet) (k : ProtectionGraph) : Type 0 where
+  pub held : (q : Right) → has rights q ≡ true → Holds k.label p q h.made
+  pub made : k.made ≡ h.made + 1
+  pub limit : k.limit ≡ h.limit
+
 module _ (silent : ℕ → Type 0) where
   pub Grows-acts : (h k : ProtectionGraph) → Grows h k → (p : ℕ) → Acts silent h p → Acts silent k p
   Grows-acts h k grows p acts = (subst (λ l. Contains l p) (sym grows.subjects) acts.0, acts.1)
@@ -180,10 +186,9 @@ module _ (silent : ℕ → Type 0) where
           there = Holds-added h.label via z (only q) q (has_itself q);
         }
 
-    -- who acts makes an object, over which it holds take and grant
-    pub makes : h.made < h.limit → Leads h 1 (λ k. Holds k.label p T h.made × Holds k.label p G h.made)
-    makes room =
-        let rights : RightSet = union (only T) (only G) in
+    -- who acts makes an object, over which it holds these rights
+    pub makes_one : (rights : RightSet) → h.made < h.limit → Leads h 1 (HasMade h p rights)
+    makes_one rights room =
         let is = step-created h p rights Cell [] room in
         record {
           turns = (p, Create rights Cell []) ∷ [];
@@ -198,5 +203,11 @@ module _ (silent : ℕ → Type 0) where
             fit = after_fit (Create rights Cell []) _ is;
           };
           used = omega arith;
-          there = (Holds-added h.label p h.made rights T refl, Holds-added h.label p h.made rights G refl);
+          there = record { held = λ q is. Holds-added h.label p h.made rights q is; made = refl; limit = refl };
         }
+
+    -- one over which it holds take and grant
+    pub makes : h.made < h.limit → Leads h 1 (λ k. Holds k.label p T h.made × Holds k.label p G h.made)
+    makes room =
+        leads_on h 1 0 1 (omega arith) (makes_one (union (only T) (only G)) room)
+        (λ k more used has. stays k more.fit (has.held T refl, has.held G refl))

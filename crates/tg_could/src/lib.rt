@@ -24,11 +24,11 @@
 //! reaches is told as `Unreached`, and all else as it is on the whole graph.
 //!
 //! What a reader has to believe stands in `specs/`: `Turns` (turns, `NeverHolds`, `LeadThere`), `Answered` (what an
-//! answer says) and `Reached`; of `Separation`, `Told`, `Listed` and `View` no more than that a law or a later call
-//! speaks of them. The theorem is that of Jones, Lipton and Snyder ("A linear time algorithm for deciding security",
-//! 1976) and of Lipton and Snyder ("A linear time algorithm for deciding subject security", Journal of the ACM 24(3),
-//! 1977). The search (`search`) and the turns that it leads to (`plan`) promise nothing: what they find is checked.
-//! [`laws`] has what holds of the definitions alone.
+//! answer says) and `Reached`; of `Separation`, `Led`, `Told`, `Listed` and `View` no more than that a law or a later
+//! call speaks of them. The theorem is that of Jones, Lipton and Snyder ("A linear time algorithm for deciding
+//! security", 1976) and of Lipton and Snyder ("A linear time algorithm for deciding subject security", Journal of the
+//! ACM 24(3), 1977). The search (`search`) and the turns that it leads to (`plan`) promise nothing: what they find is
+//! checked. [`laws`] has what holds of the definitions alone.
 #![tactic(auto)]
 
 mod answer;
