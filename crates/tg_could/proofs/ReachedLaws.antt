@@ -326,6 +326,40 @@ module _ (p : Shown) (g : ProtectionGraph) (sound : IsSound g) (picture : IsReac
           let none : g.label a b ≡ no_rights = no_edge (g.label a b) (λ edge. let ends = sound.ends_made a b edge in omega (arith, above, ends.1)) in
           some_edge (label_in p.edges a b) q h (shown_labels p g picture a b reached ∙ none)))
 
+  -- an edge that is shown joins two that were made
+  edge_made : (a b : ℕ) → HasEdge (label_in p.edges) a b → (a < g.made) × (b < g.made)
+  edge_made a b edge = (
+    ⊎_elim (λ below. below) (λ above. absurd (empty (shown_others p g picture a b (not_yet a above)))) (cases_lt a g.made),
+    ⊎_elim (λ below. below)
+        (λ above.
+        absurd
+        (empty
+        (same_rights (label_in p.edges a b) no_rights
+        (λ q. none q (λ h. let ends = sound.ends_made a b (right_edge (g.label a b) q (given_is p g picture a b q h).1) in omega (arith, above, ends.1))))))
+        (cases_lt b g.made),
+  )
+    where
+      empty : label_in p.edges a b ≡ no_rights → ⊥
+      empty is = false≢true (sym edge ∙ ap is_none_held is)
+
+      none : (q : Right) → (Holds (label_in p.edges) a q b → ⊥) → has (label_in p.edges a b) q ≡ has no_rights q
+      none q lacks = alike (has (label_in p.edges a b) q) (has no_rights q) (λ h. absurd (lacks h)) (λ h. absurd (false≢true (sym (has-no_rights q) ∙ h)))
+
+  -- the graph with the labels that it shows is sound
+  pub sound_shown : IsSound (relabelled g (label_in p.edges))
+  sound_shown = record {
+    rising = sound.rising;
+    subjects_made = sound.subjects_made;
+    few_subjects = sound.few_subjects;
+    ends_made = edge_made;
+    no_loop = λ x.
+        same_rights (label_in p.edges x x) no_rights
+        (λ q.
+        alike (has (label_in p.edges x x) q) (has no_rights q) (λ h. ap (λ s. has s q) (sym (sound.no_loop x)) ∙ (given_is p g picture x x q h).1)
+        (λ h. absurd (false≢true (sym (has-no_rights q) ∙ h))));
+    values = sound.values;
+  }
+
 module _ (silent : List ℕ) (g : ProtectionGraph) (label : ℕ → ℕ → RightSet) (known : ℕ → Type 0) (agree : Agree known g label) (x : ℕ) (is : known x) (r : Right) (y : ℕ) where
   alike_first : AreAlike known g (relabelled g label)
   alike_first = record { same = refl; agree = agree }
@@ -348,7 +382,18 @@ answer_on silent p g sound picture x is r y (WantsNames turns names) (lead, shor
     let agree = picture_agrees p g sound picture in
     let more : Agree (Known g) (with_names g names) (label_in p.edges) = record { subjects = agree.subjects; later = agree.later; closed = agree.closed; labels = agree.labels } in
     (lead_on silent (with_names g names) (label_in p.edges) (Known g) more x is r y turns.items lead, short)
-answer_on silent p g sound picture x is r y Open said = tt
+answer_on silent p g sound picture x is r y Open said =
+    let agree = picture_agrees p g sound picture in
+    let shown_sound = sound_shown p g sound picture in
+    record {
+      enough = λ any long.
+          let could = said.enough shown_sound long in
+          record { turns = could.turns; lead_there = lead_on silent g (label_in p.edges) (Known g) agree x is r y could.turns could.lead_there };
+      with_more = λ any x_made y_made names room.
+          let could = said.with_more shown_sound x_made y_made names room in
+          let more : Agree (Known g) (with_names g names) (label_in p.edges) = record { subjects = agree.subjects; later = agree.later; closed = agree.closed; labels = agree.labels } in
+          record { turns = could.turns; lead_there = lead_on silent (with_names g names) (label_in p.edges) (Known g) more x is r y could.turns could.lead_there };
+    }
 
 -- ---- who isn't reached
 
