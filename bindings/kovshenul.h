@@ -406,7 +406,7 @@ enum {
     TG_COULD = 2,             /* x holds it after the answer's turns, each of which is allowed when it comes */
     TG_WANTS_NAMES = 3,       /* so it is where tg_answer_names more vertices may be made; fewer than 64 names are left */
     TG_UNREACHED = 4,         /* no worker reaches x, which was made: it holds what it holds, for good */
-    TG_OPEN = 5,              /* it could where 64 names are left, by turns that aren't told: so it is of a name far ahead (tg_could) */
+    TG_OPEN = 5,              /* nothing of a name far ahead (tg_could). Of others it isn't known to come: x could, by turns not told */
     TG_PERHAPS = 6            /* of a view alone: it says nothing of the right. tg_could tells more */
 };
 

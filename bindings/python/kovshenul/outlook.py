@@ -61,8 +61,8 @@ class Unreached:
 
 @dataclass(frozen=True)
 class Open:
-    """It could where 64 names are left, by turns that aren't told. So it is of a name that isn't made yet and over 65,536
-    others come before: turns would have to make all of them. Ask about the next name in its place."""
+    """Nothing of a name that isn't made yet and over 65,536 others come before: turns would have to make all of them. Ask
+    about the next name in its place. Of others it isn't known to come: then x could, by turns that aren't told."""
 
 
 @dataclass(frozen=True)

@@ -33,8 +33,8 @@ pub enum Could {
     },
     /// No worker reaches x, which was made: it holds what it holds, for good.
     Unreached,
-    /// It could where 64 names are left, after turns that aren't told. So it is of a name that isn't made yet and over
-    /// 65,536 others come before: turns would have to make all of them. Ask about the next name in its place.
+    /// Nothing of a name that isn't made yet and over 65,536 others come before: turns would have to make all of them.
+    /// Ask about the next name in its place. Of others it isn't known to come: then x could, after turns not told.
     Open,
 }
 

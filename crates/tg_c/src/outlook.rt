@@ -17,7 +17,7 @@ impl Outlook {
     ghost use Rattle.tg_c.specs.Could.{kind_in, names_in, turns_in};
 
     /// The kind of answer: 0 never, 1 now, 2 after turns, 3 after turns and with more names, 4 that x isn't reached, 5
-    /// that it could where 64 names are left, by turns that aren't told.
+    /// nothing of a name far ahead.
     pub fn kind(&self) -> u64
         ensures { result ≡ kind_in self.now.told }
     {

@@ -382,7 +382,8 @@ answer_on silent p g sound picture x is r y (WantsNames turns names) (lead, shor
     let agree = picture_agrees p g sound picture in
     let more : Agree (Known g) (with_names g names) (label_in p.edges) = record { subjects = agree.subjects; later = agree.later; closed = agree.closed; labels = agree.labels } in
     (lead_on silent (with_names g names) (label_in p.edges) (Known g) more x is r y turns.items lead, short)
-answer_on silent p g sound picture x is r y Open said =
+answer_on silent p g sound picture x is r y Open answered = λ near_x near_y.
+    let said = answered near_x near_y in
     let agree = picture_agrees p g sound picture in
     let shown_sound = sound_shown p g sound picture in
     record {

@@ -16,14 +16,18 @@ pub record HasTurns (silent : List ℕ) (g : ProtectionGraph) (x : ℕ) (right :
   pub enough : IsSound g → ¬ IsShort g x y → CouldHold silent g x right y
   pub with_more : IsSound g → x < g.made → y < g.made → (names : ℕ) → g.made + 64 ≤ g.limit + names → CouldHold silent (with_names g names) x right y
 
+-- a name that isn't made yet and over 65,536 others come before
+abbrev pub IsFar : ProtectionGraph → ℕ → Type 0
+IsFar g v = MayCome g v × (g.made + 65536 < v)
+
 -- `Never`: x never holds the right over y, whatever those who act do. `Could`: it does after these turns. `WantsNames`: it does
 -- after them where so many more vertices may be made, and few names are left. `Open`: so it does after some
--- turns, which aren't told.
+-- turns, which aren't told; of names that are far it says nothing.
 abbrev pub IsAnswer : List ℕ → ProtectionGraph → ℕ → Right → ℕ → Answer → Type 0
 IsAnswer silent g x right y (Never separation) = NeverHolds silent g x right y
 IsAnswer silent g x right y (Could turns) = LeadThere silent g turns.items x right y
 IsAnswer silent g x right y (WantsNames turns names) = LeadThere silent (with_names g names) turns.items x right y × IsShort g x y
-IsAnswer silent g x right y Open = HasTurns silent g x right y
+IsAnswer silent g x right y Open = ¬ IsFar g x → ¬ IsFar g y → HasTurns silent g x right y
 
 -- whether it could come about
 abbrev pub IsDecided : List ℕ → ProtectionGraph → ℕ → Right → ℕ → Bool → Type 0

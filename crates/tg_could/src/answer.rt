@@ -3,7 +3,7 @@ ghost use Rattle.std.specs.Prelude.{◌≡◌, ◌+◌, ◌<◌, ◌⊎◌, IfOk
 ghost use Rattle.tg_model.specs.Graph.{ProtectionGraph};
 ghost use Rattle.tg_model.specs.Picture.{IsPictureOf};
 ghost use Rattle.tg_could.specs.Separation.{ComesLater};
-ghost use Rattle.tg_could.specs.Answered.{IsAnswer, IsShort};
+ghost use Rattle.tg_could.specs.Answered.{IsAnswer, IsFar, IsShort};
 
 use crate::led::may_come_about;
 use crate::plan::turns_to;
@@ -34,9 +34,9 @@ pub enum Answer {
         /// How many names are wanting.
         names: u64,
     },
-    /// It could come about, after turns that aren't told: x holds the right after some, where 64 names are left behind
-    /// those asked about. It comes of a name that isn't made yet and over 65,536 others come before, since turns would
-    /// have to make all of them: ask about the next name in its place. Otherwise it never came.
+    /// Of a name that isn't made yet and over 65,536 others come before this says nothing, since turns would have to
+    /// make all of them: ask about the next name in its place. Of all others it never came; it would say that x could
+    /// where 64 names are left behind those asked about, after turns that aren't told.
     Open,
 }
 
@@ -60,6 +60,9 @@ pub fn could_hold(
     if found.sides.parts(picture, silent, x, right, y) {
         return Ok(Answer::Never(found.sides));
     }
+    if is_far(picture, x) || is_far(picture, y) {
+        return Ok(Answer::Open);
+    }
     if let Some(answer) = tell_turns(alloc, picture, silent, &found, x, right, y)? {
         return Ok(answer);
     }
@@ -82,9 +85,6 @@ fn tell_turns(
 ) -> Result<Option<Answer>, AllocError>
     ensures { IfOk result (λ told. (g : ProtectionGraph) → IsPictureOf picture.now g → IfSome told (IsAnswer silent.now g x right y)) }
 {
-    if is_far(picture, x) || is_far(picture, y) {
-        return Ok(None);
-    }
     let rows = found.rows(alloc, picture, x)?;
     let planned = turns_to(alloc, picture, found, rows.copy(alloc)?, x, right, y)?;
     let names = planned.made.saturating_sub(picture.limit());
@@ -113,7 +113,9 @@ fn tell_turns(
 }
 
 // Whether more names than turns make come before one that isn't made yet and may be made.
-fn is_far(picture: &Picture, name: u64) -> bool {
+fn is_far(picture: &Picture, name: u64) -> bool
+    ensures { IsTrue result → (g : ProtectionGraph) → IsPictureOf picture.now g → IsFar g name }
+{
     comes_later(picture, name) && name - picture.made() > MOST_MADE
 }
 

@@ -11,8 +11,8 @@
 //!   edges: a host may keep it, and ask again after changes.
 //! - `Could`: these very turns lead there. [`lead_there`] replays turns, anybody's.
 //! - `WantsNames`: they do where so many more vertices may be made than are left.
-//! - `Open`: it could come about where 64 names are left, after turns that aren't told. So each question is decided.
-//!   That this comes only of a name far ahead of those made is tested, and not proved.
+//! - `Open`: of a name far ahead of those made, nothing. That it comes of no other is tested; it would say that it
+//!   could come about, after turns that aren't told. So each question about others is decided.
 //!
 //! [`who_could`] and [`what_could`] tell of everybody, and of everything, by one search: who or what isn't told is
 //! `Never`. [`needs`] tells whose turns would be enough. A [`View`] is made once of a picture, and then tells of each
