@@ -100,7 +100,7 @@ module _ (f more : ℕ → Bool) (on : (c : ℕ) → f c ≡ true → more c ≡
       omega (arith, a, b))
       (cases_eq v n)
 
--- ---- two sets that hold none but those whom walks lead to
+-- ---- sets that grow
 
 -- whether a vertex is in the set of this way
 abbrev is_in : Sides → Way → ℕ → Bool
@@ -121,6 +121,7 @@ or_second true q h = refl
 or_second false q h = h
 
 module _ (silent : ℕ → Type 0) (right : Right) (y : ℕ) (g : ProtectionGraph) where
+  -- the two sets hold none but those whom walks lead to
   record HoldsLed (s : Sides) : Type 0 where
     of : (way : Way) (v : ℕ) → is_in s way v ≡ true → Led silent right y g way v
 
@@ -176,7 +177,8 @@ module _ (silent : ℕ → Type 0) (right : Right) (y : ℕ) (g : ProtectionGrap
     missed : (way : Way) (v : ℕ) → Led silent right y g way v → is_in s way v ≡ false → Fault
     missed way v led out = inl (record { way = way; v = v; led = led; out = out })
 
-    -- rights that stand from a to b lead out of neither set, and x is neither their holder nor their gift, or else
+    -- rights that stand from a to b lead out of neither set, and x is neither their holder nor their gift; or one is missed, or
+    -- the right is brought to x
     may_add_or : (a b : ℕ) (rights : RightSet) → ((q : Right) → has rights q ≡ true → Holds g.label a q b) → MayAdd s x right y a b rights ⊎ Fault
     may_add_or a b rights stands =
         ⊎_elim (λ take_on_h.
