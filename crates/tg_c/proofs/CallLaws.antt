@@ -1,7 +1,6 @@
 -- Calls on a place: what the store was found to answer, and what C is told of that.
 use Rattle.std.proofs.Common.{◌≡◌, ℕ, refl, true, false, sym, subst, ap, ◌∙◌, Result, Ok, Err, List, Option, Some, None}
 use Rattle.tg_rights.specs.RightSet.{RightSet}
-use Rattle.tg_model.specs.declared.value.Value.{Value}
 use Rattle.tg_model.specs.Graph.{ProtectionGraph, listing_of}
 use Rattle.tg_model.specs.Rules.{answer_of, denial_of, denied_or, state_of}
 use Rattle.tg_model.specs.declared.command.Command.{Command}
@@ -12,11 +11,11 @@ use Rattle.tg_model.specs.declared.reply.Reply.{Reply}
 use Rattle.tg_model.specs.declared.reply.Reply.TheVariants.{Denied, Done, Edges, Values}
 use Rattle.tg_store.specs.Store.{StoreState}
 use Rattle.tg_c.specs.declared.place.StorePlace.{StorePlace}
-use Rattle.tg_store.specs.declared.fault.CreateFault.{CreateFault}
+use Rattle.tg_store.specs.declared.making.Making.{Making}
 use Rattle.tg_c.specs.declared.forms.ValueIn.{ValueIn}
 use Rattle.tg_c.specs.declared.refusal.CallRefusal.{CallRefusal}
 use Rattle.tg_c.specs.declared.refusal.CallRefusal.TheVariants.{NotOpen}
-use Rattle.tg_c.specs.Calls.{Applies, Asks, AsksWithRights, IsCall, IsDoneOrDenied, IsListedOrDenied, IsReadOrDenied, IsReplyTo, IsShown, MakesOfForms, state_in}
+use Rattle.tg_c.specs.Calls.{Applies, Asks, AsksWithRights, IsCall, IsDoneOrDenied, IsListedOrDenied, IsReadOrDenied, IsReplyTo, IsShown, Makes, MakesOfForms, state_in}
 use Rattle.tg_c.specs.Forms.{label_at}
 use Rattle.tg_c.specs.Statuses.{TellsNames, TellsNumber, of_apply, of_create, refused_as}
 
@@ -102,13 +101,12 @@ hears_at name holds o made asked old new result tells first second call told =
     subst (λ x. IsCall name (holds x) old new tells) (ap (or_else made) (sym first ∙ second)) (hears name (holds made) old new result tells call told)
 
 -- what a call that makes a vertex answered is what C is told
-pub makes_told : (holds : ℕ → RightSet → Value → StoreState → StoreState → Result ℕ CreateFault → Type 0) (old new : StorePlace) (worker rights : ℕ) (value : ValueIn) (result : Result ℕ CallRefusal) (tells : Result ℕ CallRefusal → Type 0)
-    → MakesOfForms (λ old new worker label stored. IsCall of_create (holds worker label stored) old new) old new worker rights value (λ told. result ≡ told) → tells result
-    → MakesOfForms (λ old new worker label stored. IsCall of_create (holds worker label stored) old new) old new worker rights value tells
-makes_told holds old new worker rights value result tells call told = record {
+pub makes_told : (kind : Making) (old new : StorePlace) (worker rights : ℕ) (value : ValueIn) (result : Result ℕ CallRefusal) (tells : Result ℕ CallRefusal → Type 0)
+    → MakesOfForms kind old new worker rights value (λ told. result ≡ told) → tells result → MakesOfForms kind old new worker rights value tells
+makes_told kind old new worker rights value result tells call told = record {
   bad_rights = λ none. let had = call.bad_rights none in (had.0, subst tells had.1 told);
   bad_law = λ label is none. let had = call.bad_law label is none in (had.0, subst tells had.1 told);
-  made = λ label is stored is_stored. hears of_create (holds worker label stored) old new result tells (call.made label is stored is_stored) told;
+  made = λ label is stored is_stored. hears of_create (Makes kind worker label stored) old new result tells (call.made label is stored is_stored) told;
 }
 
 -- what a command with a label answered is what C is told

@@ -9,7 +9,7 @@ use Rattle.tg_model.specs.Opened.{HasLimitsTo, HasWorkers, start_of}
 use Rattle.tg_model.specs.declared.opening.TheConstants.{MAX_LASTING_VERTICES}
 use Rattle.tg_model.specs.declared.command.Command.{Command}
 use Rattle.tg_model.specs.declared.command.Command.TheVariants as command
-use Rattle.tg_model.specs.declared.command.Deed.TheVariants.{Plain, Create, Spawn}
+use Rattle.tg_model.specs.declared.command.Deed.TheVariants.{Plain}
 use Rattle.tg_model.specs.declared.opening.TheConstants.{MAX_WORKERS}
 use Rattle.tg_model.specs.declared.reply.Denial.{Denial}
 use Rattle.tg_model.specs.declared.reply.Reply.{Reply}
@@ -29,6 +29,7 @@ use Rattle.tg_space.specs.declared.room_fault.RoomFault.TheVariants as no_room
 use Rattle.tg_journal.specs.declared.entry.Entry.{Entry}
 use Rattle.tg_store.specs.Collecting.{IsSwept, KeepsHistory}
 use Rattle.tg_store.specs.Made.{IsMadeFor}
+use Rattle.tg_store.specs.Making.{deed_making}
 use Rattle.tg_store.specs.Room.{LacksRoomToCollect}
 use Rattle.tg_store.specs.Store.{StoreState, StandsFor, Enters, HasFewBlocks, HoldsFrom, OnlyEnters, IsUnchanged}
 use Rattle.tg_store.specs.declared.census.Census.{Census}
@@ -36,6 +37,8 @@ use Rattle.tg_store.specs.declared.fault.ApplyFault.{ApplyFault}
 use Rattle.tg_store.specs.declared.fault.ApplyFault.TheVariants as apply
 use Rattle.tg_store.specs.declared.fault.CreateFault.{CreateFault}
 use Rattle.tg_store.specs.declared.fault.CreateFault.TheVariants as create
+use Rattle.tg_store.specs.declared.making.Making.{Making}
+use Rattle.tg_store.specs.declared.making.Making.TheVariants.{Subject}
 use Rattle.tg_c.specs.declared.place.StorePlace.{StorePlace}
 use Rattle.tg_c.specs.declared.refusal.CallRefusal.{CallRefusal}
 use Rattle.tg_c.specs.declared.refusal.CallRefusal.TheVariants as refusal
@@ -151,58 +154,36 @@ IsReplyTo (command.Inspect target) r = IsListedOrDenied r
 IsReplyTo command.List r = IsListed r
 IsReplyTo command.Retire r = IsDone r
 
--- ---- creates
+-- ---- creates and spawns
 
--- the answer to a create of a worker: the clauses of the store's `create`
-pub record Creates (worker : ℕ) (label : RightSet) (value : Value) (old new : StoreState) (answer : Result ℕ CreateFault) : Type 0 where
-  pub entry : IfOk answer (λ name. Enters old new worker (Create label value.law value.state) (reply.Name name))
-  pub made : IfOk answer (IsMadeFor (Create label value.law value.state) worker label value old new)
+-- the answer to a create of a worker, or to its spawn: the clauses of the store's `make`
+pub record Makes (kind : Making) (worker : ℕ) (label : RightSet) (value : Value) (old new : StoreState) (answer : Result ℕ CreateFault) : Type 0 where
+  pub entry : IfOk answer (λ name. Enters old new worker (deed_making kind label value) (reply.Name name))
+  pub made : IfOk answer (IsMadeFor (deed_making kind label value) worker label value old new)
   pub no_such_worker : (g : ProtectionGraph) → StandsFor old g → (answer ≡ Err create.NoSuchWorker) ↔ (¬ IsSubject g worker)
   pub no_more : (g : ProtectionGraph) → StandsFor old g → answer ≡ Err create.VerticesFull → IsSubject g worker × (g.limit ≤ g.made)
   pub exhausted : (g : ProtectionGraph) → StandsFor old g → IsSubject g worker → g.limit ≤ g.made →
       (answer ≡ Err create.VerticesFull) ⊎ (answer ≡ Err create.OutOfMemory)
-  pub no_more_entry : answer ≡ Err create.VerticesFull → OnlyEnters old new worker (Create label value.law value.state) reply.VerticesFull
+  pub no_more_entry : answer ≡ Err create.VerticesFull → OnlyEnters old new worker (deed_making kind label value) reply.VerticesFull
   pub full : (g : ProtectionGraph) → StandsFor old g → answer ≡ Err create.HeapFull →
-      IsAllowed g worker (Create label value.law value.state) × LacksCellsFor old.heap.table (nursery_space (nursery_of old.heap worker)) 1 worker g.made
-  pub no_workers_full : answer ≢ Err create.WorkersFull
-  pub refused : IfErr answer (λ why. why ≢ create.VerticesFull → IsUnchanged old new)
-  pub same_graph : (g : ProtectionGraph) → StandsFor old g → OnErr answer (StandsFor new g)
-  pub opening : new.opening ≡ old.opening
-  pub limits : new.heap.table.limits ≡ old.heap.table.limits
-
-abbrev pub Makes : StorePlace → StorePlace → ℕ → RightSet → Value → (Result ℕ CallRefusal → Type 0) → Type 0
-Makes old new worker label value = IsCall of_create (Creates worker label value) old new
-
--- the answer to a spawn of a worker: the clauses of the store's `spawn`
-pub record Spawns (worker : ℕ) (label : RightSet) (value : Value) (old new : StoreState) (answer : Result ℕ CreateFault) : Type 0 where
-  pub entry : IfOk answer (λ name. Enters old new worker (Spawn label value.law value.state) (reply.Name name))
-  pub made : IfOk answer (IsMadeFor (Spawn label value.law value.state) worker label value old new)
-  pub no_such_worker : (g : ProtectionGraph) → StandsFor old g → (answer ≡ Err create.NoSuchWorker) ↔ (¬ IsSubject g worker)
-  pub no_more : (g : ProtectionGraph) → StandsFor old g → answer ≡ Err create.VerticesFull → IsSubject g worker × (g.limit ≤ g.made)
-  pub exhausted : (g : ProtectionGraph) → StandsFor old g → IsSubject g worker → g.limit ≤ g.made →
-      (answer ≡ Err create.VerticesFull) ⊎ (answer ≡ Err create.OutOfMemory)
-  pub no_more_entry : answer ≡ Err create.VerticesFull → OnlyEnters old new worker (Spawn label value.law value.state) reply.VerticesFull
-  pub full : (g : ProtectionGraph) → StandsFor old g → answer ≡ Err create.HeapFull →
-      IsAllowed g worker (Spawn label value.law value.state) × LacksCellsFor old.heap.table (nursery_space (nursery_of old.heap worker)) 1 worker g.made
-  pub too_many : (g : ProtectionGraph) → StandsFor old g → answer ≡ Err create.WorkersFull → IsSubject g worker × (g.made < g.limit) × (MAX_WORKERS ≤ length g.subjects)
-  pub crowded : (g : ProtectionGraph) → StandsFor old g → IsSubject g worker → g.made < g.limit → MAX_WORKERS ≤ length g.subjects →
+      IsAllowed g worker (deed_making kind label value) × LacksCellsFor old.heap.table (nursery_space (nursery_of old.heap worker)) 1 worker g.made
+  pub too_many : (g : ProtectionGraph) → StandsFor old g → answer ≡ Err create.WorkersFull →
+      (kind ≡ Subject) × IsSubject g worker × (g.made < g.limit) × (MAX_WORKERS ≤ length g.subjects)
+  pub crowded : kind ≡ Subject → (g : ProtectionGraph) → StandsFor old g → IsSubject g worker → g.made < g.limit → MAX_WORKERS ≤ length g.subjects →
       (answer ≡ Err create.WorkersFull) ⊎ (answer ≡ Err create.OutOfMemory)
-  pub too_many_entry : answer ≡ Err create.WorkersFull → OnlyEnters old new worker (Spawn label value.law value.state) reply.WorkersFull
+  pub too_many_entry : answer ≡ Err create.WorkersFull → OnlyEnters old new worker (deed_making kind label value) reply.WorkersFull
   pub refused : IfErr answer (λ why. why ≢ create.VerticesFull → why ≢ create.WorkersFull → IsUnchanged old new)
   pub same_graph : (g : ProtectionGraph) → StandsFor old g → OnErr answer (StandsFor new g)
   pub opening : new.opening ≡ old.opening
   pub limits : new.heap.table.limits ≡ old.heap.table.limits
 
-abbrev pub MakesSubject : StorePlace → StorePlace → ℕ → RightSet → Value → (Result ℕ CallRefusal → Type 0) → Type 0
-MakesSubject old new worker label value = IsCall of_create (Spawns worker label value) old new
-
 -- A call that makes what stores this value, over which the worker is to have the rights of these bits: where the bits are no label's it is
 -- refused, or else where the value is of no law, and else the store is asked.
-pub record MakesOfForms (makes : StorePlace → StorePlace → ℕ → RightSet → Value → (Result ℕ CallRefusal → Type 0) → Type 0)
-    (old new : StorePlace) (worker rights : ℕ) (value : ValueIn) (tells : Result ℕ CallRefusal → Type 0) : Type 0 where
+pub record MakesOfForms (kind : Making) (old new : StorePlace) (worker rights : ℕ) (value : ValueIn) (tells : Result ℕ CallRefusal → Type 0) : Type 0 where
   pub bad_rights : label_at rights ≡ None → Refuses old new tells refusal.BadRights
   pub bad_law : (label : RightSet) → label_at rights ≡ Some label → value_at value ≡ None → Refuses old new tells refusal.BadLaw
-  pub made : (label : RightSet) → label_at rights ≡ Some label → (stored : Value) → value_at value ≡ Some stored → makes old new worker label stored tells
+  pub made : (label : RightSet) → label_at rights ≡ Some label → (stored : Value) → value_at value ≡ Some stored →
+      IsCall of_create (Makes kind worker label stored) old new tells
 
 -- ---- collections
 

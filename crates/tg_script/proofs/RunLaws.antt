@@ -1,7 +1,7 @@
 -- Each line is answered by the scene that the run shows.
 use mathlib.Core.Bool.{true≢false}
 use Rattle.std.proofs.Common.{◌≡◌, ◌≢◌, inl, inr, ◌↔◌, ℕ, ◌<◌, ◌≤◌, nat_lt, true, false, cond, eqb, length, List, [], ◌∷◌, ◌++◌, Result, Ok, Err, refl, sym, ap, ap₂, ◌∙◌, subst, append-nil}
-use Rattle.std.specs.Prelude.{IfOk, IfErr, OnErr, IsErrAnd}
+use Rattle.std.specs.Prelude.{IfOk, IfErr}
 use Rattle.std.specs.List.{list_any}
 use Rattle.std.proofs.lemmas.Bool.{lt-ltb, le-ltb}
 use Rattle.std.proofs.lemmas.Map.Views.{Contains-from_any, list_any-from_Contains}
@@ -23,6 +23,10 @@ use Rattle.tg_store.specs.declared.fault.ApplyFault.TheVariants as apply
 use Rattle.tg_store.specs.declared.fault.CreateFault.{CreateFault}
 use Rattle.tg_store.specs.declared.fault.CreateFault.TheVariants as create
 use Rattle.tg_store.specs.declared.fault.CreateRefused.{CreateRefused}
+use Rattle.tg_store.specs.declared.making.Making.{Making}
+use Rattle.tg_store.specs.declared.making.Making.TheVariants.{Object, Subject}
+use Rattle.tg_store.specs.Made.{IsMadeFor, MayRefuse}
+use Rattle.tg_store.specs.Making.{deed_making}
 use Rattle.tg_journal.specs.declared.entry.Entry.{Entry}
 use Rattle.tg_store.specs.Store.{StoreState, graph_of_store, Enters, OnlyEnters, StandsFor, IsUnchanged}
 use Rattle.tg_text.specs.declared.line.Line.{Line}
@@ -33,10 +37,10 @@ use Rattle.tg_text.specs.declared.answer.Refusal.{Refusal}
 use Rattle.tg_text.specs.declared.answer.Refusal.TheVariants as refusal
 use Rattle.tg_script.specs.declared.run.Run.{Run}
 use Rattle.tg_script.specs.Supply.{values_left}
-use Rattle.tg_script.specs.Script.{Scene, Answers, AnswersMaking, MayAnswerRefused, Serves, create_of, spawn_of, stock_left}
+use Rattle.tg_script.specs.Script.{Scene, Answers, AnswersMaking, MayAnswerRefused, Serves, stock_left}
 use Rattle.tg_script.specs.Refusals.{apply_refusal, create_answer}
 use Rattle.tg_script.specs.Entering.{entered}
-use Rattle.tg_script.specs.Run.{Shows, HandlesBy, Handles, IsAsBefore, MakesEntry, MakesEntryBy, making_answer, values_back}
+use Rattle.tg_script.specs.Run.{Shows, HandlesBy, Handles, IsAsBefore, MakesEntry, MakesEntryBy, line_making, making_answer, values_back}
 
 -- ---- who is a subject, and which graph a store stands for
 
@@ -82,49 +86,42 @@ apply_refused old new x command apply.HeapFull unknown full same supply helpers 
 
 -- ---- vertices
 
--- a line by which x makes a vertex, what it may be refused for, and what it enters
-pub record IsMaking (l : Line) (x : ℕ) (making : Value → Deed) : Type 0 where
-  pub enters : (r : Reply) (value : Value) (left : List Value) → entered l (told.Reply r) (value ∷ left) ≡ (record { worker = x; deed = making value; reply = r }) ∷ []
-  pub enters_none : (r : Refusal) (values : List Value) → entered l (told.Refused r) values ≡ []
-  pub answers : (s t : Scene) (a : Answer) → AnswersMaking s x making s.stock a t → Answers s l a t
-  pub memory : (s : Scene) → IsSubject s.graph x → s.stock ≢ [] → MayAnswerRefused s l refusal.Memory
-  pub heap : (s : Scene) (value : Value) → IsSubject s.graph x → s.stock ≢ [] → IsAllowed s.graph x (making value) → MayAnswerRefused s l refusal.Heap
+-- how the line is answered by which x makes a vertex of a kind, what it may be refused for, and what it enters
+answers : (kind : Making) (x : ℕ) (label : RightSet) (s t : Scene) (a : Answer) → AnswersMaking s x (deed_making kind label) s.stock a t → Answers s (line_making kind x label) a t
+answers Object x label s t a h = h
+answers Subject x label s t a h = h
 
-pub creating : (x : ℕ) (label : RightSet) → IsMaking (line.Create x label) x (create_of label)
-creating x label = record {
-  enters = λ r value left. refl;
-  enters_none = λ r values. refl;
-  answers = λ s t a h. h;
-  memory = λ s subject some. (subject, some);
-  heap = λ s value subject some allowed. (subject, some, allowed);
-}
+memory : (kind : Making) (x : ℕ) (label : RightSet) (s : Scene) → IsSubject s.graph x → s.stock ≢ [] → MayAnswerRefused s (line_making kind x label) refusal.Memory
+memory Object x label s subject some = (subject, some)
+memory Subject x label s subject some = (subject, some)
 
-pub spawning : (x : ℕ) (label : RightSet) → IsMaking (line.Spawn x label) x (spawn_of label)
-spawning x label = record {
-  enters = λ r value left. refl;
-  enters_none = λ r values. refl;
-  answers = λ s t a h. h;
-  memory = λ s subject some. (subject, some);
-  heap = λ s value subject some allowed. (subject, some, allowed.0, allowed.1);
-}
+heap : (kind : Making) (x : ℕ) (label : RightSet) (value : Value) (s : Scene) → IsSubject s.graph x → s.stock ≢ [] → IsAllowed s.graph x (deed_making kind label value) → MayAnswerRefused s (line_making kind x label) refusal.Heap
+heap Object x label value s subject some allowed = (subject, some, allowed)
+heap Subject x label value s subject some allowed = (subject, some, allowed.0, allowed.1)
+
+enters : (kind : Making) (x : ℕ) (label : RightSet) (value : Value) (left : List Value) (r : Reply) → entered (line_making kind x label) (told.Reply r) (value ∷ left) ≡ (record { worker = x; deed = deed_making kind label value; reply = r }) ∷ []
+enters Object x label value left r = refl
+enters Subject x label value left r = refl
+
+enters_none : (kind : Making) (x : ℕ) (label : RightSet) (values : List Value) (r : Refusal) → entered (line_making kind x label) (told.Refused r) values ≡ []
+enters_none Object x label values r = refl
+enters_none Subject x label values r = refl
 
 -- the deed is answered so, and changes nothing
-pub record IsFull (g : ProtectionGraph) (x : ℕ) (d : Deed) (r : Reply) : Type 0 where
-  pub subject : IsSubject g x
-  pub answer : answer_of g x d ≡ r
-  pub same : step g x d ≡ g
+record IsFull (g : ProtectionGraph) (x : ℕ) (d : Deed) (r : Reply) : Type 0 where
+  subject : IsSubject g x
+  answer : answer_of g x d ≡ r
+  same : step g x d ≡ g
 
-pub create_full : (g : ProtectionGraph) (x : ℕ) (label : RightSet) (value : Value) → IsSubject g x × (g.limit ≤ g.made) → IsFull g x (create_of label value) reply.VerticesFull
-create_full g x label value (subject, full) =
+vertices_full : (kind : Making) (g : ProtectionGraph) (x : ℕ) (label : RightSet) (value : Value) → IsSubject g x × (g.limit ≤ g.made) → IsFull g x (deed_making kind label value) reply.VerticesFull
+vertices_full Object g x label value (subject, full) =
     let closed = le-ltb g.made g.limit full in
     record {
       subject = subject;
       answer = ap (λ b. cond b (reply.Name g.made) reply.VerticesFull) closed;
       same = ap (λ b. cond b (with_vertex g x label value) g) closed;
     }
-
-pub spawn_full : (g : ProtectionGraph) (x : ℕ) (label : RightSet) (value : Value) → IsSubject g x × (g.limit ≤ g.made) → IsFull g x (spawn_of label value) reply.VerticesFull
-spawn_full g x label value (subject, full) =
+vertices_full Subject g x label value (subject, full) =
     let closed = le-ltb g.made g.limit full in
     let few = nat_lt (length g.subjects) MAX_WORKERS in
     record {
@@ -133,8 +130,9 @@ spawn_full g x label value (subject, full) =
       same = ap (λ b. cond b (cond few (with_subject g x label value) g) g) closed;
     }
 
-pub spawn_crowded : (g : ProtectionGraph) (x : ℕ) (label : RightSet) (value : Value) → IsSubject g x × (g.made < g.limit) × (MAX_WORKERS ≤ length g.subjects) → IsFull g x (spawn_of label value) reply.WorkersFull
-spawn_crowded g x label value (subject, room, many) =
+workers_full : (kind : Making) (g : ProtectionGraph) (x : ℕ) (label : RightSet) (value : Value) → (kind ≡ Subject) × IsSubject g x × (g.made < g.limit) × (MAX_WORKERS ≤ length g.subjects) → IsFull g x (deed_making kind label value) reply.WorkersFull
+workers_full Object g x label value (is, subject, room, many) = let no : ⊥ = cc in absurd no
+workers_full Subject g x label value (is, subject, room, many) =
     let roomy = lt-ltb g.made g.limit room in
     let closed = le-ltb (length g.subjects) MAX_WORKERS many in
     record {
@@ -143,56 +141,55 @@ spawn_crowded g x label value (subject, room, many) =
       same = ap₂ (λ b c. cond b (cond c (with_subject g x label value) g) g) roomy closed;
     }
 
--- what a store says of the deed by which it was to make a vertex for x, with this value
-pub record Makes {P : Type 0} (old new : StoreState) (x : ℕ) (d : Deed) (value : Value) (made : Result ℕ (CreateRefused P)) : Type 0 where
-  pub name : (g : ProtectionGraph) → StandsFor old g → IfOk made (λ n. answer_of g x d ≡ reply.Name n)
-  pub steps : (g : ProtectionGraph) → StandsFor old g → IfOk made (λ _. StandsFor new (step g x d))
-  pub no_such_worker : (g : ProtectionGraph) → StandsFor old g → IsErrAnd made (λ refused. refused.why ≡ create.NoSuchWorker) ↔ (¬ IsSubject g x)
-  pub no_more : (g : ProtectionGraph) → StandsFor old g → IfErr made (λ refused. refused.why ≡ create.VerticesFull → IsFull g x d reply.VerticesFull)
-  pub too_many : (g : ProtectionGraph) → StandsFor old g → IfErr made (λ refused. refused.why ≡ create.WorkersFull → IsFull g x d reply.WorkersFull)
-  pub full : (g : ProtectionGraph) → StandsFor old g → IfErr made (λ refused. refused.why ≡ create.HeapFull → IsAllowed g x d)
-  pub same_graph : (g : ProtectionGraph) → StandsFor old g → OnErr made (StandsFor new g)
-  pub handed_back : IfErr made (λ refused. refused.draft ≡ value)
+-- what a store says that was to make a vertex of a kind for x, with this value
+pub record Makes {P : Type 0} (old new : StoreState) (kind : Making) (x : ℕ) (label : RightSet) (value : Value) (made : Result ℕ (CreateRefused P)) : Type 0 where
+  pub vertex : IfOk made (IsMadeFor (deed_making kind label value) x label value old new)
+  pub refusals : MayRefuse (deed_making kind label value) x value old new made
+  pub too_many : (g : ProtectionGraph) → StandsFor old g → IfErr made (λ refused. refused.why ≡ create.WorkersFull → (kind ≡ Subject) × IsSubject g x × (g.made < g.limit) × (MAX_WORKERS ≤ length g.subjects))
 
 -- it was answered by the graph, with this value in front of the stock
-answered : {P : Type 0} (s : Scene) (new : Run P) (l : Line) (x : ℕ) (making : Value → Deed) (value : Value) (left : List Value) (r : Reply) → IsMaking l x making → value ∷ left ≡ s.stock → IsSubject s.graph x → answer_of s.graph x (making value) ≡ r → StandsFor new.store (step s.graph x (making value)) → values_left new.supply ≡ stock_left r left s.stock → new.helpers ≡ s.helpers → (t : Scene) × Shows new t × Serves s l (told.Reply r) t
-answered s new l x making value left r is stock subject answer stands supply helpers =
-    let t : Scene = record s { graph = step s.graph x (making value); stock = stock_left (answer_of s.graph x (making value)) left s.stock } in
-    let P : List Value → Type 0 = λ values. AnswersMaking s x making values (told.Reply r) t in (
+answered : {P : Type 0} (s : Scene) (new : Run P) (kind : Making) (x : ℕ) (label : RightSet) (value : Value) (left : List Value) (r : Reply) → value ∷ left ≡ s.stock → IsSubject s.graph x → answer_of s.graph x (deed_making kind label value) ≡ r → StandsFor new.store (step s.graph x (deed_making kind label value)) → values_left new.supply ≡ stock_left r left s.stock → new.helpers ≡ s.helpers → (t : Scene) × Shows new t × Serves s (line_making kind x label) (told.Reply r) t
+answered s new kind x label value left r stock subject answer stands supply helpers =
+    let deed = deed_making kind label value in
+    let t : Scene = record s { graph = step s.graph x deed; stock = stock_left (answer_of s.graph x deed) left s.stock } in
+    let P : List Value → Type 0 = λ values. AnswersMaking s x (deed_making kind label) values (told.Reply r) t in (
       t,
       (stands, supply ∙ ap (λ a. stock_left a left s.stock) (sym answer), helpers),
-      inl (is.answers s t (told.Reply r) (subst P stock (inl (subject, ap told.Reply (sym answer), refl)))),
+      inl (answers kind x label s t (told.Reply r) (subst P stock (inl (subject, ap told.Reply (sym answer), refl)))),
     )
 
+-- it found no room by the graph, with this value in front of the stock
+answered_full : {P : Type 0} (s : Scene) (new : Run P) (kind : Making) (x : ℕ) (label : RightSet) (value : Value) (left : List Value) (r : Reply) → value ∷ left ≡ s.stock → IsFull s.graph x (deed_making kind label value) r → StandsFor new.store s.graph → values_left new.supply ≡ stock_left r left s.stock → new.helpers ≡ s.helpers → (t : Scene) × Shows new t × Serves s (line_making kind x label) (told.Reply r) t
+answered_full s new kind x label value left r stock full stands supply helpers =
+    answered s new kind x label value left r stock full.subject full.answer (subst (λ (h : ProtectionGraph). StandsFor new.store h) (sym full.same) stands) supply helpers
+
 -- nothing was changed, and the value is back
-making_refused : {P : Type 0} (store : StoreState) (helpers : ℕ) (new : Run P) (l : Line) (x : ℕ) (making : Value → Deed) (value : Value) (left : List Value) (refused : CreateRefused P) → IsMaking l x making → Makes store new.store x (making value) value (Err refused) → values_left new.supply ≡ value ∷ left → new.helpers ≡ helpers → (why : CreateFault) → refused.why ≡ why → HandlesBy store (value ∷ left) helpers l (create_answer why) new
-making_refused store helpers new l x making value left refused is makes supply same_helpers create.NoSuchWorker why s shown =
-    let P : List Value → Type 0 = λ stock. AnswersMaking s x making stock (told.Refused refusal.Worker) s in
-    (s, (makes.same_graph s.graph shown.0, supply ∙ shown.1, same_helpers ∙ shown.2), inl (is.answers s s (told.Refused refusal.Worker) (subst P shown.1 (inr ((makes.no_such_worker s.graph shown.0).0 why, refl, refl)))))
-making_refused store helpers new l x making value left refused is makes supply same_helpers create.VerticesFull why s shown =
-    let full = makes.no_more s.graph shown.0 why in
-    answered s new l x making value left reply.VerticesFull is shown.1 full.subject full.answer (subst (λ (h : ProtectionGraph). StandsFor new.store h) (sym full.same) (makes.same_graph s.graph shown.0)) (supply ∙ shown.1) (same_helpers ∙ shown.2)
-making_refused store helpers new l x making value left refused is makes supply same_helpers create.WorkersFull why s shown =
-    let full = makes.too_many s.graph shown.0 why in
-    answered s new l x making value left reply.WorkersFull is shown.1 full.subject full.answer (subst (λ (h : ProtectionGraph). StandsFor new.store h) (sym full.same) (makes.same_graph s.graph shown.0)) (supply ∙ shown.1) (same_helpers ∙ shown.2)
-making_refused store helpers new l x making value left refused is makes supply same_helpers create.OutOfMemory why s shown =
-    let subject = subject_held s.graph x (λ none. let e = (makes.no_such_worker s.graph shown.0).1 none in cc) in
+making_refused : {P : Type 0} (store : StoreState) (helpers : ℕ) (new : Run P) (kind : Making) (x : ℕ) (label : RightSet) (value : Value) (left : List Value) (refused : CreateRefused P) → Makes store new.store kind x label value (Err refused) → values_left new.supply ≡ value ∷ left → new.helpers ≡ helpers → (why : CreateFault) → refused.why ≡ why → HandlesBy store (value ∷ left) helpers (line_making kind x label) (create_answer why) new
+making_refused store helpers new kind x label value left refused makes supply same_helpers create.NoSuchWorker why s shown =
+    let P : List Value → Type 0 = λ stock. AnswersMaking s x (deed_making kind label) stock (told.Refused refusal.Worker) s in
+    (s, (makes.refusals.same_graph s.graph shown.0, supply ∙ shown.1, same_helpers ∙ shown.2), inl (answers kind x label s s (told.Refused refusal.Worker) (subst P shown.1 (inr ((makes.refusals.no_such_worker s.graph shown.0).0 why, refl, refl)))))
+making_refused store helpers new kind x label value left refused makes supply same_helpers create.VerticesFull why s shown =
+    answered_full s new kind x label value left reply.VerticesFull shown.1 (vertices_full kind s.graph x label value (makes.refusals.no_more s.graph shown.0 why)) (makes.refusals.same_graph s.graph shown.0) (supply ∙ shown.1) (same_helpers ∙ shown.2)
+making_refused store helpers new kind x label value left refused makes supply same_helpers create.WorkersFull why s shown =
+    answered_full s new kind x label value left reply.WorkersFull shown.1 (workers_full kind s.graph x label value (makes.too_many s.graph shown.0 why)) (makes.refusals.same_graph s.graph shown.0) (supply ∙ shown.1) (same_helpers ∙ shown.2)
+making_refused store helpers new kind x label value left refused makes supply same_helpers create.OutOfMemory why s shown =
+    let subject = subject_held s.graph x (λ none. let e = (makes.refusals.no_such_worker s.graph shown.0).1 none in cc) in
     let some : s.stock ≢ [] = λ none. let e : value ∷ left ≡ [] = shown.1 ∙ none in cc in
-    (s, (makes.same_graph s.graph shown.0, supply ∙ shown.1, same_helpers ∙ shown.2), inr (refusal.Memory, is.memory s subject some, refl, refl))
-making_refused store helpers new l x making value left refused is makes supply same_helpers create.HeapFull why s shown =
-    let subject = subject_held s.graph x (λ none. let e = (makes.no_such_worker s.graph shown.0).1 none in cc) in
+    (s, (makes.refusals.same_graph s.graph shown.0, supply ∙ shown.1, same_helpers ∙ shown.2), inr (refusal.Memory, memory kind x label s subject some, refl, refl))
+making_refused store helpers new kind x label value left refused makes supply same_helpers create.HeapFull why s shown =
+    let subject = subject_held s.graph x (λ none. let e = (makes.refusals.no_such_worker s.graph shown.0).1 none in cc) in
     let some : s.stock ≢ [] = λ none. let e : value ∷ left ≡ [] = shown.1 ∙ none in cc in
-    (s, (makes.same_graph s.graph shown.0, supply ∙ shown.1, same_helpers ∙ shown.2), inr (refusal.Heap, is.heap s value subject some (makes.full s.graph shown.0 why), refl, refl))
+    (s, (makes.refusals.same_graph s.graph shown.0, supply ∙ shown.1, same_helpers ∙ shown.2), inr (refusal.Heap, heap kind x label value s subject some (makes.refusals.full s.graph shown.0 why).0, refl, refl))
 
 -- a line by which x was to make a vertex, with the value that was taken from the stock; behind it the run has the store that is left
-pub handles_making : {P : Type 0} (store after : StoreState) (helpers : ℕ) (new : Run P) (l : Line) (x : ℕ) (making : Value → Deed) (value : Value) (left : List Value) (made : Result ℕ (CreateRefused P)) → IsMaking l x making → Makes store after x (making value) value made → new.store ≡ after → values_left new.supply ≡ values_back made ++ left → new.helpers ≡ helpers → HandlesBy store (value ∷ left) helpers l (making_answer made) new
-handles_making store after helpers new l x making value left (Ok name) is makes same supply same_helpers s shown =
-    let subject = subject_held s.graph x (λ none. (makes.no_such_worker s.graph shown.0).1 none) in
-    let stands = subst (λ (t : StoreState). StandsFor t (step s.graph x (making value))) (sym same) (makes.steps s.graph shown.0) in
-    answered s new l x making value left (reply.Name name) is shown.1 subject (makes.name s.graph shown.0) stands supply (same_helpers ∙ shown.2)
-handles_making store after helpers new l x making value left (Err refused) is makes same supply same_helpers s shown =
-    let makes' = subst (λ (t : StoreState). Makes store t x (making value) value (Err refused)) (sym same) makes in
-    making_refused store helpers new l x making value left refused is makes' (supply ∙ ap (λ v. v ∷ left) makes.handed_back) same_helpers refused.why refl s shown
+pub handles_making : {P : Type 0} (store after : StoreState) (helpers : ℕ) (new : Run P) (kind : Making) (x : ℕ) (label : RightSet) (value : Value) (left : List Value) (made : Result ℕ (CreateRefused P)) → Makes store after kind x label value made → new.store ≡ after → values_left new.supply ≡ values_back made ++ left → new.helpers ≡ helpers → HandlesBy store (value ∷ left) helpers (line_making kind x label) (making_answer made) new
+handles_making store after helpers new kind x label value left (Ok name) makes same supply same_helpers s shown =
+    let subject = subject_held s.graph x (λ none. (makes.refusals.no_such_worker s.graph shown.0).1 none) in
+    let stands = subst (λ (t : StoreState). StandsFor t (step s.graph x (deed_making kind label value))) (sym same) (makes.vertex.step s.graph shown.0) in
+    answered s new kind x label value left (reply.Name name) shown.1 subject (makes.vertex.name s.graph shown.0) stands supply (same_helpers ∙ shown.2)
+handles_making store after helpers new kind x label value left (Err refused) makes same supply same_helpers s shown =
+    let makes' = subst (λ (t : StoreState). Makes store t kind x label value (Err refused)) (sym same) makes in
+    making_refused store helpers new kind x label value left refused makes' (supply ∙ ap (λ v. v ∷ left) makes.refusals.handed_back) same_helpers refused.why refl s shown
 
 -- ---- the entry of a line
 
@@ -212,35 +209,47 @@ pub record EntersMade {P : Type 0} (old new : StoreState) (x : ℕ) (d : Deed) (
   pub opening : new.opening ≡ old.opening
 
 -- the entry has this reply
-makes_one : (store new : StoreState) (l : Line) (x : ℕ) (making : Value → Deed) (value : Value) (left : List Value) (r : Reply) → IsMaking l x making → Enters store new x (making value) r → new.opening ≡ store.opening → MakesEntryBy store (value ∷ left) l (told.Reply r) new
-makes_one store new l x making value left r is enters opening = record {
-  entries = enters ∙ ap (λ (es : List Entry). store.entries ++ es) (sym (is.enters r value left));
+makes_one : (store new : StoreState) (kind : Making) (x : ℕ) (label : RightSet) (value : Value) (left : List Value) (r : Reply) → Enters store new x (deed_making kind label value) r → new.opening ≡ store.opening → MakesEntryBy store (value ∷ left) (line_making kind x label) (told.Reply r) new
+makes_one store new kind x label value left r entry opening = record {
+  entries = entry ∙ ap (λ (es : List Entry). store.entries ++ es) (sym (enters kind x label value left r));
   opening = opening;
 }
 
-making_refused_entry : {P : Type 0} (store new : StoreState) (l : Line) (x : ℕ) (making : Value → Deed) (value : Value) (left : List Value) (refused : CreateRefused P) → IsMaking l x making → EntersMade store new x (making value) (Err refused) → (why : CreateFault) → refused.why ≡ why → MakesEntryBy store (value ∷ left) l (create_answer why) new
-making_refused_entry store new l x making value left refused is made create.VerticesFull why =
-    makes_one store new l x making value left reply.VerticesFull is (made.no_more why).entry made.opening
-making_refused_entry store new l x making value left refused is made create.WorkersFull why =
-    makes_one store new l x making value left reply.WorkersFull is (made.too_many why).entry made.opening
-making_refused_entry store new l x making value left refused is made create.NoSuchWorker why =
-    let same = made.others (λ full. let e : create.NoSuchWorker ≡ create.VerticesFull = sym why ∙ full in cc) (λ full. let e : create.NoSuchWorker ≡ create.WorkersFull = sym why ∙ full in cc) in
-    makes_none store new (value ∷ left) l (told.Refused refusal.Worker) (is.enters_none refusal.Worker (value ∷ left)) same.entries same.opening
-making_refused_entry store new l x making value left refused is made create.OutOfMemory why =
-    let same = made.others (λ full. let e : create.OutOfMemory ≡ create.VerticesFull = sym why ∙ full in cc) (λ full. let e : create.OutOfMemory ≡ create.WorkersFull = sym why ∙ full in cc) in
-    makes_none store new (value ∷ left) l (told.Refused refusal.Memory) (is.enters_none refusal.Memory (value ∷ left)) same.entries same.opening
-making_refused_entry store new l x making value left refused is made create.HeapFull why =
-    let same = made.others (λ full. let e : create.HeapFull ≡ create.VerticesFull = sym why ∙ full in cc) (λ full. let e : create.HeapFull ≡ create.WorkersFull = sym why ∙ full in cc) in
-    makes_none store new (value ∷ left) l (told.Refused refusal.Heap) (is.enters_none refusal.Heap (value ∷ left)) same.entries same.opening
+-- there is none, since the refusal is neither of those that have one
+makes_refused : (store new : StoreState) (kind : Making) (x : ℕ) (label : RightSet) (values : List Value) (why : CreateFault) (r : Refusal) → why ≢ create.VerticesFull → why ≢ create.WorkersFull → (why ≢ create.VerticesFull → why ≢ create.WorkersFull → IsUnchanged store new) → MakesEntryBy store values (line_making kind x label) (told.Refused r) new
+makes_refused store new kind x label values why r no_more too_many others =
+    let same = others no_more too_many in
+    makes_none store new values (line_making kind x label) (told.Refused r) (enters_none kind x label values r) same.entries same.opening
 
-making_entry_at : {P : Type 0} (store new : StoreState) (l : Line) (x : ℕ) (making : Value → Deed) (value : Value) (left : List Value) (made : Result ℕ (CreateRefused P)) → IsMaking l x making → EntersMade store new x (making value) made → MakesEntryBy store (value ∷ left) l (making_answer made) new
-making_entry_at store new l x making value left (Ok name) is enters = makes_one store new l x making value left (reply.Name name) is enters.named enters.opening
-making_entry_at store new l x making value left (Err refused) is enters = making_refused_entry store new l x making value left refused is enters refused.why refl
+making_refused_entry : (store new : StoreState) (kind : Making) (x : ℕ) (label : RightSet) (value : Value) (left : List Value) (why : CreateFault) → (why ≡ create.VerticesFull → OnlyEnters store new x (deed_making kind label value) reply.VerticesFull) → (why ≡ create.WorkersFull → OnlyEnters store new x (deed_making kind label value) reply.WorkersFull) → (why ≢ create.VerticesFull → why ≢ create.WorkersFull → IsUnchanged store new) → new.opening ≡ store.opening → MakesEntryBy store (value ∷ left) (line_making kind x label) (create_answer why) new
+making_refused_entry store new kind x label value left create.VerticesFull no_more too_many others opening =
+    makes_one store new kind x label value left reply.VerticesFull (no_more refl).entry opening
+making_refused_entry store new kind x label value left create.WorkersFull no_more too_many others opening =
+    makes_one store new kind x label value left reply.WorkersFull (too_many refl).entry opening
+making_refused_entry store new kind x label value left create.NoSuchWorker no_more too_many others opening =
+    makes_refused store new kind x label (value ∷ left) create.NoSuchWorker refusal.Worker (λ e. cc) (λ e. cc) others
+making_refused_entry store new kind x label value left create.OutOfMemory no_more too_many others opening =
+    makes_refused store new kind x label (value ∷ left) create.OutOfMemory refusal.Memory (λ e. cc) (λ e. cc) others
+making_refused_entry store new kind x label value left create.HeapFull no_more too_many others opening =
+    makes_refused store new kind x label (value ∷ left) create.HeapFull refusal.Heap (λ e. cc) (λ e. cc) others
+
+making_entry_at : {P : Type 0} (store new : StoreState) (kind : Making) (x : ℕ) (label : RightSet) (value : Value) (left : List Value) (made : Result ℕ (CreateRefused P)) → EntersMade store new x (deed_making kind label value) made → MakesEntryBy store (value ∷ left) (line_making kind x label) (making_answer made) new
+making_entry_at store new kind x label value left (Ok name) enters = makes_one store new kind x label value left (reply.Name name) enters.named enters.opening
+making_entry_at store new kind x label value left (Err refused) enters = making_refused_entry store new kind x label value left refused.why enters.no_more enters.too_many enters.others enters.opening
 
 -- behind the line the run has the store that is left
-pub making_entry : {P : Type 0} (store after new : StoreState) (l : Line) (x : ℕ) (making : Value → Deed) (value : Value) (left : List Value) (made : Result ℕ (CreateRefused P)) → IsMaking l x making → EntersMade store after x (making value) made → new ≡ after → MakesEntryBy store (value ∷ left) l (making_answer made) new
-making_entry store after new l x making value left made is enters same =
-    subst (λ (t : StoreState). MakesEntryBy store (value ∷ left) l (making_answer made) t) (sym same) (making_entry_at store after l x making value left made is enters)
+pub making_entry : {P : Type 0} (store after new : StoreState) (kind : Making) (x : ℕ) (label : RightSet) (value : Value) (left : List Value) (made : Result ℕ (CreateRefused P)) → EntersMade store after x (deed_making kind label value) made → new ≡ after → MakesEntryBy store (value ∷ left) (line_making kind x label) (making_answer made) new
+making_entry store after new kind x label value left made enters same =
+    subst (λ (t : StoreState). MakesEntryBy store (value ∷ left) (line_making kind x label) (making_answer made) t) (sym same) (making_entry_at store after kind x label value left made enters)
+
+-- where the stock is empty, the line is refused, and has none
+pub without_stock : {P : Type 0} (old new : Run P) (kind : Making) (x : ℕ) (label : RightSet) → new.store ≡ old.store → values_left old.supply ≡ [] → values_left new.supply ≡ [] → new.helpers ≡ old.helpers → Handles old (line_making kind x label) (told.Refused refusal.Stock) new × MakesEntry old (line_making kind x label) (told.Refused refusal.Stock) new
+without_stock old new kind x label same none left helpers = (
+  (λ s shown.
+      let P : List Value → Type 0 = λ stock. AnswersMaking s x (deed_making kind label) stock (told.Refused refusal.Stock) s in
+      (s, (ap graph_of_store same ∙ shown.0, left ∙ sym none ∙ shown.1, helpers ∙ shown.2), inl (answers kind x label s s (told.Refused refusal.Stock) (subst P (sym none ∙ shown.1) (refl, refl))))),
+  makes_none old.store new.store (values_left old.supply) (line_making kind x label) (told.Refused refusal.Stock) (enters_none kind x label (values_left old.supply) refusal.Stock) (ap (λ (t : StoreState). t.entries) same) (ap (λ (t : StoreState). t.opening) same),
+)
 
 -- ---- entries that are given up
 

@@ -3,10 +3,14 @@ use Rattle.std.specs.Prelude.{◌≡◌, ◌≤◌, ℕ, List, [], ◌∷◌, �
 use Rattle.tg_model.specs.Opened.{Plan, HasLimits, start_of}
 use Rattle.tg_model.specs.declared.value.Value.{Value}
 use Rattle.tg_model.specs.declared.reply.Reply.TheVariants as reply
+use Rattle.tg_rights.specs.RightSet.{RightSet}
 use Rattle.tg_script.specs.Refusals.{create_answer}
 use Rattle.tg_store.specs.declared.fault.CreateRefused.{CreateRefused}
+use Rattle.tg_store.specs.declared.making.Making.{Making}
+use Rattle.tg_store.specs.declared.making.Making.TheVariants.{Object, Subject}
 use Rattle.tg_store.specs.Store.{StoreState, StandsFor}
 use Rattle.tg_text.specs.declared.line.Line.{Line}
+use Rattle.tg_text.specs.declared.line.Line.TheVariants as line
 use Rattle.tg_text.specs.declared.answer.Answer.{Answer}
 use Rattle.tg_text.specs.declared.answer.Answer.TheVariants as told
 use Rattle.tg_script.specs.declared.run.Run.{Run}
@@ -49,6 +53,11 @@ pub record MakesEntryBy (old : StoreState) (values : List Value) (l : Line) (a :
 
 abbrev pub MakesEntry : {P : Type 0} → Run P → Line → Answer → Run P → Type 0
 MakesEntry old l a new = MakesEntryBy old.store (values_left old.supply) l a new.store
+
+-- the line by which x makes a vertex of this kind
+abbrev pub line_making : Making → ℕ → RightSet → Line
+line_making Object x label = line.Create x label
+line_making Subject x label = line.Spawn x label
 
 -- how it is told that a vertex was made, or why none was
 abbrev pub making_answer : {P : Type 0} → Result ℕ (CreateRefused P) → Answer

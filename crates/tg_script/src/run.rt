@@ -9,7 +9,7 @@ use crate::telling::Holding;
 use tg_model::{Command, Reply};
 use tg_payload::{Draft, Payload};
 use tg_rights::Label;
-use tg_store::{CreateRefused, Kind, Store};
+use tg_store::{CreateRefused, Kind, Making, Store};
 use tg_text::{Answer, Line, Refusal};
 
 // How many entries a run holds at most, and how many edges a list that it holds.
@@ -28,7 +28,7 @@ pub(crate) struct Run<P: Payload> {
 impl<P: Payload> Run<P> {
     ghost use Rattle.std.specs.Prelude.{◌≡◌, ◌++◌, ◌∷◌, None, true};
     ghost use Rattle.tg_script.specs.Opening.{IsAnswerable};
-    ghost use Rattle.tg_script.specs.Run.{Handles, HandlesWith, IsAsBefore, MakesEntry, MakesEntryBy, making_answer, values_back};
+    ghost use Rattle.tg_script.specs.Run.{Handles, HandlesWith, IsAsBefore, MakesEntry, MakesEntryBy, line_making, making_answer, values_back};
     ghost use Rattle.tg_script.specs.Supply.{values_left};
     ghost use Rattle.tg_store.specs.Store.{HandsOut};
 
@@ -72,8 +72,8 @@ impl<P: Payload> Run<P> {
         ensures held { H.holds ≡ true → self.new.store.handed ≡ self.old.store.handed }
     {
         match line {
-            Line::Create { worker, label } => self.create(worker, label),
-            Line::Spawn { worker, label } => self.spawn(worker, label),
+            Line::Create { worker, label } => self.make(worker, Making::Object, label),
+            Line::Spawn { worker, label } => self.make(worker, Making::Subject, label),
             Line::Plain { worker, command } => self.apply::<H>(worker, command),
             Line::Full => self.collect_all(collector),
             Line::Minor => self.collect_nurseries(collector),
@@ -123,49 +123,25 @@ impl<P: Payload> Run<P> {
 
     // The first payload of the stock goes to the new vertex.
     #[inline(always)]
-    fn create(&mut self, worker: u64, label: Label) -> Answer
-        ensures answered { Handles self.old (Line.Create worker label) result self.new }
-        ensures entry { MakesEntry self.old (Line.Create worker label) result self.new }
+    fn make(&mut self, worker: u64, kind: Making, label: Label) -> Answer
+        ensures answered { Handles self.old (line_making kind worker label) result self.new }
+        ensures entry { MakesEntry self.old (line_making kind worker label) result self.new }
         ensures handed { self.new.store.handed ≡ self.old.store.handed }
     {
         match self.supply.take() {
-            Some(draft) => self.create_of(worker, label, draft),
+            Some(draft) => self.make_of(worker, kind, label, draft),
             None => Answer::Refused(Refusal::Stock),
         }
     }
 
     #[inline(always)]
-    fn create_of(&mut self, worker: u64, label: Label, draft: Draft<P>) -> Answer
+    fn make_of(&mut self, worker: u64, kind: Making, label: Label, draft: Draft<P>) -> Answer
         requires { self.old.supply.front ≡ None }
-        ensures answered { HandlesWith self.old draft (Line.Create worker label) result self.new }
-        ensures entry { MakesEntryBy self.old.store (draft ∷ values_left self.old.supply) (Line.Create worker label) result self.new.store }
+        ensures answered { HandlesWith self.old draft (line_making kind worker label) result self.new }
+        ensures entry { MakesEntryBy self.old.store (draft ∷ values_left self.old.supply) (line_making kind worker label) result self.new.store }
         ensures handed { self.new.store.handed ≡ self.old.store.handed }
     {
-        let made = self.store.create(worker, label, draft);
-        self.tell(made)
-    }
-
-    // The same, and the new vertex is a subject.
-    #[inline(always)]
-    fn spawn(&mut self, worker: u64, label: Label) -> Answer
-        ensures answered { Handles self.old (Line.Spawn worker label) result self.new }
-        ensures entry { MakesEntry self.old (Line.Spawn worker label) result self.new }
-        ensures handed { self.new.store.handed ≡ self.old.store.handed }
-    {
-        match self.supply.take() {
-            Some(draft) => self.spawn_of(worker, label, draft),
-            None => Answer::Refused(Refusal::Stock),
-        }
-    }
-
-    #[inline(always)]
-    fn spawn_of(&mut self, worker: u64, label: Label, draft: Draft<P>) -> Answer
-        requires { self.old.supply.front ≡ None }
-        ensures answered { HandlesWith self.old draft (Line.Spawn worker label) result self.new }
-        ensures entry { MakesEntryBy self.old.store (draft ∷ values_left self.old.supply) (Line.Spawn worker label) result self.new.store }
-        ensures handed { self.new.store.handed ≡ self.old.store.handed }
-    {
-        let made = self.store.spawn(worker, label, draft);
+        let made = self.store.make(worker, kind, label, draft);
         self.tell(made)
     }
 

@@ -45,6 +45,7 @@ mod store_fault;
 
 pub use census::Census;
 pub use fault::{ApplyFault, CreateFault, CreateRefused, OpenFault, OpenRefused, StoreAuditFault};
+pub use making::Making;
 pub use store::Store;
 pub use store_fault::StoreFault;
 pub use tg_space::{Kind, Limits, RoomFault};

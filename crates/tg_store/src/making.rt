@@ -19,7 +19,7 @@ use tg_space::RoomFault;
 
 /// What a vertex that is made is.
 #[derive(Clone, Copy, PartialEq, Eq, Debug)]
-pub(crate) enum Making {
+pub enum Making {
     /// An object.
     Object,
     /// A subject, which issues commands of its own.
@@ -37,7 +37,7 @@ pub(crate) enum Limit {
 
 impl Making {
     /// The deed by which a vertex with this value is made.
-    pub(crate) fn deed(self, label: Label, value: Value) -> Deed
+    pub fn deed(self, label: Label, value: Value) -> Deed
         ensures { result ≡ deed_making self label value }
     {
         let Value { law, state } = value;

@@ -285,9 +285,10 @@ impl<P: Payload> Store<P> {
         self.make(worker, Making::Subject, label, draft)
     }
 
-    // What `create` and `spawn` do: the first refusal, or the vertex and then its entry.
+    /// Makes a vertex of a kind, as [`create`](Store::create) makes an object and [`spawn`](Store::spawn) a subject,
+    /// with the same refusals in the same order. For callers who make both.
     #[inline(always)]
-    fn make(
+    pub fn make(
         &mut self,
         worker: u64,
         kind: Making,

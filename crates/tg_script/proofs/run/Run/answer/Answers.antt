@@ -1,10 +1,10 @@
 use Rattle.tg_script.proofs.run.Run.answer.Goals as goal
 
 pub returns-in-Create : goal.returns-in-Create
-returns-in-Create g c = rw c.in-Create.is (record { answered = c.create.ensures.answered; entry = c.create.ensures.entry; held = λ holds. c.create.ensures.handed })
+returns-in-Create g c = rw c.in-Create.is (record { answered = c.make.ensures.answered; entry = c.make.ensures.entry; held = λ holds. c.make.ensures.handed })
 
 pub returns-in-Spawn : goal.returns-in-Spawn
-returns-in-Spawn g c = rw c.in-Spawn.is (record { answered = c.spawn.ensures.answered; entry = c.spawn.ensures.entry; held = λ holds. c.spawn.ensures.handed })
+returns-in-Spawn g c = rw c.in-Spawn.is (record { answered = c.make-in-Spawn.ensures.answered; entry = c.make-in-Spawn.ensures.entry; held = λ holds. c.make-in-Spawn.ensures.handed })
 
 pub returns-in-Plain : goal.returns-in-Plain
 returns-in-Plain g c = rw c.in-Plain.is (record { answered = c.apply.ensures.answered; entry = c.apply.ensures.entry; held = c.apply.ensures.held })

@@ -3,8 +3,8 @@ use Rattle.tg_model.specs.declared.value.Value.{Value}
 use Rattle.tg_model.specs.Graph.{ProtectionGraph, IsSubject}
 use Rattle.tg_store.specs.Store.{graph_of_store}
 use Rattle.tg_c.proofs.MakeLaws.{no_worker_is_no_cell, no_worker_is_no_subject, no_worker_is_no_vertex, not_both, ok_is_no_refusal, same_refusal, unchanged, want_is_no_cell, want_is_no_subject, want_is_no_vertex, want_is_no_worker}
-use Rattle.tg_c.specs.Calls.{Spawns}
-use Rattle.tg_c.proofs.law_store.LawStore.spawn.Goals as goal
+use Rattle.tg_c.specs.Calls.{Makes}
+use Rattle.tg_c.proofs.law_store.LawStore.make.Goals as goal
 
 -- who isn't a worker is told so first
 pub returns-then-not-is_subject : goal.returns-then-not-is_subject
@@ -21,7 +21,7 @@ returns-then-not-is_subject c = record {
   no_more_entry = λ is. absurd (no_worker_is_no_vertex is);
   full = λ g stands is. absurd (no_worker_is_no_cell is);
   too_many = λ g stands is. absurd (no_worker_is_no_subject is);
-  crowded = λ g stands subject room many.
+  crowded = λ subjects g stands subject room many.
       absurd (let holds = (c.is_subject.ensures (graph_of_store c.args.self.now.store) refl).1 (subst (λ (h : ProtectionGraph). IsSubject h c.args.worker) (sym stands) subject) in not_both c.is_subject.result holds c.if-not-is_subject.true);
   too_many_entry = λ is. absurd (no_worker_is_no_subject is);
   refused = λ _ _. unchanged c.args.self.now.store;
@@ -44,7 +44,7 @@ returns-in_default c = record {
   no_more_entry = λ is. absurd (want_is_no_vertex is);
   full = λ g stands is. absurd (want_is_no_cell is);
   too_many = λ g stands is. absurd (want_is_no_subject is);
-  crowded = λ g stands subject room many. inr refl;
+  crowded = λ subjects g stands subject room many. inr refl;
   too_many_entry = λ is. absurd (want_is_no_subject is);
   refused = λ _ _. unchanged c.args.self.now.store;
   same_graph = λ g stands. stands;
@@ -52,10 +52,10 @@ returns-in_default c = record {
   limits = refl;
 }
 
-pub returns-in-Ok-spawn : goal.returns-in-Ok-spawn
-returns-in-Ok-spawn c =
-    let told = c.in-Ok-spawn.ensures in
-    subst (λ (v : Value). Spawns c.args.worker c.args.label v c.args.self.now.store c.spawn.new.self (Ok c.in-Ok-spawn.name)) c.in-Ok.ensures.made (record {
+pub returns-in-Ok-make : goal.returns-in-Ok-make
+returns-in-Ok-make c =
+    let told = c.in-Ok-make.ensures in
+    subst (λ (v : Value). Makes c.args.kind c.args.worker c.args.label v c.args.self.now.store c.make.new.self (Ok c.in-Ok-make.name)) c.in-Ok.ensures.made (record {
       entry = told.entry;
       made = told.made;
       no_such_worker = λ g stands. ((λ is. absurd (ok_is_no_refusal is)), λ none. absurd ((told.refusals.no_such_worker g stands).1 none));
@@ -64,7 +64,7 @@ returns-in-Ok-spawn c =
       no_more_entry = λ is. absurd (ok_is_no_refusal is);
       full = λ g stands is. absurd (ok_is_no_refusal is);
       too_many = λ g stands is. absurd (ok_is_no_refusal is);
-      crowded = λ g stands subject room many. absurd (told.crowded g stands subject room many);
+      crowded = λ subjects g stands subject room many. absurd (told.crowded subjects g stands subject room many);
       too_many_entry = λ is. absurd (ok_is_no_refusal is);
       refused = tt;
       same_graph = λ g stands. tt;
@@ -75,7 +75,7 @@ returns-in-Ok-spawn c =
 pub returns-in-Err : goal.returns-in-Err
 returns-in-Err c =
     let told = c.in-Err.ensures in
-    subst (λ (v : Value). Spawns c.args.worker c.args.label v c.args.self.now.store c.spawn.new.self (Err c.in-Err.refused.why)) c.in-Ok.ensures.made (record {
+    subst (λ (v : Value). Makes c.args.kind c.args.worker c.args.label v c.args.self.now.store c.make.new.self (Err c.in-Err.refused.why)) c.in-Ok.ensures.made (record {
       entry = tt;
       made = tt;
       no_such_worker = λ g stands. ((λ is. (told.refusals.no_such_worker g stands).0 (same_refusal is)), λ none. ap Err ((told.refusals.no_such_worker g stands).1 none));
@@ -84,7 +84,7 @@ returns-in-Err c =
       no_more_entry = λ is. told.no_more_entry (same_refusal is);
       full = λ g stands is. told.refusals.full g stands (same_refusal is);
       too_many = λ g stands is. told.too_many g stands (same_refusal is);
-      crowded = λ g stands subject room many. elim (told.crowded g stands subject room many) [ inl why ↦ inl (ap Err why) | inr why ↦ inr (ap Err why) ];
+      crowded = λ subjects g stands subject room many. elim (told.crowded subjects g stands subject room many) [ inl why ↦ inl (ap Err why) | inr why ↦ inr (ap Err why) ];
       too_many_entry = λ is. told.too_many_entry (same_refusal is);
       refused = told.refused;
       same_graph = told.refusals.same_graph;
