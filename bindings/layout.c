@@ -65,10 +65,15 @@ SAME(offsetof(tg_record, denial), 64);
 SAME(offsetof(tg_record, number_count), 96);
 SAME(offsetof(tg_record, edge_count), 104);
 
-SAME(sizeof(tg_counts), 24);
+SAME(sizeof(tg_counts), 64);
 SAME(offsetof(tg_counts, vertices), 0);
 SAME(offsetof(tg_counts, payloads), 8);
 SAME(offsetof(tg_counts, blocks), 16);
+SAME(offsetof(tg_counts, entries), 24);
+SAME(offsetof(tg_counts, held), 32);
+SAME(offsetof(tg_counts, denied), 40);
+SAME(offsetof(tg_counts, vertices_full), 48);
+SAME(offsetof(tg_counts, workers_full), 56);
 
 SAME(TG_READ | TG_WRITE << 8 | TG_TAKE << 16 | TG_GRANT << 24, 0x08040201);
 SAME(TG_APPEND | TG_INSPECT << 8 | TG_FREE_U << 16, 0x402010);

@@ -58,6 +58,7 @@ struct run {
     uint64_t active;
     tg_denial why;
     long answered, refused_memory, refused_heap;
+    uint64_t denied, vertices_full, workers_full;
 };
 
 static uint64_t seed, commands;
@@ -229,6 +230,9 @@ static int is_done(struct run *run, tg_status status, long refused_before) {
     want(run, is_denied || memcmp(&run->why, &no_denial, sizeof no_denial) == 0, "a denial of what isn't denied");
     if (!is_answered(run, status, refused_before) || status == TG_DONE)
         return status == TG_DONE;
+    run->denied += is_denied;
+    run->vertices_full += status == TG_VERTICES_FULL;
+    run->workers_full += status == TG_WORKERS_FULL;
     if (is_denied)
         put_denial(run);
     else if (status == TG_NO_SUCH_WORKER)
@@ -338,6 +342,15 @@ static uint64_t next_entry(struct run *run, tg_store *store) {
     return next;
 }
 
+/* What is counted of the entries is what was answered. */
+static void count_entries(struct run *run, tg_store *store) {
+    tg_counts has;
+    uint64_t next = next_entry(run, store);
+    want(run, tg_census(store, &has) == TG_DONE && has.entries == next && has.held == next - first_entry(run, store), "counted entries");
+    want(run, has.denied == run->denied && has.vertices_full == run->vertices_full && has.workers_full == run->workers_full,
+         "counted refusals");
+}
+
 /* The auditor is fed. Where memory is refused it goes on from the entry that it came to. */
 static void feed_auditor(struct run *run, tg_store *store) {
     uint64_t count = UNTOUCHED, at = UNTOUCHED, next = next_entry(run, store);
@@ -380,6 +393,7 @@ static void look_back(struct run *run, uint64_t which) {
         want(run, tg_auditor_sweep(auditor_of(run)) == TG_DONE || refused > before, "a sweep");
     else if (run->number % 2 == 1)
         forget_some(run, store);
+    count_entries(run, store);
 }
 
 /* ---- commands */

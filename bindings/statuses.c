@@ -352,7 +352,7 @@ static void names_below(tg_store *store, uint64_t vertices) {
 
 static void counts(tg_store *store) {
     tg_target row[4] = { { 0, 0 }, { 0, 0 }, { 0, 0 }, { UNTOUCHED, UNTOUCHED } };
-    tg_counts has;
+    tg_counts has, had;
     uint64_t left, entries, count;
     WANT(tg_list(store, 0, row, 3, &count) == TG_DONE && count == 4);
     WANT(row[0].to == 1 && row[0].rights == (TG_TAKE | TG_GRANT));
@@ -373,6 +373,10 @@ static void counts(tg_store *store) {
     WANT(tg_create(store, 1, TG_READ, &cell, &number) == TG_VERTICES_FULL && number == UNTOUCHED);
     WANT(tg_spawn(store, 1, TG_READ, &cell, &number) == TG_VERTICES_FULL && number == UNTOUCHED);
     WANT(tg_audit(store, &count) == TG_DONE && count == entries + 2);
+    WANT(tg_census(store, &had) == TG_DONE && had.entries == entries + 2 && had.held == entries + 2 && had.vertices_full == 2);
+    WANT(tg_write(store, 0, 1, 1, &why) == TG_DENIED && tg_write(store, 9, 1, 1, &why) == TG_NO_SUCH_WORKER);
+    WANT(tg_census(store, &has) == TG_DONE && has.entries == had.entries + 1 && has.held == had.held + 1 && has.denied == had.denied + 1);
+    WANT(has.vertices_full == had.vertices_full && has.workers_full == had.workers_full);
 }
 
 /* Whether a command was denied by the rule, and for this. */

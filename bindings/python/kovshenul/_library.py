@@ -79,9 +79,18 @@ class Record(ctypes.Structure):
 
 
 class Counts(ctypes.Structure):
-    """What the heap has."""
+    """What the heap has, and how many entries were made."""
 
-    _fields_ = [("vertices", Number), ("payloads", Number), ("blocks", Number)]
+    _fields_ = [
+        ("vertices", Number),
+        ("payloads", Number),
+        ("blocks", Number),
+        ("entries", Number),
+        ("held", Number),
+        ("denied", Number),
+        ("vertices_full", Number),
+        ("workers_full", Number),
+    ]
 
 
 class Place(ctypes.Structure):

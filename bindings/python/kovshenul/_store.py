@@ -375,13 +375,13 @@ class Store(Held):
         return answer
 
     def census(self) -> Counts:
-        """What the heap has."""
+        """What the heap has, and how many entries were made."""
         counts = _library.Counts()
         with self._lock:
             status = library.tg_census(self._at, byref(counts))
         if status:
             raise refusal(status)
-        return Counts(counts.vertices, counts.payloads, counts.blocks)
+        return Counts(*(getattr(counts, name) for name in Counts._fields))
 
     def names(self) -> Set[int]:
         """The names of the vertices that the heap has. Those that nobody reaches are among them until a full collection."""

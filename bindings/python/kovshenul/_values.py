@@ -136,8 +136,14 @@ class Target(NamedTuple):
 
 
 class Counts(NamedTuple):
-    """What the heap has, those that nobody reaches included until a full collection."""
+    """What the heap has, those that nobody reaches included until a full collection; and how many entries were made, how many of
+    these weren't given up, and how many tell of a denial and of each limit. What is refused without an entry is in no number."""
 
     vertices: int
     payloads: int
     blocks: int
+    entries: int
+    held: int
+    denied: int
+    vertices_full: int
+    workers_full: int

@@ -394,9 +394,12 @@ class Stores(unittest.TestCase):
             store.create(0, READ, Cell(0))
             self.assertEqual(store.census()[:2], (3, 3))
             self.assertIsInstance(store.census(), Counts)
+            with self.assertRaises(Denied):
+                store.write(0, 1, 1)
+            self.assertEqual(store.census()[3:], (2, 2, 1, 0, 0))
             store.remove(0, 2, READ)
             self.assertEqual(store.collect(Kind.FULL), 2)
-            self.assertEqual(store.audit(), 2)
+            self.assertEqual(store.audit(), 3)
 
     def test_another_thread_closes_it(self):
         class Owner:

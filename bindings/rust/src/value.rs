@@ -84,7 +84,8 @@ impl From<&RawTarget> for Target {
     }
 }
 
-/// What the heap has, those that nobody reaches included until a full collection.
+/// What the heap has, those that nobody reaches included until a full collection, and how many entries were made. What is
+/// refused without an entry is in no number.
 #[repr(C)]
 #[derive(Clone, Copy, Default, PartialEq, Eq, Hash, Debug)]
 pub struct Counts {
@@ -94,4 +95,14 @@ pub struct Counts {
     pub payloads: u64,
     /// How many blocks of 64 cells, of all spaces.
     pub blocks: u64,
+    /// How many entries were made.
+    pub entries: u64,
+    /// How many of these weren't given up.
+    pub held: u64,
+    /// How many of those made tell of a denial.
+    pub denied: u64,
+    /// How many tell that as many vertices as may be were made.
+    pub vertices_full: u64,
+    /// How many tell that as many workers as may be were there.
+    pub workers_full: u64,
 }

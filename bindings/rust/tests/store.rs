@@ -270,7 +270,9 @@ fn what_looks_borrows_only() {
     let name = store.create(1, Rights::READ, Value::Cell(7)).unwrap();
     let (store, mut journal) = (&store, store.journal());
     assert_eq!((store.label(1, name), store.label(0, name)), (Ok(Rights::READ), Ok(Rights::NONE)));
-    assert_eq!((store.names().unwrap().len(), store.census().unwrap().vertices), (3, 3));
+    let counts = store.census().unwrap();
+    assert_eq!((store.names().unwrap().len(), counts.vertices), (3, 3));
+    assert_eq!((counts.entries, counts.held, counts.denied, counts.vertices_full, counts.workers_full), (1, 1, 0, 0, 0));
     assert_eq!((journal.next(), store.subjects()), (store.entry(0).ok(), Ok(vec![0, 1])));
     assert_eq!((journal.next(), store.entries(), store.audit()), (None, Ok(1), Ok(1)));
 }

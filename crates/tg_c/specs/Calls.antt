@@ -1,6 +1,6 @@
 -- What the calls of C do to a place and its store. Each but the opening is a call on a place: a closed one is refused
 -- as that, and on an open one the store's answer is told, of which the clauses of the store's own call hold.
-use Rattle.std.specs.Prelude.{◌≡◌, ◌≢◌, ◌↔◌, ◌⊎◌, ◌≤◌, ◌<◌, ◌==◌, ℕ, true, false, List, [], ◌∷◌, Some, None, Result, Ok, Err, IfOk, IfErr, OnOk, OnErr, length, map}
+use Rattle.std.specs.Prelude.{◌≡◌, ◌≢◌, ◌↔◌, ◌⊎◌, ◌≤◌, ◌<◌, ◌-◌, ◌==◌, ℕ, true, false, List, [], ◌∷◌, Some, None, Result, Ok, Err, IfOk, IfErr, OnOk, OnErr, length, map}
 use Rattle.std.specs.List.{IsDistinct}
 use Rattle.tg_rights.specs.RightSet.{RightSet, bits_of}
 use Rattle.tg_model.specs.Graph.{ProtectionGraph, IsSubject}
@@ -31,6 +31,7 @@ use Rattle.tg_store.specs.Collecting.{IsSwept, KeepsHistory}
 use Rattle.tg_store.specs.Made.{IsMadeFor}
 use Rattle.tg_store.specs.Making.{deed_making}
 use Rattle.tg_store.specs.Room.{LacksRoomToCollect}
+use Rattle.tg_store.specs.Counts.{refusals_in}
 use Rattle.tg_store.specs.Store.{StoreState, StandsFor, Enters, HasFewBlocks, HoldsFrom, OnlyEnters, IsUnchanged}
 use Rattle.tg_store.specs.declared.census.Census.{Census}
 use Rattle.tg_store.specs.declared.fault.ApplyFault.{ApplyFault}
@@ -204,7 +205,14 @@ abbrev pub Looks : {T : Type 0} → (StoreState → T) → StoreState → StoreS
 Looks what old new answer = (new ≡ old) × (answer ≡ Ok (what old))
 
 abbrev pub census_of : StoreState → Census
-census_of s = record { vertices = length (content_of s.heap).names; payloads = count s.heap.payloads; blocks = block_count s.heap.table.spaces }
+census_of s = record {
+  vertices = length (content_of s.heap).names;
+  payloads = count s.heap.payloads;
+  blocks = block_count s.heap.table.spaces;
+  entries = length s.entries;
+  held = length s.entries - s.handed;
+  refusals = refusals_in s.entries;
+}
 
 abbrev pub Counts : StorePlace → StorePlace → (Result Census CallRefusal → Type 0) → Type 0
 Counts old new = IsCall (λ why. why) (Looks census_of) old new

@@ -107,4 +107,13 @@ rights_out None = 0
 rights_out (Some label) = bits_of label
 
 abbrev pub census_out : Census → CensusOut
-census_out c = record { vertices = c.vertices; payloads = c.payloads; blocks = c.blocks }
+census_out c = record {
+  vertices = c.vertices;
+  payloads = c.payloads;
+  blocks = c.blocks;
+  entries = c.entries;
+  held = c.held;
+  denied = c.refusals.denied;
+  vertices_full = c.refusals.vertices_full;
+  workers_full = c.refusals.workers_full;
+}

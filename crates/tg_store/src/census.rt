@@ -1,10 +1,55 @@
-//! Counts of what a store's heap has.
+//! Counts of what a store has, and of what its entries tell.
+ghost use Rattle.std.specs.Prelude.{◌≡◌, ◌+◌, ◌-◌, ◌^◌, ◌<◌};
+ghost use Rattle.tg_store.specs.Counts.{refusals_of, with_one_refusal};
 
-/// How many vertices the heap of a store has, how many payloads, and how many blocks all its spaces have. Vertices and
-/// payloads that nobody reaches are counted until a full collection.
+/// What a store has, and how many entries were made since it was opened.
 #[derive(Clone, Copy, PartialEq, Eq, Debug)]
 pub struct Census {
+    /// How many vertices the heap has. Those that nobody reaches are counted until a full collection.
     pub vertices: u64,
+    /// How many payloads, of those that nobody reaches until a full collection too.
     pub payloads: u64,
+    /// How many blocks all spaces have, of 64 cells each.
     pub blocks: u64,
+    /// How many entries were made.
+    pub entries: u64,
+    /// How many of these the store holds: they weren't handed out or given up.
+    pub held: u64,
+    /// How many of the entries tell of a refusal. What is refused without an entry is in no number.
+    pub refusals: Refusals,
+}
+
+/// How many entries tell of each refusal that has one.
+#[derive(Clone, Copy, PartialEq, Eq, Debug)]
+pub struct Refusals {
+    /// Commands that the rules denied.
+    pub denied: u64,
+    /// Creates and spawns for which there were as many vertices as may be made.
+    pub vertices_full: u64,
+    /// Spawns for which there were as many active subjects as may be.
+    pub workers_full: u64,
+}
+
+/// A refusal that has an entry.
+#[derive(Clone, Copy, PartialEq, Eq, Debug)]
+pub(crate) enum Refusal {
+    Denied,
+    VerticesFull,
+    WorkersFull,
+}
+
+impl Refusals {
+    /// Counts one more.
+    #[cold]
+    #[inline(never)]
+    pub(crate) fn add(&mut self, refusal: Refusal)
+        requires { refusals_of self.old refusal < 2 ^ 64 - 1 }
+        ensures { self.new ≡ with_one_refusal refusal self.old }
+    {
+        match refusal {
+            Refusal::Denied => self.denied += 1,
+            Refusal::VerticesFull => self.vertices_full += 1,
+            Refusal::WorkersFull => self.workers_full += 1,
+        }
+    }
 }

@@ -10,8 +10,9 @@ ghost use Rattle.tg_graph.specs.Standing.{IsContentOf};
 ghost use Rattle.tg_rules.specs.Verdict.{HasSubject};
 ghost use Rattle.tg_store.specs.Leaving.{removal, retiring};
 
+use crate::tallied::TalliedJournal;
 use tg_graph::Heap;
-use tg_journal::{Entry, Journal};
+use tg_journal::Entry;
 use tg_model::{Command, Deed, EdgeList, Reply};
 use tg_payload::Payload;
 use tg_rights::Label;
@@ -21,7 +22,7 @@ use tg_subjects::Subject;
 /// there is room. Nothing is refused.
 pub(crate) fn leave_heap<P: Payload>(
     heap: &mut Heap<P>,
-    journal: &mut Journal,
+    journal: &mut TalliedJournal,
     subject: Subject,
     row: &EdgeList,
 )
@@ -46,7 +47,7 @@ pub(crate) fn leave_heap<P: Payload>(
 // A subject gives up these edges, one after the other.
 fn give_up_row<P: Payload>(
     heap: &mut Heap<P>,
-    journal: &mut Journal,
+    journal: &mut TalliedJournal,
     subject: Subject,
     row: &EdgeList,
 )
@@ -67,7 +68,7 @@ fn give_up_row<P: Payload>(
 // A subject gives up rights over the vertex with a name.
 fn give_up<P: Payload>(
     heap: &mut Heap<P>,
-    journal: &mut Journal,
+    journal: &mut TalliedJournal,
     subject: Subject,
     name: u64,
     rights: Label,

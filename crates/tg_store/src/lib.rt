@@ -42,8 +42,9 @@ mod leaving;
 mod making;
 mod store;
 mod store_fault;
+mod tallied;
 
-pub use census::Census;
+pub use census::{Census, Refusals};
 pub use fault::{ApplyFault, CreateFault, CreateRefused, OpenFault, OpenRefused, StoreAuditFault};
 pub use making::Making;
 pub use store::Store;

@@ -9,9 +9,9 @@ ghost use Rattle.tg_graph.specs.Spots.{IsMadeInRow, LacksCellsFor};
 ghost use Rattle.tg_store.specs.Making.{IsCreated, deed_making, fault_at, reply_at, subjects_making};
 
 use crate::fault::CreateFault;
+use crate::tallied::TalliedJournal;
 use std::alloc::{AllocError, Global};
 use tg_graph::{Heap, VertexRefused};
-use tg_journal::Journal;
 use tg_model::{Deed, Reply, Value};
 use tg_payload::{Draft, Payload};
 use tg_rights::Label;
@@ -73,7 +73,7 @@ impl Limit {
 /// The deed of making a vertex, with a copy of the value's state, once the journal has room for its entry.
 pub(crate) fn deed_to_enter(
     alloc: Global,
-    journal: &mut Journal,
+    journal: &mut TalliedJournal,
     kind: Making,
     label: Label,
     value: &Value,

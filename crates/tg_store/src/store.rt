@@ -1,5 +1,5 @@
 //! The store and its calls.
-ghost use Rattle.std.specs.Prelude.{◌≡◌, ◌≢◌, ◌↔◌, ◌⊎◌, ◌≤◌, ◌<◌, ◌+◌, ◌^◌, ℕ, [], Err, Ok, None, Some, IfOk, IfErr, IfSome, IsSome, IsTrue, IsErrAnd, OnOk, OnErr, MatchOption, length};
+ghost use Rattle.std.specs.Prelude.{◌≡◌, ◌≢◌, ◌↔◌, ◌⊎◌, ◌≤◌, ◌<◌, ◌+◌, ◌-◌, ◌^◌, ℕ, [], Err, Ok, None, Some, IfOk, IfErr, IfSome, IsSome, IsTrue, IsErrAnd, OnOk, OnErr, MatchOption, length};
 ghost use Rattle.tg_model.specs.Rules.{step};
 ghost use Rattle.tg_store.specs.Faults.{IsFirstDifference};
 
@@ -12,6 +12,7 @@ use crate::answer::{Replies, answer_command};
 use crate::census::Census;
 use crate::fault::{ApplyFault, CreateFault, CreateRefused, OpenFault, OpenRefused};
 use crate::making::{Limit, Making, add_vertex, deed_to_enter};
+use crate::tallied::TalliedJournal;
 use std::alloc::{AllocError, Global};
 use std::marker::Model;
 use tg_evac::{Copied, collect_one};
@@ -35,7 +36,7 @@ pub struct Store<P: Payload> {
     // How many vertices were ever made, which is the name of the next.
     made: u64,
     heap: Heap<P>,
-    journal: Journal,
+    journal: TalliedJournal,
 }
 
 impl<P: Payload> Model for Store<P> {
@@ -68,6 +69,7 @@ impl<P: Payload> Store<P> {
     ghost use Rattle.tg_subjects.specs.Subjects.{AreSubjects, names_of};
     ghost use Rattle.tg_rules.specs.Effect.{AddsEdge, LacksCellsToServe};
     ghost use Rattle.tg_store.specs.Collecting.{IsSwept, KeepsHistory};
+    ghost use Rattle.tg_store.specs.Counts.{refusals_in};
     ghost use Rattle.tg_store.specs.Held.{IsHeldOver};
     ghost use Rattle.tg_store.specs.Made.{IsMadeFor, MayRefuse};
     ghost use Rattle.tg_store.specs.Making.{IsLimitMet, deed_making};
@@ -106,7 +108,7 @@ impl<P: Payload> Store<P> {
                 made: opening.workers(),
                 opening,
                 heap,
-                journal: Journal::new(alloc),
+                journal: TalliedJournal::new(alloc),
             }),
             Err(refused) => {
                 let HeapRefused { drafts, why } = refused;
@@ -147,8 +149,9 @@ impl<P: Payload> Store<P> {
         ensures faithful { IsFaithful self.now }
     {
         // It tells that no more were handed out than were made.
-        let _ = self.journal.start();
-        &self.journal
+        let journal = self.journal.journal();
+        let _ = journal.start();
+        journal
     }
 
     /// Hands out the entries that the store holds, as a journal that begins with the place of the first, and goes on
@@ -177,16 +180,25 @@ impl<P: Payload> Store<P> {
     /// part of a store is dropped, and here that is proved already.
     pub fn let_go(self) {}
 
-    /// How many vertices, payloads and blocks the heap has. Takes no memory.
+    /// How many vertices, payloads and blocks the heap has, how many entries were made, how many of them are held,
+    /// and how many tell of each refusal. Takes no memory, and goes over nothing.
     pub fn census(&self) -> Census
         ensures vertices { result.vertices ≡ length (content_of self.now.heap).names }
         ensures payloads { result.payloads ≡ count self.now.heap.payloads }
         ensures blocks { result.blocks ≡ block_count self.now.heap.table.spaces }
+        ensures entries { result.entries ≡ length self.now.entries }
+        ensures held { result.held ≡ length self.now.entries - self.now.handed }
+        ensures refusals { result.refusals ≡ refusals_in self.now.entries }
     {
+        let journal = self.journal.journal();
+        let entries = journal.len();
         Census {
             vertices: self.heap.vertices(),
             payloads: self.heap.payloads().len(),
             blocks: self.heap.spaces().blocks(),
+            entries,
+            held: entries - journal.start(),
+            refusals: self.journal.refusals(),
         }
     }
 

@@ -1,0 +1,128 @@
+//! A journal that counts the refusals that are entered.
+ghost use Rattle.std.specs.Prelude.{◌≡◌, ◌+◌, ◌<◌, ◌≤◌, [], ◌∷◌, ◌++◌, length, OnErr, OnOk};
+ghost use Rattle.tg_store.specs.Counts.{refusal_told, refusals_in};
+
+use crate::census::{Refusal, Refusals};
+use std::alloc::{AllocError, Global};
+use std::marker::Model;
+use tg_journal::{Entry, Journal};
+use tg_model::Reply;
+
+/// A journal, and how many of all entries that were made tell of each refusal. Contracts see the journal alone.
+#[derive(Drop)]
+pub(crate) struct TalliedJournal {
+    journal: Journal,
+    refusals: Refusals,
+}
+
+impl Model for TalliedJournal {
+    ghost use Rattle.std.specs.Prelude.{◌≡◌};
+    ghost use Rattle.tg_journal.specs.Journal.{Entries};
+    ghost use Rattle.tg_store.specs.Counts.{refusals_in};
+
+    ghost Value = { Entries };
+
+    ghost view = { λ a. a.journal };
+
+    ghost invariant = { λ a. a.refusals ≡ refusals_in a.journal.entries };
+}
+
+impl TalliedJournal {
+    /// A journal with no entry. Takes no memory.
+    pub(crate) fn new(alloc: Global) -> TalliedJournal
+        ensures entries { result.entries ≡ [] }
+        ensures start { result.start ≡ 0 }
+    {
+        TalliedJournal {
+            journal: Journal::new(alloc),
+            refusals: Refusals {
+                denied: 0,
+                vertices_full: 0,
+                workers_full: 0,
+            },
+        }
+    }
+
+    /// The journal.
+    pub(crate) fn journal(&self) -> &Journal
+        ensures { result.now ≡ self.now }
+    {
+        &self.journal
+    }
+
+    /// How many of its entries, held or not, tell of each refusal.
+    pub(crate) fn refusals(&self) -> Refusals
+        ensures { result ≡ refusals_in self.now.entries }
+    {
+        self.refusals
+    }
+
+    /// Makes room for one entry, as [`Journal::reserve`] does.
+    #[inline(always)]
+    pub(crate) fn reserve(&mut self) -> Result<(), AllocError>
+        ensures room { OnOk result (0 < self.new.spare) }
+        ensures entries { self.new.entries ≡ self.old.entries }
+        ensures start { self.new.start ≡ self.old.start }
+        ensures refused { OnErr result (self.new ≡ self.old) }
+    {
+        self.journal.reserve()
+    }
+
+    /// Makes room for so many entries, as [`Journal::reserve_many`] does.
+    pub(crate) fn reserve_many(&mut self, more: usize) -> Result<(), AllocError>
+        ensures room { OnOk result (more ≤ self.new.spare) }
+        ensures entries { self.new.entries ≡ self.old.entries }
+        ensures start { self.new.start ≡ self.old.start }
+        ensures refused { OnErr result (self.new ≡ self.old) }
+    {
+        self.journal.reserve_many(more)
+    }
+
+    /// Adds an entry, for which there has to be room, and counts the refusal that it tells of. Takes no memory.
+    #[inline(always)]
+    pub(crate) fn push(&mut self, entry: Entry)
+        requires { 0 < self.old.spare }
+        ensures entries { self.new.entries ≡ self.old.entries ++ entry ∷ [] }
+        ensures start { self.new.start ≡ self.old.start }
+        ensures spare { self.new.spare + 1 ≡ self.old.spare }
+    {
+        let refusal = refusal_in(&entry.reply);
+        self.journal.push(entry);
+        // It tells that the entries have a number, and so their refusals have.
+        let _ = self.journal.len();
+        if let Some(refusal) = refusal {
+            self.refusals.add(refusal);
+        }
+    }
+
+    /// Hands out what it holds, as [`Journal::take`] does. Takes no memory.
+    pub(crate) fn take(&mut self, alloc: Global) -> Journal
+        ensures part { result ≡ self.old }
+        ensures entries { self.new.entries ≡ self.old.entries }
+        ensures start { self.new.start ≡ length self.old.entries }
+    {
+        self.journal.take(alloc)
+    }
+
+    /// Gives up the entries before a place, as [`Journal::forget`] does. Takes no memory.
+    pub(crate) fn forget(&mut self, upto: u64)
+        requires { (self.old.start ≤ upto) × (upto ≤ length self.old.entries) }
+        ensures entries { self.new.entries ≡ self.old.entries }
+        ensures start { self.new.start ≡ upto }
+    {
+        self.journal.forget(upto);
+    }
+}
+
+// The refusal that a reply tells of.
+#[inline(always)]
+fn refusal_in(reply: &Reply) -> Option<Refusal>
+    ensures { result ≡ refusal_told reply.now }
+{
+    match reply {
+        Reply::Denied(_) => Some(Refusal::Denied),
+        Reply::VerticesFull => Some(Refusal::VerticesFull),
+        Reply::WorkersFull => Some(Refusal::WorkersFull),
+        Reply::Done | Reply::Name(_) | Reply::Values(_) | Reply::Edges(_) => None,
+    }
+}
