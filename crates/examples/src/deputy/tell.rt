@@ -1,0 +1,41 @@
+//! What is told of the story.
+
+use super::errands::Errands;
+use crate::fault::StoryFault;
+use crate::tell::tell_audit;
+
+/// What became of the story.
+#[derive(Clone, Copy)]
+pub struct Ending {
+    /// The names of the ledger and of the paper.
+    pub ledger: u64,
+    pub paper: u64,
+    pub errands: Errands,
+}
+
+/// Prints it, with the number of entries of the journal, which passed its audit.
+pub fn print_ending<R: Print>(rt: &R, ending: &Ending, entries: u64) -> Result<(), StoryFault> {
+    let Ending {
+        ledger,
+        paper,
+        errands,
+    } = ending;
+    println!(rt; "the deputy makes a ledger, whose name is {ledger}")?;
+    println!(rt; "the client makes a paper, whose name is {paper}")?;
+    print_errands(rt, errands)?;
+    Ok(tell_audit(rt, entries)?)
+}
+
+fn print_errands<R: Print>(rt: &R, errands: &Errands) -> Result<(), StoryFault> {
+    let by_deputy = outcome(errands.ledger_by_deputy);
+    let paper_by_hand = outcome(errands.paper_by_hand);
+    let ledger_by_hand = outcome(errands.ledger_by_hand);
+    println!(rt; "the deputy writes to the ledger for the client: {by_deputy}")?;
+    println!(rt; "its hand writes to the paper for the client: {paper_by_hand}")?;
+    println!(rt; "its hand writes to the ledger for the client: {ledger_by_hand}")?;
+    Ok(())
+}
+
+fn outcome(is_done: bool) -> &'static str {
+    if is_done { "done" } else { "denied" }
+}

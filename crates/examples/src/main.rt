@@ -1,0 +1,86 @@
+//! Examples: four stories of programs that embed the store, told one after the other.
+//!
+//! - `caretaker`: a store, rights that are handed on and given back, collections and an audit. To be read first.
+//! - `stand_in`: how to take back, though no rule does. What is proved reaches into the program.
+//! - `deputy`: a store that is shared by sessions on two threads.
+//! - `service`: subjects that come and go while others work, and one that hangs.
+//!
+//! Each has a folder of its own. What they have in common is what stores are opened with (`opening`), what sessions are
+//! asked for (`sessions`), what is told of a reply (`tell`) and why a story ends early (`fault`).
+#![tactic(auto)]
+
+mod caretaker;
+mod deputy;
+mod fault;
+mod opening;
+mod service;
+mod sessions;
+mod stand_in;
+mod tell;
+
+use fault::StoryFault;
+use std::process::ExitCode;
+use std::sync::Wait;
+use std::thread::Threads;
+
+fn main(rt: HostRuntime) -> ExitCode {
+    for story in STORIES {
+        if let Err(fault) = run(&rt, story) {
+            let _ = eprintln!(rt; "{}: {fault}", story.name());
+            return ExitCode::FAILURE;
+        }
+    }
+    ExitCode::SUCCESS
+}
+
+#[derive(Clone, Copy)]
+enum Story {
+    Caretaker,
+    StandIn,
+    Deputy,
+    Service,
+}
+
+// The stories, in the order in which they are told.
+const STORIES: [Story; 4] = [
+    Story::Caretaker,
+    Story::StandIn,
+    Story::Deputy,
+    Story::Service,
+];
+
+impl Story {
+    // The name of its module.
+    fn name(self) -> &'static str {
+        match self {
+            Story::Caretaker => "caretaker",
+            Story::StandIn => "stand_in",
+            Story::Deputy => "deputy",
+            Story::Service => "service",
+        }
+    }
+
+    // What it shows.
+    fn shows(self) -> &'static str {
+        match self {
+            Story::Caretaker => "rights are handed on, and given back",
+            Story::StandIn => "an owner takes back, though no rule does",
+            Story::Deputy => "who works for others uses no right of its own",
+            Story::Service => "clients come, go and hang",
+        }
+    }
+}
+
+// Tells a story under its heading.
+fn run<R: Threads + Wait + Sync + Print + AllocGlobal>(
+    rt: &R,
+    story: Story,
+) -> Result<(), StoryFault> {
+    println!(rt; "# {}: {}", story.name(), story.shows())?;
+    match story {
+        Story::Caretaker => caretaker::run_boxed(rt),
+        Story::StandIn => stand_in::run_story(rt),
+        Story::Deputy => deputy::run_story(rt),
+        Story::Service => service::run_story(rt),
+    }
+}

@@ -1,0 +1,49 @@
+//! What stores are opened with.
+
+use crate::fault::StoryFault;
+use std::alloc::Global;
+use tg_model::{Edge, Opening};
+use tg_payload::{CellPayload, Draft, values_of};
+use tg_rights::Label;
+use tg_store::{Limits, StoreFault};
+
+// At most 16 blocks of 64 cells stand in the heap, and at most 4 in one space of it.
+const MOST_BLOCKS: u64 = 16;
+
+const MOST_BLOCKS_OF_A_SPACE: u64 = 4;
+
+// Three workers are in a story of three.
+const THREE: u64 = 3;
+
+// At most 8 vertices may ever be made in it, these included.
+const MOST_VERTICES: u64 = 8;
+
+/// The label with the rights of these letters. `BadLabel` where one of them names no right, or there is none.
+pub fn label(letters: &str) -> Result<Label, StoryFault> {
+    Label::read_text(letters.as_bytes()).ok_or(StoryFault::BadLabel)
+}
+
+/// How large a heap may become.
+pub fn limits() -> Result<Limits, StoreFault> {
+    Ok(Limits::new(MOST_BLOCKS, MOST_BLOCKS_OF_A_SPACE)?)
+}
+
+/// A draft of a cell with this number.
+pub fn cell(alloc: Global, number: u64) -> Result<Draft<CellPayload>, StoreFault> {
+    Ok(Draft::new(alloc, CellPayload::new(number))?)
+}
+
+/// What the workers of a story of three store: a cell with 0 each.
+pub fn cells_of_three(alloc: Global) -> Result<Vec<Draft<CellPayload>>, StoreFault> {
+    let mut drafts = Vec::new(alloc);
+    for _ in 0..THREE {
+        drafts.push(cell(alloc, 0)?)?;
+    }
+    Ok(drafts)
+}
+
+/// The opening of a story of three, who store these cells and are joined by these edges.
+pub fn opening_of_three(alloc: Global, edges: Vec<Edge>) -> Result<Opening, StoreFault> {
+    let values = values_of(alloc, &cells_of_three(alloc)?)?;
+    Ok(Opening::new(THREE, edges, values, MOST_VERTICES)?)
+}

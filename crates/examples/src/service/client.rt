@@ -1,0 +1,141 @@
+//! A client, from its spawn to its last line.
+
+use crate::fault::StoryFault;
+use crate::sessions::{make, reply_to};
+use std::alloc::Global;
+use std::sync::Wait;
+use tg_model::Command;
+use tg_payload::{Draft, Payload, SumPayload};
+use tg_rights::Label;
+use tg_shared::{Round, Session, SharedStore};
+use tg_store::{ApplyFault, Kind, StoreFault};
+
+/// What a client sees as it leaves: how many vertices a full collection counts before and after, how many edges it gave
+/// up, and why its next line is refused.
+#[derive(Clone, Copy)]
+pub struct Leave {
+    pub before: u64,
+    pub given_up: u64,
+    pub after: u64,
+    pub refused: Option<ApplyFault>,
+}
+
+/// A client whose session went off with it, and its document.
+#[derive(Clone, Copy)]
+pub struct Silent {
+    pub client: u64,
+    pub document: u64,
+}
+
+/// A draft of a sum that begins with 0, which is what every vertex stores.
+pub fn zero(alloc: Global) -> Result<Draft<SumPayload>, StoreFault> {
+    Ok(Draft::new(alloc, SumPayload::new(0))?)
+}
+
+// Lets the session's subject command. What is replied is passed over.
+fn command<L: Round, P: Payload, R: Wait>(
+    rt: &R,
+    store: &SharedStore<L, P>,
+    session: &mut Session<L>,
+    command: Command,
+) -> Result<(), StoreFault> {
+    let _reply = reply_to(rt, store, session, command)?;
+    Ok(())
+}
+
+/// Makes a document and spawns a client, with these rights over both, and puts its session behind those of the other
+/// clients. Hands the rights over the document on to the client. Answers the document's name.
+pub fn welcome<L: Round, R: Wait + AllocGlobal>(
+    rt: &R,
+    store: &SharedStore<L, SumPayload>,
+    service: &mut Session<L>,
+    clients: &mut Vec<Session<L>>,
+    rights: Label,
+) -> Result<u64, StoreFault> {
+    let document = make(rt, store, service, rights, zero(rt.alloc())?)?;
+    let client = spawn(rt, store, service, clients, rights)?;
+    let grant = Command::Grant {
+        via: client,
+        target: document,
+        rights,
+    };
+    command(rt, store, service, grant)?;
+    Ok(document)
+}
+
+// Spawns a client over which the service has these rights. Answers its name.
+fn spawn<L: Round, R: Wait + AllocGlobal>(
+    rt: &R,
+    store: &SharedStore<L, SumPayload>,
+    service: &mut Session<L>,
+    clients: &mut Vec<Session<L>>,
+    rights: Label,
+) -> Result<u64, StoreFault> {
+    let session = service.spawn(rt, store, rights, zero(rt.alloc())?)?;
+    let name = session.worker();
+    clients.push(session)?;
+    Ok(name)
+}
+
+/// Welcomes a client that makes a note and then hangs: its session never comes back.
+pub fn welcome_and_lose<L: Round, R: Wait + AllocGlobal>(
+    rt: &R,
+    store: &SharedStore<L, SumPayload>,
+    service: &mut Session<L>,
+    clients: &mut Vec<Session<L>>,
+    rights: Label,
+) -> Result<Silent, StoryFault> {
+    let document = welcome(rt, store, service, clients, rights)?;
+    let mut hung = clients.pop().ok_or(StoryFault::NoSession)?;
+    make(rt, store, &mut hung, rights, zero(rt.alloc())?)?;
+    Ok(Silent {
+        client: hung.worker(),
+        document,
+    })
+}
+
+/// Adds 1 to the document, twenty times.
+pub fn work<L: Round, P: Payload, R: Wait>(
+    rt: &R,
+    store: &SharedStore<L, P>,
+    client: &mut Session<L>,
+    document: u64,
+) -> Result<(), StoreFault> {
+    let target = document;
+    for _ in 0..20 {
+        command(rt, store, client, Command::Write { target, value: 1 })?;
+    }
+    Ok(())
+}
+
+/// Works, makes two notes that the client alone has these rights over, and leaves.
+pub fn work_and_leave<L: Round, R: Wait + AllocGlobal>(
+    rt: &R,
+    store: &SharedStore<L, SumPayload>,
+    client: &mut Session<L>,
+    document: u64,
+    rights: Label,
+) -> Result<Leave, StoreFault> {
+    work(rt, store, client, document)?;
+    for _ in 0..2 {
+        make(rt, store, client, rights, zero(rt.alloc())?)?;
+    }
+    take_leave(rt, store, client)
+}
+
+fn take_leave<L: Round, P: Payload, R: Wait>(
+    rt: &R,
+    store: &SharedStore<L, P>,
+    session: &mut Session<L>,
+) -> Result<Leave, StoreFault> {
+    let before = session.collect(rt, store, Kind::Full)?;
+    let given_up = session.leave(rt, store)?;
+    let refused = session.call(rt, store, Command::List).err();
+    let after = session.collect(rt, store, Kind::Full)?;
+    Ok(Leave {
+        before,
+        given_up,
+        after,
+        refused,
+    })
+}

@@ -1,0 +1,245 @@
+//! The story, from sharing the store to the audit.
+ghost use Rattle.std.specs.Prelude.{◌≡◌, true};
+ghost use Rattle.tg_shared.specs.Sessions.{MayShare};
+
+use super::client::{Leave, Silent, welcome, welcome_and_lose, work, work_and_leave, zero};
+use crate::fault::StoryFault;
+use crate::opening::{label, limits};
+use crate::sessions::reply_to;
+use crate::tell::tell_audit;
+use std::alloc::Global;
+use std::marker::Brand;
+use std::sync::Wait;
+use std::sync::ledger::Blank;
+use std::thread::{Threads, join};
+use tg_journal::audit;
+use tg_model::{Command, Opening, Reply};
+use tg_payload::{Draft, Payload, SumPayload, values_of};
+use tg_rights::Label;
+use tg_shared::{Keeper, Round, Session, Shared, SharedStore, reclaim};
+use tg_store::{Kind, Store, StoreFault};
+
+/// Opens a store, shares it, serves in it on threads, has it back and audits its journal. What comes of it is printed.
+pub fn run_story<R: Threads + Wait + Sync + Print + AllocGlobal>(rt: &R) -> Result<(), StoryFault> {
+    let store = open_store(rt.alloc())?;
+    let parts = store.opening().max_vertices() + 1;
+    share::<Brand, R>(rt, Blank::new(parts), store)
+}
+
+// A store with the service alone, in which at most 12 vertices may ever be made.
+fn open_store(alloc: Global) -> Result<Store<SumPayload>, StoreFault> {
+    let drafts = vec![in alloc; zero(alloc)?]?;
+    let opening = opening_of(alloc, &drafts)?;
+    Ok(Store::open(alloc, opening, limits()?, drafts)?)
+}
+
+fn opening_of(alloc: Global, drafts: &[Draft<SumPayload>]) -> Result<Opening, StoreFault> {
+    let values = values_of(alloc, drafts)?;
+    Ok(Opening::new(1, Vec::new(alloc), values, 12)?)
+}
+
+// Shares the store, serves, has it back and audits.
+fn share<L: Round + Send + Sync, R: Threads + Wait + Sync + Print + AllocGlobal>(
+    rt: &R,
+    blank: Blank,
+    store: Store<SumPayload>,
+) -> Result<(), StoryFault>
+    requires shareable { MayShare L.name L.parts L.start blank store }
+    requires may_end { L.start.may_end ≡ true }
+{
+    let shared = SharedStore::<L, SumPayload>::new(rt.alloc(), blank, store)?;
+    serve_and_reclaim(rt, shared)
+}
+
+// Serves, has the store back with all sessions but the one that hangs, and audits the journal.
+fn serve_and_reclaim<L: Round + Send + Sync, R: Threads + Wait + Sync + Print + AllocGlobal>(
+    rt: &R,
+    shared: Shared<L, SumPayload>,
+) -> Result<(), StoryFault>
+    requires may_end { L.start.may_end ≡ true }
+{
+    let Shared {
+        store,
+        mut sessions,
+        mut keeper,
+    } = shared;
+    let served = serve(rt, &store, &mut keeper, &mut sessions);
+    let entries = reclaim_and_audit(rt.alloc(), store, sessions);
+    served?;
+    Ok(tell_audit(rt, entries?)?)
+}
+
+// Has the store back with the sessions that there are. How many entries its journal has, which passed its audit.
+fn reclaim_and_audit<L: Round>(
+    alloc: Global,
+    store: SharedStore<L, SumPayload>,
+    sessions: Vec<Session<L>>,
+) -> Result<u64, StoryFault> {
+    let store = reclaim(store, sessions)?;
+    let entries = audited(alloc, &store);
+    store.let_go();
+    Ok(entries?)
+}
+
+fn audited(alloc: Global, store: &Store<SumPayload>) -> Result<u64, StoreFault> {
+    audit(alloc, store.opening(), store.journal().entries())?;
+    Ok(store.journal().len())
+}
+
+// Lets the service, which has the only session, serve. The clients' sessions and its own stand there in the end.
+fn serve<L: Round + Send + Sync, R: Threads + Wait + Sync + Print + AllocGlobal>(
+    rt: &R,
+    store: &SharedStore<L, SumPayload>,
+    keeper: &mut Keeper<L>,
+    sessions: &mut Vec<Session<L>>,
+) -> Result<(), StoryFault>
+    requires may_end { L.start.may_end ≡ true }
+{
+    let mut service = sessions.pop().ok_or(StoryFault::NoSession)?;
+    let served = serve_clients(rt, store, keeper, &mut service, sessions);
+    sessions.push(service)?;
+    served
+}
+
+// Lets three clients come, work, and one of them leave, and a fourth that hangs. Tells what came of it.
+fn serve_clients<L: Round + Send + Sync, R: Threads + Wait + Sync + Print + AllocGlobal>(
+    rt: &R,
+    store: &SharedStore<L, SumPayload>,
+    keeper: &mut Keeper<L>,
+    service: &mut Session<L>,
+    clients: &mut Vec<Session<L>>,
+) -> Result<(), StoryFault>
+    requires may_end { L.start.may_end ≡ true }
+{
+    let rights = label("rwg")?;
+    let documents = welcome_three(rt, store, service, clients, rights)?;
+    let fourth = welcome_and_lose(rt, store, service, clients, rights)?;
+    let left = work_at_once(rt, store, clients, documents, rights)?;
+    tell_leave(rt, left)?;
+    for document in documents {
+        tell_document(rt, store, service, document)?;
+    }
+    end_if_silent(rt, store, keeper, service, fourth)
+}
+
+fn welcome_three<L: Round, R: Wait + AllocGlobal>(
+    rt: &R,
+    store: &SharedStore<L, SumPayload>,
+    service: &mut Session<L>,
+    clients: &mut Vec<Session<L>>,
+    rights: Label,
+) -> Result<[u64; 3], StoreFault> {
+    let first = welcome(rt, store, service, clients, rights)?;
+    let leaving = welcome(rt, store, service, clients, rights)?;
+    let last = welcome(rt, store, service, clients, rights)?;
+    Ok([first, leaving, last])
+}
+
+fn work_at_once<L: Round + Send + Sync, R: Threads + Wait + Sync + AllocGlobal>(
+    rt: &R,
+    store: &SharedStore<L, SumPayload>,
+    clients: &mut [Session<L>],
+    documents: [u64; 3],
+    rights: Label,
+) -> Result<Leave, StoryFault> {
+    match clients {
+        [first, leaving, last] => {
+            Ok(work_on_threads(rt, store, first, leaving, last, documents, rights)?)
+        }
+        _ => Err(StoryFault::NoSession),
+    }
+}
+
+// Each client on a thread of its own.
+fn work_on_threads<L: Round + Send + Sync, R: Threads + Wait + Sync + AllocGlobal>(
+    rt: &R,
+    store: &SharedStore<L, SumPayload>,
+    first: &mut Session<L>,
+    leaving: &mut Session<L>,
+    last: &mut Session<L>,
+    documents: [u64; 3],
+    rights: Label,
+) -> Result<Leave, StoreFault> {
+    let [of_first, of_leaving, of_last] = documents;
+    let (left, (by_first, by_last)) = join(
+        rt,
+        move || work_and_leave(rt, store, leaving, of_leaving, rights),
+        move || join(
+            rt,
+            move || work(rt, store, first, of_first),
+            move || work(rt, store, last, of_last),
+        ),
+    );
+    by_first?;
+    by_last?;
+    left
+}
+
+fn tell_leave<R: Print>(rt: &R, left: Leave) -> Result<(), StoryFault> {
+    println!(rt; "{} vertices before a client leaves", left.before)?;
+    println!(rt; "it gives up {} edges", left.given_up)?;
+    println!(rt; "{} vertices after it", left.after)?;
+    if let Some(fault) = left.refused {
+        println!(rt; "its next line is refused: {fault}")?;
+    }
+    Ok(())
+}
+
+fn tell_document<L: Round, P: Payload, R: Wait + Print>(
+    rt: &R,
+    store: &SharedStore<L, P>,
+    service: &mut Session<L>,
+    target: u64,
+) -> Result<(), StoryFault> {
+    if let Reply::Values(values) = reply_to(rt, store, service, Command::Read { target })? {
+        println!(rt; "document {target} says {:?}", values.as_slice())?;
+    }
+    Ok(())
+}
+
+// Ends the client if it hangs: if its document still says 0 when the others are done.
+fn end_if_silent<L: Round, P: Payload, R: Wait + Print>(
+    rt: &R,
+    store: &SharedStore<L, P>,
+    keeper: &mut Keeper<L>,
+    service: &mut Session<L>,
+    silent: Silent,
+) -> Result<(), StoryFault>
+    requires may_end { L.start.may_end ≡ true }
+{
+    let Silent { client, document } = silent;
+    if says_zero(rt, store, service, document)? {
+        let (given_up, left) = end(rt, store, keeper, service, client)?;
+        println!(rt; "client {client} hangs, and is ended: it gives up {given_up} edges")?;
+        println!(rt; "{left} vertices after it")?;
+    }
+    Ok(())
+}
+
+// Ends the client, and collects. How many edges it gave up, and how many vertices are left.
+fn end<L: Round, P: Payload, R: Wait>(
+    rt: &R,
+    store: &SharedStore<L, P>,
+    keeper: &mut Keeper<L>,
+    service: &mut Session<L>,
+    client: u64,
+) -> Result<(u64, u64), StoreFault>
+    requires may_end { L.start.may_end ≡ true }
+{
+    let given_up = keeper.end(rt, store, client)?;
+    let left = service.collect(rt, store, Kind::Full)?;
+    Ok((given_up, left))
+}
+
+// Whether nothing was written to the document.
+fn says_zero<L: Round, P: Payload, R: Wait>(
+    rt: &R,
+    store: &SharedStore<L, P>,
+    service: &mut Session<L>,
+    target: u64,
+) -> Result<bool, StoryFault> {
+    match reply_to(rt, store, service, Command::Read { target })? {
+        Reply::Values(values) => Ok(matches!(values.as_slice(), [0])),
+        _ => Ok(false),
+    }
+}

@@ -1,8 +1,0 @@
-use Rattle.tg_model.specs.declared.command.Command.TheVariants.{Write}
-use Rattle.stand_in.specs.declared.desk.TheConstants.{OWNER}
-use Rattle.stand_in.proofs.DeskLaws.{kept-step}
-use Rattle.stand_in.proofs.desk.Desk.change.Goals as goal
-
-pub invariant_of-self-2 : goal.invariant_of-self-2
-invariant_of-self-2 g c =
-    kept-step c.self.inside.store c.answered.new.store c.self.inside.thing c.self.inside.stand_in OWNER (Write c.self.inside.thing c.args.value) c.self.invariant c.in_ok-answered.ensures.step (λ same hands. hands) (λ same hands. hands)

@@ -1,8 +1,0 @@
--- Both that the owner makes are its own alone.
-use Rattle.stand_in.proofs.desk.desk_of.Goals as goal
-
-pub furnish-requires : goal.furnish-requires
-furnish-requires g c = record { untaken = c.requires.untaken }
-
-pub invariant_of-result : goal.invariant_of-result
-invariant_of-result g c = c.in-Ok.ensures
