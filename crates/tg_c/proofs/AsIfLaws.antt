@@ -18,7 +18,7 @@ use Rattle.tg_could.specs.Reached.{IsReachedPicture, IsToldOf}
 use Rattle.tg_could.specs.declared.reached.Told.TheVariants.{Of, Unreached}
 use Rattle.tg_could.specs.declared.answer.Answer.{Answer}
 use Rattle.tg_could.specs.declared.answer.Answer.TheVariants.{Never, Could, WantsNames, Open}
-use Rattle.tg_could.proofs.ReachedLaws.{Agree, Known, relabelled, picture_agrees, pictured, never_on, lead_on, some_edge, unreached_row}
+use Rattle.tg_could.proofs.ReachedLaws.{Agree, Known, relabelled, picture_agrees, pictured, never_on, lead_on, some_edge, sound_shown, unreached_row}
 use Rattle.tg_c.specs.Could.{JoinsReached, JoinReached, with_edges}
 
 -- the edges of two lists
@@ -116,6 +116,21 @@ module _ (g : ProtectionGraph) (sound : IsSound g) (es : List Edge) (all : JoinR
           labels = λ a b. sym (label_in-append p.edges es a b);
         }
 
+    seen_sound : IsSound (relabelled supposed seen)
+    seen_sound =
+        let shown = sound_shown p g sound picture in
+        record {
+          rising = sound.rising;
+          subjects_made = sound.subjects_made;
+          few_subjects = sound.few_subjects;
+          ends_made = λ a b edge. ⊎_elim
+              (λ old. shown.ends_made a b old)
+              (λ new. let ends = joined g es all a b new in (lt-IsReachable g sound a ends.0, lt-IsReachable g sound b ends.1))
+              (some_union (label_in p.edges a b) (label_in es a b) edge);
+          no_loop = λ x. ap₂ union (shown.no_loop x) (no_loop_in x) ∙ none_union no_rights;
+          values = sound.values;
+        }
+
     module _ (silent : List ℕ) (x : ℕ) (r : Right) (y : ℕ) where
       answer_as : Known g x → (answer : Answer) → IsAnswer silent (relabelled supposed seen) x r y answer → IsAnswer silent supposed x r y answer
       answer_as is (Never separation) never = never_on silent supposed seen (Known g) agrees x is r y never
@@ -123,7 +138,17 @@ module _ (g : ProtectionGraph) (sound : IsSound g) (es : List Edge) (all : JoinR
       answer_as is (WantsNames turns names) (lead, short) =
           let many : Agree (Known g) (with_names supposed names) seen = record { subjects = agrees.subjects; later = agrees.later; closed = agrees.closed; labels = agrees.labels } in
           (lead_on silent (with_names supposed names) seen (Known g) many x is r y turns.items lead, short)
-      answer_as is Open said = tt
+      answer_as is Open answered = λ near_x near_y.
+          let said = answered near_x near_y in
+          record {
+            enough = λ any long.
+                let could = said.enough seen_sound long in
+                record { turns = could.turns; lead_there = lead_on silent supposed seen (Known g) agrees x is r y could.turns could.lead_there };
+            with_more = λ any x_made y_made names room.
+                let could = said.with_more seen_sound x_made y_made names room in
+                let many : Agree (Known g) (with_names supposed names) seen = record { subjects = agrees.subjects; later = agrees.later; closed = agrees.closed; labels = agrees.labels } in
+                record { turns = could.turns; lead_there = lead_on silent (with_names supposed names) seen (Known g) many x is r y could.turns could.lead_there };
+          }
 
       pub told_unreached_as : x < p.made → ¬ IsReachable g x → IsToldOf silent supposed x r y Unreached
       told_unreached_as made unreached =
