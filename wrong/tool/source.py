@@ -83,10 +83,11 @@ def standing_in(lines: list[str]) -> Iterator[tuple[str, str, int, int]]:
         head = FUNCTION.match(line[len(indent) :]) if line.startswith(indent) else None
         if head:
             ends = (end for end in range(number, len(lines)) if lines[end] in (indent + "}", indent + "{}"))
+            end = number if line.endswith("}") else next(ends, number)
             first = number
             while lines[first - 1].startswith(indent + "#["):
                 first -= 1
-            yield owner, head[1], first, next(ends, number) + 1
+            yield owner, head[1], first, end + 1
 
 
 def owner_at(line: str, owner: str | None) -> str | None:

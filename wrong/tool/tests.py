@@ -12,6 +12,7 @@ from .ground import Ground
 from .group import try_group
 from .kit import Goal, Report, report_of
 from .notes import LONG, Noted, as_known
+from .source import standing_in
 from .tree import BadInput, Tree, read_text, write_text
 from .verdict import Outcome, judged
 
@@ -36,6 +37,14 @@ def said(name: str) -> Report:
 def body_with(**fields) -> Body:
     edits = (Edit("src/words.rt", "left", "right", 1),)
     return replace(Body("name", "tg_word", Path("name.edit"), "what a user suffers", edits), **fields)
+
+
+class FunctionsOfAFile(unittest.TestCase):
+    """Where functions stand."""
+
+    def test_a_function_of_one_line_ends_in_it(self):
+        lines = ["impl Row {", "    fn drop(self) {}", "", "    fn len(&self) -> u64 {", "        1", "    }", "}"]
+        self.assertEqual(list(standing_in(lines)), [("Row", "drop", 1, 2), ("Row", "len", 3, 6)])
 
 
 class OutputOfTheKit(unittest.TestCase):
