@@ -26,7 +26,6 @@ Other work on the machine moves all of it: the load is printed beside the figure
 import json
 import os
 import re
-import resource
 import subprocess
 import sys
 import tempfile
@@ -34,22 +33,15 @@ import threading
 import time
 
 TOP = os.path.abspath(os.path.join(os.path.dirname(os.path.abspath(__file__)), "..", ".."))
-TICKS = os.sysconf("SC_CLK_TCK")
+sys.dont_write_bytecode = True
+sys.path.insert(0, f"{TOP}/wrong")
+from tool.processor import seconds_in, seconds_of_children, words_of
+from tool.tree import Tree
+
 STAGES = ("proofs", "tests", "edits")
 SLOW = 15
 SEEN_FROM = "tg_store"
 CHANGED = (("tg_model", "src/denial.rt", "denial_on"), ("tg_graph", "src/heap.rt", "find_edge"), ("tg_store", "src/store.rt", "census"))
-
-
-def crates():
-    """The crates of crates.txt, each with those of them that it names."""
-    named = {}
-    with open(f"{TOP}/crates.txt", encoding="utf-8") as lines:
-        for line in lines:
-            head, _, below = line.partition("#")[0].partition(":")
-            if head.split():
-                named[head.split()[0]] = below.split()
-    return {name: [it for it in below if it in named] for name, below in named.items()}
 
 
 def edits_of(crate):
@@ -64,12 +56,6 @@ def tests_of(crate):
             with open(f"{at}/{name}", encoding="utf-8") as it:
                 count += it.read().count("#[test]")
     return count
-
-
-def processor_seconds():
-    """What all children that have ended took, with their children."""
-    used = resource.getrusage(resource.RUSAGE_CHILDREN)
-    return used.ru_utime + used.ru_stime
 
 
 def said(*words):
@@ -147,12 +133,11 @@ class Sampler:
 def read_process(pid, parents, times):
     """Notes the parent of a process, and when it began and what it has used, unless it has just ended."""
     try:
-        with open(f"/proc/{pid}/stat", encoding="utf-8", errors="replace") as it:
-            fields = it.read().rpartition(")")[2].split()
+        fields = words_of(pid)
     except OSError:
         return
     parents[pid] = int(fields[1])
-    times[pid] = int(fields[19]), (int(fields[11]) + int(fields[12])) / TICKS
+    times[pid] = int(fields[19]), seconds_in(fields)
 
 
 def kind_of(pid):
@@ -178,13 +163,13 @@ def kind_of(pid):
 
 
 def whole(log):
-    place, began, before = where(), time.time(), processor_seconds()
+    place, began, before = where(), time.time(), seconds_of_children()
     with open(log, "w", encoding="utf-8") as out:
         gate = subprocess.Popen(["rt", "ci", "--anew"], cwd=TOP, stdin=subprocess.DEVNULL, stdout=out, stderr=subprocess.STDOUT)
         sampler = Sampler(gate.pid)
         status = gate.wait()
         sampler.stop()
-    took, total = time.time() - began, processor_seconds() - before
+    took, total = time.time() - began, seconds_of_children() - before
     with open(log, encoding="utf-8") as it:
         last = it.read().rstrip().rpartition("\n")[2]
     print(f"{last}. {place}: {total / 60:.1f} minutes of processor time in {took / 60:.1f} minutes.\n")
@@ -195,7 +180,7 @@ def whole(log):
 
 def print_table(sums, total):
     minutes = lambda key: sums.get(key, 0) / 60
-    rows = {name: [minutes((name, stage)) for stage in STAGES] for name in crates()}
+    rows = {name: [minutes((name, stage)) for stage in STAGES] for name in Tree(TOP).crates}
     print("| Crate | Proofs | Its tests | Its edits | In all |\n|---|---|---|---|---|")
     for name in sorted(rows, key=lambda it: -sum(rows[it])):
         proofs, tests, edits = rows[name]
@@ -217,12 +202,12 @@ def print_slow(slow):
 
 def check(crate):
     """Checks a crate as a developer would, and answers the seconds that passed and those of the processors."""
-    began, before = time.time(), processor_seconds()
+    began, before = time.time(), seconds_of_children()
     words = ["rt", "check", *["--test"] * bool(tests_of(crate))]
     ran = subprocess.run(words, cwd=f"{TOP}/crates/{crate}", stdin=subprocess.DEVNULL, capture_output=True, text=True, check=False)
     if ran.returncode:
         sys.exit(f"{crate} is not proved:\n{ran.stdout[-2000:]}{ran.stderr[-500:]}")
-    return time.time() - began, processor_seconds() - before
+    return time.time() - began, seconds_of_children() - before
 
 
 def with_statement(text, function):

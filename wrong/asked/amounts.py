@@ -26,10 +26,13 @@ remains: how often a loop that stands in NAMED goes round, and what a call in wr
 says."""
 import re
 from copy import copy
+from pathlib import Path
 
+from .calls import Call, Function, Operator
 from .calls import bound_to, calls_in, lists_made, loops_in, operator, parts, trimmed, words_of
-from .growths import AMOUNT_AT, BY_MORE, BY_ONE, CONSTANT, KIT_NUMBERS, Tree, is_growth
-from .sources import arms, compact, level
+from .growths import AMOUNT_AT, BY_MORE, BY_ONE, CONSTANT, KIT_NUMBERS, CallsOfTree, is_growth
+from .places import NAMED, Place
+from .sources import Source, Span, arms, compact, level
 
 # A number of at most so many stands for itself: a buffer of 64 KiB, and no more than a run can have.
 MOST = 1 << 16
@@ -49,64 +52,24 @@ SIZES = {
     "number": {"Helpers", "Kept"},
 }
 
-# What isn't of these forms: the file and the function, the words, and why they may stand.
-NAMED = {
-    ("tg_graph/src/indexed_row.rt", "reserve", "self.old_cells"):
-        "how many of the row's cells lie in Old: no more than it has",
-    ("tg_graph/src/followed.rt", "follow_row", "old"): "how many of the row's cells lie in Old now",
-    ("tg_threads/src/worker.rt", "run_tasks", "spawn_lines(tasks.as_slice())"):
-        "how many of the lines may make a subject: a clause",
-    ("tg_text/src/stock.rt", "gather_boxes", "count"):
-        "how many boxes the text names, and each of its items: at most 100,000, a clause",
-    ("tg_plain/src/run.rt", "open", "script.workers"):
-        "how many workers there are: at most 64, as the words of the command line may say",
-    ("tg_program/src/boxes.rt", "serve_with_boxes", "start.settings.workers"): "the same",
-    ("tgdot/src/run.rt", "open", "script.workers"): "the same",
-    ("tgdot/src/draft.rt", "pad", "first.saturating_add(columns)"): "the longest text of a kind that is drawn",
-    ("tg_could/src/plan.rt", "make_names", "last.saturating_add(1)"): "a turn for each name up to the one that is asked about, which is 65,536 ahead at most",
-    ("tg_could/src/walks.rt", "hand_on", "start"): "a place in the list",
-    # Loops that end where there is no more.
-    ("tg_could/src/search.rt", "go_back", "NONE"): "a step that was found each",
-    ("tg_shared/src/session.rt", "audit_all", "audit_all"):
-        "nothing grows there: a function that asks for memory has the name of one that is called",
-    ("tg_could/src/search.rt", "spread", "NONE"): "a step that was found each",
-    ("tg_could/src/search.rt", "leave", "NONE"): "an edge of the vertex each",
-    ("tg_could/src/search.rt", "enter", "NONE"): "the same",
-    ("tg_could/src/walks.rt", "begin", "u64::MAX"): "an edge along a path each",
-    ("tg_could/src/walks.rt", "hand_on_at", "NONE"): "a take edge of the vertex each",
-    ("tg_entries/src/stream.rt", "audit_lines", "u64::MAX"): "a line of the reader each",
-    ("tg_plain/src/script.rt", "read", "u64::MAX"): "a line of the input each",
-    ("tg_evac/src/copies.rt", "scan", "while next<claimer.len()"): "a cell that was won each",
-    ("tg_evac/src/from_roots.rt", "walk_each", "loop"): "a root each",
-    ("tg_graph/src/followed.rt", "follow_rows", "while i<rows.len()"): "an indexed row each",
-    ("tg_graph/src/rows.rt", "edges_of", "loop"): "a cell of the row each",
-    ("tg_graph/src/rows.rt", "places_of", "loop"): "a cell of the row each",
-    ("tg_journal/src/live/sweep.rt", "reached", "while next<names.len()"): "a vertex that is reached each",
-    ("tg_store/src/store/picture.rt", "edges_reached", "while next<found.vertices.len()"):
-        "a vertex that is reached each",
-    ("tg_graph/src/settle.rt", "add_indexed", "while let Some(number)=row.noted.next(from)"):
-        "a cell that was noted each",
-    ("tg_script/src/opening.rt", "read_edges", "while let Some(line)=script.next(source, sink)?"): "a line each",
-    ("tg_script/src/whole.rt", "read_commands", "while let Some(line)=script.next(source, sink)?"): "a line each",
-    ("tg_script/src/run_script.rt", "run_commands", "loop"): "a line each",
-    ("tg_text/src/sink.rt", "put_all", "while!rest.is_empty()"): "a part of the bytes each",
-    ("tg_text/src/stock.rt", "gather_boxes", "while!rest.is_empty()"): "an item of the text each",
-    ("tg_could/src/walks.rt", "hand_on", "for at in start..end"):
-        "nothing grows there: another function has the name of one that is called",
-}
-
 
 class Amounts:
     """The rule, over a tree: `found` has what is wrong, and `repeated` the file, the function and the call of each that
     grows something by more than one in a loop; those in `may` may."""
 
-    def __init__(self, sources, below, may):
-        self.tree, self.may, self.repeated = Tree(below), may, set()
-        self.amounts, self.waiting, self.answering = set(), [], []
-        self.found, self.met = [], set()
+    def __init__(self, sources: list[Source], below: dict[str, set[str]], may: set[Place]):
+        self.tree, self.may = CallsOfTree(below), may
+        self.repeated: set[Place] = set()
+        # the parameters that are amounts, and those whose calls are still to be held
+        self.amounts: set[tuple[Function, int]] = set()
+        self.waiting: list[tuple[Function, int]] = []
+        # the functions of one expression that are held as a call's answer, with their parameters that are amounts there
+        self.answering: list[tuple[Function, set[int]]] = []
+        self.found: list[str] = []
+        self.met: set[Place] = set()
         self.add(sources)
 
-    def with_source(self, source):
+    def with_source(self, source: Source) -> "Amounts":
         """The same tree with one source more, and only its faults."""
         other = copy(self)
         other.tree, other.found = self.tree.copied(), []
@@ -114,7 +77,7 @@ class Amounts:
         other.add([source])
         return other
 
-    def add(self, sources):
+    def add(self, sources: list[Source]) -> None:
         """Takes sources in, and holds them to the rule."""
         fresh, calls = self.tree.take_in(sources)
         for source in sources:
@@ -135,7 +98,7 @@ class Amounts:
         for function in fresh:
             self.hold_values(function)
 
-    def follow(self):
+    def follow(self) -> None:
         """Holds each call of a function whose parameter turned out to be an amount."""
         while self.waiting:
             function, index = self.waiting.pop()
@@ -143,7 +106,8 @@ class Amounts:
                 if self.tree.is_of(call, function):
                     self.hold_argument(call, function, index)
 
-    def fault(self, function, start, end, what):
+    def fault(self, function: Function, start: int, end: int, what: str) -> None:
+        """Notes a fault, unless its words stand in a named place."""
         said = compact(function.source.words[start:end])
         place = (function.source.place, function.name, said)
         if place in NAMED:
@@ -151,12 +115,13 @@ class Amounts:
         else:
             self.found.append(f"crates/{place[0]}:{function.source.lines[start]}: {what} {said}, in {place[1]}")
 
-    def is_named(self, function, start, end):
+    def is_named(self, function: Function, start: int, end: int) -> bool:
+        """Whether these words stand in a named place."""
         place = (function.source.place, function.name, compact(function.source.words[start:end]))
         self.met |= {place} & set(NAMED)
         return place in NAMED
 
-    def hold(self, function, start, end, seen=()):
+    def hold(self, function: Function, start: int, end: int, seen: tuple[str, ...] = ()) -> None:
         """Holds an expression to be an amount that is allowed."""
         source, words = function.source, function.source.words
         start, end = trimmed(source, start, end)
@@ -181,7 +146,8 @@ class Amounts:
         else:
             self.fault(function, start, end, "no length or number of what is there is asked for:")
 
-    def hold_branches(self, function, start, end, seen):
+    def hold_branches(self, function: Function, start: int, end: int, seen: tuple[str, ...]) -> None:
+        """Holds the last expression of each branch of an `if`, or that of a block."""
         source, words = function.source, function.source.words
         while start < end:
             opened = next(i for i in level(source, start, end) if words[i] == "{")
@@ -189,7 +155,8 @@ class Amounts:
             start = source.shut[opened] + 1
             start += start < end and words[start] == "else"
 
-    def hold_parts(self, function, start, end, last, seen):
+    def hold_parts(self, function: Function, start: int, end: int, last: Operator, seen: tuple[str, ...]) -> None:
+        """Holds what stands at an operator: of a difference and of a quotient what stands before it."""
         at, which, width = last
         if which in ("*", "<<"):
             self.fault(function, start, end, "a product is asked for:")
@@ -198,7 +165,8 @@ class Amounts:
         if which in ("+", "|", "^"):
             self.hold(function, at + width, end, seen)
 
-    def hold_name(self, function, at, seen):
+    def hold_name(self, function: Function, at: int, seen: tuple[str, ...]) -> None:
+        """Holds what a name is bound to; that of a parameter is held at each call."""
         name = function.source.words[at]
         simple, is_otherwise = bound_to(function, name)
         is_parameter = name in function.parameters
@@ -210,7 +178,8 @@ class Amounts:
         for part in simple:
             self.hold(function, *part, (*seen, name))
 
-    def need(self, function, index):
+    def need(self, function: Function, index: int) -> None:
+        """Notes that a parameter is an amount."""
         answering = next((needed for one, needed in self.answering if one is function), None)
         if answering is not None:
             answering.add(index)
@@ -218,7 +187,7 @@ class Amounts:
             self.amounts.add((function, index))
             self.waiting.append((function, index))
 
-    def hold_call(self, function, start, end, seen):
+    def hold_call(self, function: Function, start: int, end: int, seen: tuple[str, ...]) -> None:
         """Holds what a call answers."""
         source, words = function.source, function.source.words
         opened = next(i for i, shut in source.shut.items() if shut == end - 1)
@@ -243,7 +212,7 @@ class Amounts:
         else:
             self.fault(function, start, end, "what a call answers is asked for:")
 
-    def answer(self, function, opened):
+    def answer(self, function: Function, opened: int) -> tuple[Function, int, int] | None:
         """The expression that a call answers, where its function is one expression; its parameters are held as this
         call's arguments."""
         named = [callee for call in calls_in(function) if call.at == opened for callee in self.tree.callees(call)]
@@ -251,7 +220,7 @@ class Amounts:
         is_met = any(one in named for one, _ in self.answering)
         return found[0] if len(named) == len(found) == 1 and not is_met else None
 
-    def hold_least(self, function, one, other, seen):
+    def hold_least(self, function: Function, one: Span, other: Span, seen: tuple[str, ...]) -> None:
         """Holds one of two to be allowed."""
         kept, told = self.found, []
         for part in (one, other):
@@ -260,12 +229,14 @@ class Amounts:
             told.append(self.found)
         self.found = kept + (told[0] if all(told) else [])
 
-    def hold_argument(self, call, function, index):
+    def hold_argument(self, call: Call, function: Function, index: int) -> None:
+        """Holds what a call hands over for a parameter of the function."""
         at = index + (function.is_method and call.before != ".")
         if at < len(call.arguments):
             self.hold(call.function, *call.arguments[at])
 
-    def hold_call_of_kit(self, call):
+    def hold_call_of_kit(self, call: Call) -> None:
+        """Holds what a call of the kit asks for, if it is one that asks for an amount."""
         if call.name in MAKERS or (call.before, call.name) == (".", "allocate"):
             self.fault(call.function, call.at - 1, call.at, "what makes elements of nothing is called:")
         at = self.tree.amount_at(call)
@@ -273,7 +244,7 @@ class Amounts:
             self.hold(call.function, *call.arguments[at])
             self.hold_other(call, at)
 
-    def hold_other(self, call, at):
+    def hold_other(self, call: Call, at: int) -> None:
         """No list is asked for room by its own length, which would double it."""
         words, first = call.function.source.words, call.at - 2
         while call.before == "." and (words[first - 1].isidentifier() or words[first - 1] == "."):
@@ -283,12 +254,13 @@ class Amounts:
         if call.before == "." and any(words[i:i + len(own)] == own for i in range(start, end)):
             self.fault(call.function, start, end, "a list is asked for room by its own length:")
 
-    def hold_recursion(self, call):
+    def hold_recursion(self, call: Call) -> None:
+        """A function in which something grows doesn't call itself."""
         is_near = call.before != "." or call.is_of_self
         if is_near and call.function in self.tree.callees(call) and call.function in self.tree.growing:
             self.fault(call.function, call.at - 1, call.at, "a function in which something grows calls itself:")
 
-    def hold_values(self, function):
+    def hold_values(self, function: Function) -> None:
         """A function that takes an amount isn't handed on as a value."""
         words = function.source.words
         names = {taking.name for taking, _ in self.amounts}
@@ -299,7 +271,7 @@ class Amounts:
             if word in AMOUNT_AT and is_path or word in names and (is_path or is_alone and not is_bound):
                 self.fault(function, at, at + 1, "a function that takes an amount is handed on:")
 
-    def hold_arrays(self, source):
+    def hold_arrays(self, source: Source) -> None:
         """The length of an array is a small number, also where it has no bytes."""
         for start, shut in source.shut.items():
             if source.words[start] != "[" or source.words[start - 1] == "!":
@@ -310,7 +282,7 @@ class Amounts:
                 said = compact(source.words[start:shut + 1])
                 self.found.append(f"crates/{source.place}:{source.lines[start]}: an array is past any use: {said}")
 
-    def hold_types(self, source):
+    def hold_types(self, source: Source) -> None:
         """No type of the tree is an iterator, whose elements could come from nowhere, nor an allocator, which could
         refuse."""
         for at, word in enumerate(source.words):
@@ -318,14 +290,16 @@ class Amounts:
                 where = f"crates/{source.place}:{source.lines[at]}"
                 self.found.append(f"{where}: {source.words[at + 2]} is an iterator or an allocator")
 
-    def hold_texts(self, source):
+    def hold_texts(self, source: Source) -> None:
         """What is written into a text has no width that is an argument, or that is long."""
         for at, word in enumerate(source.words):
             widths = re.findall(r"\{[^{}]*:[^{}]*?(\w*\$|\d+)", word) if word[0] == '"' else []
             if any("$" in width or int(width) > MOST for width in widths):
                 self.found.append(f"crates/{source.place}:{source.lines[at]}: a text has a width: {word}")
 
-    def hold_ranges(self, function):
+    def hold_ranges(self, function: Function) -> None:
+        """Holds the length of each list that is made, and where something grows or a range is handed out, the end of
+        each range."""
         source, words = function.source, function.source.words
         for part in lists_made(function):
             self.hold(function, *part)
@@ -344,7 +318,7 @@ class Amounts:
             else:
                 self.fault(function, at - 1, at + 1, "a range has no end:")
 
-    def hold_loops(self, function):
+    def hold_loops(self, function: Function) -> None:
         """A loop in which something grows goes on no further than what is there, and grows it by one each time."""
         words, loops = function.source.words, list(loops_in(function))
         grown = [call for call in calls_in(function) if self.tree.grows(call)]
@@ -358,7 +332,7 @@ class Amounts:
                 if call.name in BY_MORE and is_growth(call) or self.tree.grown_by(call, self.tree.growing_much):
                     self.hold_repeated(call)
 
-    def hold_repeated(self, call):
+    def hold_repeated(self, call: Call) -> None:
         """What grows by more than one in a loop is noted."""
         function = call.function
         self.repeated.add((function.source.place, function.name, call.name))
@@ -366,7 +340,7 @@ class Amounts:
             where = f"crates/{function.source.place}:{function.source.lines[call.at]}"
             self.found.append(f"{where}: more than one is asked for in a loop: {call.name}, in {function.name}")
 
-    def hold_condition(self, function, at, opened):
+    def hold_condition(self, function: Function, at: int, opened: int) -> None:
         """Holds what a loop that isn't a `for` goes up to."""
         source, words = function.source, function.source.words
         less = next((i for i in level(source, at, opened) if words[i] == "<" and words[i + 1] not in ("<", "=")), None)
@@ -376,7 +350,7 @@ class Amounts:
         else:
             self.hold(function, less + 1, opened)
 
-    def hold_method(self, function):
+    def hold_method(self, function: Function) -> None:
         """A size of the tree is one of a type that is known to have it, and what has the name of a growth of the kit by
         one grows by one."""
         head = (function.start - 1, function.start)
@@ -386,23 +360,24 @@ class Amounts:
         if function.is_method and function.name in BY_ONE - BY_MORE and function in self.tree.growing_much:
             self.fault(function, *head, f"{function.name} grows something by more than one:")
 
-    def unmet(self):
+    def unmet(self) -> list[str]:
         """The named places that aren't there."""
         gone = [*(named for named in NAMED if named not in self.met), *sorted(self.may - self.repeated)]
         return [f"crates/{place}: {name} has no more: {said}" for place, name, said in gone]
 
 
-def read_repeated(path):
+def read_repeated(path: Path) -> set[Place]:
     """The file, the function and the call of each line of wrong/repeated."""
-    found = set()
+    found: set[Place] = set()
     for line in path.read_text().splitlines():
         where, _, calls = line.partition(":")
         found |= {(*where.split(), call) for call in calls.split()}
     return found
 
 
-def write_repeated(path, repeated):
-    calls = {}
+def write_repeated(path: Path, repeated: set[Place]) -> None:
+    """Writes these calls into the file, those of one function in a line."""
+    calls: dict[str, list[str]] = {}
     for place, name, call in sorted(repeated):
         calls.setdefault(f"{place} {name}", []).append(call)
     path.write_text("".join(f"{where}: {' '.join(names)}\n" for where, names in calls.items()))

@@ -1,14 +1,18 @@
 """The functions of a source, what they call, their loops, and to what their names are bound: told by the words
 alone."""
+from collections.abc import Iterator
 from dataclasses import dataclass
 
-from .sources import before_angles, head, level, owner_of, past_angles
+from .sources import Source, Span, before_angles, head, level, owner_of, past_angles
 
 # The types of which a range is one.
 RANGES = {"Range", "RangeInclusive", "RangeFrom", "Iterator", "IntoIterator", "impl", "dyn"}
 
 KEYWORDS = {"if", "while", "match", "return", "in", "for", "let", "move", "as", "else", "fn", "break", "loop"}
 KEYWORDS |= {"Some", "Ok", "Err"}
+# An operator: where it stands, which it is, and how many words it has.
+Operator = tuple[int, str, int]
+# The operators, those that are done last before those that are done first.
 RANKS = (("|",), ("^",), ("&",), ("<<", ">>"), ("+", "-"), ("*", "/", "%"))
 
 
@@ -16,18 +20,19 @@ RANKS = (("|",), ("^",), ("&",), ("<<", ">>"), ("+", "-"), ("*", "/", "%"))
 class Function:
     """A function: the names of its parameters but `self`, and where its body begins and ends."""
 
-    source: object
+    source: Source
     name: str
     owner: str
     is_method: bool
-    parameters: list
+    parameters: list[str]
     start: int
     end: int
     hands_range: bool
     is_of_trait: bool
 
     @property
-    def crate(self):
+    def crate(self) -> str:
+        """The crate in which it stands."""
         return self.source.crate
 
 
@@ -40,12 +45,13 @@ class Call:
     name: str
     before: str
     at: int
-    arguments: list
+    arguments: list[Span]
     is_of_self: bool
     has_closure: bool
 
 
-def functions_of(source):
+def functions_of(source: Source) -> Iterator[Function]:
+    """The functions of a source that have a body."""
     words = source.words
     for at, word in enumerate(words):
         if word != "fn" or not words[at + 1].isidentifier():
@@ -66,7 +72,7 @@ def functions_of(source):
         yield Function(source, words[at + 1], owner, is_method, own, body, end, hands_range, is_of_trait)
 
 
-def parameters(source, start, end):
+def parameters(source: Source, start: int, end: int) -> Iterator[Span]:
     """The parameters between brackets: a comma in angle brackets ends none."""
     first, depth = start, 0
     for at in level(source, start, end):
@@ -78,14 +84,14 @@ def parameters(source, start, end):
         yield first, end
 
 
-def parameter(words, start, end):
+def parameter(words: list[str], start: int, end: int) -> str:
     """The name of a parameter, or nothing where it is a pattern."""
     colon = words.index(":", start, end) if ":" in words[start:end] else end
     names = [word for word in words[start:colon] if word.isidentifier() and word != "mut"]
     return "self" if "self" in names else names[0] if len(names) == 1 else ""
 
 
-def parts(source, start, end, between=","):
+def parts(source: Source, start: int, end: int, between: str = ",") -> Iterator[Span]:
     """The parts of a list: where each begins and ends."""
     first = start
     for at in level(source, start, end):
@@ -96,7 +102,8 @@ def parts(source, start, end, between=","):
         yield first, end
 
 
-def calls_in(function):
+def calls_in(function: Function) -> Iterator[Call]:
+    """The calls in a function's body."""
     source, words = function.source, function.source.words
     for at in range(function.start, function.end):
         if words[at] != "(":
@@ -111,7 +118,7 @@ def calls_in(function):
             yield Call(function, words[name], before(words, name), at, arguments, is_of_self, has_closure)
 
 
-def before(words, name):
+def before(words: list[str], name: int) -> str:
     """What stands before the name of a call: '.', or the last name of its path."""
     if words[name - 1] != "::":
         return "." if words[name - 1] == "." else ""
@@ -121,7 +128,7 @@ def before(words, name):
     return words[at]
 
 
-def trimmed(source, start, end):
+def trimmed(source: Source, start: int, end: int) -> Span:
     """An expression without what stands around it: brackets, `as`, `?`, `&`, `*`."""
     words = source.words
     while end - start > 1:
@@ -138,12 +145,13 @@ def trimmed(source, start, end):
     return start, end
 
 
-def is_list(source, start):
+def is_list(source: Source, start: int) -> bool:
+    """Whether the brackets that are opened here hold a tuple."""
     return any(source.words[at] == "," for at in level(source, start + 1, source.shut[start]))
 
 
-def operator(source, start, end):
-    """The operator that is done last: where it stands, which it is, and how many words it has."""
+def operator(source: Source, start: int, end: int) -> Operator | None:
+    """The operator that is done last, where there is one."""
     words, found = source.words, []
     for at in level(source, start, end):
         last = words[at - 1]
@@ -157,7 +165,7 @@ def operator(source, start, end):
     return next((rank[-1] for rank in ranked if rank), None)
 
 
-def bound_to(function, name):
+def bound_to(function: Function, name: str) -> tuple[list[Span], bool]:
     """The expressions to which a name is bound in a function, and whether it is bound or changed otherwise."""
     source, words = function.source, function.source.words
     simple, is_otherwise = [], False
@@ -189,12 +197,13 @@ def bound_to(function, name):
     return simple, is_otherwise
 
 
-def end_of(source, at, end):
+def end_of(source: Source, at: int, end: int) -> int:
+    """Where the statement ends that stands here."""
     return next((i for i in level(source, at, end) if source.words[i] == ";"), end)
 
 
-def for_loop(function, at):
-    """Where the `in` of a loop stands, and where its body is opened."""
+def for_loop(function: Function, at: int) -> Span | None:
+    """Where the `in` of a loop stands, and where its body is opened; nothing, where `for` begins no loop."""
     words, source = function.source.words, function.source
     place = next((i for i in level(source, at, function.end) if words[i] in ("in", "{", ";")), None)
     if place is None or words[place] != "in":
@@ -202,7 +211,7 @@ def for_loop(function, at):
     return place, next(i for i in level(source, place, function.end) if words[i] == "{")
 
 
-def loops_in(function):
+def loops_in(function: Function) -> Iterator[tuple[int, int, int]]:
     """Where each loop begins, and where its body is opened and shut. A closure with a parameter counts as one, since a
     chain calls it each time."""
     source, words = function.source, function.source.words
@@ -216,7 +225,7 @@ def loops_in(function):
             yield at, opened, next((i for i in level(source, opened + 1, shut) if words[i] in (",", ";")), shut)
 
 
-def closure(words, at):
+def closure(words: list[str], at: int) -> list[str]:
     """The words between the bars of a closure that begins here."""
     if words[at - 1] not in ("(", ",", "=", "move"):
         return []
@@ -224,7 +233,7 @@ def closure(words, at):
     return words[at + 1:shut]
 
 
-def pattern_of(function, arrow):
+def pattern_of(function: Function, arrow: int) -> list[str]:
     """The words of the pattern before an arrow that stand in brackets, where names are bound."""
     words, at, opens = function.source.words, arrow - 1, {shut: start for start, shut in function.source.shut.items()}
     said = []
@@ -235,7 +244,7 @@ def pattern_of(function, arrow):
     return said[:said.index("if")] if "if" in said else said
 
 
-def lists_made(function):
+def lists_made(function: Function) -> Iterator[Span]:
     """The amount of each `vec![in alloc; value; amount]`."""
     source, words = function.source, function.source.words
     for at, word in words_of(function):
@@ -244,6 +253,6 @@ def lists_made(function):
             yield from found[2:3]
 
 
-def words_of(function):
+def words_of(function: Function) -> Iterator[tuple[int, str]]:
     """Where each word of a body stands, and the word."""
     return ((at, function.source.words[at]) for at in range(function.start, function.end))

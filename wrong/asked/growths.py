@@ -2,8 +2,8 @@
 import re
 from copy import copy
 
-from .calls import calls_in, end_of, functions_of, lists_made, loops_in, operator, trimmed, words_of
-from .sources import level
+from .calls import Call, Function, calls_in, end_of, functions_of, lists_made, loops_in, operator, trimmed, words_of
+from .sources import Source, level
 
 # The calls of the kit that take an amount, and where it stands: of functions of a type, and of methods.
 MADE_WITH = {"with_capacity": 1, "with_capacity_and_hasher": 1, "from_elem": 2, "vacant": 2}
@@ -23,19 +23,25 @@ CONSTANT = re.compile(r"[A-Z][A-Z0-9_]*")
 NUMBER = re.compile(r"(0x[0-9a-fA-F_]+|0b[01_]+|[0-9][0-9_]*?)(?:_?[iu](?:8|16|32|64|128|size))?")
 
 
-class Tree:
+class CallsOfTree:
     """The functions of a tree's sources and their calls. `below` has the crates on which each crate stands.
 
     Functions are told apart by their names, the types before them, how many arguments there are and which crates a
     crate stands on: where that leaves several, a call may be any of these. A method with a name of the kit's is taken
     for the kit's."""
 
-    def __init__(self, below):
-        self.below, self.functions = below, []
-        self.by_name, self.calls, self.constants = {}, {}, {}
-        self.growing, self.growing_much = set(), set()
+    def __init__(self, below: dict[str, set[str]]):
+        self.below = below
+        self.functions: list[Function] = []
+        # by name: the functions, the calls, and the expressions of constants
+        self.by_name: dict[str, list[Function]] = {}
+        self.calls: dict[str, list[Call]] = {}
+        self.constants: dict[str, list[tuple[Source, int, int]]] = {}
+        # the functions in which something grows, and those in which it grows by more than one
+        self.growing: set[Function] = set()
+        self.growing_much: set[Function] = set()
 
-    def copied(self):
+    def copied(self) -> "CallsOfTree":
         """The same tree, to which sources may be added."""
         other = copy(self)
         other.functions = list(self.functions)
@@ -45,7 +51,7 @@ class Tree:
         )
         return other
 
-    def take_in(self, sources):
+    def take_in(self, sources: list[Source]) -> tuple[list[Function], list[Call]]:
         """Takes sources in, and answers their functions and calls."""
         fresh = [function for source in sources for function in functions_of(source)]
         calls = [call for function in fresh for call in calls_in(function)]
@@ -59,7 +65,7 @@ class Tree:
         self.note_growing(fresh, calls)
         return fresh, calls
 
-    def is_of(self, call, function):
+    def is_of(self, call: Call, function: Function) -> bool:
         """Whether a call may be one of this function."""
         is_seen = function.is_of_trait or function.crate in self.below[call.function.crate] | {call.function.crate}
         handed = len(function.parameters) + (function.is_method and call.before != ".")
@@ -77,10 +83,12 @@ class Tree:
         # (a letter is a type that is a parameter)
         return function.owner == call.before or len(call.before) == 1
 
-    def callees(self, call):
+    def callees(self, call: Call) -> list[Function]:
+        """The functions of which a call may be one."""
         return [function for function in self.by_name.get(call.name, []) if self.is_of(call, function)]
 
-    def note_constants(self, source):
+    def note_constants(self, source: Source) -> None:
+        """Notes the expressions of a source's constants."""
         words = source.words
         for at, word in enumerate(words):
             if word in ("const", "static") and CONSTANT.fullmatch(words[at + 1]) and words[at + 2] == ":":
@@ -88,7 +96,7 @@ class Tree:
                 equal = next((i for i in level(source, at, end) if words[i] == "="), end)
                 self.constants.setdefault(words[at + 1], []).append((source, equal + 1, end))
 
-    def note_growing(self, fresh, calls):
+    def note_growing(self, fresh: list[Function], calls: list[Call]) -> None:
         """Notes in which functions something grows, and in which by more than one: by the kit, in a loop, or by a call
         of one of these."""
         grown = {call.function for call in calls if is_growth(call) or self.grown_by(call, self.growing)}
@@ -100,7 +108,7 @@ class Tree:
                 much.add(function)
         self.spread(self.growing_much, much)
 
-    def spread(self, noted, found):
+    def spread(self, noted: set[Function], found: set[Function]) -> None:
         """Notes these functions, and those that call them."""
         waiting = list(found - noted)
         noted |= found
@@ -111,12 +119,12 @@ class Tree:
                     noted.add(call.function)
                     waiting.append(call.function)
 
-    def grown_by(self, call, functions):
+    def grown_by(self, call: Call, functions: set[Function]) -> bool:
         """Whether a call is one of these functions; a method with a name of the kit's is the kit's."""
         is_of_kit = call.before == "." and (call.name in BY_ONE or call.name in GROWN_BY and call.arguments)
         return not is_of_kit and any(function in functions for function in self.callees(call))
 
-    def grows_much(self, call):
+    def grows_much(self, call: Call) -> bool:
         """Whether a call makes its function one in which something grows by more than one."""
         if self.grown_by(call, self.growing_much) or (self.grows(call) and is_repeated(call)):
             return True
@@ -125,17 +133,18 @@ class Tree:
         at = self.amount_at(call)
         return at is None or self.value(call.function.source, *call.arguments[at]) is None
 
-    def amount_at(self, call):
+    def amount_at(self, call: Call) -> int | None:
         """Which argument of a call of the kit is an amount, or nothing."""
         if call.name not in AMOUNT_AT or not call.before or call.before[0].islower():
             return None
         at = AMOUNT_AT[call.name] + (call.before != "." and call.name in GROWN_BY)
         return at if at < len(call.arguments) else None
 
-    def grows(self, call):
+    def grows(self, call: Call) -> bool:
+        """Whether something grows in a call."""
         return is_growth(call) or self.grown_by(call, self.growing)
 
-    def value(self, source, start, end):
+    def value(self, source: Source, start: int, end: int) -> int | None:
         """The number that an expression of constants is, or nothing."""
         words = source.words
         start, end = trimmed(source, start, end)
@@ -155,12 +164,13 @@ class Tree:
         return None
 
 
-def has_growing_macro(function):
+def has_growing_macro(function: Function) -> bool:
+    """Whether a macro is called in a function by which something grows."""
     words = function.source.words
     return any(word in GROWING_MACROS and words[at + 1] == "!" for at, word in words_of(function))
 
 
-def is_growth(call):
+def is_growth(call: Call) -> bool:
     """Whether a call is one of the kit's by which something grows."""
     if (call.before, call.name) == ("Box", "new"):
         return True
@@ -168,11 +178,13 @@ def is_growth(call):
     return bool(call.before) and not is_own and (call.name in BY_ONE or call.name in AMOUNT_AT)
 
 
-def is_repeated(call):
+def is_repeated(call: Call) -> bool:
+    """Whether a call stands in a loop."""
     return any(opened < call.at < shut for _, opened, shut in loops_in(call.function))
 
 
-def calculated(which, left, right):
+def calculated(which: str, left: int, right: int) -> int:
+    """What an operator makes of two numbers, or a number that is no less."""
     match which:
         case "+":
             return left + right

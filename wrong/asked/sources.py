@@ -1,16 +1,25 @@
 """What wrong/wants and amounts.py read: the tokens of a source that are code, and what stands in which bracket."""
 import re
+from collections.abc import Iterable, Iterator
 
 TOKEN = re.compile(r"""\s+|//[^\n]*|"(?:\\.|[^"\\])*"|'(?:\\.[^']*|[^'\\])'|\w+|::|=>|->|==|!=|\.\.=?|.""", re.S)
 OPEN, SHUT = "([{", ")]}"
+
+# A token, and the line that it stands in.
+Token = tuple[str, int]
+# Where something begins, and where it ends.
+Span = tuple[int, int]
 
 
 class Source:
     """The tokens of a file that are code: without comments, contracts and what stands for proofs alone."""
 
-    def __init__(self, place, text):
-        self.place, self.crate, self.words, self.lines = place, place.split("/")[0], [], []
-        line, past = 1, []
+    def __init__(self, place: str, text: str):
+        self.place, self.crate = place, place.split("/")[0]
+        self.words: list[str] = []
+        self.lines: list[int] = []
+        past: list[Token] = []
+        line = 1
         for match in TOKEN.finditer(text):
             token = match.group()
             if not token.isspace() and not token.startswith("//"):
@@ -21,7 +30,7 @@ class Source:
             at = self.take(past, at)
         self.shut = self.pairs()
 
-    def take(self, past, at):
+    def take(self, past: list[Token], at: int) -> int:
         """Takes a token, or passes over a clause."""
         token, line = past[at]
         if token == "ghost":
@@ -32,7 +41,7 @@ class Source:
         self.lines.append(line)
         return at + 1
 
-    def pairs(self):
+    def pairs(self) -> dict[int, int]:
         """Where each bracket that is opened is shut."""
         shut, held = {}, []
         for at, word in enumerate(self.words):
@@ -42,19 +51,20 @@ class Source:
                 shut[held.pop()] = at
         return shut
 
-    def around(self, at):
+    def around(self, at: int) -> list[int]:
         """The brackets around a place, the innermost first."""
         return sorted((start for start, end in self.shut.items() if start < at < end), reverse=True)
 
 
-def is_clause(past, at):
+def is_clause(past: list[Token], at: int) -> bool:
     """Whether a contract's clause stands here: a name at most, then braces."""
     rest = [token for token, _ in past[at + 1:at + 4]]
     rest = rest[1:] if rest[:1] == ["*"] else rest
     return rest[:1] == ["{"] or rest[1:2] == ["{"] and rest[0].isidentifier()
 
 
-def past_group(past, at):
+def past_group(past: list[Token], at: int) -> int:
+    """Past the group that is opened here."""
     depth = 0
     while True:
         depth += (past[at][0] in OPEN) - (past[at][0] in SHUT)
@@ -63,7 +73,7 @@ def past_group(past, at):
             return at
 
 
-def past_ghost(past, at):
+def past_ghost(past: list[Token], at: int) -> int:
     """Past `ghost use ..;`, `ghost NAME = {..};`, `ghost NAME: {..}`."""
     while at < len(past) and past[at][0] not in ("{", ";"):
         at += 1
@@ -73,13 +83,14 @@ def past_ghost(past, at):
     return at + 1 if at < len(past) and past[at][0] == ";" else at
 
 
-def start_of_path(words, at):
+def start_of_path(words: list[str], at: int) -> int:
+    """Where the path begins whose last name stands here."""
     while words[at - 1] == "::":
         at -= 2
     return at
 
 
-def head(source, start):
+def head(source: Source, start: int) -> list[str]:
     """What stands before a bracket, back to the end of what came before: groups are left out."""
     said, at, opens = [], start - 1, {shut: start for start, shut in source.shut.items()}
     while at >= 0 and source.words[at] not in (";", "=>", "{", "}", "="):
@@ -92,7 +103,7 @@ def head(source, start):
     return said[::-1]
 
 
-def arms(source, start):
+def arms(source: Source, start: int) -> Iterator[tuple[int, int, int]]:
     """The arms of a match: where the pattern begins, its `=>`, and the end."""
     words, at, end = source.words, start + 1, source.shut[start]
     while at < end:
@@ -107,7 +118,7 @@ def arms(source, start):
         at = last + 1 if last < end and words[last] == "," else last
 
 
-def level(source, at, end):
+def level(source: Source, at: int, end: int) -> Iterator[int]:
     """The places from one to another that stand in no bracket between them."""
     while at < end:
         yield at
@@ -118,7 +129,8 @@ def level(source, at, end):
         at += 1
 
 
-def past_angles(words, at):
+def past_angles(words: list[str], at: int) -> int:
+    """Past the angle brackets that are opened here."""
     depth = 0
     while at < len(words):
         depth += (words[at] == "<") - (words[at] == ">")
@@ -128,7 +140,7 @@ def past_angles(words, at):
     return at
 
 
-def before_angles(words, at):
+def before_angles(words: list[str], at: int) -> int | None:
     """Where the angle is opened that is shut here, or nothing where none is."""
     depth = 0
     while at > 0 and words[at] not in (";", "{", "}"):
@@ -139,7 +151,7 @@ def before_angles(words, at):
     return None
 
 
-def owner_of(said):
+def owner_of(said: list[str]) -> str:
     """The type whose functions stand in an `impl`, or the trait's name."""
     said = said[said.index("impl") + 1:] if "impl" in said else said[said.index("trait") + 1:]
     if said[:1] == ["<"]:
@@ -149,13 +161,13 @@ def owner_of(said):
     return next((word for word in said if word.isidentifier()), "")
 
 
-def function(source, at):
+def function(source: Source, at: int) -> str:
     """The function around a place."""
     words = source.words
     return next((words[i + 1] for i in range(at, -1, -1) if words[i] == "fn" and words[i + 1] != "("), "")
 
 
-def compact(words):
+def compact(words: Iterable[str]) -> str:
     """Words as they stand in a line."""
     said = ""
     for word in words:

@@ -85,6 +85,7 @@ class Body:
 
     @property
     def is_found_by_run(self) -> bool:
+        """Whether a test or a script has to find it, and no clause."""
         return bool(self.found)
 
     def searched(self) -> "Body":
@@ -119,6 +120,7 @@ class Entry:
 
     @property
     def text(self) -> str:
+        """All of its text: the lines of a block, or parts of one line."""
         return ("\n" if self.is_block else " ").join(self.parts)
 
     def goes_on(self, number: int, line: str) -> bool:
@@ -185,34 +187,41 @@ def body_of(path: Path, crate: str, words: dict[str, Entry], edits: list[Edit]) 
 
 
 def names_in(text: str, between: str = ",") -> tuple[str, ...]:
+    """The names of a list."""
     return tuple(name.strip() for name in text.split(between) if name.strip())
 
 
 def functions_in(text: str) -> tuple[str, ...] | None:
+    """The functions to check, of which there is one at least."""
     return names_in(text) or None
 
 
 def refusal_in(text: str) -> Refusal | None:
+    """The function and the clauses that have to refuse a body. Its path may have colons."""
     function, _, clauses = text.rpartition(": ")
     return Refusal(function, names_in(clauses)) if function and names_in(clauses) else None
 
 
 def public_in(text: str) -> Public | None:
+    """The public function and its clauses."""
     parts = re.fullmatch(r"(\S+) of (\w+): (.+)", text)
     return Public(parts[1], parts[2], names_in(parts[3])) if parts else None
 
 
 def answers_in(text: str) -> tuple[Answers, ...]:
+    """Answers, of whole files too."""
     parts = [part.partition(":") for part in names_in(text, ";")]
     return tuple(Answers(file.strip(), names_in(goals)) for file, _, goals in parts)
 
 
 def broken_in(text: str) -> tuple[Answers, ...] | None:
+    """Answers, each of which is named."""
     listed = answers_in(text)
     return listed if all(answers.goals for answers in listed) else None
 
 
 def finder_in(text: str) -> tuple[str, ...] | None:
+    """What has to find a body in a run."""
     match words := tuple(text.split()):
         case ("test", _, _) | ("held", _) | ("row", _, _):
             return words

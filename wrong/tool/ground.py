@@ -86,6 +86,7 @@ class Ground:
         return parts | self.named(crates, standing, files)
 
     def functions_of(self, body: Body) -> list[Function]:
+        """The functions that are checked for a body."""
         there = functions_as_they_are(self.tree.source(body.crate))
         return [function for function in there if function.is_among(body.functions)]
 
@@ -130,16 +131,17 @@ class Ground:
     def standing_under(self, name: Named, declarations: dict[str, dict[str, list[str]]]) -> Iterator[tuple[str, str]]:
         """The texts that stand under a name in these crates, each with its crate. What isn't public is named in its own
         crate alone."""
-        if isinstance(name, Word):
-            for crate, by_name in declarations.items():
-                for text in by_name.get(name.text, ()):
-                    if crate == name.crate or not PRIVATE.match(text):
-                        yield crate, text
-        elif name.crate in declarations:
-            yield name.crate, code_of(self.tree.folder(name.crate) / f"specs/{name.path}.antt")
+        if isinstance(name, Spec):
+            if name.crate in declarations:
+                yield name.crate, code_of(self.tree.folder(name.crate) / f"specs/{name.path}.antt")
+            return
+        for crate, by_name in declarations.items():
+            texts = by_name.get(name.text, ())
+            yield from ((crate, text) for text in texts if crate == name.crate or not PRIVATE.match(text))
 
 
 def sum_over(texts: Iterable[str]) -> str:
+    """A sum over texts in this order."""
     return hashlib.sha256("\0".join(texts).encode()).hexdigest()
 
 
@@ -152,6 +154,7 @@ def code_of(path: Path) -> str:
 
 
 def words_of(crate: str, text: str) -> list[Named]:
+    """The words in a text of a crate."""
     return [Word(crate, word) for word in WORD.findall(text)]
 
 

@@ -26,6 +26,7 @@ def groups_of(tree: Tree, bodies: Iterable[Body]) -> list[list[Body]]:
 
 
 def may_stand_in(tree: Tree, body: Body, group: list[Body]) -> bool:
+    """Whether the body can be tried in one check with those of the group."""
     if group[0].crate != body.crate:
         return False
     return copy_of(tree, body) is not None or all(are_apart(body, other) for other in group)
@@ -71,6 +72,7 @@ def try_group(kit: Kit, group: list[Body]) -> tuple[list[Verdict], float]:
 
 
 def verdict_on(standing: Standing, report: Report) -> Verdict:
+    """The verdict on a body that stood in what was checked, with the way it was judged and what its search took."""
     body = standing.body
     outcome, said = judged(body, report)
     seconds = report.seconds_of(body.functions)

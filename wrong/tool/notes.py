@@ -4,7 +4,7 @@ import fcntl
 import hashlib
 import math
 import os
-from collections.abc import Iterable
+from collections.abc import Iterable, Iterator
 from dataclasses import dataclass, replace
 
 from .body import Body, How
@@ -26,6 +26,7 @@ class Noted:
     answered: str = "-"
 
     def line(self, name: str) -> str:
+        """The line of `wrong/searched` for the body with the name."""
         seconds = "-" if self.seconds == math.inf else f"{self.seconds:.1f}"
         answered = "" if self.answered == "-" else f" {self.answered}"
         return f"{name} {self.searched} {seconds}{answered}\n"
@@ -64,19 +65,20 @@ def sums_of(tree: Tree) -> dict[str, str]:
     for crate in tree.crates:
         digest = hashlib.sha256()
         for folder in (f"crates/{crate}", f"wrong/{crate}", *(f"crates/{lower}/specs" for lower in tree.below(crate))):
-            add_folder(digest, tree, folder)
+            for part in parts_below(tree, folder):
+                digest.update(part)
         made[crate] = digest.hexdigest()
     return made
 
 
-def add_folder(digest: "hashlib._Hash", tree: Tree, folder: str) -> None:
-    """Adds the paths and the texts of the files below a folder to a sum, but for what was built."""
+def parts_below(tree: Tree, folder: str) -> Iterator[bytes]:
+    """The paths and the texts of the files below a folder of the tree, but for what was built."""
     for at, inner, files in os.walk(tree.top / folder):
         inner[:] = sorted(name for name in inner if name != "out")
         for name in sorted(files):
             path = os.path.join(at, name)
             with open(path, "rb") as file:
-                digest.update(f"{os.path.relpath(path, tree.top)}\0".encode() + file.read() + b"\0")
+                yield f"{os.path.relpath(path, tree.top)}\0".encode() + file.read() + b"\0"
 
 
 def write_notes(

@@ -4,7 +4,8 @@ from dataclasses import dataclass
 from pathlib import Path
 
 from .body import Answers, Body, How
-from .copies import add_copy, answers_by_goal, copy_of
+from .copies import add_copy, copy_of
+from .proofs import answers_by_goal
 from .taken import take_by_contract, take_by_statement
 from .tree import BadInput, Tree, read_text, write_text
 

@@ -1,7 +1,7 @@
 """The functions of a crate as they stand in its files, by the paths that the checker has for them and for the folders
 of their proofs."""
 import re
-from collections.abc import Iterator
+from collections.abc import Iterable, Iterator
 from dataclasses import dataclass
 from functools import lru_cache
 from pathlib import Path
@@ -9,7 +9,8 @@ from pathlib import Path
 from .tree import files_below, read_text
 
 PUBLIC = r"(?:pub(?:\(\w+\))? )?"
-FUNCTION = re.compile(rf'{PUBLIC}(?:const )?(?:unsafe )?(?:extern "C" )?fn (\w+)')
+QUALIFIED = r'(?:const )?(?:unsafe )?(?:extern "C" )?fn (\w+)'
+FUNCTION = re.compile(f"{PUBLIC}{QUALIFIED}")
 TYPE = re.compile(rf"^{PUBLIC}(?:struct|enum) (\w+)", re.M)
 BLOCK = re.compile(r"(?:impl|trait|pub trait|mod|pub mod|macro_rules)\b.*\{")
 OWN_IMPL = re.compile(r"impl(?:<.*?>)? (\w+)(?:<.*>)? \{$")
@@ -28,17 +29,20 @@ class Function:
 
     @property
     def name(self) -> str:
+        """The name at the end of its path."""
         return self.path.rpartition("::")[2]
 
     def is_named(self, word: str) -> bool:
         """Whether the word is its path, or the end of it."""
         return is_end_of(word, self.path)
 
-    def is_among(self, words: list[str] | tuple[str, ...]) -> bool:
+    def is_among(self, words: Iterable[str]) -> bool:
+        """Whether one of the words is its path, or the end of it."""
         return any(self.is_named(word) for word in words)
 
 
 def is_end_of(word: str, path: str) -> bool:
+    """Whether the word is the path, or so many names at its end."""
     return path == word or path.endswith(f"::{word}")
 
 
@@ -69,6 +73,7 @@ def functions_of(source: Path) -> list[Function]:
 
 
 def module_of(file: str) -> str:
+    """The path of the module that stands in a file below src/: none for the root's."""
     return re.sub(r"(?:^|/)(?:lib|main|mod)$", "", file.removesuffix(".rt")).replace("/", "::")
 
 

@@ -1,10 +1,9 @@
 """The table of all public clauses, with the wrong body that breaks each, and of the common wrong bodies
 (`wrong/CLAUSES.md`)."""
-import re
 from collections.abc import Iterable, Iterator
-from dataclasses import dataclass, field
 
 from .body import Body
+from .contract import UNNAMED, Told, public_functions
 from .tree import Tree, files_below, read_text
 
 HEAD = """# Public clauses, and the wrong body that breaks each
@@ -13,46 +12,8 @@ Written by `wrong/run --table`. A clause without a body isn't weak for that: it 
 is proved from it. Clauses of laws, which no body can break, are left out.
 """
 
-BLOCK = re.compile(r"(?:pub )?(impl|trait)\b(?:<[^>]*>)?\s*(?:(?:\w+(?:<[^{]*>)?) for )?(\w+)")
-FUNCTION = re.compile(r"(\s*)(?:#\[[^\]]*\]\s*)?(pub )?(?:const )?(?:unsafe )?(?:extern \"C\" )?fn (\w+)")
-ENSURES = re.compile(r"\s*ensures\*?\s*(\w*)\s*\{")
-
 # How a clause that has no name is told.
 NO_NAME = "(no name)"
-
-
-@dataclass
-class Told:
-    """A public function, by the type that it is of, and the names of its clauses."""
-
-    name: str
-    clauses: list[str] = field(default_factory=list)
-
-
-def public_functions(text: str) -> list[Told]:
-    """The public functions of a file that have clauses."""
-    found: list[Told] = []
-    # the type or the trait that is open, whether it is a public trait, and the function whose contract is open, with
-    # its indent
-    owner, is_trait, function, indent = "", False, None, ""
-    for line in text.split("\n"):
-        block, start = BLOCK.match(line), FUNCTION.match(line)
-        if block:
-            owner, is_trait = block[2], line.startswith("pub trait")
-        elif line.startswith("}"):
-            owner = ""
-        if start:
-            indent = start[1]
-            is_public = bool(start[2]) or bool(owner and indent and is_trait)
-            function = Told(f"{owner}::{start[3]}" if owner and indent else start[3]) if is_public else None
-            found += [function] if function else []
-        elif function and re.match(r"\s*ensures\b", line):
-            clause = ENSURES.match(line)
-            function.clauses.append(clause[1] if clause and clause[1] else "ensures")
-        elif line.startswith(indent + "{"):
-            function = None
-    return [one for one in found if one.clauses]
-
 
 # The bodies that break a clause, by crate, function without its type, and clause: the function as it is named, and the
 # body.
@@ -64,6 +25,7 @@ def broken_by(bodies: Iterable[Body]) -> Broken:
     broken: Broken = {}
 
     def note(crate: str, function: str, clause: str, name: str) -> None:
+        """Notes that the body with the name breaks the clause."""
         broken.setdefault((crate, last_of(function), clause), []).append((function, name))
 
     for body in bodies:
@@ -87,6 +49,7 @@ def table_of(tree: Tree, bodies: Iterable[Body]) -> str:
 
 
 def functions_of(tree: Tree, crate: str) -> Iterator[Told]:
+    """The public functions of a crate that have clauses, but for laws."""
     source = tree.source(crate)
     for file in files_below(source, ".rt"):
         if file.rpartition("/")[2] != "laws.rt":
@@ -94,14 +57,16 @@ def functions_of(tree: Tree, crate: str) -> Iterator[Told]:
 
 
 def rows_of(crate: str, function: Told, broken: Broken) -> Iterator[str]:
+    """The rows of the function's clauses, each with the bodies that break it."""
     for clause in dict.fromkeys(function.clauses):
         by = broken.get((crate, last_of(function.name), clause), ())
         names = {name for named, name in by if named == function.name or "::" not in named or "::" not in function.name}
-        told = NO_NAME if clause == "ensures" else f"`{clause}`"
+        told = NO_NAME if clause == UNNAMED else f"`{clause}`"
         yield f"| `{function.name}` | {told} | {', '.join(sorted(names)) or '-'} |"
 
 
 def last_of(path: str) -> str:
+    """The name at the end of a path."""
     return path.rpartition("::")[2]
 
 
@@ -117,5 +82,5 @@ def finder_of(body: Body) -> str:
     if body.is_found_by_run:
         kind, *name = body.found
         return {"test": "the test ", "held": "rows/held/run: ", "row": "rows/run: "}[kind] + " ".join(name)
-    clauses = (NO_NAME if clause == "ensures" else clause for clause in body.refused.clauses)
+    clauses = (NO_NAME if clause == UNNAMED else clause for clause in body.refused.clauses)
     return f"`{body.refused.function}`: {', '.join(clauses)}"

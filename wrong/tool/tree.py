@@ -26,9 +26,11 @@ class Tree:
         self.crates = read_crates(self.top / "crates.txt")
 
     def folder(self, crate: str) -> Path:
+        """Where the crate stands."""
         return self.top / "crates" / crate
 
     def source(self, crate: str) -> Path:
+        """The folder with the crate's own source files."""
         return self.folder(crate) / "src"
 
     def proof(self, crate: str, path: str) -> Path:
@@ -78,8 +80,10 @@ def files_below(folder: Path, suffix: str) -> list[str]:
 
 
 def read_text(path: Path) -> str:
+    """The text of a file."""
     return path.read_text(encoding="utf-8")
 
 
 def write_text(path: Path, text: str) -> None:
+    """Puts the text into a file, in the place of all that was there."""
     path.write_text(text, encoding="utf-8")

@@ -30,6 +30,7 @@ class Verdict:
 
     @property
     def is_as_wanted(self) -> bool:
+        """Whether it was refused or found."""
         return self.outcome in (Outcome.REFUSED, Outcome.FOUND)
 
 
