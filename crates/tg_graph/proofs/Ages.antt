@@ -17,7 +17,7 @@ use Rattle.tg_space.specs.Targets.{from_space}
 use Rattle.tg_space.specs.declared.kind.Kind.{Kind}
 use Rattle.tg_space.specs.declared.kind.Kind.TheVariants.{Full, Nursery}
 use Rattle.tg_index.specs.Bits.{bit_of}
-use Rattle.tg_graph.specs.Cells.{CellList}
+use Rattle.tg_graph.specs.Inner.Cells.{CellList}
 use Rattle.tg_graph.specs.Index.{AreAged, HasIndexAt, IsAged, IsOldPlace, IsOldRow, followed_place}
 use Rattle.tg_graph.specs.declared.indexed_row.IndexedRow.{IndexedRow}
 

@@ -14,7 +14,7 @@ use Rattle.tg_space.proofs.Flat.{length-cells_of}
 use Rattle.tg_space.proofs.Tables.{count_few, table_list}
 use Rattle.tg_index.specs.Slots.{Slots, HasVacant, IsFirstVacant, IsIndexOf, PutsAt, place_number}
 use Rattle.tg_graph.specs.Content.{IsNamed}
-use Rattle.tg_graph.specs.Following.{AreBehind, IsBehind, IsNarrowed, IsNotedIn, IsPutAt, IsReady, IsWay}
+use Rattle.tg_graph.specs.Inner.Following.{AreBehind, IsBehind, IsNarrowed, IsNotedIn, IsPutAt, IsReady, IsWay}
 use Rattle.tg_graph.specs.Heap.{content_in}
 use Rattle.tg_graph.specs.Index.{Indexes, IsRowIndex, KeepsOtherIndexes}
 use Rattle.tg_graph.specs.Rows.{IsRow, IsVertexAt, name_at}

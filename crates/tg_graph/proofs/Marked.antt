@@ -20,7 +20,7 @@ use Rattle.tg_space.specs.declared.kind.Kind.TheVariants.{Full as FullKind, Nurs
 use Rattle.tg_payload.specs.Table.{Payloads}
 use Rattle.tg_index.specs.Bits.{SetsBit, bit_of}
 use Rattle.tg_index.specs.Slots.{Slots, IsFirstVacant}
-use Rattle.tg_graph.specs.Cells.{CellList}
+use Rattle.tg_graph.specs.Inner.Cells.{CellList}
 use Rattle.tg_graph.specs.Heap.{IsGraph}
 use Rattle.tg_graph.specs.Index.{IsAged, IsMarked, IsOldPlace, IsPlaceOf, IsRowIndex, row_slots, followed_place}
 use Rattle.tg_graph.specs.Rows.{IsRow}

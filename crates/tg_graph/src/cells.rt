@@ -14,13 +14,13 @@ ghost use Rattle.tg_space.specs.Generations.{AreRemembered};
 ghost use Rattle.tg_space.specs.Targets.{young_spaces};
 ghost use Rattle.tg_nursery.specs.Allocation.{HasLeft};
 ghost use Rattle.tg_graph.specs.Content.{IsNamed};
-ghost use Rattle.tg_graph.specs.Following.{IsRowPut};
+ghost use Rattle.tg_graph.specs.Inner.Following.{IsRowPut};
 ghost use Rattle.tg_graph.specs.Heap.{IsGraph, content_in};
 ghost use Rattle.tg_graph.specs.Rows.{IsVertexAt, name_at};
 ghost use Rattle.tg_graph.specs.Opened.{TakesOneCell};
 ghost use Rattle.tg_graph.specs.Spots.{narrowed, note_for, vertex_put, with_note, word_put};
 ghost use Rattle.tg_graph.specs.Steps.{ChangesTo, KeepsRows};
-ghost use Rattle.tg_graph.specs.Deeds.{AddsEdge, CanGive, CanMake, CanReserve, HasObject, HasSpot, IsEdgeFound, MakesRoom, MakesVertex, TakesRights};
+ghost use Rattle.tg_graph.specs.Inner.Deeds.{AddsEdge, CanGive, CanMake, CanReserve, HasObject, HasSpot, IsEdgeFound, MakesRoom, MakesVertex, TakesRights};
 
 use crate::heap::{Found, VertexRefused};
 use crate::references::{narrow, put};

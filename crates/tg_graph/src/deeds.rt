@@ -5,13 +5,13 @@ ghost use Rattle.tg_word.specs.declared.Place.{Place as PlaceOf};
 ghost use Rattle.tg_block.specs.declared.CellKind.TheVariants.{Object};
 ghost use Rattle.tg_space.specs.Soundness.{IsKindAt};
 ghost use Rattle.tg_graph.specs.Content.{IsNamed};
-ghost use Rattle.tg_graph.specs.Following.{AreBehind, AreUncleared, IsReady, IsWay};
+ghost use Rattle.tg_graph.specs.Inner.Following.{AreBehind, AreUncleared, IsReady, IsWay};
 ghost use Rattle.tg_graph.specs.Heap.{IsLongRow, content_in};
 ghost use Rattle.tg_graph.specs.Index.{AreIndexed, IsAged, IsMarked, IsRowIndex, MayIndex, indexed_in};
 ghost use Rattle.std.specs.Map.{lookup};
 ghost use Rattle.tg_graph.specs.Rows.{name_at};
 ghost use Rattle.tg_space.specs.SpaceTable.{IsSpaceTable};
-ghost use Rattle.tg_graph.specs.Deeds.{AddsEdge, CanGive, CanLook, CanMake, FollowsChange, HasObject, HasSpot, IsEdgeFound, KeepsIndexed, LooksAlong, MakesVertex, TakesRights};
+ghost use Rattle.tg_graph.specs.Inner.Deeds.{AddsEdge, CanGive, CanLook, CanMake, FollowsChange, HasObject, HasSpot, IsEdgeFound, KeepsIndexed, LooksAlong, MakesVertex, TakesRights};
 
 use crate::cells::Cells;
 use crate::heap::{Found, VertexRefused};

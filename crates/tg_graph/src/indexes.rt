@@ -2,7 +2,7 @@
 //! docs/ARCHITECTURE.md.
 ghost use Rattle.std.specs.Prelude.{◌≡◌, ◌≤◌, ◌<◌, ℕ, List, [], None, Some, if◌then◌else◌, length, nat_eq, option_copied, slice_get, IfSome, OnOk};
 ghost use Rattle.std.specs.Map.{lookup};
-ghost use Rattle.tg_graph.specs.Following.{IsReadyAt};
+ghost use Rattle.tg_graph.specs.Inner.Following.{IsReadyAt};
 ghost use Rattle.tg_graph.specs.Index.{AreIndexed, HasIndexAt, IsAged, SameIndexed};
 ghost use Rattle.tg_space.specs.SpaceList.{SpaceList};
 ghost use Rattle.tg_word.specs.declared.Place.{Place};

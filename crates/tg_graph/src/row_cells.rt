@@ -16,7 +16,7 @@ pub(crate) struct RowCells {
 impl Model for RowCells {
     ghost use Rattle.std.specs.Prelude.{◌-◌, map, vec_len};
     ghost use Rattle.std.specs.Vec.{vec_capacity};
-    ghost use Rattle.tg_graph.specs.Cells.{CellList};
+    ghost use Rattle.tg_graph.specs.Inner.Cells.{CellList};
     ghost use Rattle.tg_word.specs.Word.{place_in};
 
     ghost Value = { CellList };

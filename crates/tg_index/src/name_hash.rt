@@ -6,7 +6,7 @@
 //! the processor then has to fetch once, and the last two bits of a name tell them apart in its tag. All above these is
 //! mixed as the kit's own hasher mixes a whole name. So a row of other names is as well spread as it was, whatever
 //! their distance.
-ghost use Rattle.tg_index.specs.NameHash.{name_hash, name_written};
+ghost use Rattle.tg_index.specs.Inner.NameHash.{name_hash, name_written};
 
 use std::hash::{BuildHasher, FoldHasher, Hasher};
 

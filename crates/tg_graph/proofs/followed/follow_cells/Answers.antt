@@ -5,7 +5,7 @@ use Rattle.std.proofs.lemmas.List.{length-append, length-map, with_items_is}
 use Rattle.tg_word.specs.Word.{place_in}
 use Rattle.tg_space.specs.Collection.{new_place}
 use Rattle.tg_space.specs.Targets.{from_space}
-use Rattle.tg_graph.specs.Cells.{CellList}
+use Rattle.tg_graph.specs.Inner.Cells.{CellList}
 use Rattle.tg_graph.specs.Index.{IsNumbered, IsOldPlace, followed_place}
 use Rattle.tg_graph.proofs.FollowedWords.{words_long, words_moved, words_old, young_numbered, young_old}
 use Rattle.tg_graph.proofs.followed.follow_cells.Goals as goal

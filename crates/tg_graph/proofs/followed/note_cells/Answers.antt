@@ -1,6 +1,6 @@
 use Rattle.std.proofs.Common.{◌∙◌, ◌≤◌, length, take, arith, sym, subst}
 use Rattle.std.specs.List.{All}
-use Rattle.tg_graph.specs.Cells.{CellList}
+use Rattle.tg_graph.specs.Inner.Cells.{CellList}
 use Rattle.tg_graph.specs.Index.{IsOldPlace}
 use Rattle.tg_graph.proofs.Marked.{unmarked}
 use Rattle.tg_graph.proofs.followed.note_cells.Goals as goal

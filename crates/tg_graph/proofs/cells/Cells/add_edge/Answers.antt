@@ -4,7 +4,7 @@ use Rattle.tg_word.specs.declared.Place.{Place}
 use Rattle.tg_space.specs.SpaceTable.{SpaceTable}
 use Rattle.tg_space.specs.Targets.{young_spaces}
 use Rattle.tg_space.specs.declared.room_fault.RoomFault.{RoomFault}
-use Rattle.tg_graph.specs.Following.{IsRowPut}
+use Rattle.tg_graph.specs.Inner.Following.{IsRowPut}
 use Rattle.tg_graph.specs.Index.{AreIndexed, MayIndex, indexed_in}
 use Rattle.tg_graph.specs.Rows.{name_at}
 use Rattle.tg_graph.specs.Spots.{IsSpotFor, note_for}

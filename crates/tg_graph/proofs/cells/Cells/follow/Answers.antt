@@ -5,7 +5,7 @@ use Rattle.std.proofs.lemmas.Option.{slice_get_within}
 use Rattle.indexmap.proofs.CallerLemmas.{updates-with_value_at}
 use Rattle.indexmap.specs.Layout.{set_value_at}
 use Rattle.tg_word.specs.declared.Place.{Place}
-use Rattle.tg_graph.specs.Following.{HasRoomIn, IsReady, IsReadyAt, IsReadyNew, IsReadyShort}
+use Rattle.tg_graph.specs.Inner.Following.{HasRoomIn, IsReady, IsReadyAt, IsReadyNew, IsReadyShort}
 use Rattle.tg_graph.specs.Index.{AreIndexed, Indexes, IsAged, IsMarked, MayIndex, SameIndexed, indexed_in}
 use Rattle.tg_graph.specs.Rows.{name_at}
 use Rattle.tg_graph.specs.declared.indexed_row.IndexedRow.{IndexedRow}

@@ -4,8 +4,8 @@ use Rattle.std.proofs.lemmas.Option.{slice_get_within}
 use Rattle.indexmap.proofs.CallerLemmas.{updates-with_value_at}
 use Rattle.indexmap.specs.Layout.{set_value_at}
 use Rattle.tg_word.specs.declared.Place.{Place}
-use Rattle.tg_graph.specs.Cells.{CellList}
-use Rattle.tg_graph.specs.Following.{IsWay}
+use Rattle.tg_graph.specs.Inner.Cells.{CellList}
+use Rattle.tg_graph.specs.Inner.Following.{IsWay}
 use Rattle.tg_graph.specs.Index.{AreIndexed, HasIndexAt, Indexes, IsAged, IsOldRow, IsRowIndex, SameIndexed}
 use Rattle.tg_graph.specs.Rows.{name_at}
 use Rattle.tg_graph.specs.declared.indexes.Way.{Way}

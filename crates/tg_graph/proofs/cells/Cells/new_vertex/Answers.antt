@@ -1,7 +1,7 @@
 use Rattle.std.proofs.Common.{◌≡◌, List, Option, true, refl, sym, subst}
 use Rattle.tg_word.specs.declared.Place.{Place}
 use Rattle.tg_space.specs.SpaceTable.{SpaceTable}
-use Rattle.tg_graph.specs.Following.{IsRowPut}
+use Rattle.tg_graph.specs.Inner.Following.{IsRowPut}
 use Rattle.tg_graph.specs.Index.{AreIndexed, MayIndex, indexed_in}
 use Rattle.tg_graph.specs.Rows.{name_at}
 use Rattle.tg_graph.proofs.Following.{ready_way}

@@ -1,6 +1,6 @@
 use Rattle.std.proofs.Common.{refl, sym, subst}
 use Rattle.std.proofs.lemmas.Option.{slice_get_within}
-use Rattle.tg_graph.specs.Following.{IsWay}
+use Rattle.tg_graph.specs.Inner.Following.{IsWay}
 use Rattle.tg_graph.specs.Index.{HasIndexAt, IsRowIndex}
 use Rattle.tg_graph.specs.Rows.{name_at}
 use Rattle.tg_graph.specs.declared.indexed_row.IndexedRow.{IndexedRow}

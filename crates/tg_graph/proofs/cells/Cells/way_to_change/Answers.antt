@@ -1,6 +1,6 @@
 use Rattle.std.proofs.Common.{◌≡◌, ◌∙◌, None, nat_eq, refl, sym, subst}
 use Rattle.std.specs.Map.{lookup}
-use Rattle.tg_graph.specs.Following.{IsReadyAt}
+use Rattle.tg_graph.specs.Inner.Following.{IsReadyAt}
 use Rattle.tg_graph.specs.Index.{AreIndexed}
 use Rattle.tg_graph.proofs.IndexedRows.{Entries, entries_indexed, looked_indexed, same_after}
 use Rattle.tg_graph.proofs.cells.Cells.way_to_change.Goals as goal

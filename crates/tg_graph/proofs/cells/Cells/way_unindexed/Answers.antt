@@ -2,7 +2,7 @@ use Rattle.std.proofs.Common.{◌≡◌, ◌<◌, None, true, length, nat_eq, sy
 use Rattle.std.proofs.lemmas.Bool.{cases_lt, both_ways}
 use Rattle.std.specs.Map.{lookup}
 use Rattle.tg_space.specs.Rows.{row_of}
-use Rattle.tg_graph.specs.Following.{IsReadyNew}
+use Rattle.tg_graph.specs.Inner.Following.{IsReadyNew}
 use Rattle.tg_graph.specs.Rows.{name_at}
 use Rattle.tg_graph.specs.declared.indexed_row.IndexedRow.{IndexedRow}
 use Rattle.tg_graph.specs.declared.rows.TheConstants.{SHORT}

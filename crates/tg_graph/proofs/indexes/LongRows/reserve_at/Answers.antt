@@ -5,7 +5,7 @@ use Rattle.std.proofs.lemmas.Cmp.{nat_eq_equiv}
 use Rattle.std.proofs.lemmas.Option.{slice_get_within}
 use Rattle.indexmap.proofs.CallerLemmas.{updates-with_value_at}
 use Rattle.indexmap.specs.Layout.{set_value_at}
-use Rattle.tg_graph.specs.Following.{HasRoomIn}
+use Rattle.tg_graph.specs.Inner.Following.{HasRoomIn}
 use Rattle.tg_graph.specs.Index.{AreIndexed, HasIndexAt, Indexes, IsAged, SameIndexed}
 use Rattle.tg_graph.proofs.Ages.{aged_at, row_there, same_row, written_aged, written_there}
 use Rattle.tg_graph.proofs.Heaps.{success_gives}

@@ -16,7 +16,7 @@ use Rattle.tg_space.specs.declared.room_fault.RoomFault.{RoomFault}
 use Rattle.tg_space.specs.declared.room_fault.RoomFault.TheVariants.{HeapFull}
 use Rattle.tg_nursery.specs.Allocation.{HasFewerLeft, HasLeft, room_made_for}
 use Rattle.tg_graph.specs.Content.{IsNamed}
-use Rattle.tg_graph.specs.Following.{IsWay}
+use Rattle.tg_graph.specs.Inner.Following.{IsWay}
 use Rattle.tg_graph.specs.Heap.{IsGraph, IsLongRow, content_in, rights_found}
 use Rattle.tg_graph.specs.Index.{AreIndexed, Indexes, MayIndex, SameIndexed, indexed_in}
 use Rattle.tg_graph.specs.Rows.{IsVertexAt, name_at}
