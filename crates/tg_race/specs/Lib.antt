@@ -6,4 +6,4 @@ pub mod Course
 pub mod Board
 pub mod Seats
 pub mod Claims
-pub mod Room
+pub mod Inner

@@ -2,7 +2,7 @@
 ghost use Rattle.std.specs.Prelude.{◌≡◌, ◌^◌, ◌<◌, ◌+◌, ◌++◌, length};
 ghost use Rattle.std.specs.Bool.{OnTrue};
 ghost use Rattle.tg_race.specs.Race.{empty, both};
-ghost use Rattle.tg_race.specs.Room.{FitOne};
+ghost use Rattle.tg_race.specs.Inner.Room.{FitOne};
 
 use std::alloc::Global;
 use std::collections::LinkedList;

@@ -1,7 +1,7 @@
 use Rattle.std.proofs.Common.{rules, ◌≡◌, ◌∙◌, List, get_or, ap, refl, sym, set, subst}
 use Rattle.tg_race.specs.declared.record.Record.{Record}
 use Rattle.tg_race.specs.declared.event.Event.TheVariants.{Meet}
-use Rattle.tg_race.specs.Room.{FitOne}
+use Rattle.tg_race.specs.Inner.Room.{FitOne}
 use Rattle.tg_race.specs.Course.{Course, KeepsRule, record_at}
 use Rattle.tg_race.proofs.Courses.{keeps, same_record, is_alive, met_alive, met_mine, met_theirs, met_course, record_inside, helper_inside}
 use Rattle.tg_race.proofs.world.World.meet.Goals as goal
