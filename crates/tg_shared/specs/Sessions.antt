@@ -1,5 +1,5 @@
 -- What contracts see of a session and of the value behind the lock, and what a call does to them.
-use Rattle.std.specs.Prelude.{◌≡◌, ◌≢◌, ℕ, ◌+◌, ◌<◌, ◌≤◌, ◌==◌, max, Bool, true, false, Option, Some, None, List, [], ◌∷◌, ◌++◌, Result, IfErr, OnErr, length, map, take, drop}
+use Rattle.std.specs.Prelude.{◌≡◌, ◌≢◌, ℕ, ◌+◌, ◌<◌, ◌≤◌, ◌==◌, max, Bool, true, false, Option, Some, None, List, [], ◌∷◌, ◌++◌, Result, Ok, Err, IfErr, OnErr, length, map, take, drop}
 use Rattle.std.specs.declared.sync.ledger.Blank.{Blank}
 use Rattle.std.specs.List.{All, AllPairs, count_by, filter, sum_by}
 use Rattle.tg_model.specs.declared.command.Deed.{Deed}
@@ -241,6 +241,11 @@ reply_entered fault.VerticesFull = Some VerticesFull
 reply_entered fault.WorkersFull = Some WorkersFull
 reply_entered fault.HeapFull = None
 reply_entered fault.OutOfMemory = None
+
+-- the reply that the answer of a make has in the journal, if it made an entry
+abbrev pub reply_made : {P : Type 0} → Result ℕ (CreateRefused P) → Option Reply
+reply_made (Ok name) = Some (Name name)
+reply_made (Err refused) = reply_entered refused.why
 
 -- ---- what a close finds
 

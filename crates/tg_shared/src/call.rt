@@ -1,5 +1,5 @@
 //! The calls of a session, each under the lock.
-ghost use Rattle.std.specs.Prelude.{◌≡◌, ◌≢◌, ◌≤◌, ℕ, Err, IfOk, IfErr, IsErrAnd, MatchResult, OnErr, OnOk, true, ⊤};
+ghost use Rattle.std.specs.Prelude.{◌≡◌, ◌≢◌, ◌⊎◌, ◌≤◌, ℕ, Err, IfOk, IfErr, IsErrAnd, MatchResult, OnErr, OnOk, true, ⊤};
 ghost use Rattle.tg_model.specs.Graph.{IsSubject};
 ghost use Rattle.tg_model.specs.Rules.{IsAllowed};
 ghost use Rattle.tg_model.specs.declared.command.Deed.TheVariants.{Create, Plain, Spawn};
@@ -9,7 +9,7 @@ ghost use Rattle.tg_rules.specs.Effect.{AddsEdge, LacksCellsToServe};
 ghost use Rattle.tg_store.specs.Held.{IsHeldOver};
 ghost use Rattle.tg_store.specs.Room.{LacksRoomToCollect};
 ghost use Rattle.tg_store.specs.Store.{graph_of_store};
-ghost use Rattle.tg_shared.specs.Sessions.{AtSome, HasLeftAtSome, IsAnswered, IsFresh, KeepsReceipts, LeavesAtSome, MayRefuseAtSome};
+ghost use Rattle.tg_shared.specs.Sessions.{AtSome, HasLeftAtSome, IsAnswered, IsFresh, KeepsReceipts, LeavesAtSome, MayNote, MayRefuseAtSome};
 
 use crate::round::Round;
 use crate::session::Session;
@@ -77,17 +77,8 @@ impl<L: Round> Session<L> {
         ensures no_workers_full { IfErr result (λ refused. refused.why ≢ CreateFault.WorkersFull) }
         ensures retired { self.old.retired ≡ true → IsErrAnd result (λ refused. refused.why ≡ CreateFault.NoSuchWorker) }
     {
-        if self.retired() {
-            return Err(CreateRefused {
-                draft,
-                why: CreateFault::NoSuchWorker,
-            });
-        }
-        if self.make_room(draft.value().state.as_slice()).is_err() {
-            return Err(CreateRefused {
-                draft,
-                why: CreateFault::OutOfMemory,
-            });
+        if let Err(why) = self.make_ready(draft.value().state.as_slice()) {
+            return Err(CreateRefused { draft, why });
         }
         let mut locked = store.locked.lock(rt);
         // for what is told of it: the shared store, gone on
@@ -120,17 +111,8 @@ impl<L: Round> Session<L> {
         ensures refused { IfErr result (λ refused. refused.why ≢ CreateFault.VerticesFull → refused.why ≢ CreateFault.WorkersFull → KeepsReceipts self.old self.new) }
         ensures retired { self.old.retired ≡ true → IsErrAnd result (λ refused. refused.why ≡ CreateFault.NoSuchWorker) }
     {
-        if self.retired() {
-            return Err(CreateRefused {
-                draft,
-                why: CreateFault::NoSuchWorker,
-            });
-        }
-        if self.make_room(draft.value().state.as_slice()).is_err() {
-            return Err(CreateRefused {
-                draft,
-                why: CreateFault::OutOfMemory,
-            });
+        if let Err(why) = self.make_ready(draft.value().state.as_slice()) {
+            return Err(CreateRefused { draft, why });
         }
         let mut locked = store.locked.lock(rt);
         // for what is told of it: the shared store, gone on
@@ -139,6 +121,20 @@ impl<L: Round> Session<L> {
         // and of the one that is left
         let _ = locked.store();
         spawned
+    }
+
+    // Makes room for the receipt of a vertex that is to store this, which is refused behind a retire of its own, and
+    // where memory is. The receipts stay.
+    fn make_ready(&mut self, state: &[u64]) -> Result<(), CreateFault>
+        ensures notable { OnOk result (MayNote self.new state.now) }
+        ensures receipts { KeepsReceipts self.old self.new }
+        ensures retired { self.old.retired ≡ true → result ≡ Err CreateFault.NoSuchWorker }
+        ensures why { IfErr result (λ why. (why ≡ CreateFault.NoSuchWorker × AtSome L.start (λ s. ¬ IsSubject (graph_of_store s) self.old.worker)) ⊎ (why ≡ CreateFault.OutOfMemory)) }
+    {
+        if self.retired() {
+            return Err(CreateFault::NoSuchWorker);
+        }
+        self.make_room(state).map_err(|_| CreateFault::OutOfMemory)
     }
 
     /// The session's worker leaves, by one call of [`Locked::leave`](crate::Locked::leave) under the lock: it gives up

@@ -48,6 +48,7 @@ mod helpers;
 mod keeper;
 pub mod laws;
 mod locked;
+mod making;
 mod receipt;
 mod round;
 mod session;

@@ -1,18 +1,19 @@
 //! The value behind the lock, and what each call does to it.
 ghost use Rattle.std.specs.Prelude.{◌≡◌, ◌≢◌, ◌↔◌, ◌⊎◌, ◌<◌, ◌≤◌, ◌+◌, ◌^◌, Err, Some, false, true, IfOk, IfErr, IsErrAnd, OnOk, OnErr, length};
 ghost use Rattle.tg_subjects.specs.Subjects.{names_of};
-ghost use Rattle.tg_shared.specs.Sessions.{AreFresh, reply_entered};
+ghost use Rattle.tg_shared.specs.Sessions.{AreFresh};
 
+use crate::making::make;
 use crate::round::Round;
 use crate::session::Session;
 use std::alloc::{AllocError, Global};
 use std::marker::Model;
 use std::sync::ledger::{Blank, Book, Share};
 use tg_journal::{Entry, Journal};
-use tg_model::{Command, Deed, Picture, Reply};
+use tg_model::{Command, Deed, Picture};
 use tg_payload::{Draft, Payload};
 use tg_rights::Label;
-use tg_store::{ApplyFault, CreateFault, CreateRefused, Kind, RoomFault, Store};
+use tg_store::{ApplyFault, CreateFault, CreateRefused, Kind, Making, RoomFault, Store};
 use tg_subjects::Subject;
 
 /// What is behind the lock: the store, the book that counts its entries since it was shared, and the parts of the
@@ -48,6 +49,7 @@ impl<L: Round, P: Payload> Locked<L, P> {
     ghost use Rattle.tg_model.specs.Rules.{IsAllowed, step, answer_of};
     ghost use Rattle.tg_model.specs.declared.opening.TheConstants.{MAX_WORKERS};
     ghost use Rattle.tg_model.specs.declared.reply.Denial.{Denial};
+    ghost use Rattle.tg_model.specs.declared.reply.Reply.TheVariants as Reply;
     ghost use Rattle.tg_graph.specs.Heap.{nursery_of};
     ghost use Rattle.tg_rules.specs.Effect.{AddsEdge, LacksCellsToServe};
     ghost use Rattle.tg_could.specs.Reached.{IsReachedPicture};
@@ -176,29 +178,14 @@ impl<L: Round, P: Payload> Locked<L, P> {
         ensures sessions { self.new.sessions ≡ self.old.sessions }
         ensures entered { self.new.entered ≡ self.old.entered }
     {
-        let at = self.store.journal().len();
-        let worker = session.worker();
-        let law = draft.value().law;
-        let state = session.take_copy();
-        let created = self.store.create(worker, label, draft);
-        let reply = match &created {
-            Ok(name) => Reply::Name(*name),
-            Err(
-                CreateRefused {
-                    why: CreateFault::VerticesFull,
-                    ..
-                },
-            ) => Reply::VerticesFull,
-            Err(_) => return created,
-        };
-        let deed = Deed::Create { label, law, state };
-        let entry = Entry {
-            worker,
-            deed,
-            reply,
-        };
-        session.note(&mut self.book, at, entry);
-        created
+        make(
+            &mut self.store,
+            &mut self.book,
+            session,
+            Making::Object,
+            label,
+            draft,
+        )
     }
 
     /// Makes a subject, by one call of the store, and a session for it: with no receipt, and with one part of the
@@ -230,34 +217,19 @@ impl<L: Round, P: Payload> Locked<L, P> {
         ensures no_more_sessions { OnErr result (self.new.sessions ≡ self.old.sessions) }
         ensures entered { self.new.entered ≡ self.old.entered }
     {
-        let at = self.store.journal().len();
-        let worker = session.worker();
-        let law = draft.value().law;
-        let state = session.take_copy();
-        match self.store.spawn(worker, label, draft) {
-            Ok(name) => {
-                let entry = Entry {
-                    worker,
-                    deed: Deed::Spawn { label, law, state },
-                    reply: Reply::Name(name),
-                };
-                session.note(&mut self.book, at, entry);
-                self.sessions += 1;
-                let share = self.rest.split_off(1, 0);
-                Ok(Session::new(session.alloc(), name, share))
-            }
-            Err(refused) => {
-                if let Some(reply) = entered(refused.why) {
-                    let entry = Entry {
-                        worker,
-                        deed: Deed::Spawn { label, law, state },
-                        reply,
-                    };
-                    session.note(&mut self.book, at, entry);
-                }
-                Err(refused)
-            }
-        }
+        // It tells that the store is faithful, so there is a part left.
+        let _ = self.store.journal();
+        let name = make(
+            &mut self.store,
+            &mut self.book,
+            session,
+            Making::Subject,
+            label,
+            draft,
+        )?;
+        self.sessions += 1;
+        let share = self.rest.split_off(1, 0);
+        Ok(Session::new(session.alloc(), name, share))
     }
 
     /// The session's worker leaves, by one call of the store: it gives up each edge that it has, by rising name, and
@@ -355,17 +327,6 @@ impl<L: Round, P: Payload> Locked<L, P> {
             LacksRoomToCollect kind 1 self.old.store.heap }
     {
         self.store.collect(kind)
-    }
-}
-
-// The reply that a refusal has in the journal, if it made an entry.
-fn entered(why: CreateFault) -> Option<Reply>
-    ensures { result ≡ reply_entered why }
-{
-    match why {
-        CreateFault::VerticesFull => Some(Reply::VerticesFull),
-        CreateFault::WorkersFull => Some(Reply::WorkersFull),
-        CreateFault::NoSuchWorker | CreateFault::OutOfMemory | CreateFault::HeapFull => None,
     }
 }
 

@@ -1,26 +1,15 @@
-use Rattle.std.proofs.Common.{◌≡◌, ◌∙◌, ◌<◌, ◌≤◌, ◌+◌, ◌^◌, ℕ, length, false, Some, Err, ap, arith, refl, subst, sym}
+use Rattle.std.proofs.Common.{◌≡◌, ◌∙◌, ◌<◌, ◌≤◌, ◌+◌, ◌^◌, ℕ, false, length, Err, ap, arith, refl, subst, sym}
+use Rattle.std.proofs.lemmas.Result.{err_from_is_err_and}
 use Rattle.tg_model.specs.declared.command.Deed.{Deed}
 use Rattle.tg_model.specs.declared.reply.Reply.{Reply}
-use Rattle.tg_model.specs.declared.opening.TheConstants.{MAX_WORKERS}
-use Rattle.tg_model.specs.Graph.{IsSubject}
-use Rattle.tg_store.specs.declared.fault.CreateFault.{CreateFault}
-use Rattle.tg_store.specs.declared.fault.CreateFault.TheVariants as fault
-use Rattle.tg_store.specs.Made.{IsMadeFor, MayRefuse}
-use Rattle.tg_store.specs.Store.{Enters, StandsFor, StoreState, graph_of_store}
+use Rattle.tg_store.specs.Made.{MayRefuse}
+use Rattle.tg_store.specs.Store.{Enters, StoreState, graph_of_store}
 use Rattle.tg_shared.specs.declared.session.Session.{Session}
-use Rattle.tg_shared.specs.Sessions.{LockedState, made_subject, reply_entered}
-use Rattle.tg_shared.proofs.Balances.{balanced_entered, balanced_spawned, goes_on_entered, grown, made_more, part_left, parts_left}
+use Rattle.tg_shared.specs.Sessions.{LockedState, Records, made_subject, reply_made}
+use Rattle.tg_shared.proofs.Balances.{balanced_spawned, goes_on_entered, grown, made_more, part_left, parts_left}
+use Rattle.tg_shared.proofs.Makings.{entered_as, locked_noted}
 use Rattle.tg_shared.proofs.Refusals.{refusals_made, refusals_none, refusals_same}
-use Rattle.tg_shared.proofs.locked.Locked.spawn.Goals.{in-Some, in_default+in-Many-1, in_default+in-None-1}
 use Rattle.tg_shared.proofs.locked.Locked.spawn.Goals as goal
-
--- a refusal that makes an entry has one of two replies
-entered_as : (E : Reply → Type 0) (why : CreateFault) (reply : Reply) → reply_entered why ≡ Some reply → (why ≡ fault.VerticesFull → E Reply.VerticesFull) → (why ≡ fault.WorkersFull → E Reply.WorkersFull) → E reply
-entered_as E fault.NoSuchWorker reply is v w = let no : ⊥ = cc in absurd no
-entered_as E fault.VerticesFull reply is v w = let same : Reply.VerticesFull ≡ reply = cc in subst E same (v refl)
-entered_as E fault.WorkersFull reply is v w = let same : Reply.WorkersFull ≡ reply = cc in subst E same (w refl)
-entered_as E fault.HeapFull reply is v w = let no : ⊥ = cc in absurd no
-entered_as E fault.OutOfMemory reply is v w = let no : ⊥ = cc in absurd no
 
 -- a ledger's parts are a 64-bit number
 within_word : (limit parts : ℕ) → limit ≤ 281474976710656 → parts ≡ limit + 1 → parts < 2 ^ 64
@@ -35,8 +24,13 @@ not_the_last rest more last = omega arith
 one_more : (sessions made next : ℕ) → sessions ≡ made → next ≡ made + 1 → sessions + 1 ≡ next
 one_more sessions made next is more = omega arith
 
-as_many : (sessions made next : ℕ) → sessions ≡ made → next ≡ made + 0 → sessions ≡ next
-as_many sessions made next is same = omega arith
+pub invariant_of-self : goal.invariant_of-self
+invariant_of-self g c =
+    let deed : Deed = Deed.Spawn c.args.label c.args.draft.law c.args.draft.state in
+    let told = c.in_err-name.ensures in
+    locked_noted g.L.Round.start c.self.inside.store c.make.new.store c.args.session.now c.make.new.session _ _ _ _ _ _ deed _ told.noted
+    (λ none. let same = told.nothing none in (same.0, ap (λ b. b.total) same.1)) (λ reply is. entered_as (λ r. made_subject deed r ≡ false) _ reply is (λ _. refl) (λ _. refl))
+    told.refusals.opening told.refusals.limits told.refusals.handed c.self.invariant
 
 pub split_off-share-requires-clause-has_parts : goal.split_off-share-requires-clause-has_parts
 split_off-share-requires-clause-has_parts g c =
@@ -44,77 +38,48 @@ split_off-share-requires-clause-has_parts g c =
 
 pub split_off-share-requires-clause-left_backed : goal.split_off-share-requires-clause-left_backed
 split_off-share-requires-clause-left_backed g c = λ last.
+    let told = c.in_ok-name.ensures in
     absurd
     (not_the_last c.self.inside.rest.parts
-    (parts_left c.self.inside.store c.spawn.new.self (length g.L.Round.start.entries) c.self.inside.sessions c.self.inside.book.total c.self.inside.rest.parts g.L.Ledger.parts c.worker-worker.result c.in-Ok.name c.args.label c.args.draft.law c.args.draft.state
-    c.self.invariant.0 c.journal.ensures.faithful c.in-Ok.ensures.entry (c.in-Ok.ensures.made.name (graph_of_store c.self.inside.store) refl) c.spawn.ensures.refusals.opening) last)
+    (parts_left c.self.inside.store c.make.new.store (length g.L.Round.start.entries) c.self.inside.sessions c.self.inside.book.total c.self.inside.rest.parts g.L.Ledger.parts c.args.session.now.worker c.in_ok-name.name c.args.label c.args.draft.law c.args.draft.state
+    c.self.invariant.0 c.journal.ensures.faithful (told.noted (Reply.Name c.in_ok-name.name) refl).0.entry (told.made.name (graph_of_store c.self.inside.store) refl) told.refusals.opening) last)
 
 pub new-requires : goal.new-requires
 new-requires g c =
     let limit = c.journal.ensures.faithful.plan.limits.1 in
     (c.split_off-share.ensures.parts, c.split_off-share.ensures.amount, within_word c.self.inside.store.opening.limit g.L.Ledger.parts limit c.self.invariant.0.enough)
 
-pub invariant_of-self : goal.invariant_of-self
-invariant_of-self g c =
+pub invariant_of-self-2 : goal.invariant_of-self-2
+invariant_of-self-2 g c =
     let old : StoreState = c.self.inside.store in
-    let new : StoreState = c.spawn.new.self in
+    let new : StoreState = c.make.new.store in
+    let told = c.in_ok-name.ensures in
     let deed : Deed = Deed.Spawn c.args.label c.args.draft.law c.args.draft.state in
-    let entry : Enters old new c.worker-worker.result deed (Reply.Name c.in-Ok.name) = c.in-Ok.ensures.entry in (
-      balanced_spawned old new (length g.L.Round.start.entries) c.self.inside.sessions c.self.inside.book.total c.note.new.book.total c.self.inside.rest.parts c.split_off-share.new.self.parts g.L.Ledger.parts
-          c.worker-worker.result c.in-Ok.name c.args.label c.args.draft.law c.args.draft.state c.self.invariant.0 entry (c.in-Ok.ensures.made.name (graph_of_store old) refl) c.spawn.ensures.refusals.opening c.note.ensures.book c.split_off-share.ensures.parts_left,
+    let noted = told.noted (Reply.Name c.in_ok-name.name) refl in
+    let entry : Enters old new c.args.session.now.worker deed (Reply.Name c.in_ok-name.name) = noted.0.entry in (
+      balanced_spawned old new (length g.L.Round.start.entries) c.self.inside.sessions c.self.inside.book.total c.make.new.book.total c.self.inside.rest.parts c.split_off-share.new.self.parts g.L.Ledger.parts
+          c.args.session.now.worker c.in_ok-name.name c.args.label c.args.draft.law c.args.draft.state c.self.invariant.0 entry (told.made.name (graph_of_store old) refl) told.refusals.opening noted.1 c.split_off-share.ensures.parts_left,
       c.self.invariant.1,
       (as_before c.split_off-share.new.self.amount c.self.inside.rest.amount c.self.inside.entered c.split_off-share.ensures.amount_left c.self.invariant.2.0, c.self.invariant.2.1),
-      goes_on_entered g.L.Round.start old new c.worker-worker.result deed (Reply.Name c.in-Ok.name) c.self.invariant.3 entry c.spawn.ensures.refusals.opening c.spawn.ensures.refusals.limits c.spawn.ensures.refusals.handed,
-      one_more c.self.inside.sessions _ _ c.self.invariant.4 (made_more g.L.Round.start old new c.worker-worker.result deed (Reply.Name c.in-Ok.name) entry (grown g.L.Round.start old c.self.invariant.3)),
+      goes_on_entered g.L.Round.start old new c.args.session.now.worker deed (Reply.Name c.in_ok-name.name) c.self.invariant.3 entry told.refusals.opening told.refusals.limits told.refusals.handed,
+      one_more c.self.inside.sessions _ _ c.self.invariant.4 (made_more g.L.Round.start old new c.args.session.now.worker deed (Reply.Name c.in_ok-name.name) entry (grown g.L.Round.start old c.self.invariant.3)),
     )
 
-pub invariant_of-self-in-Some : goal.invariant_of-self-in-Some
-invariant_of-self-in-Some g c =
-    let old : StoreState = c.self.inside.store in
-    let new : StoreState = c.spawn.new.self in
+pub returns-in_err-name-clause-refusals : goal.returns-in_err-name-clause-refusals
+returns-in_err-name-clause-refusals g c =
     let deed : Deed = Deed.Spawn c.args.label c.args.draft.law c.args.draft.state in
-    let reply : Reply = c.in-Some.reply in
-    let E : Reply → Type 0 = λ r. Enters old new c.worker-worker.result deed r × (made_subject deed r ≡ false) in
-    let held : E reply = entered_as E c.in-Err.refused.why reply (sym c.entered.ensures ∙ c.in-Some.is)
-    (λ why. ((c.in-Err.ensures.no_more_entry why).entry, refl)) (λ why. ((c.in-Err.ensures.too_many_entry why).entry, refl)) in
-    let more = made_more g.L.Round.start old new c.worker-worker.result deed reply held.0 (grown g.L.Round.start old c.self.invariant.3) in (
-      balanced_entered old new (length g.L.Round.start.entries) c.self.inside.sessions c.self.inside.book.total c.note-in-Some.new.book.total c.self.inside.rest.parts g.L.Ledger.parts
-          c.worker-worker.result deed reply c.self.invariant.0 held.0 c.spawn.ensures.refusals.opening c.note-in-Some.ensures.book,
-      c.self.invariant.1,
-      c.self.invariant.2,
-      goes_on_entered g.L.Round.start old new c.worker-worker.result deed reply c.self.invariant.3 held.0 c.spawn.ensures.refusals.opening c.spawn.ensures.refusals.limits c.spawn.ensures.refusals.handed,
-      as_many c.self.inside.sessions _ _ c.self.invariant.4 (rw held.1 at more),
-    )
+    let given = err_from_is_err_and c.from_residual.result c.from_residual.ensures.1 in
+    let here : MayRefuse {P = g.row.P.Denot} {T = Session g.row.L.Denot} deed c.args.session.now.worker c.args.draft c.args.self.now.store c.make.new.store (Err c.in_err-name.field-0.0) =
+    refusals_none _ _ _ _ _ _ (refusals_same _ _ _ _ _ _ _ _ (ap (λ (b : LockedState). b.store) c.self.view_is) refl c.in_err-name.ensures.refusals) in
+    subst (MayRefuse {P = g.row.P.Denot} {T = Session g.row.L.Denot} deed c.args.session.now.worker c.args.draft c.args.self.now.store c.make.new.store) (sym (given.1 ∙ ap Err given.2)) here
 
-pub returns-in-Ok-clause-made : goal.returns-in-Ok-clause-made
-returns-in-Ok-clause-made g c =
+pub returns-clause-entry : goal.returns-clause-entry
+returns-clause-entry g c =
     let deed : Deed = Deed.Spawn c.args.label c.args.draft.law c.args.draft.state in
-    let made : StoreState → ℕ → ℕ → Type 0 = λ s w name. IsMadeFor deed w c.args.label c.args.draft s c.spawn.new.self name in
-    let named = subst (made c.self.inside.store c.worker-worker.result) (sym c.new.ensures.0) c.in-Ok.ensures.made in
-    subst (λ (b : LockedState). made b.store c.args.session.now.worker c.new.result.worker) c.self.view_is (subst (λ (w : ℕ). made c.self.inside.store w c.new.result.worker) c.worker-worker.ensures named)
+    let noted : StoreState → ℕ → Type 0 = λ s name. Records s c.make.new.store c.args.session.now c.make.new.session deed (Reply.Name name) in
+    subst (noted c.args.self.now.store) (sym c.new.ensures.0) (subst (λ (b : LockedState). noted b.store c.in_ok-name.name) c.self.view_is (c.in_ok-name.ensures.noted (Reply.Name c.in_ok-name.name) refl).0)
 
-pub returns-in-Ok-clause-refusals : goal.returns-in-Ok-clause-refusals
-returns-in-Ok-clause-refusals g c =
-    refusals_made _ _ _ _ _ c.in-Ok.name c.new.result
-    (refusals_same _ _ _ _ _ _ _ _ (ap (λ (b : LockedState). b.store) c.self.view_is) c.worker-worker.ensures c.in-Ok.ensures.refusals)
-
-pub returns-after-entered-clause-refusals : goal.returns-after-entered-clause-refusals
-returns-after-entered-clause-refusals g c =
-    let deed : Deed = Deed.Spawn c.args.label c.args.draft.law c.args.draft.state in
-    let told : StoreState → Type 0 = λ s. MayRefuse {P = g.row.P.Denot} {T = Session g.row.L.Denot} deed c.args.session.now.worker c.args.draft c.args.self.now.store s (Err c.in-Err.refused) in
-    let here : told c.spawn.new.self =
-    refusals_none _ _ _ _ _ c.in-Err.refused
-    (refusals_same _ _ _ _ _ _ _ _ (ap (λ (b : LockedState). b.store) c.self.view_is) c.worker-worker.ensures c.in-Err.ensures.refusals) in
-    let same : c.match-entered.self.store ≡ c.spawn.new.self = elim c.match-entered.branch [
-      | in-Some w ↦ ap (λ b. b.store) w.self-is
-      | in_default+in-Many-1 w ↦ ap (λ b. b.store) w.self-is
-      | in_default+in-None-1 w ↦ ap (λ b. b.store) w.self-is
-    ] in
-    subst told (sym same) here
-
-pub returns-after-entered-clause-too_many : goal.returns-after-entered-clause-too_many
-returns-after-entered-clause-too_many g c =
-    λ graph stands.
-    let here : StandsFor c.self.inside.store graph = ap (λ (b : LockedState). graph_of_store b.store) c.self.view_is ∙ stands in
-    subst (λ (w : ℕ). c.in-Err.refused.why ≡ fault.WorkersFull → IsSubject graph w × (graph.made < graph.limit) × (MAX_WORKERS ≤ length graph.subjects)) c.worker-worker.ensures
-    (c.in-Err.ensures.too_many graph here)
+pub returns-clause-refusals : goal.returns-clause-refusals
+returns-clause-refusals g c =
+    refusals_made _ _ _ _ _ c.in_ok-name.name c.new.result
+    (refusals_same _ _ _ _ _ _ _ _ (ap (λ (b : LockedState). b.store) c.self.view_is) refl c.in_ok-name.ensures.refusals)

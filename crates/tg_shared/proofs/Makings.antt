@@ -1,0 +1,63 @@
+-- What the answer of a make tells of its entry, and what is behind the lock then.
+use Rattle.std.specs.Prelude.{IfOk, IfErr}
+use Rattle.std.proofs.Common.{◌≡◌, ◌≢◌, ℕ, ◌+◌, false, Option, Some, None, Result, Ok, Err, arith, refl, subst, sym}
+use Rattle.tg_model.specs.declared.command.Deed.{Deed}
+use Rattle.tg_model.specs.declared.reply.Reply.{Reply}
+use Rattle.tg_model.specs.declared.reply.Reply.TheVariants.{Name, VerticesFull, WorkersFull}
+use Rattle.tg_store.specs.declared.fault.CreateFault.{CreateFault}
+use Rattle.tg_store.specs.declared.fault.CreateFault.TheVariants as fault
+use Rattle.tg_store.specs.declared.fault.CreateRefused.{CreateRefused}
+use Rattle.tg_store.specs.Store.{StoreState, Enters}
+use Rattle.tg_shared.specs.Sessions.{GoesOn, IsBalanced, Records, RecordsNothing, SessionState, SharedStart, made_subject, reply_entered, reply_made, sessions_made}
+use Rattle.tg_shared.proofs.Balances.{balanced_entered, goes_on_entered, grown, locked_same, made_more}
+
+-- a refusal that makes an entry has one of two replies
+pub entered_as : (E : Reply → Type 0) (why : CreateFault) (reply : Reply) → reply_entered why ≡ Some reply → (why ≡ fault.VerticesFull → E VerticesFull) → (why ≡ fault.WorkersFull → E WorkersFull) → E reply
+entered_as E fault.NoSuchWorker reply is v w = let no : ⊥ = cc in absurd no
+entered_as E fault.VerticesFull reply is v w = let same : VerticesFull ≡ reply = cc in subst E same (v refl)
+entered_as E fault.WorkersFull reply is v w = let same : WorkersFull ≡ reply = cc in subst E same (w refl)
+entered_as E fault.HeapFull reply is v w = let no : ⊥ = cc in absurd no
+entered_as E fault.OutOfMemory reply is v w = let no : ⊥ = cc in absurd no
+
+-- and an answer one of three
+pub made_as : {P : Type 0} (E : Reply → Type 0) (answer : Result ℕ (CreateRefused P)) (reply : Reply) → reply_made answer ≡ Some reply → IfOk answer (λ name. E (Name name))
+    → IfErr answer (λ refused. refused.why ≡ fault.VerticesFull → E VerticesFull) → IfErr answer (λ refused. refused.why ≡ fault.WorkersFull → E WorkersFull) → E reply
+made_as E (Ok name) reply is named v w = let same : Name name ≡ reply = cc in subst E same named
+made_as E (Err refused) reply is named v w = entered_as E refused.why reply is v w
+
+entered_none : (why : CreateFault) → why ≢ fault.VerticesFull → why ≢ fault.WorkersFull → reply_entered why ≡ None
+entered_none fault.NoSuchWorker v w = refl
+entered_none fault.VerticesFull v w = absurd (v refl)
+entered_none fault.WorkersFull v w = absurd (w refl)
+entered_none fault.HeapFull v w = refl
+entered_none fault.OutOfMemory v w = refl
+
+-- a refusal that makes no entry, where no subject was to be made
+pub refused_made : {P N : Type 0} (answer : Result ℕ (CreateRefused P)) → (reply_made answer ≡ None → N) → IfErr answer (λ refused. refused.why ≢ fault.WorkersFull)
+    → IfErr answer (λ refused. refused.why ≢ fault.VerticesFull → N)
+refused_made (Ok name) nothing not_full = tt
+refused_made (Err refused) nothing not_full = λ some. nothing (entered_none refused.why some not_full)
+
+as_many : (sessions made next : ℕ) → sessions ≡ made → next ≡ made + 0 → sessions ≡ next
+as_many sessions made next is same = omega arith
+
+-- What is so behind the lock stays so where what was entered of a make is noted, and it made no subject.
+pub locked_noted : {P Q : Type 0} (start : SharedStart) (old new : StoreState) (before after : SessionState) (first sessions total next rest parts : ℕ) (deed : Deed) (noted : Option Reply)
+    → ((reply : Reply) → noted ≡ Some reply → Records old new before after deed reply × (next ≡ total + 1)) → (noted ≡ None → RecordsNothing old new before after × (next ≡ total))
+    → ((reply : Reply) → noted ≡ Some reply → made_subject deed reply ≡ false) → new.opening ≡ old.opening → new.heap.table.limits ≡ old.heap.table.limits → new.handed ≡ old.handed
+    → IsBalanced old first sessions total rest parts × P × Q × GoesOn start old × (sessions ≡ sessions_made start old.entries)
+    → IsBalanced new first sessions next rest parts × P × Q × GoesOn start new × (sessions ≡ sessions_made start new.entries)
+locked_noted start old new before after first sessions total next rest parts deed (Some reply) some none object opening limits handed held =
+    let told = some reply refl in
+    let entry : Enters old new before.worker deed reply = told.0.entry in
+    let more = made_more start old new before.worker deed reply entry (grown start old held.3) in (
+      balanced_entered old new first sessions total next rest parts before.worker deed reply held.0 entry opening told.1,
+      held.1,
+      held.2,
+      goes_on_entered start old new before.worker deed reply held.3 entry opening limits handed,
+      as_many sessions _ _ held.4 (rw (object reply refl) at more),
+    )
+locked_noted start old new before after first sessions total next rest parts deed None some none object opening limits handed held =
+    let told = none refl in
+    let same = locked_same start old new first sessions total rest parts held told.0.0.entries opening limits handed in
+    (subst (λ (n : ℕ). IsBalanced new first sessions n rest parts) (sym told.1) same.0, same.1, same.2, same.3, same.4)

@@ -1,0 +1,79 @@
+//! A vertex made for a session, and the receipt of what was entered of it.
+ghost use Rattle.std.specs.Prelude.{◌≡◌, ◌⊎◌, ◌<◌, ◌≤◌, ◌+◌, Some, None, IfOk, IfErr, IsErrAnd, length};
+ghost use Rattle.tg_model.specs.Graph.{ProtectionGraph, IsSubject};
+ghost use Rattle.tg_model.specs.declared.opening.TheConstants.{MAX_WORKERS};
+ghost use Rattle.tg_store.specs.Made.{IsMadeFor, MayRefuse};
+ghost use Rattle.tg_store.specs.Making.{deed_making};
+ghost use Rattle.tg_store.specs.Store.{StandsFor};
+ghost use Rattle.tg_shared.specs.Sessions.{MayNote, Records, RecordsNothing, reply_entered, reply_made};
+
+use crate::round::Round;
+use crate::session::Session;
+use std::sync::ledger::Book;
+use tg_journal::Entry;
+use tg_model::{Reply, Value};
+use tg_payload::{Draft, Payload};
+use tg_rights::Label;
+use tg_store::{CreateFault, CreateRefused, Making, Store};
+
+/// Makes a vertex of a kind for the session's subject, by one call of the store, and notes the receipt of the entry
+/// that came of it, if one did.
+pub(crate) fn make<L: Round, P: Payload>(
+    store: &mut Store<P>,
+    book: &mut Book<L>,
+    session: &mut Session<L>,
+    kind: Making,
+    label: Label,
+    draft: Draft<P>,
+) -> Result<u64, CreateRefused<P>>
+    requires notable { MayNote session.old draft.state }
+    ensures made { IfOk result (IsMadeFor (deed_making kind label draft) session.old.worker label draft store.old store.new) }
+    ensures refusals { MayRefuse (deed_making kind label draft) session.old.worker draft store.old store.new result }
+    ensures too_many { (g : ProtectionGraph) → StandsFor store.old g → IfErr result (λ refused. refused.why ≡ CreateFault.WorkersFull →
+        (kind ≡ Making.Subject) × IsSubject g session.old.worker × (g.made < g.limit) × (MAX_WORKERS ≤ length g.subjects)) }
+    ensures crowded { kind ≡ Making.Subject → (g : ProtectionGraph) → StandsFor store.old g → IsSubject g session.old.worker → g.made < g.limit → MAX_WORKERS ≤ length g.subjects →
+        IsErrAnd result (λ refused. (refused.why ≡ CreateFault.WorkersFull) ⊎ (refused.why ≡ CreateFault.OutOfMemory)) }
+    ensures noted { (reply : Reply) → reply_made result ≡ Some reply → Records store.old store.new session.old session.new (deed_making kind label draft) reply × (book.new.total ≡ book.old.total + 1) }
+    ensures same_heap { IfErr result (λ refused. (reply : Reply) → reply_entered refused.why ≡ Some reply → store.new.heap ≡ store.old.heap) }
+    ensures nothing { reply_made result ≡ None → RecordsNothing store.old store.new session.old session.new × (book.new ≡ book.old) }
+{
+    let at = store.journal().len();
+    let worker = session.worker();
+    let law = draft.value().law;
+    let state = session.take_copy();
+    let answer = store.make(worker, kind, label, draft);
+    if let Some(reply) = reply_made(&answer) {
+        let deed = kind.deed(label, Value { law, state });
+        session.note(
+            book,
+            at,
+            Entry {
+                worker,
+                deed,
+                reply,
+            },
+        );
+    }
+    answer
+}
+
+// The reply that the answer of a make has in the journal, if it made an entry.
+fn reply_made<P: Payload>(answer: &Result<u64, CreateRefused<P>>) -> Option<Reply>
+    ensures { result ≡ reply_made answer.now }
+{
+    match answer {
+        Ok(name) => Some(Reply::Name(*name)),
+        Err(refused) => entered(refused.why),
+    }
+}
+
+// The reply that a refusal has in the journal, if it made an entry.
+fn entered(why: CreateFault) -> Option<Reply>
+    ensures { result ≡ reply_entered why }
+{
+    match why {
+        CreateFault::VerticesFull => Some(Reply::VerticesFull),
+        CreateFault::WorkersFull => Some(Reply::WorkersFull),
+        CreateFault::NoSuchWorker | CreateFault::OutOfMemory | CreateFault::HeapFull => None,
+    }
+}
