@@ -7,7 +7,7 @@ use Rattle.std.specs.List.Sorted.{IsStrictlyIncreasing}
 use Rattle.std.proofs.lemmas.List.Elements.{All-contains, All-contains_itself, All-filter, Contains-get_or}
 use Rattle.std.proofs.lemmas.List.Kept.{IsStrictlyIncreasing-filter}
 use Rattle.tg_model.specs.declared.command.Command.{Command}
-use Rattle.tg_model.specs.declared.command.Command.TheVariants.{Take, Grant, Remove, Read, Write, Append, Inspect, List as Listing, Retire}
+use Rattle.tg_model.specs.declared.command.Command.TheVariants.{Retire}
 use Rattle.tg_rights.specs.RightSet.{RightSet}
 use Rattle.tg_model.specs.declared.law.Law.{Law}
 use Rattle.tg_model.specs.declared.command.Deed.TheVariants.{Spawn}
@@ -112,34 +112,13 @@ made-spawned g x label law state name answer =
 
 -- who is a subject after a command was one before it
 pub subject_before : (subjects : List ℕ) (x : ℕ) (command : Command) (y : ℕ) → Contains (subjects_after subjects x command) y → Contains subjects y
-subject_before subjects x (Take r y z) s is = is
-subject_before subjects x (Grant r y z) s is = is
-subject_before subjects x (Remove r y) s is = is
-subject_before subjects x (Read y) s is = is
-subject_before subjects x (Write y v) s is = is
-subject_before subjects x (Append y v) s is = is
-subject_before subjects x (Inspect y) s is = is
-subject_before subjects x Listing s is = is
 subject_before subjects x Retire s is = before_without subjects x s is
+subject_before subjects x command s is = is
 
 pub rising_after : (subjects : List ℕ) (x : ℕ) (command : Command) → IsStrictlyIncreasing subjects → IsStrictlyIncreasing (subjects_after subjects x command)
-rising_after subjects x (Take r y z) rising = rising
-rising_after subjects x (Grant r y z) rising = rising
-rising_after subjects x (Remove r y) rising = rising
-rising_after subjects x (Read y) rising = rising
-rising_after subjects x (Write y v) rising = rising
-rising_after subjects x (Append y v) rising = rising
-rising_after subjects x (Inspect y) rising = rising
-rising_after subjects x Listing rising = rising
 rising_after subjects x Retire rising = IsStrictlyIncreasing-filter (λ s. not (s == x)) subjects rising
+rising_after subjects x command rising = rising
 
 pub few_after : (subjects : List ℕ) (x : ℕ) (command : Command) → length (subjects_after subjects x command) ≤ length subjects
-few_after subjects x (Take r y z) = omega arith
-few_after subjects x (Grant r y z) = omega arith
-few_after subjects x (Remove r y) = omega arith
-few_after subjects x (Read y) = omega arith
-few_after subjects x (Write y v) = omega arith
-few_after subjects x (Append y v) = omega arith
-few_after subjects x (Inspect y) = omega arith
-few_after subjects x Listing = omega arith
 few_after subjects x Retire = length-without subjects x
+few_after subjects x command = omega arith

@@ -1,0 +1,57 @@
+-- The table of commands: what each asks for, by which word, and what stands behind the word.
+use Rattle.std.specs.Prelude.{ℕ, List, Option, Some, None, codes, if◌then◌else◌}
+use Rattle.std.specs.Str.{bytes_eq}
+use Rattle.tg_model.specs.declared.command.Command.{Command}
+use Rattle.tg_model.specs.declared.command.Command.TheVariants.{Take, Grant, Remove, Read, Write, Append, Inspect, List as Listing, Retire}
+use Rattle.tg_model.specs.declared.reply.Rule.{Rule}
+use Rattle.tg_model.specs.declared.reply.Rule.TheVariants as rule
+use Rattle.tg_model.specs.declared.verb.Verb.{Verb}
+use Rattle.tg_model.specs.declared.verb.Verb.TheVariants as verb
+use Rattle.tg_model.specs.declared.verb.Arguments.{Arguments}
+use Rattle.tg_model.specs.declared.verb.Arguments.TheVariants as behind
+
+-- the word
+abbrev pub word_of : Verb → List ℕ
+word_of verb.Take = codes "take"
+word_of verb.Grant = codes "grant"
+word_of verb.Remove = codes "remove"
+word_of verb.Read = codes "read"
+word_of verb.Write = codes "write"
+word_of verb.Append = codes "append"
+word_of verb.Inspect = codes "inspect"
+word_of verb.List = codes "list"
+word_of verb.Retire = codes "retire"
+
+-- what a command asks for, and what stands behind the word
+abbrev pub parts_of : Command → Verb × Arguments
+parts_of (Take rights y z) = (verb.Take, behind.Move y z rights)
+parts_of (Grant rights y z) = (verb.Grant, behind.Move y z rights)
+parts_of (Remove rights y) = (verb.Remove, behind.Rights y rights)
+parts_of (Read y) = (verb.Read, behind.Target y)
+parts_of (Write y v) = (verb.Write, behind.Value y v)
+parts_of (Append y v) = (verb.Append, behind.Value y v)
+parts_of (Inspect y) = (verb.Inspect, behind.Target y)
+parts_of Listing = (verb.List, behind.Bare)
+parts_of Retire = (verb.Retire, behind.Bare)
+
+-- what the commands ask for that a rule is of
+abbrev pub verb_of : Rule → Verb
+verb_of rule.Take = verb.Take
+verb_of rule.Grant = verb.Grant
+verb_of rule.Remove = verb.Remove
+verb_of rule.Read = verb.Read
+verb_of rule.Write = verb.Write
+verb_of rule.Append = verb.Append
+verb_of rule.Inspect = verb.Inspect
+
+-- and back: the command of a word with this behind it
+abbrev pub command_named : List ℕ → Arguments → Option Command
+command_named word behind.Bare =
+    if bytes_eq word (codes "list") then Some Listing else if bytes_eq word (codes "retire") then Some Retire else None
+command_named word (behind.Target y) =
+    if bytes_eq word (codes "read") then Some (Read y) else if bytes_eq word (codes "inspect") then Some (Inspect y) else None
+command_named word (behind.Value y v) =
+    if bytes_eq word (codes "write") then Some (Write y v) else if bytes_eq word (codes "append") then Some (Append y v) else None
+command_named word (behind.Rights y rights) = if bytes_eq word (codes "remove") then Some (Remove rights y) else None
+command_named word (behind.Move y z rights) =
+    if bytes_eq word (codes "take") then Some (Take rights y z) else if bytes_eq word (codes "grant") then Some (Grant rights y z) else None
