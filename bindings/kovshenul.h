@@ -377,8 +377,8 @@ tg_status tg_auditor_at(tg_auditor *auditor, uint64_t *at);
    nothing is given up. */
 tg_status tg_auditor_forget(tg_auditor *auditor, tg_store *store, uint64_t upto);
 
-/* Gives back what the auditor keeps of vertices that no worker reaches any more. It does so by itself whenever it keeps twice as many
-   as the last time left, and 65,536 at the least. Where there is no memory for it, nothing is given back. */
+/* Gives back what the auditor keeps of vertices that no worker reaches any more. It does so by itself whenever it keeps a quarter as
+   many again as the last time left, and 65,536 at the least. Where there is no memory for it, nothing is given back. */
 tg_status tg_auditor_sweep(tg_auditor *auditor);
 
 /* Gives back all memory of the auditor. *auditor is closed then, and may be opened again. */

@@ -1,5 +1,5 @@
 -- What the changes of a deed come to in the graph that is kept.
-use Rattle.std.proofs.Common.{◌≡◌, ◌==◌, ◌+◌, ◌<◌, ◌++◌, ◌∷◌, [], ℕ, List, length, Bool, true, false, cond, Option, None, refl, sym, ap, ◌∙◌}
+use Rattle.std.proofs.Common.{◌≡◌, ◌+◌, ◌<◌, ◌++◌, ◌∷◌, [], ℕ, List, length, Bool, true, false, cond, Option, None, refl, sym, ap, ◌∙◌}
 use mathlib.Core.Bool.{true≢false}
 use Rattle.tg_rights.specs.RightSet.{RightSet, no_rights, is_none_held}
 use Rattle.tg_model.specs.declared.value.Value.{Value}
@@ -9,29 +9,30 @@ use Rattle.tg_model.specs.Graph.{ProtectionGraph, IsReachable, with_rights}
 use Rattle.tg_model.specs.Opened.{Plan, start_of}
 use Rattle.tg_model.specs.Rules.{step, with_value, with_vertex}
 use Rattle.tg_model.proofs.AllowedLaws.{step-created, step-spawned}
-use Rattle.tg_journal.specs.Live.{Kept, Labels, graph_kept, label_between, value_of, IsSwept}
+use Rattle.tg_journal.specs.declared.vertices.Vertex.{Vertex}
+use Rattle.tg_journal.specs.Live.{Kept, graph_kept, label_between, value_of, IsSwept}
 
-abbrev pub kept : List ℕ → ℕ → ℕ → Labels → List (ℕ × Value) → Kept
-kept s n l es vs = record { subjects = s; made = n; limit = l; labels = es; values = vs }
+abbrev pub kept : List ℕ → ℕ → ℕ → List Vertex → Kept
+kept s n l vs = record { subjects = s; made = n; limit = l; vertices = vs }
 
 -- ---- the parts that change
 
-module _ (s : List ℕ) (n l : ℕ) (es : Labels) (vs : List (ℕ × Value)) (k : Kept) (view : kept s n l es vs ≡ k) where
-  pub relabelled : (new : Labels) (f : (ℕ → ℕ → RightSet) → ℕ → ℕ → RightSet) → label_between new ≡ f (label_between es) → graph_kept (kept s n l new vs) ≡ record (graph_kept k) { label = f (label_between k.labels) }
-  relabelled new f same =
-      (λ i. record { subjects = s; made = n; limit = l; label = same i; value = value_of vs })
-      ∙ ap (λ (k : Kept). record (graph_kept k) { label = f (label_between k.labels) }) view
+module _ (s : List ℕ) (n l : ℕ) (vs : List Vertex) (k : Kept) (view : kept s n l vs ≡ k) where
+  pub relabelled : (new : List Vertex) (f : (ℕ → ℕ → RightSet) → ℕ → ℕ → RightSet) → label_between new ≡ f (label_between vs) → value_of new ≡ value_of vs → graph_kept (kept s n l new) ≡ record (graph_kept k) { label = f (label_between k.vertices) }
+  relabelled new f labels values =
+      (λ i. record { subjects = s; made = n; limit = l; label = labels i; value = values i })
+      ∙ ap (λ (k : Kept). record (graph_kept k) { label = f (label_between k.vertices) }) view
 
-  pub rewritten : (new : List (ℕ × Value)) (f : (ℕ → Option Value) → ℕ → Option Value) → ((a : ℕ) → value_of new a ≡ f (value_of vs) a) → graph_kept (kept s n l es new) ≡ record (graph_kept k) { value = f (value_of k.values) }
-  rewritten new f same =
-      (λ i. record { subjects = s; made = n; limit = l; label = label_between es; value = λ a. same a i })
-      ∙ ap (λ (k : Kept). record (graph_kept k) { value = f (value_of k.values) }) view
+  pub rewritten : (new : List Vertex) (f : (ℕ → Option Value) → ℕ → Option Value) → label_between new ≡ label_between vs → ((a : ℕ) → value_of new a ≡ f (value_of vs) a) → graph_kept (kept s n l new) ≡ record (graph_kept k) { value = f (value_of k.vertices) }
+  rewritten new f labels values =
+      (λ i. record { subjects = s; made = n; limit = l; label = labels i; value = λ a. values a i })
+      ∙ ap (λ (k : Kept). record (graph_kept k) { value = f (value_of k.vertices) }) view
 
   -- a vertex more
-  pub created : (x : ℕ) (r : RightSet) (v : Value) (new : Labels) (us : List (ℕ × Value)) → label_between new ≡ with_rights (label_between es) x n r → ((a : ℕ) → value_of us a ≡ with_value (value_of vs) n v a) → n < l → graph_kept (kept s (n + 1) l new us) ≡ step (graph_kept k) x (Create r v.law v.state)
-  created x r v new us labels values room =
+  pub created : (x : ℕ) (r : RightSet) (v : Value) (new : List Vertex) → label_between new ≡ with_rights (label_between vs) x n r → ((a : ℕ) → value_of new a ≡ with_value (value_of vs) n v a) → n < l → graph_kept (kept s (n + 1) l new) ≡ step (graph_kept k) x (Create r v.law v.state)
+  created x r v new labels values room =
       (λ i. record { subjects = s; made = n + 1; limit = l; label = labels i; value = λ a. values a i })
-      ∙ sym (step-created (graph_kept (kept s n l es vs)) x r v.law v.state room)
+      ∙ sym (step-created (graph_kept (kept s n l vs)) x r v.law v.state room)
       ∙ ap (λ (k : Kept). step (graph_kept k) x (Create r v.law v.state)) view
 
 -- a vertex more, which is a subject
@@ -41,8 +42,8 @@ spawned g next k x r v subjects name is stands room few more made =
     (λ i. record (parts i) { subjects = (more ∙ ap (λ n. g.subjects ++ n ∷ []) made) i }) ∙ sym (step-spawned g x r v.law v.state room few)
 
 -- the graph of an opening
-pub opened : (p : Plan) (s : List ℕ) (n l : ℕ) (es : Labels) (vs : List (ℕ × Value)) → s ≡ (start_of p).subjects → n ≡ p.workers → l ≡ p.limit → label_between es ≡ (start_of p).label → value_of vs ≡ (start_of p).value → graph_kept (kept s n l es vs) ≡ start_of p
-opened p s n l es vs subjects made limit labels values =
+pub opened : (p : Plan) (s : List ℕ) (n l : ℕ) (vs : List Vertex) → s ≡ (start_of p).subjects → n ≡ p.workers → l ≡ p.limit → label_between vs ≡ (start_of p).label → value_of vs ≡ (start_of p).value → graph_kept (kept s n l vs) ≡ start_of p
+opened p s n l vs subjects made limit labels values =
     λ i. record { subjects = subjects i; made = made i; limit = limit i; label = labels i; value = values i }
 
 -- ---- a sweep
@@ -51,7 +52,7 @@ pub kept_edge : (b : Bool) (r : RightSet) → is_none_held (cond b r no_rights) 
 kept_edge true r some = some
 kept_edge false r some = absurd (true≢false some)
 
-module _ (s : List ℕ) (n l : ℕ) (es : Labels) (vs : List (ℕ × Value)) (k : Kept) (view : kept s n l es vs ≡ k) (names : ℕ → Bool) (new : Labels) (us : List (ℕ × Value)) (reached : (y : ℕ) → (names y ≡ true → IsReachable (graph_kept k) y) × (IsReachable (graph_kept k) y → names y ≡ true)) (labels : (x y : ℕ) → label_between new x y ≡ cond (names x) (label_between es x y) no_rights) (values : (y : ℕ) → value_of us y ≡ cond (names y) (value_of vs y) None) where
+module _ (s : List ℕ) (n l : ℕ) (vs : List Vertex) (k : Kept) (view : kept s n l vs ≡ k) (names : ℕ → Bool) (new : List Vertex) (reached : (y : ℕ) → (names y ≡ true → IsReachable (graph_kept k) y) × (IsReachable (graph_kept k) y → names y ≡ true)) (labels : (x y : ℕ) → label_between new x y ≡ cond (names x) (label_between vs x y) no_rights) (values : (y : ℕ) → value_of new y ≡ cond (names y) (value_of vs y) None) where
   is_out : (y : ℕ) → (IsReachable (graph_kept k) y → ⊥) → names y ≡ false
   is_out y out = not_in (names y) refl
     where
@@ -59,13 +60,13 @@ module _ (s : List ℕ) (n l : ℕ) (es : Labels) (vs : List (ℕ × Value)) (k 
       not_in true is = absurd (out ((reached y).0 (sym is)))
       not_in false is = sym is
 
-  pub swept : IsSwept (graph_kept k) (graph_kept (kept s n l new us))
+  pub swept : IsSwept (graph_kept k) (graph_kept (kept s n l new))
   swept = record {
     subjects = ap (λ (k : Kept). k.subjects) view;
     made = ap (λ (k : Kept). k.made) view;
     limit = ap (λ (k : Kept). k.limit) view;
-    label = λ x y there. labels x y ∙ ap (λ b. cond b (label_between es x y) no_rights) ((reached x).1 there) ∙ ap (λ (k : Kept). label_between k.labels x y) view;
-    value = λ y there. values y ∙ ap (λ b. cond b (value_of vs y) None) ((reached y).1 there) ∙ ap (λ (k : Kept). value_of k.values y) view;
-    no_label = λ x y out. labels x y ∙ ap (λ b. cond b (label_between es x y) no_rights) (is_out x out);
+    label = λ x y there. labels x y ∙ ap (λ b. cond b (label_between vs x y) no_rights) ((reached x).1 there) ∙ ap (λ (k : Kept). label_between k.vertices x y) view;
+    value = λ y there. values y ∙ ap (λ b. cond b (value_of vs y) None) ((reached y).1 there) ∙ ap (λ (k : Kept). value_of k.vertices y) view;
+    no_label = λ x y out. labels x y ∙ ap (λ b. cond b (label_between vs x y) no_rights) (is_out x out);
     no_value = λ y out. values y ∙ ap (λ b. cond b (value_of vs y) None) (is_out y out);
   }

@@ -1,19 +1,17 @@
 -- The names that a search collects: what a set has after more are added, and that a search ends with all that can be reached.
-use Rattle.std.proofs.Common.{◌≡◌, ◌⊎◌, inl, inr, ◌+◌, ◌<◌, ◌≤◌, ◌==◌, ℕ, zero, suc, Bool, true, false, cond, List, [], ◌∷◌, ◌++◌, length, get_or, map, nat_eq, refl, sym, ap, subst, ◌∙◌, arith, length-append}
+use Rattle.std.proofs.Common.{◌≡◌, ◌⊎◌, inl, inr, ◌+◌, ◌<◌, ◌≤◌, ◌==◌, ℕ, zero, suc, Bool, true, false, cond, List, [], ◌∷◌, ◌++◌, length, get_or, nat_eq, refl, sym, subst, ◌∙◌, arith, length-append}
 use Rattle.std.proofs.lemmas.List.{get_or_append_left}
 use Rattle.std.specs.Prelude.{◌||◌, IsTrue}
 use Rattle.std.specs.Cmp.{nat_eq_equiv}
-use Rattle.std.specs.List.{Contains, IsDistinct}
+use Rattle.std.specs.List.{Contains, IsDistinct, range_with_len}
 use Rattle.std.specs.Set.{is_member}
 use Rattle.std.proofs.lemmas.Bool.{eqb-true, eq-eqb}
 use Rattle.std.proofs.lemmas.Bool.Decides.{nat_tests}
 use Rattle.std.proofs.lemmas.Map.Made.{length-le_from_is_member}
 use Rattle.indexmap.specs.IndexSet.{insert_key, insert_all}
-use Rattle.tg_rights.specs.RightSet.{RightSet, is_none_held}
 use Rattle.tg_model.specs.Graph.{ProtectionGraph, IsSubject, HasEdge, IsReachable}
 use Rattle.tg_model.specs.Walks.{begins, goes, Walk-within}
-use Rattle.tg_journal.specs.Live.{Labels, label_between}
-use Rattle.tg_journal.proofs.EdgeLaws.{has_target}
+use Rattle.tg_model.proofs.PlainLaws.{is_subject}
 
 abbrev Has : List ℕ → ℕ → Type 0
 Has ks y = IsTrue (is_member nat_eq ks y)
@@ -186,9 +184,9 @@ module _ (g : ProtectionGraph) where
 
 -- ---- the search ends
 
--- the subjects, and the targets of all edges
-abbrev pub known : List ℕ → Labels → List ℕ
-known subjects es = subjects ++ map (λ e. e.0.1) es
+-- the subjects, and all names that were made
+abbrev pub known : List ℕ → ℕ → List ℕ
+known subjects made = subjects ++ range_with_len 0 made
 
 member_left : (xs ys : List ℕ) (y : ℕ) → Has xs y → Has (xs ++ ys) y
 member_left [] ys y has = let no : ⊥ = cc in absurd no
@@ -202,13 +200,13 @@ member_right : (xs ys : List ℕ) (y : ℕ) → Has ys y → Has (xs ++ ys) y
 member_right [] ys y has = has
 member_right (x ∷ xs) ys y has = right_true (y == x) (is_member nat_eq (xs ++ ys) y) (member_right xs ys y has)
 
-reached_known : (g : ProtectionGraph) (subjects : List ℕ) (es : Labels) (y : ℕ) → g.subjects ≡ subjects → g.label ≡ label_between es → IsReachable g y → Has (known subjects es) y
-reached_known g subjects es y same labels (begins there) =
-    member_left subjects (map (λ e. e.0.1) es) y (member_there subjects y (subst (λ (xs : List ℕ). Contains xs y) same there))
-reached_known g subjects es y same labels (goes {b = b} walk edge) =
-    member_right subjects (map (λ e. e.0.1) es) y (has_target es b y (sym (ap (λ (f : ℕ → ℕ → RightSet). is_none_held (f b y)) labels) ∙ edge))
+module _ (g : ProtectionGraph) (targets : (x y : ℕ) → HasEdge g.label x y → y < g.made) where
+  reached_known : (y : ℕ) → IsReachable g y → Has (known g.subjects g.made) y
+  reached_known y (begins there) = member_left g.subjects (range_with_len 0 g.made) y (member_there g.subjects y there)
+  reached_known y (goes {b = b} walk edge) =
+      member_right g.subjects (range_with_len 0 g.made) y (member_there (range_with_len 0 g.made) y (is_subject g.made y (targets b y edge)))
 
--- there are no more names than subjects and targets
-pub few_names : (g : ProtectionGraph) (subjects : List ℕ) (es : Labels) (ks : List ℕ) (next : ℕ) → g.subjects ≡ subjects → g.label ≡ label_between es → Searches g ks next → IsDistinct nat_eq ks → length ks ≤ length (known subjects es)
-few_names g subjects es ks next same labels was distinct =
-    length-le_from_is_member nat_eq_equiv ks (known subjects es) distinct (λ y has. reached_known g subjects es y same labels (was.only y has))
+  -- there are no more names than these
+  pub few_names : (ks : List ℕ) (next : ℕ) → Searches g ks next → IsDistinct nat_eq ks → length ks ≤ length (known g.subjects g.made)
+  few_names ks next was distinct =
+      length-le_from_is_member nat_eq_equiv ks (known g.subjects g.made) distinct (λ y has. reached_known y (was.only y has))

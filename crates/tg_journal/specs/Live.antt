@@ -1,44 +1,53 @@
--- What an audit keeps of a graph: labels by their two ends, and values by name.
-use Rattle.std.specs.Prelude.{◌≡◌, ℕ, ◌<◌, ◌^◌, false, List, [], ◌∷◌, Option, None}
-use Rattle.std.specs.BTreeMap.{is_at}
-use Rattle.std.specs.Map.{lookup}
-use Rattle.std.specs.Option.{unwrap_or}
-use Rattle.std.specs.Ordering.{nat_cmp, ordering_then}
-use Rattle.std.specs.declared.cmp.Ordering.{Ordering}
-use Rattle.tg_rights.specs.RightSet.{RightSet, no_rights, is_none_held}
+-- What an audit keeps of a graph: some of its vertices by rising name, each with its row of edges and what it stores.
+use Rattle.std.specs.Prelude.{◌≡◌, ℕ, ◌<◌, ◌≤◌, ◌+◌, ◌==◌, List, [], ◌∷◌, length, slice_index_or, Option, None, if◌then◌else◌}
+use Rattle.tg_rights.specs.RightSet.{RightSet, no_rights}
 use Rattle.tg_model.specs.declared.value.Value.{Value}
 use Rattle.tg_model.specs.Graph.{ProtectionGraph, IsReachable}
+use Rattle.tg_model.specs.Plain.{rights_in_row}
+use Rattle.tg_journal.specs.declared.vertices.Vertex.{Vertex}
 
-abbrev pub Labels : Type 0
-Labels = List ((ℕ × ℕ) × RightSet)
+-- what the vertex of the name x gives; none where there is none
+abbrev pub at_name : {X : Type 0} → (Vertex → X) → X → List Vertex → ℕ → X
+at_name of none [] x = none
+at_name of none (v ∷ vs) x = if x == v.name then of v else at_name of none vs x
 
--- two ends are ordered by the vertex that holds the rights, and then by that over which they are held
-abbrev pub by_ends : ℕ × ℕ → ℕ × ℕ → Ordering
-by_ends p q = ordering_then (nat_cmp p.0 q.0) (nat_cmp p.1 q.1)
+-- the rights of x over y
+abbrev pub label_between : List Vertex → ℕ → ℕ → RightSet
+label_between vs x y = at_name (λ v. rights_in_row v.row y) no_rights vs x
 
--- the rights of x over y: none where there is no entry
-abbrev pub label_between : Labels → ℕ → ℕ → RightSet
-label_between es x y = unwrap_or (lookup (is_at (by_ends (x, y))) es) no_rights
+-- what y stores
+abbrev pub value_of : List Vertex → ℕ → Option Value
+value_of = at_name (λ v. v.value) None
 
--- no label is empty, and names are 64-bit numbers
-abbrev pub AreHeld : Labels → Type 0
-AreHeld [] = Unit {0}
-AreHeld (e ∷ es) = (is_none_held e.1 ≡ false) × (e.0.1 < 2 ^ 64) × AreHeld es
+-- the names strictly rise, from n on at the least
+abbrev pub NamesFrom : ℕ → List Vertex → Type 0
+NamesFrom n [] = Unit {0}
+NamesFrom n (v ∷ vs) = (n ≤ v.name) × NamesFrom (v.name + 1) vs
 
-abbrev pub value_of : List (ℕ × Value) → ℕ → Option Value
-value_of vs y = lookup (is_at (nat_cmp y)) vs
+abbrev pub name_at : List Vertex → ℕ → ℕ
+name_at vs i = (slice_index_or vs i (record { name = 0; row = []; value = None })).name
 
--- what an audit keeps: edges by their ends and values by name, both of some of the vertices
+-- the vertex of the name x stands at place i
+pub record IsAt (vs : List Vertex) (x i : ℕ) : Type 0 where
+  pub inside : i < length vs
+  pub name : name_at vs i ≡ x
+
+-- it would go there: smaller names stand before that place, and greater ones from it on
+pub record IsGap (vs : List Vertex) (x i : ℕ) : Type 0 where
+  pub inside : i ≤ length vs
+  pub smaller : (j : ℕ) → j < i → name_at vs j < x
+  pub greater : (j : ℕ) → i ≤ j → j < length vs → x < name_at vs j
+
+-- what an audit keeps
 pub record Kept : Type 0 where
   pub subjects : List ℕ
   pub made : ℕ
   pub limit : ℕ
-  pub labels : Labels
-  pub values : List (ℕ × Value)
+  pub vertices : List Vertex
 
 abbrev pub graph_kept : Kept → ProtectionGraph
 graph_kept k =
-    record { subjects = k.subjects; made = k.made; limit = k.limit; label = label_between k.labels; value = value_of k.values }
+    record { subjects = k.subjects; made = k.made; limit = k.limit; label = label_between k.vertices; value = value_of k.vertices }
 
 -- where memory was wanting for a deed: as before, but for what names store that weren't made yet
 pub record IsAsBefore (old new : ProtectionGraph) : Type 0 where

@@ -58,8 +58,9 @@ impl Auditor {
     /// Replays the next entries. `Ok` is answered only where they are a legal history of the graph so far, and then the
     /// audit has come to the graph after them. Else those before the place that is told are, and the audit has come
     /// there; of a bad entry it is the first, and of want of memory the audit can be fed again from it. It
-    /// [sweeps](Auditor::sweep) by itself whenever it has twice as many vertices as the last sweep left, and 65,536 at
-    /// the least; but not where nothing could be forgotten, since no rights were given up and no subject ended.
+    /// [sweeps](Auditor::sweep) by itself whenever it has a quarter as many vertices again as the last sweep left, and
+    /// 65,536 at the least; but not where nothing could be forgotten, since no rights were given up and no subject
+    /// ended.
     pub fn feed(&mut self, entries: &[Entry]) -> Result<(), AuditStopped>
         ensures legal { (g : ProtectionGraph) → HasComeTo g (graph_kept self.old) → OnOk result (Passes g entries.now (graph_kept self.new)) }
         ensures stopped { (g : ProtectionGraph) → HasComeTo g (graph_kept self.old) → IfErr result (IsStopped g entries.now (graph_kept self.new)) }
@@ -83,7 +84,7 @@ impl Auditor {
         Ok(())
     }
 
-    /// Forgets the edges and the values of all vertices that no subject reaches: no later entry can depend on them. The
+    /// Forgets all vertices that no subject reaches: no later entry can depend on them. The
     /// audit stays where it has come. Fails only when out of memory, and nothing is then forgotten.
     pub fn sweep(&mut self) -> Result<(), AllocError>
         ensures stays { (g : ProtectionGraph) → HasComeTo g (graph_kept self.old) → HasComeTo g (graph_kept self.new) }
@@ -93,8 +94,8 @@ impl Auditor {
         self.graph.sweep()
     }
 
-    // Sweeps where there are twice as many vertices as the last sweep left, unless nothing was given up since. Want of
-    // memory for it stops no audit: the next one comes where there are twice as many again.
+    // Sweeps where there are a quarter as many vertices again as the last sweep left, unless nothing was given up since.
+    // Want of memory for it stops no audit: the next one comes where there are a quarter as many again.
     fn sweep_where_due(&mut self)
         ensures { (g : ProtectionGraph) → HasComeTo g (graph_kept self.old) → HasComeTo g (graph_kept self.new) }
     {
@@ -102,7 +103,8 @@ impl Auditor {
             if self.graph.has_lost() {
                 let _ = self.sweep();
             }
-            self.sweep_at = self.graph.len().saturating_mul(2).max(FIRST_SWEEP);
+            let left = self.graph.len();
+            self.sweep_at = left.saturating_add(left / 4).max(FIRST_SWEEP);
         }
     }
 }

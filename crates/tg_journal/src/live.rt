@@ -1,30 +1,29 @@
 //! The graph of an audit, of which what no subject reaches may be forgotten.
-ghost use Rattle.std.specs.Prelude.{◌≡◌, ◌↔◌, IfOk, IsTrue};
+ghost use Rattle.std.specs.Prelude.{◌≡◌, ◌↔◌, ℕ, IfOk, IsTrue};
 ghost use Rattle.std.specs.List.{range_with_len};
+ghost use Rattle.tg_rights.specs.RightSet.{no_rights};
 ghost use Rattle.tg_model.specs.Opened.{IsPlan, start_of};
 ghost use Rattle.tg_journal.specs.Live.{label_between, value_of, graph_kept};
 
 mod service;
 mod sweep;
 
-use crate::edges::Edges;
+use crate::vertices::Vertices;
 use std::alloc::{AllocError, Global};
-use std::collections::BTreeMap;
 use std::marker::Model;
-use tg_model::{Labelled, Opening, Value};
+use tg_model::{Labelled, Opening};
 use tg_rights::Rights;
 
-/// A protection graph as edges by their ends and values by name, so that it takes memory by what it has and not by the
-/// names that were made. Contracts see it as `Kept`, the record of its parts, and speak of the protection graph
-/// `graph_kept` that these stand for.
+/// A protection graph as the vertices that are kept of it, so that it takes memory by what it has and not by the names
+/// that were made. Contracts see it as `Kept`, the record of its parts, and speak of the protection graph `graph_kept`
+/// that these stand for.
 #[derive(Drop)]
 pub(crate) struct LiveGraph {
     alloc: Global,
     subjects: Vec<u64>,
     made: u64,
     max_vertices: u64,
-    edges: Edges,
-    values: BTreeMap<u64, Value>,
+    vertices: Vertices,
     // Whether rights were given up, or a subject ended, since the last sweep. Else a sweep would find nothing to
     // forget.
     has_lost: bool,
@@ -37,9 +36,9 @@ impl Model for LiveGraph {
 
     ghost Value = { Kept };
 
-    ghost view = { λ a. record { subjects = a.subjects.items; made = a.made; limit = a.max_vertices; labels = a.edges; values = a.values.entries } };
+    ghost view = { λ a. record { subjects = a.subjects.items; made = a.made; limit = a.max_vertices; vertices = a.vertices } };
 
-    ghost invariant = { λ a. (x y : ℕ) → HasEdge (label_between a.edges) x y → y < a.made };
+    ghost invariant = { λ a. (x y : ℕ) → HasEdge (label_between a.vertices) x y → y < a.made };
 }
 
 impl LiveGraph {
@@ -51,15 +50,13 @@ impl LiveGraph {
         ensures plan { IsPlan opening.now }
     {
         let subjects = first_names(alloc, opening.workers())?;
-        let edges = opened_edges(alloc, opening)?;
-        let values = opened_values(alloc, opening)?;
+        let vertices = opened_vertices(alloc, opening)?;
         Ok(LiveGraph {
             alloc,
             subjects,
             made: opening.workers(),
             max_vertices: opening.max_vertices(),
-            edges,
-            values,
+            vertices,
             has_lost: false,
         })
     }
@@ -78,7 +75,7 @@ impl LiveGraph {
 
     /// How many vertices it has.
     pub(crate) fn len(&self) -> usize {
-        self.values.len()
+        self.vertices.len()
     }
 }
 
@@ -90,11 +87,11 @@ impl Labelled for LiveGraph {
     ghost value = { λ g. (graph_kept g).value };
 
     fn rights_over(&self, from: u64, to: u64) -> Rights {
-        self.edges.label(from, to)
+        self.vertices.label(from, to)
     }
 
     fn has_log(&self, name: u64) -> bool {
-        match self.values.get(&name) {
+        match self.vertices.value(name) {
             Some(value) => value.law.is_log(),
             None => false,
         }
@@ -108,24 +105,26 @@ fn first_names(alloc: Global, number: u64) -> Result<Vec<u64>, AllocError>
     (0..number).collect(alloc)
 }
 
-// The edges of an opening. Fails only when out of memory.
-fn opened_edges(alloc: Global, opening: &Opening) -> Result<Edges, AllocError>
-    ensures { IfOk result (λ edges. label_between edges ≡ (start_of opening.now).label) }
+// The vertices of an opening. Fails only when out of memory.
+fn opened_vertices(alloc: Global, opening: &Opening) -> Result<Vertices, AllocError>
+    ensures labels { IfOk result (λ vertices. label_between vertices ≡ (start_of opening.now).label) }
+    ensures values { IfOk result (λ vertices. value_of vertices ≡ (start_of opening.now).value) }
 {
-    let mut edges = Edges::new(alloc);
+    let mut vertices = opened_values(alloc, opening)?;
     for edge in opening.edges() {
-        edges.add(edge.from, edge.to, edge.label)?;
+        vertices.add(alloc, edge.from, edge.to, edge.label)?;
     }
-    Ok(edges)
+    Ok(vertices)
 }
 
-// The values of an opening. Fails only when out of memory.
-fn opened_values(alloc: Global, opening: &Opening) -> Result<BTreeMap<u64, Value>, AllocError>
-    ensures { IfOk result (λ values. value_of values.entries ≡ (start_of opening.now).value) }
+// The vertices of an opening, without edges. Fails only when out of memory.
+fn opened_values(alloc: Global, opening: &Opening) -> Result<Vertices, AllocError>
+    ensures labels { IfOk result (λ vertices. (x y : ℕ) → label_between vertices x y ≡ no_rights) }
+    ensures values { IfOk result (λ vertices. value_of vertices ≡ (start_of opening.now).value) }
 {
-    let mut values = BTreeMap::new(alloc);
+    let mut vertices = Vertices::new(alloc);
     for (name, value) in opening.values().iter().enumerate() {
-        values.insert(name as u64, value.copy(alloc)?)?;
+        vertices.put(alloc, name as u64, value.copy(alloc)?)?;
     }
-    Ok(values)
+    Ok(vertices)
 }

@@ -126,12 +126,12 @@ row_stands p es from plain row is all b q h =
     (Holds-edge ((graph_of p).label from b) q h) q h
 
 -- one edge more of a row stands in the list
-pub row_more : (es new : List Edge) (from : ℕ) (row : List (ℕ × RightSet)) (i : ℕ) (x : ℕ × RightSet) → new ≡ es ++ record { from = from; to = x.0; label = x.1 } ∷ [] → i < length row → x ≡ get_or row i x → AllWithin (StandsIn es from) row 0 i → AllWithin (StandsIn new from) row 0 (i + 1)
-row_more es new from row i x is inside here all =
+pub row_more : (es new : List Edge) (from : ℕ) (shown : List (ℕ × RightSet)) (i : ℕ) (x : ℕ × RightSet) → new ≡ es ++ record { from = from; to = x.0; label = x.1 } ∷ [] → i < length shown → x ≡ get_or shown i x → AllWithin (StandsIn es from) shown 0 i → AllWithin (StandsIn new from) shown 0 (i + 1)
+row_more es new from shown i x is inside here all =
     let e : Edge = record { from = from; to = x.0; label = x.1 } in
-    AllWithin-more (StandsIn new from) row 0 i
-    (λ k d low below q h. let to = (get_or row k d).0 in subst (λ (l : List Edge). Holds (label_in l) from q to) (sym is) (Holds-push es e from q to (all k d low below q h)))
-    (at_read row (StandsIn new from) i x inside here (λ q h. subst (λ (l : List Edge). Holds (label_in l) from q x.0) (sym is) (Holds-new es e q h)))
+    AllWithin-more (StandsIn new from) shown 0 i
+    (λ k d low below q h. let to = (get_or shown k d).0 in subst (λ (l : List Edge). Holds (label_in l) from q to) (sym is) (Holds-push es e from q to (all k d low below q h)))
+    (at_read shown (StandsIn new from) i x inside here (λ q h. subst (λ (l : List Edge). Holds (label_in l) from q x.0) (sym is) (Holds-new es e q h)))
 
 -- one edge more of a row is among the labels
 pub among_more : (es new : List Edge) (label : ℕ → ℕ → RightSet) (e : Edge) → new ≡ es ++ e ∷ [] → e.label ≡ label e.from e.to → AreAmong es label → AreAmong new label

@@ -11,15 +11,9 @@ impl LiveGraph {
     ghost use Rattle.tg_model.specs.Rules.{HoldsOver, denial_of, step, answer_of, effect, reply_of, state_of};
     ghost use Rattle.tg_journal.specs.Live.{IsAsBefore, graph_kept};
 
-    /// Takes a deed of a subject. The answer is that of the rules, and the graph becomes the next one. `room`: for how
-    /// many edges a list has room at first. Fails only when out of memory, and the graph is then as before but for what
-    /// names store that weren't made yet.
-    pub(crate) fn apply(
-        &mut self,
-        worker: u64,
-        deed: &Deed,
-        room: usize,
-    ) -> Result<Reply, AllocError>
+    /// Takes a deed of a subject. The answer is that of the rules, and the graph becomes the next one. Fails only when
+    /// out of memory, and the graph is then as before but for what names store that weren't made yet.
+    pub(crate) fn apply(&mut self, worker: u64, deed: &Deed) -> Result<Reply, AllocError>
         ensures reply { IfOk result (λ reply. reply ≡ answer_of (graph_kept self.old) worker deed.now) }
         ensures step { OnOk result (graph_kept self.new ≡ step (graph_kept self.old) worker deed.now) }
         ensures refused { OnErr result (IsAsBefore (graph_kept self.old) (graph_kept self.new)) }
@@ -29,7 +23,7 @@ impl LiveGraph {
             Deed::Spawn { label, law, state } => self.spawn(worker, *label, *law, state),
             Deed::Plain(command) => match denial_on(self, worker, command) {
                 Some(denial) => Ok(Reply::Denied(denial)),
-                None => self.serve(worker, command, room),
+                None => self.serve(worker, command),
             },
         }
     }
@@ -51,8 +45,8 @@ impl LiveGraph {
             return Ok(Reply::VerticesFull);
         }
         let state = state.copy(self.alloc)?;
-        self.values.insert(name, Value { law, state })?;
-        self.edges.add(worker, name, label)?;
+        self.vertices.put(self.alloc, name, Value { law, state })?;
+        self.vertices.add(self.alloc, worker, name, label)?;
         self.made = name + 1;
         Ok(Reply::Name(name))
     }
@@ -85,7 +79,7 @@ impl LiveGraph {
     }
 
     // Does what a command asks for that is served.
-    fn serve(&mut self, worker: u64, command: &Command, room: usize) -> Result<Reply, AllocError>
+    fn serve(&mut self, worker: u64, command: &Command) -> Result<Reply, AllocError>
         requires { denial_of (graph_kept self.old).label (graph_kept self.old).value worker command.now ≡ None }
         ensures reply { IfOk result (λ r. r ≡ reply_of (graph_kept self.old).label (graph_kept self.old).value (graph_kept self.old).made worker command.now) }
         ensures step { OnOk result (graph_kept self.new ≡ effect (graph_kept self.old) worker command.now) }
@@ -106,10 +100,10 @@ impl LiveGraph {
             Command::Write { target, value } | Command::Append { target, value } => {
                 self.write(target, value)
             }
-            Command::Inspect { target } => Ok(Reply::Edges(
-                self.edges.row(self.alloc, target, room)?,
-            )),
-            Command::List => Ok(Reply::Edges(self.edges.row(self.alloc, worker, room)?)),
+            Command::Inspect { target } => {
+                Ok(Reply::Edges(self.vertices.row(self.alloc, target)?))
+            }
+            Command::List => Ok(Reply::Edges(self.vertices.row(self.alloc, worker)?)),
             Command::Retire => {
                 self.retire(worker);
                 Ok(Reply::Done)
@@ -124,7 +118,7 @@ impl LiveGraph {
         ensures ok { OnOk result (graph_kept self.new ≡ record (graph_kept self.old) { label = with_rights (graph_kept self.old).label from to label }) }
         ensures err { OnErr result (self.new ≡ self.old) }
     {
-        self.edges.add(from, to, label)?;
+        self.vertices.add(self.alloc, from, to, label)?;
         Ok(Reply::Done)
     }
 
@@ -133,14 +127,14 @@ impl LiveGraph {
         ensures { graph_kept self.new ≡ record (graph_kept self.old) { label = without_rights (graph_kept self.old).label from to label } }
     {
         self.has_lost = true;
-        self.edges.lose(from, to, label.rights());
+        self.vertices.lose(from, to, label.rights());
     }
 
     // What a vertex stores.
     fn read(&self, target: u64) -> Result<Reply, AllocError>
         ensures { IfOk result (λ reply. reply ≡ Reply.Values (state_of ((graph_kept self.now).value target))) }
     {
-        let state = match self.values.get(&target) {
+        let state = match self.vertices.value(target) {
             Some(value) => value.state.copy(self.alloc)?,
             None => Numbers::none(),
         };
@@ -153,10 +147,7 @@ impl LiveGraph {
         ensures ok { OnOk result (graph_kept self.new ≡ effect (graph_kept self.old) target (Command.Write target value)) }
         ensures err { OnErr result (self.new ≡ self.old) }
     {
-        let Some(stored) = self.values.get_mut(&target) else {
-            return Ok(Reply::Done);
-        };
-        stored.law.write(self.alloc, &mut stored.state, value)?;
+        self.vertices.write(self.alloc, target, value)?;
         Ok(Reply::Done)
     }
 

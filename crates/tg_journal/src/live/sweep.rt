@@ -11,15 +11,14 @@ impl LiveGraph {
     ghost use Rattle.tg_model.specs.Graph.{IsReachable};
     ghost use Rattle.tg_journal.specs.Live.{IsSwept, graph_kept};
 
-    /// Forgets the edges and the values of all vertices that no subject reaches. Fails only when out of memory, and the
+    /// Forgets all vertices that no subject reaches. Fails only when out of memory, and the
     /// graph is then as it was.
     pub(crate) fn sweep(&mut self) -> Result<(), AllocError>
         ensures swept { OnOk result (IsSwept (graph_kept self.old) (graph_kept self.new)) }
         ensures refused { OnErr result (self.new ≡ self.old) }
     {
         let names = self.reached()?;
-        self.edges.keep(&names);
-        self.values.retain(|name, _| names.contains(name));
+        self.vertices.keep(&names);
         self.has_lost = false;
         Ok(())
     }
@@ -32,7 +31,7 @@ impl LiveGraph {
         add_names(&mut names, &self.subjects)?;
         let mut next = 0;
         while next < names.len() {
-            let row = self.edges.row(self.alloc, names.as_slice()[next], 0)?;
+            let row = self.vertices.row(self.alloc, names.as_slice()[next])?;
             add_targets(&mut names, row.as_slice())?;
             next += 1;
         }

@@ -38,12 +38,12 @@ fn edges_of(alloc: Global, graph: &Graph) -> Result<Vec<Edge>, AllocError>
 }
 
 // Adds the edges of a vertex.
-fn add_row(edges: &mut Vec<Edge>, from: u64, row: &[(u64, Label)]) -> Result<(), AllocError>
-    ensures all { OnOk result (All (StandsIn edges.new.items from) row.now) }
+fn add_row(edges: &mut Vec<Edge>, from: u64, listing: &[(u64, Label)]) -> Result<(), AllocError>
+    ensures all { OnOk result (All (StandsIn edges.new.items from) listing.now) }
     ensures kept { OnOk result ((a b : ℕ) (q : Right) → Holds (label_in edges.old.items) a q b → Holds (label_in edges.new.items) a q b) }
-    ensures only { OnOk result ((label : ℕ → ℕ → RightSet) → All (λ edge. edge.1 ≡ label from edge.0) row.now → AreAmong edges.old.items label → AreAmong edges.new.items label) }
+    ensures only { OnOk result ((label : ℕ → ℕ → RightSet) → All (λ edge. edge.1 ≡ label from edge.0) listing.now → AreAmong edges.old.items label → AreAmong edges.new.items label) }
 {
-    for edge in row {
+    for edge in listing {
         edges.push(Edge {
             from,
             to: edge.0,

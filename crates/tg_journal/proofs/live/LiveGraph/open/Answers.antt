@@ -8,5 +8,5 @@ invariant_of-result c = λ x y edge.
     let p = c.args.opening.now in
     let below =
     targets_in p.edges p.workers c.workers.ensures.plan.edges x y
-    (sym (ap (λ (f : ℕ → ℕ → RightSet). is_none_held (f x y)) c.in_ok-edges.ensures) ∙ edge) in
+    (sym (ap (λ (f : ℕ → ℕ → RightSet). is_none_held (f x y)) c.in_ok-vertices.ensures.labels) ∙ edge) in
     omega (arith, below, c.workers-2.ensures.number)

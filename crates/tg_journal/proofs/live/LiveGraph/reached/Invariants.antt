@@ -7,4 +7,4 @@ abbrev pub invariant-loop-next : goal.invariant-loop-next
 invariant-loop-next l = Searches (graph_kept l.self) l.names.keys l.next
 
 abbrev pub decreases-loop-next : goal.decreases-loop-next
-decreases-loop-next l = length (known l.self.subjects l.self.labels) - l.next
+decreases-loop-next l = length (known l.self.subjects l.self.made) - l.next

@@ -8,10 +8,11 @@ use Rattle.tg_journal.proofs.live.LiveGraph.remove.Goals as goal
 
 pub returns : goal.returns
 returns c =
-    relabelled c.self.inside.subjects.items c.self.inside.made c.self.inside.max_vertices c.self.inside.edges c.self.inside.values.entries c.args.self.now c.self.view_is
+    relabelled c.self.inside.subjects.items c.self.inside.made c.self.inside.max_vertices c.self.inside.vertices c.args.self.now c.self.view_is
     c.lose.new.self (λ label. without_rights label c.args.from c.args.to c.args.label)
-    (c.lose.ensures ∙ ap (λ (r : RightSet). without_rights (label_between c.self.inside.edges) c.args.from c.args.to r) c.rights.ensures.same)
+    (c.lose.ensures.labels ∙ ap (λ (r : RightSet). without_rights (label_between c.self.inside.vertices) c.args.from c.args.to r) c.rights.ensures.same)
+    c.lose.ensures.values
 
 pub invariant_of-self : goal.invariant_of-self
 invariant_of-self c =
-    lost_below (label_between c.self.inside.edges) (label_between c.lose.new.self) c.args.from c.args.to c.self.inside.made c.rights.result c.lose.ensures c.self.invariant
+    lost_below (label_between c.self.inside.vertices) (label_between c.lose.new.self) c.args.from c.args.to c.self.inside.made c.rights.result c.lose.ensures.labels c.self.invariant

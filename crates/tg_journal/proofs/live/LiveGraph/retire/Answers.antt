@@ -11,7 +11,7 @@ returns c =
       subjects = left i;
       made = c.self.inside.made;
       limit = c.self.inside.max_vertices;
-      label = label_between c.self.inside.edges;
-      value = value_of c.self.inside.values.entries;
+      label = label_between c.self.inside.vertices;
+      value = value_of c.self.inside.vertices;
     })
     ∙ ap (λ (k : Kept). record (graph_kept k) { subjects = without_subject k.subjects c.args.worker }) c.self.view_is

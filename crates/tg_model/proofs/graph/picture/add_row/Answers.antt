@@ -13,7 +13,7 @@ loop-edge-preserved c =
     let e : Edge = record { from = c.args.from; to = x.0; label = x.1 } in
     let is = c.in_ok-push.ensures.items in
     record {
-      all = row_more es c.push.new.self.items c.args.from c.args.row.now c.loop-edge.edge-index x is c.loop-edge-test.true c.edge-item.is c.loop-edge.invariant.all;
+      all = row_more es c.push.new.self.items c.args.from c.args.listing.now c.loop-edge.edge-index x is c.loop-edge-test.true c.edge-item.is c.loop-edge.invariant.all;
       kept = λ a b q h. subst (λ (l : List Edge). Holds (label_in l) a q b) (sym is) (Holds-push es e a q b (c.loop-edge.invariant.kept a b q h));
       only = λ label all among.
           let P : ℕ × RightSet → Type 0 = λ edge. edge.1 ≡ label c.args.from edge.0 in
