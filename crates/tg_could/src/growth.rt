@@ -3,6 +3,7 @@
 use std::alloc::AllocError;
 
 /// Pushes an item, unless memory was wanting before; notes whether it was now.
+#[inline]
 pub(crate) fn push<T: Drop>(list: &mut Vec<T>, item: T, grown: &mut Result<(), AllocError>) {
     if grown.is_ok() {
         *grown = try_push(list, item);
@@ -17,6 +18,7 @@ pub(crate) fn note(grown: &mut Result<(), AllocError>, elsewhere: Result<(), All
 }
 
 // Pushes an item. Fails only when out of memory.
+#[inline]
 fn try_push<T: Drop>(list: &mut Vec<T>, item: T) -> Result<(), AllocError> {
     list.push(item)?;
     Ok(())
