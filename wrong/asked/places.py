@@ -111,16 +111,13 @@ NAMED = {
     ("tgdot/src/draft.rt", "pad", "first.saturating_add(columns)"): "the longest text of a kind that is drawn",
     ("tg_could/src/plan.rt", "make_names", "last.saturating_add(1)"):
         "a turn for each name up to the one that is asked about, which is 65,536 ahead at most",
-    ("tg_could/src/walks.rt", "hand_on", "start"): "a place in the list",
     # Loops that end where there is no more.
     ("tg_could/src/search.rt", "go_back", "NONE"): "a step that was found each",
     ("tg_shared/src/session.rt", "audit_all", "audit_all"):
         "nothing grows there: a function that asks for memory has the name of one that is called",
     ("tg_could/src/search.rt", "spread", "NONE"): "a step that was found each",
-    ("tg_could/src/search.rt", "leave", "NONE"): "an edge of the vertex each",
-    ("tg_could/src/search.rt", "enter", "NONE"): "the same",
+    ("tg_could/src/search.rt", "spread_along", "NONE"): "an edge of the vertex each",
     ("tg_could/src/walks.rt", "begin", "u64::MAX"): "an edge along a path each",
-    ("tg_could/src/walks.rt", "hand_on_at", "NONE"): "a take edge of the vertex each",
     ("tg_entries/src/stream.rt", "audit_lines", "u64::MAX"): "a line of the reader each",
     ("tg_plain/src/script.rt", "read", "u64::MAX"): "a line of the input each",
     ("tg_evac/src/copies.rt", "scan", "while next<claimer.len()"): "a cell that was won each",
@@ -138,6 +135,4 @@ NAMED = {
     ("tg_script/src/run_script.rt", "run_commands", "loop"): "a line each",
     ("tg_text/src/sink.rt", "put_all", "while!rest.is_empty()"): "a part of the bytes each",
     ("tg_text/src/stock.rt", "gather_boxes", "while!rest.is_empty()"): "an item of the text each",
-    ("tg_could/src/walks.rt", "hand_on", "for at in start..end"):
-        "nothing grows there: another function has the name of one that is called",
 }

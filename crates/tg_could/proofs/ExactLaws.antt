@@ -218,47 +218,37 @@ module _ (silent : ℕ → Type 0) (right : Right) (y : ℕ) (g : ProtectionGrap
         over_y : (b == y) ≡ true → has rights right ≡ true → Holds g.label a right y
         over_y at_y h = subst (λ (v : ℕ). Holds g.label a right v) (eqb-true b y at_y) (stands right h)
 
-    -- one who acts is in both sets or in none, or is missed in one
-    actor_or : (p : ℕ) → Acts silent g p ⊎ (Acts silent g p → ⊥) → (Acts silent g p → s.forward p ≡ s.back p) ⊎ Fault
-    actor_or p acts_or =
-        ⊎_elim
-        (λ acts.
-        ⊎_elim (λ same. inl (λ is. same))
+    -- one who acts is as a separation asks
+    record Even (p : ℕ) : Type 0 where
+      alike : s.forward p ≡ s.back p
+      not_x : p ≡ x → ¬ (s.back p ≡ true)
+      y_may_come : MayCome g y → s.back p ≡ true
+      x_may_come : MayCome g x → ¬ (s.back p ≡ true)
+
+    -- or it is missed, or the right is brought to x
+    even_or : (p : ℕ) → Acts silent g p → Even p ⊎ Fault
+    even_or p acts =
+        ⊎_elim (λ same. ⊎_elim (in_both same) (in_none same) (cases_Bool (s.back p)))
         (λ differ.
         ⊎_elim (λ (is, out). inr (missed back p (turns_back acts (holds.of forward p is)) out))
         (λ (out, is). inr (missed forward p (turns_forward acts (holds.of back p is)) out)) differ)
-        (alike_or (s.forward p) (s.back p)))
-        (λ none. inl (λ acts. absurd (none acts))) acts_or
+        (alike_or (s.forward p) (s.back p))
+      where
+        in_both : s.forward p ≡ s.back p → s.back p ≡ true → Even p ⊎ Fault
+        in_both same is =
+            ⊎_elim (λ (at_x : p ≡ x). inr (inr (subst (IsBrought silent right y g) at_x (is_got acts (holds.of back p is)))))
+            (λ (other : p ≡ x → ⊥).
+            ⊎_elim (λ comes. inr (inr (is_made comes acts (holds.of back p is))))
+            (λ none. inl (record { alike = same; not_x = λ at_x _. other at_x; y_may_come = λ _. is; x_may_come = λ comes _. none comes }))
+            (may_come_or g x))
+            (cases_eq p x)
 
-    taken_or : Acts silent g x ⊎ (Acts silent g x → ⊥) → (Acts silent g x → ¬ (s.back x ≡ true)) ⊎ Fault
-    taken_or acts_or =
-        ⊎_elim
-        (λ acts.
-        ⊎_elim (λ is. inr (inr (is_got acts (holds.of back x is)))) (λ out. inl (λ _ is. false≢true (sym out ∙ is))) (cases_Bool (s.back x)))
-        (λ none. inl (λ acts. absurd (none acts))) acts_or
-
-    -- one who may make y is in the second set, or is missed
-    y_later_or : (p : ℕ) → Acts silent g p ⊎ (Acts silent g p → ⊥) → (MayCome g y → Acts silent g p → s.back p ≡ true) ⊎ Fault
-    y_later_or p acts_or =
-        ⊎_elim
-        (λ acts.
-        ⊎_elim (λ is. inl (λ comes _. is))
-        (λ out.
-        ⊎_elim (λ comes. inr (missed back p (maker comes acts) out)) (λ none. inl (λ comes. absurd (none comes))) (may_come_or g y))
-        (cases_Bool (s.back p)))
-        (λ none. inl (λ comes acts. absurd (none acts))) acts_or
-
-    -- one who may make x isn't in the second set, or the right is brought to x
-    x_later_or : (p : ℕ) → Acts silent g p ⊎ (Acts silent g p → ⊥) → (MayCome g x → Acts silent g p → ¬ (s.back p ≡ true)) ⊎ Fault
-    x_later_or p acts_or =
-        ⊎_elim
-        (λ acts.
-        ⊎_elim
-        (λ is.
-        ⊎_elim (λ comes. inr (inr (is_made comes acts (holds.of back p is)))) (λ none. inl (λ comes. absurd (none comes))) (may_come_or g x))
-        (λ out. inl (λ comes _ is. false≢true (sym out ∙ is)))
-        (cases_Bool (s.back p)))
-        (λ none. inl (λ comes acts. absurd (none acts))) acts_or
+        in_none : s.forward p ≡ s.back p → s.back p ≡ false → Even p ⊎ Fault
+        in_none same out =
+            let none_in : ¬ (s.back p ≡ true) = λ is. false≢true (sym out ∙ is) in
+            ⊎_elim (λ comes. inr (missed back p (maker comes acts) out))
+            (λ none. inl (record { alike = same; not_x = λ _. none_in; y_may_come = λ comes. absurd (none comes); x_may_come = λ _. none_in }))
+            (may_come_or g y)
 
     -- the two sets part x from the right, or one is missed, or the right is brought to x
     module _ (made : IsMade g) (decided : (p : ℕ) → Acts silent g p ⊎ (Acts silent g p → ⊥)) where
@@ -278,24 +268,24 @@ module _ (silent : ℕ → Type 0) (right : Right) (y : ℕ) (g : ProtectionGrap
         not_given = λ a h. let e = made.ends a x G h in (adds a e.0 x e.1).not_granted refl h;
       }
 
+      even_of : (p : ℕ) → (Acts silent g p → Even p) ⊎ Fault
+      even_of p =
+          ⊎_elim (λ acts. ⊎_elim (λ even. inl (λ _. even)) (λ fault. inr fault) (even_or p acts)) (λ none. inl (λ acts. absurd (none acts)))
+          (decided p)
+
       parts_or : Separates silent s x right y g ⊎ Fault
       parts_or =
           ⊎_elim (λ adds.
-          ⊎_elim (λ alike.
-          ⊎_elim (λ not_taken.
-          ⊎_elim (λ y_later.
-          ⊎_elim (λ x_later.
+          ⊎_elim (λ even.
+          let at : (p : ℕ) → Acts silent g p → Even p = λ p acts. even p (made.subjects p acts.0) acts in
           inl (record {
             labels = parts_of adds;
-            alike = λ p acts. alike p (made.subjects p acts.0) acts;
-            not_taken = not_taken;
-            y_may_come = λ comes p acts. y_later p (made.subjects p acts.0) comes acts;
-            x_may_come = λ comes p acts. x_later p (made.subjects p acts.0) comes acts;
+            alike = λ p acts. (at p acts).alike;
+            not_taken = λ acts. (at x acts).not_x refl;
+            y_may_come = λ comes p acts. (at p acts).y_may_come comes;
+            x_may_come = λ comes p acts. (at p acts).x_may_come comes;
           }))
-          (λ fault. inr fault) (each_or (λ p. MayCome g x → Acts silent g p → ¬ (s.back p ≡ true)) (λ p. x_later_or p (decided p)) g.made))
-          (λ fault. inr fault) (each_or (λ p. MayCome g y → Acts silent g p → s.back p ≡ true) (λ p. y_later_or p (decided p)) g.made))
-          (λ fault. inr fault) (taken_or (decided x)))
-          (λ fault. inr fault) (each_or (λ p. Acts silent g p → s.forward p ≡ s.back p) (λ p. actor_or p (decided p)) g.made))
+          (λ fault. inr fault) (each_or (λ p. Acts silent g p → Even p) even_of g.made))
           (λ fault. inr fault)
           (each_or (λ a. (b : ℕ) → b < g.made → Adds a b)
           (λ a. each_or (λ b. Adds a b) (λ b. may_add_or a b (g.label a b) (λ q h. h)) g.made) g.made)

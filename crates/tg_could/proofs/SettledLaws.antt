@@ -1,9 +1,9 @@
 -- What is led on stays led to; and sets that nothing is led out of decide what could come about.
-use Rattle.std.proofs.Common.{◌≡◌, ◌≢◌, ◌⊎◌, inl, inr, ⊎_elim, ℕ, ◌+◌, ◌<◌, ◌≤◌, length, get_or, not, Bool, true, false, List, [], ◌∷◌, refl, sym, ap, ◌∙◌, subst, arith}
+use Rattle.std.proofs.Common.{◌≡◌, ◌≢◌, ◌⊎◌, inl, inr, ⊎_elim, ℕ, ◌+◌, ◌<◌, ◌≤◌, length, get_or, Bool, true, false, List, [], ◌∷◌, refl, sym, ap, ◌∙◌, subst, arith}
 use Rattle.std.specs.List.{All, AllWithin, Contains}
-use Rattle.std.proofs.lemmas.Bool.{false≢true, true≢false}
+use Rattle.std.proofs.lemmas.Bool.{false≢true}
 use Rattle.std.proofs.lemmas.List.{get_or_default}
-use Rattle.std.proofs.lemmas.List.Elements.{All-head, All-tail, All-contains, AllWithin-more, at_read}
+use Rattle.std.proofs.lemmas.List.Elements.{All-head, All-tail}
 use Rattle.tg_rights.specs.RightSet.{has}
 use Rattle.tg_rights.specs.declared.Right.{Right}
 use Rattle.tg_rights.specs.declared.Right.TheVariants.{T, G}
@@ -13,19 +13,14 @@ use Rattle.tg_model.specs.Graph.{ProtectionGraph, IsSound}
 use Rattle.tg_model.specs.Opened.{label_in}
 use Rattle.tg_model.specs.Picture.{Holds, Shown, IsPictureOf, AreAmong}
 use Rattle.tg_could.specs.declared.led.LedNames.{LedNames}
-use Rattle.tg_could.specs.Turns.{Acts, IsSilent, NeverHolds, CouldHold, with_names}
-use Rattle.tg_could.specs.Separation.{Sides, Keeps, Parts, IsEven, ComesLater}
-use Rattle.tg_could.specs.Answered.{IsShort, HasTurns, IsDecided}
-use Rattle.tg_could.specs.Led.{Way, back, forward, Led, source, maker, take_back, take_on, grant_on, grant_back, turns_forward, turns_back, IsBrought, is_held, is_got, is_given, is_made, HasHelp}
-use Rattle.tg_could.specs.LedNames.{AreLed, IsPut, ActsIn, LeadsOn, from_source, takes_back, grants_back, takes_on, grants_on, IsTurned, TurnsTo, from_back, from_forward, from_later, way_of, is_in, sides_led, number_led}
+use Rattle.tg_could.specs.Turns.{Acts, IsSilent, NeverHolds, with_names}
+use Rattle.tg_could.specs.Separation.{Sides, Keeps, ComesLater}
+use Rattle.tg_could.specs.Answered.{HasTurns, IsDecided}
+use Rattle.tg_could.specs.Led.{Way, Led, source, maker, take_back, take_on, grant_on, grant_back, turns_forward, turns_back, IsBrought, is_held, is_got, is_given, is_made, HasHelp}
+use Rattle.tg_could.specs.LedNames.{AreLed, IsPut, ActsIn, LeadsOn, from_source, takes_back, grants_back, takes_on, grants_on, IsTurned, TurnsTo, from_back, from_forward, from_later, way_of, sides_led, number_led}
 use Rattle.tg_could.proofs.TurnLaws.{Holds-member}
 use Rattle.tg_could.proofs.ExactLaws.{brought_could}
 use Rattle.tg_could.proofs.MarkLaws.{Fits, Parts-edges, Holds-edges, no_right, pictured-never}
-
--- a step that was told by its two parts
-pub as_told : (s : Sides) (r : Right) (y : ℕ) (edge : Edge) (f was : Bool) (v at : ℕ) → f ≡ was → v ≡ at → LeadsOn s r y edge was at → LeadsOn s r y edge f v
-as_told s r y edge f was v at is_f is_v leads =
-    subst (λ (v : ℕ). LeadsOn s r y edge f v) (sym is_v) (subst (λ (f : Bool). LeadsOn s r y edge f at) (sym is_f) leads)
 
 module _ (silent : ℕ → Type 0) (r : Right) (y : ℕ) (g : ProtectionGraph) where
   -- an edge of the graph leads from who is led to whom it says
@@ -90,11 +85,6 @@ led_turn : (silent : List ℕ) (p : Shown) (g : ProtectionGraph) → IsPictureOf
 led_turn silent p g picture r y s f v led acts (from_back inside) = turns_forward acts (led.behind v inside)
 led_turn silent p g picture r y s f v led acts (from_forward inside) = turns_back acts (led.on v inside)
 led_turn silent p g picture r y s f v led acts (from_later later) = maker (omega (arith, later.0, picture.made), omega (arith, later.1, picture.limit)) acts
-
--- a turn that was told by its two parts
-pub turn_told : (s : Sides) (p : Shown) (y : ℕ) (f was : Bool) (v at : ℕ) → f ≡ was → v ≡ at → TurnsTo s p y was at → TurnsTo s p y f v
-turn_told s p y f was v at is_f is_v leads =
-    subst (λ (v : ℕ). TurnsTo s p y f v) (sym is_v) (subst (λ (f : Bool). TurnsTo s p y f at) (sym is_f) leads)
 
 module _ (silent : List ℕ) (p : Shown) (y : ℕ) (start : LedNames) where
   pub turns_more : (now new : LedNames) (i v : ℕ) (f : Bool) → Turns silent p y start now i → i < length p.subjects → v ≡ get_or p.subjects i v → ¬ (Contains silent v × (v < p.made)) → TurnsTo (sides_led now) p y f v → IsPut (sides_led now) f v (sides_led new) → number_led now < number_led new → Turns silent p y start new (i + 1)

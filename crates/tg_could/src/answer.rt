@@ -1,8 +1,9 @@
 //! The question and its answers.
-ghost use Rattle.std.specs.Prelude.{◌≡◌, ◌+◌, ◌<◌, ◌⊎◌, IfOk, IfSome, IsTrue};
+ghost use Rattle.std.specs.Prelude.{◌≡◌, ◌+◌, ◌<◌, ◌⊎◌, IfNone, IfOk, IfSome, IsTrue};
 ghost use Rattle.tg_model.specs.Graph.{ProtectionGraph};
 ghost use Rattle.tg_model.specs.Picture.{IsPictureOf};
 ghost use Rattle.tg_could.specs.Separation.{ComesLater};
+ghost use Rattle.tg_could.specs.Turns.{NeverHolds};
 ghost use Rattle.tg_could.specs.Answered.{IsAnswer, IsFar, IsShort};
 
 use crate::led::may_come_about;
@@ -57,19 +58,39 @@ pub fn could_hold(
     ensures { IfOk result (λ answer. (g : ProtectionGraph) → IsPictureOf picture.now g → IsAnswer silent.now g x right y answer) }
 {
     let found = search(alloc, picture, silent, right, y, false)?;
+    match settle(alloc, picture, silent, &found, x, right, y) {
+        Ok(Some(answer)) => Ok(answer),
+        Ok(None) => Ok(Answer::Never(found.sides)),
+        Err(error) => Err(error),
+    }
+}
+
+// What is answered of what the search has found; none where x never holds the right. Fails only when out of memory.
+fn settle(
+    alloc: Global,
+    picture: &Picture,
+    silent: &[u64],
+    found: &Found,
+    x: u64,
+    right: Right,
+    y: u64,
+) -> Result<Option<Answer>, AllocError>
+    ensures told { IfOk result (λ told. (g : ProtectionGraph) → IsPictureOf picture.now g → IfSome told (IsAnswer silent.now g x right y)) }
+    ensures never { IfOk result (λ told. (g : ProtectionGraph) → IsPictureOf picture.now g → IfNone told (NeverHolds silent.now g x right y)) }
+{
     if found.sides.parts(picture, silent, x, right, y) {
-        return Ok(Answer::Never(found.sides));
+        return Ok(None);
     }
     if is_far(picture, x) || is_far(picture, y) {
-        return Ok(Answer::Open);
+        return Ok(Some(Answer::Open));
     }
-    if let Some(answer) = tell_turns(alloc, picture, silent, &found, x, right, y)? {
-        return Ok(answer);
+    if let Some(answer) = tell_turns(alloc, picture, silent, found, x, right, y)? {
+        return Ok(Some(answer));
     }
     if may_come_about(alloc, picture, silent, x, right, y)? {
-        return Ok(Answer::Open);
+        return Ok(Some(Answer::Open));
     }
-    Ok(Answer::Never(found.sides))
+    Ok(None)
 }
 
 // The turns that the search leads to; none where they don't lead there, or want more names though many are left. Fails
@@ -86,13 +107,13 @@ fn tell_turns(
     ensures { IfOk result (λ told. (g : ProtectionGraph) → IsPictureOf picture.now g → IfSome told (IsAnswer silent.now g x right y)) }
 {
     let rows = found.rows(alloc, picture, x)?;
-    let planned = turns_to(alloc, picture, found, rows.copy(alloc)?, x, right, y)?;
+    let planned = turns_to(alloc, picture, found, rows, x, right, y)?;
     let names = planned.made.saturating_sub(picture.limit());
     let turns = planned.turns;
     let leads = replay(
         alloc,
         picture,
-        rows,
+        planned.rows,
         silent,
         names,
         turns.as_slice(),

@@ -1,8 +1,9 @@
 //! The edges from each vertex, as chains through a list of edges and those that came since. Nothing is believed of
 //! them: who follows one looks at the edge.
+use crate::growth::push;
 use crate::names::Names;
 use std::alloc::{AllocError, Global};
-use tg_model::Picture;
+use tg_model::{Edge, Picture};
 
 /// Behind the last link of a chain, and the place of an edge past the most that are numbered, 2^32 - 1.
 pub(crate) const NONE: u32 = u32::MAX;
@@ -21,6 +22,13 @@ pub(crate) fn number_at(list: &[u32], place: usize) -> u32 {
     }
 }
 
+/// Puts a number into a list at a place, unless it is past the last.
+pub(crate) fn put_number(list: &mut [u32], place: usize, number: u32) {
+    if place < list.len() {
+        list[place] = number;
+    }
+}
+
 /// The place of an edge, and of the next link of the same vertex.
 #[derive(Clone, Copy, Drop)]
 pub(crate) struct Chained {
@@ -28,8 +36,8 @@ pub(crate) struct Chained {
     pub(crate) next: u32,
 }
 
-/// For each vertex the place of its last link, all links, and how many edges there are. Vertices that came since have
-/// the numbers behind those of the picture.
+/// For each vertex the place of its last link, all links, and how many edges the picture has. Vertices that came since
+/// have the numbers behind those of the picture.
 #[derive(Drop)]
 pub(crate) struct Chains {
     names: Names,
@@ -37,15 +45,17 @@ pub(crate) struct Chains {
     first: Vec<u32>,
     links: Vec<Chained>,
     edges: usize,
+    /// Whether memory was wanting once; who follows the chains tells it.
+    pub(crate) grown: Result<(), AllocError>,
 }
 
 impl Chains {
-    /// All edges of a picture. Fails only when out of memory.
+    /// All edges of a picture. Fails only when out of memory, or notes it.
     pub(crate) fn of(alloc: Global, picture: &Picture) -> Result<Chains, AllocError> {
         let mut chains = Chains::none(alloc, Names::of(alloc, picture)?, picture)?;
         for (at, edge) in picture.edges().iter().enumerate() {
             let number = chains.names.number(edge.from);
-            chains.put(place(at), number)?;
+            chains.put(place(at), number);
         }
         Ok(chains)
     }
@@ -62,42 +72,39 @@ impl Chains {
             made: picture.made(),
             links: Vec::new(alloc),
             edges: picture.edges().len(),
+            grown: Ok(()),
         })
     }
 
-    /// The same chains in memory of their own. Fails only when out of memory.
-    pub(crate) fn copy(&self, alloc: Global) -> Result<Chains, AllocError> {
-        Ok(Chains {
-            names: self.names.copy(alloc)?,
-            made: self.made,
-            first: Vec::from_slice(alloc, self.first.as_slice())?,
-            links: Vec::from_slice(alloc, self.links.as_slice())?,
-            edges: self.edges,
-        })
-    }
-
-    /// Puts an edge in front of the others from the vertex with a number. Fails only when out of memory.
-    pub(crate) fn put(&mut self, edge: u32, number: u64) -> Result<(), AllocError> {
+    /// Puts an edge in front of the others from the vertex with a number.
+    pub(crate) fn put(&mut self, edge: u32, number: u64) {
+        let next = number_at(self.first.as_slice(), number as usize);
         let at = place(self.links.len());
-        if let Some(first) = self.first.get_mut(number as usize) {
-            self.links.push(Chained { edge, next: *first })?;
-            *first = at;
+        push(&mut self.links, Chained { edge, next }, &mut self.grown);
+        put_number(self.first.as_mut_slice(), number as usize, at);
+    }
+
+    /// Puts an edge, before which so many came since, in front of the others from a vertex.
+    pub(crate) fn add(&mut self, vertex: u64, before: usize) {
+        let edge = place(self.edges.saturating_add(before));
+        self.put(edge, self.number(vertex));
+    }
+
+    /// Makes a chain for one vertex more.
+    pub(crate) fn add_vertex(&mut self) {
+        push(&mut self.first, NONE, &mut self.grown);
+    }
+
+    /// Forgets the edges that came since, which these are, and the vertices.
+    pub(crate) fn forget(&mut self, added: &[Edge]) {
+        for before in 0..added.len() {
+            let edge = added[added.len() - 1 - before];
+            if let Some(link) = self.links.pop() {
+                let number = self.number(edge.from);
+                put_number(self.first.as_mut_slice(), number as usize, link.next);
+            }
         }
-        Ok(())
-    }
-
-    /// Puts an edge behind all others in front of the others from a vertex. Fails only when out of memory.
-    pub(crate) fn add(&mut self, vertex: u64) -> Result<(), AllocError> {
-        let number = self.number(vertex);
-        let at = place(self.edges);
-        self.edges = self.edges.saturating_add(1);
-        self.put(at, number)
-    }
-
-    /// Makes a chain for one vertex more. Fails only when out of memory.
-    pub(crate) fn add_vertex(&mut self) -> Result<(), AllocError> {
-        self.first.push(NONE)?;
-        Ok(())
+        self.first.truncate(self.names.len());
     }
 
     /// The place of a vertex's first link, `NONE` where it has none.

@@ -141,9 +141,9 @@ fn joined(
     actors: &[u64],
     reached: &[u64],
 ) -> Result<Vec<u64>, AllocError> {
-    let mut joined: Vec<u64> = Vec::new(alloc);
-    for at in 0..actors.len() {
-        joined.push(bit_of(at))?;
+    let mut joined = vec![in alloc; 0; actors.len()]?;
+    for (at, word) in joined.iter_mut().enumerate() {
+        *word = bit_of(at);
     }
     for actor in actors {
         join(

@@ -80,28 +80,6 @@ fn leads_out(one: bool, two: bool, third: bool) -> bool
     one && two && !third
 }
 
-// A vertex for the first set.
-fn forward(vertex: u64) -> Step
-    ensures vertex { result.vertex ≡ vertex }
-    ensures forward { result.forward ≡ true }
-{
-    Step {
-        vertex,
-        forward: true,
-    }
-}
-
-// A vertex for the second set.
-fn back(vertex: u64) -> Step
-    ensures vertex { result.vertex ≡ vertex }
-    ensures back { result.forward ≡ false }
-{
-    Step {
-        vertex,
-        forward: false,
-    }
-}
-
 impl LedNames {
     // Whether a name is in the sets.
     fn place(&self, name: u64) -> Place
@@ -145,19 +123,34 @@ impl LedNames {
         let grant = has(edge.label, Right::G);
         let held = has(edge.label, right);
         if leads_out(edge.to == y, held, from.back) {
-            return Some(back(edge.from));
+            return Some(Step {
+                vertex: edge.from,
+                forward: false,
+            });
         }
         if leads_out(take, to.back, from.back) {
-            return Some(back(edge.from));
+            return Some(Step {
+                vertex: edge.from,
+                forward: false,
+            });
         }
         if leads_out(grant, to.forward, from.back) {
-            return Some(back(edge.from));
+            return Some(Step {
+                vertex: edge.from,
+                forward: false,
+            });
         }
         if leads_out(grant, from.forward, to.back) {
-            return Some(back(edge.to));
+            return Some(Step {
+                vertex: edge.to,
+                forward: false,
+            });
         }
         if leads_out(take, from.forward, to.forward) {
-            return Some(forward(edge.to));
+            return Some(Step {
+                vertex: edge.to,
+                forward: true,
+            });
         }
         None
     }
@@ -209,13 +202,22 @@ impl LedNames {
         }
         let at = self.place(subject);
         if !at.back && at.forward {
-            return Some(back(subject));
+            return Some(Step {
+                vertex: subject,
+                forward: false,
+            });
         }
         if !at.back && comes_later(picture, y) {
-            return Some(back(subject));
+            return Some(Step {
+                vertex: subject,
+                forward: false,
+            });
         }
         if at.back && !at.forward {
-            return Some(forward(subject));
+            return Some(Step {
+                vertex: subject,
+                forward: true,
+            });
         }
         None
     }

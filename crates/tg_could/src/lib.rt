@@ -36,6 +36,7 @@ mod chains;
 mod chance;
 mod enough;
 mod entries;
+mod growth;
 mod incoming;
 mod islands;
 pub mod laws;

@@ -1,9 +1,8 @@
-//! The edges with take or grant at each vertex, as chains of links, each with the vertex at the edge's other end.
-//! Nothing has to be believed of them: what is found by them is checked.
+//! Edges at each vertex, as chains of links, each with the vertex at the edge's other end. Nothing has to be believed
+//! of them: what is found by them is checked.
 use crate::chains::{NONE, number_at, place};
-use crate::separation::has;
+use crate::growth::{note, push};
 use std::alloc::{AllocError, Global};
-use tg_rights::{Label, Right};
 
 // How many vertices are numbered.
 const NUMBERED: u64 = 1 << 30;
@@ -17,33 +16,20 @@ pub(crate) fn number_of(vertex: u64) -> Option<u32> {
     }
 }
 
-/// An edge as one of its ends sees it, in 8 bytes: four times the other end, two more for take, one more for grant; and
-/// the place of the next link of the same vertex, but until the links are tied the vertex.
+/// An edge as one of its ends sees it, in 8 bytes.
 #[derive(Clone, Copy, Drop)]
 pub(crate) struct Link {
-    packed: u32,
-    next: u32,
+    /// Four times the other end, two more where the edge leads it into the first set, one more where into the second.
+    pub(crate) packed: u32,
+    /// The place of the next link of the same vertex, `NONE` where there is none; but until the links are tied the
+    /// vertex.
+    pub(crate) next: u32,
 }
 
 impl Link {
     /// The vertex at the other end.
     pub(crate) fn end(self) -> u32 {
         self.packed >> 2
-    }
-
-    /// Whether the edge has take.
-    pub(crate) fn has_take(self) -> bool {
-        self.packed & 2 != 0
-    }
-
-    /// Whether the edge has grant.
-    pub(crate) fn has_grant(self) -> bool {
-        self.packed & 1 != 0
-    }
-
-    /// The place of the next link of the same vertex, `NONE` where there is none.
-    pub(crate) fn next(self) -> u32 {
-        self.next
     }
 }
 
@@ -53,6 +39,7 @@ impl Link {
 pub(crate) struct Links {
     first: Vec<u32>,
     links: Vec<Link>,
+    grown: Result<(), AllocError>,
 }
 
 impl Links {
@@ -63,31 +50,30 @@ impl Links {
         Ok(Links {
             first: vec![in alloc; NONE; made]?,
             links,
+            grown: Ok(()),
         })
     }
 
-    /// Adds a link of a vertex. Fails only when out of memory.
-    pub(crate) fn add(&mut self, vertex: u64, end: u64, label: Label) -> Result<(), AllocError> {
-        let (Some(vertex), Some(end)) = (number_of(vertex), number_of(end)) else {
-            return Ok(());
-        };
-        let take = has(label, Right::T) as u32;
-        let grant = has(label, Right::G) as u32;
-        self.links.push(Link {
-            packed: end << 2 | take << 1 | grant,
-            next: vertex,
-        })?;
-        Ok(())
+    /// Adds a link of a vertex, by which its other end gets into the first set, into the second, or into both.
+    pub(crate) fn add(&mut self, vertex: u64, end: u64, forward: bool, back: bool) {
+        if let (Some(vertex), Some(end)) = (number_of(vertex), number_of(end)) {
+            let link = Link {
+                packed: end << 2 | (forward as u32) << 1 | back as u32,
+                next: vertex,
+            };
+            push(&mut self.links, link, &mut self.grown);
+        }
     }
 
-    /// Ties the links of each vertex, the last in front.
-    pub(crate) fn tie(&mut self) {
+    /// Ties the links of each vertex, the last in front; notes whether memory was wanting for one of them.
+    pub(crate) fn tie(&mut self, grown: &mut Result<(), AllocError>) {
         for (at, link) in self.links.iter_mut().enumerate() {
             if let Some(first) = self.first.get_mut(link.next as usize) {
                 link.next = *first;
                 *first = place(at);
             }
         }
+        note(grown, self.grown);
     }
 
     /// The place of a vertex's first link, `NONE` where it has none.

@@ -4,6 +4,7 @@
 ghost use Rattle.std.specs.Prelude.{◌≡◌, ◌+◌, ◌≤◌, length};
 ghost use Rattle.tg_could.specs.Names.{halved, number_in, place_in};
 
+use crate::growth::push;
 use crate::words::word_of;
 use std::alloc::{AllocError, Global};
 use tg_model::Picture;
@@ -75,14 +76,16 @@ impl Names {
 // memory.
 fn names_shown(alloc: Global, picture: &Picture) -> Result<Vec<u64>, AllocError> {
     let mut names = Vec::from_slice(alloc, picture.subjects())?;
+    let mut grown = Ok(());
     let mut last = None;
     for edge in picture.edges() {
         if last != Some(edge.from) {
-            names.push(edge.from)?;
+            push(&mut names, edge.from, &mut grown);
             last = Some(edge.from);
         }
-        names.push(edge.to)?;
+        push(&mut names, edge.to, &mut grown);
     }
+    grown?;
     names.sort_unstable();
     names.dedup();
     Vec::from_slice(alloc, names.as_slice())

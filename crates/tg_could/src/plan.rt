@@ -1,6 +1,7 @@
 //! Turns that are to lead to a right, tried on the graph of a picture. Nothing has to be believed of them: they are
 //! replayed.
 use crate::chains::Chains;
+use crate::growth::push;
 use crate::search::{Found, Step};
 use crate::separation::{comes_later, has};
 use crate::trial::Trial;
@@ -31,22 +32,12 @@ struct Goal {
     source: u64,
 }
 
-/// Where the way ends.
-#[derive(Clone, Copy, Drop)]
-enum End {
-    /// At x, who acts.
-    Itself,
-    /// At one who has grant over x.
-    Giver(u64),
-    /// At one who acts, and makes x.
-    Maker(u64),
-}
-
-/// Turns, and how many vertices are made behind them.
+/// Turns, how many vertices are made behind them, and the edges from each vertex as they were before.
 #[derive(Drop)]
 pub(crate) struct Planned {
     pub(crate) turns: Vec<(u64, Deed)>,
     pub(crate) made: u64,
+    pub(crate) rows: Chains,
 }
 
 // How far a way was gone: the place of the last who acts on it, who acted before, and the mailbox that is handed on.
@@ -73,14 +64,14 @@ struct Plan<'a> {
 impl<'a> Plan<'a> {
     // Takes a turn, whatever comes of it.
     fn turn(&mut self, worker: u64, deed: Deed) {
+        push(&mut self.turns, (worker, deed), &mut self.taken);
         if self.taken.is_ok() {
-            self.taken = self.try_turn((worker, deed));
+            self.taken = self.take_last();
         }
     }
 
-    // The same. Fails only when out of memory.
-    fn try_turn(&mut self, turn: (u64, Deed)) -> Result<(), AllocError> {
-        self.turns.push(turn)?;
+    // Takes the last turn. Fails only when out of memory.
+    fn take_last(&mut self) -> Result<(), AllocError> {
         if let Some(turn) = self.turns.last() {
             self.trial.take_turn(self.picture.edges(), &[], 0, turn)?;
         }
@@ -171,7 +162,7 @@ impl<'a> Plan<'a> {
     }
 
     // Takes the take right over the next vertex of a walk, which is over one before it.
-    fn walk(&mut self, first: u64, via: u64, target: u64) {
+    fn walk_on(&mut self, first: u64, via: u64, target: u64) {
         if via != first {
             let rights = single(Right::T);
             let command = Command::Take {
@@ -183,21 +174,15 @@ impl<'a> Plan<'a> {
         }
     }
 
-    // Who stands first takes the take right over each behind it in turn.
-    fn along(&mut self, first: u64, walk: &[Step]) {
+    // Who stands at an end of a walk takes the take right over each of its vertices in turn: from the first one on, or
+    // back from the last.
+    fn walk(&mut self, first: u64, walk: &[Step], back: bool) {
         let mut via = first;
-        for step in walk {
-            self.walk(first, via, step.vertex);
-            via = step.vertex;
-        }
-    }
-
-    // Who stands last takes the take right over each before it in turn.
-    fn back_along(&mut self, last: u64, walk: &[Step]) {
-        let mut via = last;
-        for step in walk.iter().rev() {
-            self.walk(last, via, step.vertex);
-            via = step.vertex;
+        for at in 0..walk.len() {
+            let place = if back { walk.len() - 1 - at } else { at };
+            let next = walk[place].vertex;
+            self.walk_on(first, via, next);
+            via = next;
         }
     }
 
@@ -209,7 +194,7 @@ impl<'a> Plan<'a> {
             over,
             source,
         } = self.goal;
-        self.back_along(first, stretch);
+        self.walk(first, stretch, true);
         let mailbox = self.create(first, both());
         if first == over {
             self.grant(first, mailbox, source, single(Right::T));
@@ -255,7 +240,7 @@ impl<'a> Plan<'a> {
                 q,
             );
         }
-        self.along(p, stretch);
+        self.walk(p, stretch, false);
         self.make_for(q, p)
     }
 
@@ -263,10 +248,10 @@ impl<'a> Plan<'a> {
     fn mailbox_between(&mut self, down: &[Step], up: &[Step], p: u64, q: u64) -> u64 {
         let a = vertex_of(down.last(), p);
         let b = vertex_of(up.first(), q);
-        self.along(p, down);
-        self.back_along(q, up);
+        self.walk(p, down, false);
+        self.walk(q, up, true);
         if a == p && self.has_all(b, p, single(Right::T)) {
-            self.walk(q, b, p);
+            self.walk_on(q, b, p);
             return self.make_for(p, q);
         }
         if self.has_all(a, b, single(Right::G)) {
@@ -299,7 +284,7 @@ impl<'a> Plan<'a> {
     // The last who acts walks to one that has grant over x, and the right is granted to x.
     fn end(&mut self, walk: &[Step], last: u64, way: &Way, x: u64) {
         let Goal { right, over, .. } = self.goal;
-        self.along(last, walk);
+        self.walk(last, walk, false);
         let giver = vertex_of(walk.last(), last);
         if giver != last {
             self.take(last, giver, x, single(Right::G));
@@ -338,27 +323,26 @@ impl<'a> Plan<'a> {
         let Some(end) = end_of(self.picture, self.found, x) else {
             return Ok(());
         };
-        let path = path_to(alloc, self.found, x, end)?;
-        self.lead(path.as_slice(), x, end);
+        self.trial.rows.grown?;
+        let path = self.found.path(alloc, end)?;
+        self.lead(path.as_slice(), x);
         self.taken
     }
 
     // Leads the right to x along a path, unless x holds it.
-    fn lead(&mut self, path: &[Step], x: u64, end: End) {
-        let (Some(first), Some(last)) = (path.first(), path.last()) else {
-            return;
-        };
+    fn lead(&mut self, path: &[Step], x: u64) {
         let Goal { right, over, .. } = self.goal;
-        if self.has_all(x, over, single(right)) {
+        if path.is_empty() || self.has_all(x, over, single(right)) {
             return;
         }
-        self.goal.source = first.vertex;
-        self.make_names(x, last.vertex, first.vertex);
-        self.follow(path, x, end);
+        let source = vertex_of(path.first(), x);
+        self.goal.source = source;
+        self.make_names(x, vertex_of(path.last(), x), source);
+        self.follow(path, x);
     }
 
     // Goes a path to its end.
-    fn follow(&mut self, path: &[Step], x: u64, end: End) {
+    fn follow(&mut self, path: &[Step], x: u64) {
         let mut way = Way {
             place: 0,
             before: None,
@@ -368,7 +352,7 @@ impl<'a> Plan<'a> {
         for (at, step) in path.iter().enumerate() {
             self.go(&mut way, path, at, step.vertex);
         }
-        self.arrive(&way, path, x, end);
+        self.arrive(&way, path, x);
     }
 
     // Goes one step, from one who acts to the next, with one mailbox that is handed on.
@@ -390,12 +374,11 @@ impl<'a> Plan<'a> {
     }
 
     // The last who acts hands the right to x, or is x.
-    fn arrive(&mut self, way: &Way, path: &[Step], x: u64, end: End) {
+    fn arrive(&mut self, way: &Way, path: &[Step], x: u64) {
         let Goal { right, over, .. } = self.goal;
-        match (end, way.last) {
-            (End::Itself, _) => self.take(x, way.mailbox, over, single(right)),
-            (_, Some(last)) => self.end(part(path, way.place, path.len()), last, way, x),
-            (_, None) => {}
+        match way.last {
+            Some(last) if last != x => self.end(part(path, way.place, path.len()), last, way, x),
+            _ => self.take(x, way.mailbox, over, single(right)),
         }
     }
 }
@@ -423,57 +406,59 @@ fn part(steps: &[Step], from: usize, to: usize) -> &[Step] {
     steps.get(from..to).unwrap_or(&[])
 }
 
-// Where the search ends for x: at x itself, at one that has grant over x, or at one who may make it.
-fn end_of(picture: &Picture, found: &Found, x: u64) -> Option<End> {
+// Where the search ends for x: at x itself, at one who may make it, or at one that has grant over it.
+fn end_of(picture: &Picture, found: &Found, x: u64) -> Option<Step> {
     if found.acts(x) && found.sides.is_back(x) {
-        return Some(End::Itself);
+        return Some(Step {
+            vertex: x,
+            forward: false,
+        });
     }
     if comes_later(picture, x) {
-        return Some(End::Maker(maker_in(picture, found)?));
+        return maker_in(picture, found);
     }
-    Some(End::Giver(giver_to(picture, found, x)?))
+    giver_to(picture, found, x)
 }
 
 // The first who acts and may come to hold the right.
-fn maker_in(picture: &Picture, found: &Found) -> Option<u64> {
+fn maker_in(picture: &Picture, found: &Found) -> Option<Step> {
     for subject in picture.subjects() {
         if found.acts(*subject) && found.sides.is_back(*subject) {
-            return Some(*subject);
+            return Some(Step {
+                vertex: *subject,
+                forward: false,
+            });
         }
     }
     None
 }
 
 // The first who has grant over x, and may be handed the right.
-fn giver_to(picture: &Picture, found: &Found, x: u64) -> Option<u64> {
+fn giver_to(picture: &Picture, found: &Found, x: u64) -> Option<Step> {
     for edge in picture.edges() {
         if edge.to == x && has(edge.label, Right::G) && found.sides.is_forward(edge.from) {
-            return Some(edge.from);
+            return Some(Step {
+                vertex: edge.from,
+                forward: true,
+            });
         }
     }
     None
 }
 
-// The steps that lead to an end.
-fn path_to(alloc: Global, found: &Found, x: u64, end: End) -> Result<Vec<Step>, AllocError> {
-    match end {
-        End::Itself => found.path(alloc, x, false),
-        End::Giver(giver) => found.path(alloc, giver, true),
-        End::Maker(maker) => found.path(alloc, maker, false),
-    }
-}
-
 /// Turns after which x is to hold the right over y, by what the search has found; `rows` are the edges from x and from
 /// whom it found. Fails only when out of memory.
-pub(crate) fn turns_to(
+pub(crate) fn turns_to<'a>(
     alloc: Global,
-    picture: &Picture,
-    found: &Found,
+    picture: &'a Picture,
+    found: &'a Found,
     rows: Chains,
     x: u64,
     right: Right,
     y: u64,
 ) -> Result<Planned, AllocError> {
+    let mut trial = Trial::new(alloc, picture, rows)?;
+    trial.limit = u64::MAX;
     let mut plan = Plan {
         picture,
         found,
@@ -482,13 +467,15 @@ pub(crate) fn turns_to(
             over: y,
             source: y,
         },
-        trial: Trial::new(alloc, picture, rows, u64::MAX)?,
+        trial,
         turns: Vec::new(alloc),
         taken: Ok(()),
     };
     plan.try_lead(alloc, x)?;
+    plan.trial.forget_added();
     Ok(Planned {
         turns: plan.turns,
         made: plan.trial.made,
+        rows: plan.trial.rows,
     })
 }

@@ -10,6 +10,7 @@ ghost use Rattle.tg_could.specs.Turns.{NeverHolds, IsSilent, Turn, AreTurns, Lea
 ghost use Rattle.tg_could.specs.Reached.{HaveSameReach, HoldsWhatItHolds, IsLedTo, IsReachedPicture, IsToldOf};
 
 use crate::answer::{Answer, could_hold};
+use crate::separation::is_among;
 use std::alloc::{AllocError, Global};
 use tg_model::{Edge, Picture};
 use tg_rights::Right;
@@ -36,7 +37,7 @@ pub fn is_reached(picture: &Picture, name: u64) -> bool
 fn is_shown(picture: &Picture, name: u64) -> bool
     ensures { IsTrue result ↔ (Contains picture.now.subjects name ⊎ IsLedTo picture.now.edges name) }
 {
-    picture.subjects().contains(&name) || is_led_to(picture.edges(), name)
+    is_among(picture.subjects(), name) || is_led_to(picture.edges(), name)
 }
 
 // Whether one of these edges leads to the vertex with a name.

@@ -2,6 +2,7 @@
 //! `lead_there`), so that nothing has to be believed of it. It goes back along take edges first, and looks at all
 //! others only where this leads to one who acts.
 use crate::chains::{Chains, NONE, place};
+use crate::growth::push;
 use crate::links::{Links, number_of};
 use crate::marks::Marks;
 use crate::names::Names;
@@ -25,12 +26,14 @@ struct Kept {
     before: u32,
 }
 
-/// What the search has found: the sets, its steps in order, and who acts.
+/// What the search has found: the sets, its steps in order, and who acts. Where memory was wanting once, the end tells
+/// it.
 #[derive(Drop)]
 pub(crate) struct Found {
     pub(crate) sides: Separation,
     steps: Vec<Kept>,
     acting: Marks,
+    grown: Result<(), AllocError>,
 }
 
 // The edges with take or grant at each vertex: from those that have grant over it, and to those over which it has one
@@ -42,19 +45,19 @@ struct Ways {
 }
 
 impl Ways {
-    // Adds an edge where it has take or grant. Fails only when out of memory.
-    fn add(&mut self, names: &Names, edge: &Edge) -> Result<(), AllocError> {
+    // Adds an edge where it has take or grant.
+    fn add(&mut self, names: &Names, edge: &Edge) {
+        let take = has(edge.label, Right::T);
         let grant = has(edge.label, Right::G);
-        if !grant && !has(edge.label, Right::T) {
-            return Ok(());
+        if !take && !grant {
+            return;
         }
         let from = names.number(edge.from);
         let to = names.number(edge.to);
-        self.targets.add(from, to, edge.label)?;
+        self.targets.add(from, to, take, grant);
         if grant {
-            self.granters.add(to, from, edge.label)?;
+            self.granters.add(to, from, false, true);
         }
-        Ok(())
     }
 }
 
@@ -91,10 +94,10 @@ pub(crate) fn search(
 ) -> Result<Found, AllocError> {
     let mut found = Found::start(alloc, picture, silent)?;
     if comes_later(picture, over) {
-        found.put_actors(picture, back)?;
+        found.put_actors(picture, back);
     }
     if back && found.acts(over) {
-        found.put_name(over, true)?;
+        found.put_name(over, true);
     }
     found.search(alloc, picture.edges(), right, over)?;
     Ok(found)
@@ -114,12 +117,8 @@ impl Found {
             sides: Separation::none(alloc, names)?,
             steps: Vec::new(alloc),
             acting,
+            grown: Ok(()),
         })
-    }
-
-    // No vertex has a link; there is room for so many. Fails only when out of memory.
-    fn no_links(&self, alloc: Global, room: usize) -> Result<Links, AllocError> {
-        Links::with_room(alloc, self.sides.names.len(), room)
     }
 
     // Searches from those who have a right over a vertex too.
@@ -130,146 +129,124 @@ impl Found {
         right: Right,
         over: u64,
     ) -> Result<(), AllocError> {
-        let mut takers = self.no_links(alloc, edges.len())?;
+        let mut takers = Links::with_room(alloc, self.sides.names.len(), edges.len())?;
         for edge in edges {
-            self.begin_at(&mut takers, edge, right, over)?;
+            self.begin_at(&mut takers, edge, right, over);
         }
-        takers.tie();
+        takers.tie(&mut self.grown);
         self.finish(alloc, edges, &takers)
     }
 
     // Puts the holder of an edge into the second set, where it has the right over the vertex; and links the target of
     // one that has take to its holder.
-    fn begin_at(
-        &mut self,
-        takers: &mut Links,
-        edge: &Edge,
-        right: Right,
-        over: u64,
-    ) -> Result<(), AllocError> {
+    fn begin_at(&mut self, takers: &mut Links, edge: &Edge, right: Right, over: u64) {
         if edge.to == over && has(edge.label, right) {
-            self.put_name(edge.from, false)?;
+            self.put_name(edge.from, false);
         }
-        if !has(edge.label, Right::T) {
-            return Ok(());
+        if has(edge.label, Right::T) {
+            let from = self.sides.names.number(edge.from);
+            let to = self.sides.names.number(edge.to);
+            takers.add(to, from, false, true);
         }
-        let names = &self.sides.names;
-        takers.add(names.number(edge.to), names.number(edge.from), edge.label)
     }
 
     // Puts everybody who acts into one of the sets.
-    fn put_actors(&mut self, picture: &Picture, forward: bool) -> Result<(), AllocError> {
+    fn put_actors(&mut self, picture: &Picture, forward: bool) {
         for subject in picture.subjects() {
             if self.acts(*subject) {
-                self.put_name(*subject, forward)?;
+                self.put_name(*subject, forward);
             }
         }
-        Ok(())
     }
 
-    // Goes on from all steps, until nothing is new.
+    // Goes on from all steps, until nothing is new. Fails only when memory was wanting.
     fn finish(&mut self, alloc: Global, edges: &[Edge], takers: &Links) -> Result<(), AllocError> {
-        if self.go_back(takers)? {
-            return Ok(());
+        if !self.go_back(takers) {
+            let ways = self.ways(alloc, edges)?;
+            self.spread(takers, &ways);
         }
-        let ways = self.ways(alloc, edges)?;
-        self.spread(takers, &ways)
+        self.grown
     }
 
     // Goes back along take edges from each step. Whether these are all: none leads to one who acts.
-    fn go_back(&mut self, takers: &Links) -> Result<bool, AllocError> {
+    fn go_back(&mut self, takers: &Links) -> bool {
         for at in 0..NONE {
             let Some(&kept) = self.steps.get(at as usize) else {
                 break;
             };
             if kept.is_forward() || self.acting.has(kept.number() as u64) {
-                return Ok(false);
+                return false;
             }
-            self.enter(takers, at, kept.number())?;
+            self.spread_along(takers, at, kept.number());
         }
-        Ok(true)
+        true
     }
 
     // The edges with grant to each vertex, and those with take or grant from each. Fails only when out of memory.
-    fn ways(&self, alloc: Global, edges: &[Edge]) -> Result<Ways, AllocError> {
+    fn ways(&mut self, alloc: Global, edges: &[Edge]) -> Result<Ways, AllocError> {
+        let count = self.sides.names.len();
         let mut ways = Ways {
-            granters: self.no_links(alloc, edges.len())?,
-            targets: self.no_links(alloc, edges.len())?,
+            granters: Links::with_room(alloc, count, edges.len())?,
+            targets: Links::with_room(alloc, count, edges.len())?,
         };
         for edge in edges {
-            ways.add(&self.sides.names, edge)?;
+            ways.add(&self.sides.names, edge);
         }
-        ways.targets.tie();
-        ways.granters.tie();
+        ways.targets.tie(&mut self.grown);
+        ways.granters.tie(&mut self.grown);
         Ok(ways)
     }
 
     // Goes on from each step to what its vertex leads to, until nothing is new.
-    fn spread(&mut self, takers: &Links, ways: &Ways) -> Result<(), AllocError> {
+    fn spread(&mut self, takers: &Links, ways: &Ways) {
         for at in 0..NONE {
             let Some(&kept) = self.steps.get(at as usize) else {
                 break;
             };
             let number = kept.number() as u64;
             if self.acting.has(number) {
-                self.put(number, !kept.is_forward(), at)?;
+                self.put(number, !kept.is_forward(), at);
             }
             if kept.is_forward() {
-                self.leave(&ways.targets, at, kept.number())?;
-                self.enter(&ways.granters, at, kept.number())?;
+                self.spread_along(&ways.targets, at, kept.number());
+                self.spread_along(&ways.granters, at, kept.number());
             } else {
-                self.enter(takers, at, kept.number())?;
+                self.spread_along(takers, at, kept.number());
             }
         }
-        Ok(())
     }
 
     // Puts the vertex with a name into a set, where the search begins.
-    fn put_name(&mut self, name: u64, forward: bool) -> Result<(), AllocError> {
+    fn put_name(&mut self, name: u64, forward: bool) {
         let number = self.sides.names.number(name);
-        self.put(number, forward, NONE)
+        self.put(number, forward, NONE);
     }
 
     // Puts the vertex with a number into a set.
-    fn put(&mut self, number: u64, forward: bool, before: u32) -> Result<(), AllocError> {
+    fn put(&mut self, number: u64, forward: bool, before: u32) {
         if self.sides.pairs.put(number, forward)
             && let Some(kept) = Kept::of(number, forward, before)
         {
-            self.steps.push(kept)?;
+            push(&mut self.steps, kept, &mut self.grown);
         }
-        Ok(())
     }
 
-    // Goes along the edges from a vertex of the first set.
-    fn leave(&mut self, targets: &Links, at: u32, number: u32) -> Result<(), AllocError> {
-        let mut next = targets.first(number);
+    // Goes along the links of a vertex.
+    fn spread_along(&mut self, links: &Links, at: u32, number: u32) {
+        let mut next = links.first(number);
         for _ in 0..NONE {
-            let Some(link) = targets.at(next) else {
+            let Some(link) = links.at(next) else {
                 break;
             };
             let end = link.end() as u64;
-            if link.has_take() {
-                self.put(end, true, at)?;
+            if link.packed & 2 != 0 {
+                self.put(end, true, at);
             }
-            if link.has_grant() {
-                self.put(end, false, at)?;
+            if link.packed & 1 != 0 {
+                self.put(end, false, at);
             }
-            next = link.next();
+            next = link.next;
         }
-        Ok(())
-    }
-
-    // Goes back along the edges to a vertex.
-    fn enter(&mut self, holders: &Links, at: u32, number: u32) -> Result<(), AllocError> {
-        let mut next = holders.first(number);
-        for _ in 0..NONE {
-            let Some(link) = holders.at(next) else {
-                break;
-            };
-            self.put(link.end() as u64, false, at)?;
-            next = link.next();
-        }
-        Ok(())
     }
 
     /// Whether a vertex is one who acts.
@@ -277,7 +254,7 @@ impl Found {
         self.acting.has(self.sides.names.number(name))
     }
 
-    /// The edges from x and from all vertices in a set. Fails only when out of memory.
+    /// The edges from x and from all vertices in a set. Fails only when out of memory, or notes it.
     pub(crate) fn rows(
         &self,
         alloc: Global,
@@ -289,7 +266,7 @@ impl Found {
         for (at, edge) in picture.edges().iter().enumerate() {
             let number = names.number(edge.from);
             if edge.from == x || self.sides.has_number(number) {
-                rows.put(place(at), number)?;
+                rows.put(place(at), number);
             }
         }
         Ok(rows)
@@ -297,32 +274,34 @@ impl Found {
 
     /// The steps that led to a vertex in a set, the first one first; none where it isn't in it. Fails only when out of
     /// memory.
-    pub(crate) fn path(
-        &self,
-        alloc: Global,
-        vertex: u64,
-        forward: bool,
-    ) -> Result<Vec<Step>, AllocError> {
-        let names = &self.sides.names;
+    pub(crate) fn path(&self, alloc: Global, last: Step) -> Result<Vec<Step>, AllocError> {
         let mut path = Vec::new(alloc);
-        let mut next = self.place(names.number(vertex), forward);
+        let mut grown = Ok(());
+        let mut next = self.place(last);
         for _ in 0..self.steps.len() {
-            let Some(kept) = self.steps.get(next as usize) else {
+            let Some(&kept) = self.steps.get(next as usize) else {
                 break;
             };
-            path.push(Step {
-                vertex: names.name(kept.number() as u64),
-                forward: kept.is_forward(),
-            })?;
+            push(&mut path, self.step(kept), &mut grown);
             next = kept.before;
         }
         path.reverse();
+        grown?;
         Ok(path)
     }
 
-    // The place of the step that put the vertex with a number into a set, `NONE` where none did.
-    fn place(&self, number: u64, forward: bool) -> u32 {
-        let Some(wanted) = Kept::of(number, forward, NONE) else {
+    // A step by the name of its vertex.
+    fn step(&self, kept: Kept) -> Step {
+        Step {
+            vertex: self.sides.names.name(kept.number() as u64),
+            forward: kept.is_forward(),
+        }
+    }
+
+    // The place of a step, `NONE` where it wasn't made.
+    fn place(&self, step: Step) -> u32 {
+        let number = self.sides.names.number(step.vertex);
+        let Some(wanted) = Kept::of(number, step.forward, NONE) else {
             return NONE;
         };
         for (at, kept) in self.steps.iter().enumerate() {

@@ -52,11 +52,18 @@ pub(crate) fn are_not_all(one: bool, two: bool, third: bool) -> bool
     !one || !two || !third
 }
 
+/// Whether a name is in a list.
+pub(crate) fn is_among(names: &[u64], name: u64) -> bool
+    ensures { IsTrue result ↔ Contains names.now name }
+{
+    names.contains(&name)
+}
+
 /// Whether a name is that of a silent one: it is in the list, and was made.
 pub(crate) fn is_silent(silent: &[u64], made: u64, name: u64) -> bool
     ensures { IsTrue result ↔ (Contains silent.now name × (name < made)) }
 {
-    silent.contains(&name) && name < made
+    is_among(silent, name) && name < made
 }
 
 /// Whether a name isn't made yet and may be made.

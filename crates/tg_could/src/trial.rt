@@ -1,5 +1,5 @@
 //! A graph that turns are tried on: a picture, and what came since.
-ghost use Rattle.std.specs.Prelude.{◌≡◌, ◌≢◌, ◌<◌, true, ◌++◌, ◌∷◌, [], ℕ, List, IfOk, OnOk, IfSome, IsTrue};
+ghost use Rattle.std.specs.Prelude.{◌≡◌, ◌≢◌, ◌+◌, ◌<◌, true, ◌++◌, ◌∷◌, [], ℕ, List, IfOk, OnOk, IfSome, IsTrue};
 ghost use Rattle.std.specs.List.{Contains};
 ghost use Rattle.tg_rights.specs.RightSet.{RightSet, has};
 ghost use Rattle.tg_rights.specs.declared.Right.{Right as TheRight};
@@ -11,7 +11,7 @@ ghost use Rattle.tg_model.specs.declared.law.Law.{Law};
 ghost use Rattle.tg_model.specs.declared.value.Value.{Value};
 ghost use Rattle.tg_model.specs.declared.command.Command.TheVariants as command;
 ghost use Rattle.tg_model.specs.declared.command.Deed.TheVariants as deed;
-ghost use Rattle.tg_could.specs.Turns.{Acts};
+ghost use Rattle.tg_could.specs.Turns.{Acts, AreTurns, LeadThere, after, with_names};
 ghost use Rattle.tg_could.specs.Trial.{Stands};
 
 use crate::chains::{Chains, NONE};
@@ -23,11 +23,11 @@ use tg_rights::{Label, Right, Rights};
 /// What turns have changed of a picture's graph: the edges that came since, the subjects, and the vertices made.
 #[derive(Drop)]
 pub(crate) struct Trial {
-    rows: Chains,
+    pub(crate) rows: Chains,
     added: Vec<Edge>,
     pub(crate) subjects: Vec<u64>,
     pub(crate) made: u64,
-    limit: u64,
+    pub(crate) limit: u64,
 }
 
 // Whether three vertices differ.
@@ -55,6 +55,13 @@ fn rights_between(edge: Edge, x: u64, y: u64) -> Rights
     }
 }
 
+// The most vertices that may ever be made, where so many more may be; none past the last number.
+fn limit_with(picture: &Picture, names: u64) -> Option<u64>
+    ensures { IfSome result (λ limit. limit ≡ picture.now.limit + names) }
+{
+    picture.limit().checked_add(names)
+}
+
 /// Takes a name out of a list.
 pub(crate) fn leave_out(names: &mut Vec<u64>, name: u64)
     ensures { names.new.items ≡ without_subject names.old.items name }
@@ -63,16 +70,9 @@ pub(crate) fn leave_out(names: &mut Vec<u64>, name: u64)
 }
 
 impl Trial {
-    /// The graph of a picture, on which so many vertices may be made; `rows` are the edges from each vertex. Fails only
-    /// when out of memory.
-    pub(crate) fn new(
-        alloc: Global,
-        picture: &Picture,
-        rows: Chains,
-        limit: u64,
-    ) -> Result<Trial, AllocError>
-        ensures { IfOk result (λ trial. (g : ProtectionGraph) → IsPictureOf picture.now g →
-            Stands picture.now.edges trial (record g { limit = limit })) }
+    /// The graph of a picture; `rows` are the edges from each vertex. Fails only when out of memory.
+    pub(crate) fn new(alloc: Global, picture: &Picture, rows: Chains) -> Result<Trial, AllocError>
+        ensures { IfOk result (λ trial. (g : ProtectionGraph) → IsPictureOf picture.now g → Stands picture.now.edges trial g) }
     {
         let subjects = Vec::from_slice(alloc, picture.subjects())?;
         Ok(Trial {
@@ -80,8 +80,37 @@ impl Trial {
             added: Vec::new(alloc),
             subjects,
             made: picture.made(),
-            limit,
+            limit: picture.limit(),
         })
+    }
+
+    /// Whether these turns lead to x's holding a right over y, where so many more vertices may be made. Fails only when
+    /// out of memory.
+    pub(crate) fn lead_there(
+        &mut self,
+        picture: &Picture,
+        silent: &[u64],
+        names: u64,
+        turns: &[(u64, Deed)],
+        x: u64,
+        right: Right,
+        y: u64,
+    ) -> Result<bool, AllocError>
+        ensures { IfOk result (λ lead. IsTrue lead → (g : ProtectionGraph) → IsPictureOf picture.now g → Stands picture.now.edges self.old g →
+            LeadThere silent.now (with_names g names) turns.now x right y) }
+    {
+        self.rows.grown?;
+        let Some(limit) = limit_with(picture, names) else {
+            return Ok(false);
+        };
+        let first = picture.made();
+        let edges = picture.edges();
+        self.limit = limit;
+        let taken = self.take_turns(edges, silent, first, turns)?;
+        if !taken {
+            return Ok(false);
+        }
+        Ok(self.has_all(edges, x, y, Rights::of(right)))
     }
 
     /// Whether one vertex has these rights over another, all on one edge of the list or of those that came since.
@@ -130,6 +159,26 @@ impl Trial {
             Acts (λ p. Contains silent.now p × (p < first)) g worker }
     {
         self.subjects.contains(&worker) && !is_silent(silent, first, worker)
+    }
+
+    // Takes these turns in order, up to one that isn't taken. Whether all were. Fails only when out of memory.
+    fn take_turns(
+        &mut self,
+        edges: &[Edge],
+        silent: &[u64],
+        first: u64,
+        turns: &[(u64, Deed)],
+    ) -> Result<bool, AllocError>
+        ensures { IfOk result (λ taken. IsTrue taken → (g : ProtectionGraph) → Stands edges.now self.old g →
+            AreTurns (λ p. Contains silent.now p × (p < first)) g turns.now × Stands edges.now self.new (after g turns.now)) }
+    {
+        for turn in turns {
+            let taken = self.take_turn(edges, silent, first, turn)?;
+            if !taken {
+                return Ok(false);
+            }
+        }
+        Ok(true)
     }
 
     /// Takes a turn of one who acts, where it is allowed and adds rights, makes a vertex or retires. Whether it was
@@ -282,9 +331,14 @@ impl Trial {
     {
         let name = self.made;
         self.made = name + 1;
-        self.rows.add_vertex()?;
+        self.rows.add_vertex();
         self.add(worker, name, label)?;
         Ok(())
+    }
+
+    /// Leaves the edges from each vertex as they were at first.
+    pub(crate) fn forget_added(&mut self) {
+        self.rows.forget(self.added.as_slice());
     }
 
     // Adds an edge.
@@ -294,8 +348,8 @@ impl Trial {
         ensures made { self.new.made ≡ self.old.made }
         ensures limit { self.new.limit ≡ self.old.limit }
     {
-        self.rows.add(from)?;
+        self.rows.add(from, self.added.len());
         self.added.push(Edge { from, to, label })?;
-        Ok(())
+        self.rows.grown
     }
 }

@@ -14,7 +14,7 @@ use crate::entries::{Entries, Entry};
 use crate::incoming::Incoming;
 use crate::islands::Islands;
 use crate::names::Names;
-use crate::separation::is_silent;
+use crate::separation::{is_among, is_silent};
 use crate::words::{is_within, meets};
 use std::alloc::{AllocError, Global};
 use tg_model::{Edge, MAX_WORKERS, Picture};
@@ -271,7 +271,7 @@ fn are_listed(actors: &[u64], picture: &Picture, silent: &[u64]) -> bool
 fn is_listed_or_silent(actors: &[u64], picture: &Picture, silent: &[u64], subject: u64) -> bool
     ensures { IsTrue result → ¬ (Contains silent.now subject × (subject < picture.now.made)) → IsListed actors.now subject }
 {
-    is_silent(silent, picture.made(), subject) || actors.contains(&subject)
+    is_silent(silent, picture.made(), subject) || is_among(actors, subject)
 }
 
 // Whether the two and the other two are the same.

@@ -2,8 +2,9 @@
 //! vertices + edges: vertices that walk to each other make a knot, and a knot is left behind all that it leads to; so
 //! back from the last one, each knot hands its bits on when it has all. Only what is walked to is looked at. Nothing is
 //! believed of it: what it finds is checked.
-use crate::chains::{NONE, number_at};
+use crate::chains::{NONE, number_at, put_number};
 use crate::entries::Entry;
+use crate::growth::push;
 use crate::links::{Link, Links, number_of};
 use crate::names::Names;
 use crate::separation::has;
@@ -20,16 +21,29 @@ pub(crate) fn walks(
     actors: &[u64],
 ) -> Result<Vec<u64>, AllocError> {
     let count = names.len();
-    let takes = takes_of(alloc, count, entries)?;
+    let mut takes = takes_of(alloc, count, entries)?;
     let mut words = vec![in alloc; 0; count]?;
-    let mut walk = Walk::new(alloc, count)?;
+    walk_all(alloc, names, &mut takes, actors, words.as_mut_slice())?;
+    Ok(words)
+}
+
+// The same, with a word for each number. Fails only when out of memory.
+fn walk_all(
+    alloc: Global,
+    names: &Names,
+    takes: &mut Links,
+    actors: &[u64],
+    words: &mut [u64],
+) -> Result<(), AllocError> {
+    let mut walk = Walk::new(alloc, words.len())?;
+    takes.tie(&mut walk.grown);
     for (at, actor) in actors.iter().enumerate() {
         let number = names.number(*actor);
-        add(words.as_mut_slice(), number, bit_of(at));
-        walk.begin(&takes, number)?;
+        add(words, number, bit_of(at));
+        walk.begin(takes, number);
     }
-    walk.hand_on(&takes, words.as_mut_slice());
-    Ok(words)
+    walk.hand_on(takes, words);
+    walk.grown
 }
 
 /// The bit of a number, none past 63.
@@ -40,15 +54,14 @@ pub(crate) fn bit_of(at: usize) -> u64 {
     }
 }
 
-// The take edges from each vertex. Fails only when out of memory.
+// The take edges from each vertex, not tied yet. Fails only when out of memory.
 fn takes_of(alloc: Global, count: usize, entries: &[Entry]) -> Result<Links, AllocError> {
     let mut takes = Links::with_room(alloc, count, entries.len())?;
     for entry in entries {
         if has(entry.label, Right::T) {
-            takes.add(entry.from as u64, entry.to as u64, entry.label)?;
+            takes.add(entry.from as u64, entry.to as u64, true, false);
         }
     }
-    takes.tie();
     Ok(takes)
 }
 
@@ -62,7 +75,8 @@ struct Visit {
 
 // For each vertex a number: 0 where it wasn't come to, else the least number of those that it was seen to be in one
 // knot with, `NONE` when its knot was left. The path leads to where the search is; open are those whose knot wasn't
-// left yet; left are the others, knot by knot, and where each knot starts.
+// left yet; left are the others, knot by knot, and where each knot starts. Where memory was wanting once, the end tells
+// it.
 #[derive(Drop)]
 struct Walk {
     numbers: Vec<u32>,
@@ -71,6 +85,7 @@ struct Walk {
     open: Vec<u32>,
     left: Vec<u32>,
     starts: Vec<usize>,
+    grown: Result<(), AllocError>,
 }
 
 impl Walk {
@@ -83,98 +98,95 @@ impl Walk {
             open: Vec::new(alloc),
             left: Vec::new(alloc),
             starts: Vec::new(alloc),
+            grown: Ok(()),
         })
     }
 
     // Goes from the vertex with a number to all that it walks to, but for those that were come to.
-    fn begin(&mut self, takes: &Links, number: u64) -> Result<(), AllocError> {
+    fn begin(&mut self, takes: &Links, number: u64) {
         let Some(vertex) = number_of(number) else {
-            return Ok(());
+            return;
         };
-        if self.number(vertex) != 0 {
-            return Ok(());
-        }
-        self.visit(takes, vertex)?;
+        self.visit(takes, vertex);
         for _ in 0..u64::MAX {
             let Some(&visit) = self.path.last() else {
                 break;
             };
             match takes.at(visit.next) {
-                Some(link) => self.follow(takes, visit, link)?,
-                None => self.leave(visit)?,
+                Some(link) => self.follow(takes, visit, link),
+                None => self.leave(visit),
             }
         }
-        Ok(())
     }
 
-    // Comes to a vertex.
-    fn visit(&mut self, takes: &Links, vertex: u32) -> Result<(), AllocError> {
-        self.count = self.count.saturating_add(1);
-        if let Some(number) = self.numbers.get_mut(vertex as usize) {
-            *number = self.count;
+    // Comes to a vertex, unless it was come to.
+    fn visit(&mut self, takes: &Links, vertex: u32) {
+        if self.number(vertex) != 0 {
+            return;
         }
-        self.open.push(vertex)?;
-        self.path.push(Visit {
+        self.count = self.count.saturating_add(1);
+        self.set_number(vertex, self.count);
+        let visit = Visit {
             vertex,
             number: self.count,
             next: takes.first(vertex),
-        })?;
-        Ok(())
+        };
+        push(&mut self.open, vertex, &mut self.grown);
+        push(&mut self.path, visit, &mut self.grown);
     }
 
     // Follows the next take edge from the last vertex of the path.
-    fn follow(&mut self, takes: &Links, visit: Visit, link: Link) -> Result<(), AllocError> {
+    fn follow(&mut self, takes: &Links, visit: Visit, link: Link) {
         if let Some(last) = self.path.last_mut() {
-            last.next = link.next();
+            last.next = link.next;
         }
         if self.number(link.end()) == 0 {
-            return self.visit(takes, link.end());
+            self.visit(takes, link.end());
+        } else {
+            self.join(visit.vertex, link.end());
         }
-        self.join(visit.vertex, link.end());
-        Ok(())
     }
 
     // Leaves the last vertex of the path, and its knot where it leads to none before it.
-    fn leave(&mut self, visit: Visit) -> Result<(), AllocError> {
+    fn leave(&mut self, visit: Visit) {
         self.path.pop();
         if self.number(visit.vertex) == visit.number {
-            self.leave_knot(visit.vertex)?;
+            self.leave_knot(visit.vertex);
         }
         if let Some(&before) = self.path.last() {
             self.join(before.vertex, visit.vertex);
         }
-        Ok(())
     }
 
     // Leaves the knot that was entered at a vertex.
-    fn leave_knot(&mut self, first: u32) -> Result<(), AllocError> {
-        self.starts.push(self.left.len())?;
+    fn leave_knot(&mut self, first: u32) {
+        push(&mut self.starts, self.left.len(), &mut self.grown);
         for _ in 0..self.open.len() {
             let Some(vertex) = self.open.pop() else {
                 break;
             };
-            if let Some(number) = self.numbers.get_mut(vertex as usize) {
-                *number = NONE;
-            }
-            self.left.push(vertex)?;
+            self.set_number(vertex, NONE);
+            push(&mut self.left, vertex, &mut self.grown);
             if vertex == first {
                 break;
             }
         }
-        Ok(())
     }
 
     // Counts for a vertex with whom one that it takes from is in one knot.
     fn join(&mut self, vertex: u32, end: u32) {
-        let least = self.number(end);
-        if let Some(number) = self.numbers.get_mut(vertex as usize) {
-            *number = least.min(*number);
-        }
+        let least = self.number(end).min(self.number(vertex));
+        self.set_number(vertex, least);
     }
 
     // The number of a vertex.
     fn number(&self, vertex: u32) -> u32 {
         number_at(self.numbers.as_slice(), vertex as usize)
+    }
+
+    // Gives a vertex a number.
+    fn set_number(&mut self, vertex: u32, number: u32) {
+        put_number(self.numbers.as_mut_slice(), vertex as usize, number);
     }
 
     // From the knot left last to the first one, each hands its bits on.
@@ -202,7 +214,7 @@ impl Walk {
                 break;
             };
             add(words, link.end() as u64, word);
-            next = link.next();
+            next = link.next;
         }
     }
 

@@ -1,5 +1,5 @@
 //! Witnesses: turns that lead there, replayed by the rules.
-ghost use Rattle.std.specs.Prelude.{◌≡◌, ◌+◌, IfOk, IfSome, IsTrue};
+ghost use Rattle.std.specs.Prelude.{IfOk, IsTrue};
 ghost use Rattle.tg_model.specs.Graph.{ProtectionGraph};
 ghost use Rattle.tg_model.specs.Picture.{IsPictureOf};
 ghost use Rattle.tg_could.specs.Turns.{LeadThere, with_names};
@@ -8,7 +8,7 @@ use crate::chains::Chains;
 use crate::trial::Trial;
 use std::alloc::{AllocError, Global};
 use tg_model::{Deed, Picture};
-use tg_rights::{Right, Rights};
+use tg_rights::Right;
 
 /// Whether these turns lead to x's holding a right over y, where so many more vertices may be made: each is that of one
 /// who acts by then, it adds rights, makes a vertex or retires, and is allowed; and behind the last x holds the right.
@@ -45,24 +45,6 @@ pub(crate) fn replay(
     ensures { IfOk result (λ lead. IsTrue lead → (g : ProtectionGraph) → IsPictureOf picture.now g →
         LeadThere silent.now (with_names g names) turns.now x right y) }
 {
-    let Some(limit) = limit_with(picture, names) else {
-        return Ok(false);
-    };
-    let first = picture.made();
-    let edges = picture.edges();
-    let mut trial = Trial::new(alloc, picture, rows, limit)?;
-    for turn in turns {
-        let taken = trial.take_turn(edges, silent, first, turn)?;
-        if !taken {
-            return Ok(false);
-        }
-    }
-    Ok(trial.has_all(edges, x, y, Rights::of(right)))
-}
-
-// The most vertices that may ever be made, where so many more may be; none past the last number.
-fn limit_with(picture: &Picture, names: u64) -> Option<u64>
-    ensures { IfSome result (λ limit. limit ≡ picture.now.limit + names) }
-{
-    picture.limit().checked_add(names)
+    let mut trial = Trial::new(alloc, picture, rows)?;
+    trial.lead_there(picture, silent, names, turns, x, right, y)
 }

@@ -1,4 +1,4 @@
-use Rattle.std.proofs.Common.{◌≡◌, rules, List, ℕ}
+use Rattle.std.proofs.Common.{◌≡◌, rules}
 use Rattle.std.proofs.lemmas.Fn.{filter_same}
 use Rattle.tg_model.specs.Graph.{without_subject}
 use Rattle.tg_could.proofs.trial.leave_out.Goals as goal

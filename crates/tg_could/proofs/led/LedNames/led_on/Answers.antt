@@ -1,38 +1,30 @@
-use Rattle.std.proofs.Common.{◌≡◌, ◌∙◌, sym, ap, true, false}
+use Rattle.std.proofs.Common.{◌∙◌, sym, ap}
 use Rattle.std.proofs.lemmas.Bool.{eqb-true}
-use Rattle.tg_could.specs.Separation.{place_in}
 use Rattle.tg_could.specs.declared.separation.Place.{Place}
-use Rattle.tg_could.specs.LedNames.{sides_led}
 use Rattle.tg_could.specs.LedNames.LeadsOn.{from_source, takes_back, grants_back, takes_on, grants_on}
-use Rattle.tg_could.proofs.SettledLaws.{as_told}
 use Rattle.tg_could.proofs.led.LedNames.led_on.Goals as goal
 
 pub returns-then-leads_out-clause-leads : goal.returns-then-leads_out-clause-leads
 returns-then-leads_out-clause-leads c =
     let yes = c.leads_out.ensures.yes c.if-leads_out.true in
-    as_told (sides_led c.args.self.now) c.args.right c.args.y c.args.edge.now c.back.result.forward false c.back.result.vertex c.args.edge.now.from
-    c.back.ensures.back c.back.ensures.vertex (from_source (sym c.has-held.ensures ∙ yes.1) (eqb-true c.args.edge.now.to c.args.y yes.0))
+    from_source (sym c.has-held.ensures ∙ yes.1) (eqb-true c.args.edge.now.to c.args.y yes.0)
 
 pub returns-then-leads_out-2-clause-leads : goal.returns-then-leads_out-2-clause-leads
 returns-then-leads_out-2-clause-leads c =
     let yes = c.leads_out-2.ensures.yes c.if-leads_out-2.true in
-    as_told (sides_led c.args.self.now) c.args.right c.args.y c.args.edge.now c.back-then-leads_out-2.result.forward false c.back-then-leads_out-2.result.vertex c.args.edge.now.from
-    c.back-then-leads_out-2.ensures.back c.back-then-leads_out-2.ensures.vertex (takes_back (sym c.has-take.ensures ∙ yes.0) (ap (λ (p : Place). p.back) (sym c.place-to.ensures) ∙ yes.1))
+    takes_back (sym c.has-take.ensures ∙ yes.0) (ap (λ (p : Place). p.back) (sym c.place-to.ensures) ∙ yes.1)
 
 pub returns-then-leads_out-3-clause-leads : goal.returns-then-leads_out-3-clause-leads
 returns-then-leads_out-3-clause-leads c =
     let yes = c.leads_out-3.ensures.yes c.if-leads_out-3.true in
-    as_told (sides_led c.args.self.now) c.args.right c.args.y c.args.edge.now c.back-then-leads_out-3.result.forward false c.back-then-leads_out-3.result.vertex c.args.edge.now.from
-    c.back-then-leads_out-3.ensures.back c.back-then-leads_out-3.ensures.vertex (grants_back (sym c.has-grant.ensures ∙ yes.0) (ap (λ (p : Place). p.forward) (sym c.place-to.ensures) ∙ yes.1))
+    grants_back (sym c.has-grant.ensures ∙ yes.0) (ap (λ (p : Place). p.forward) (sym c.place-to.ensures) ∙ yes.1)
 
 pub returns-then-leads_out-4-clause-leads : goal.returns-then-leads_out-4-clause-leads
 returns-then-leads_out-4-clause-leads c =
     let yes = c.leads_out-4.ensures.yes c.if-leads_out-4.true in
-    as_told (sides_led c.args.self.now) c.args.right c.args.y c.args.edge.now c.back-then-leads_out-4.result.forward false c.back-then-leads_out-4.result.vertex c.args.edge.now.to
-    c.back-then-leads_out-4.ensures.back c.back-then-leads_out-4.ensures.vertex (grants_on (sym c.has-grant.ensures ∙ yes.0) (ap (λ (p : Place). p.forward) (sym c.place-from.ensures) ∙ yes.1))
+    grants_on (sym c.has-grant.ensures ∙ yes.0) (ap (λ (p : Place). p.forward) (sym c.place-from.ensures) ∙ yes.1)
 
 pub returns-then-leads_out-5-clause-leads : goal.returns-then-leads_out-5-clause-leads
 returns-then-leads_out-5-clause-leads c =
     let yes = c.leads_out-5.ensures.yes c.if-leads_out-5.true in
-    as_told (sides_led c.args.self.now) c.args.right c.args.y c.args.edge.now c.forward.result.forward true c.forward.result.vertex c.args.edge.now.to
-    c.forward.ensures.forward c.forward.ensures.vertex (takes_on (sym c.has-take.ensures ∙ yes.0) (ap (λ (p : Place). p.forward) (sym c.place-from.ensures) ∙ yes.1))
+    takes_on (sym c.has-take.ensures ∙ yes.0) (ap (λ (p : Place). p.forward) (sym c.place-from.ensures) ∙ yes.1)

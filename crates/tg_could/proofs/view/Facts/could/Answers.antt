@@ -1,4 +1,4 @@
-use Rattle.std.proofs.Common.{◌≡◌, ◌∙◌, sym, ap, subst, ℕ, List, false}
+use Rattle.std.proofs.Common.{◌≡◌, ◌∙◌, sym, ap, subst, ℕ, false}
 use Rattle.tg_could.specs.Names.{number_in}
 use Rattle.tg_could.specs.View.{AreGathered, word_of, meets}
 use Rattle.tg_could.proofs.ViewLaws.{viewed-same, viewed-alone, viewed-never}
