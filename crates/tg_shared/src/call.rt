@@ -134,7 +134,10 @@ impl<L: Round> Session<L> {
         if self.retired() {
             return Err(CreateFault::NoSuchWorker);
         }
-        self.make_room(state).map_err(|_| CreateFault::OutOfMemory)
+        if self.make_room(state).is_err() {
+            return Err(CreateFault::OutOfMemory);
+        }
+        Ok(())
     }
 
     /// The session's worker leaves, by one call of [`Locked::leave`](crate::Locked::leave) under the lock: it gives up
