@@ -94,8 +94,8 @@ impl Auditor {
         self.graph.sweep()
     }
 
-    // Sweeps where there are a quarter as many vertices again as the last sweep left, unless nothing was given up since.
-    // Want of memory for it stops no audit: the next one comes where there are a quarter as many again.
+    // Sweeps where there are a quarter as many vertices again as the last sweep left, unless nothing was given up
+    // since. Want of memory for it stops no audit: the next one comes where there are a quarter as many again.
     fn sweep_where_due(&mut self)
         ensures { (g : ProtectionGraph) → HasComeTo g (graph_kept self.old) → HasComeTo g (graph_kept self.new) }
     {

@@ -24,7 +24,8 @@ struct Vertex {
 }
 
 /// Vertices by rising name, of which contracts see the list. Names were made one after the other, so a vertex mostly
-/// stands as far behind the first, or before the last, as their names are apart. A name that isn't kept takes no memory.
+/// stands as far behind the first, or before the last, as their names are apart. A name that isn't kept takes no
+/// memory.
 #[derive(Drop)]
 pub(crate) struct Vertices {
     items: Vec<Vertex>,
@@ -113,8 +114,8 @@ impl Vertices {
         Ok(())
     }
 
-    /// Writes to what a vertex stores, by its law; where it stores nothing, nothing changes. Where memory is refused all
-    /// is as it was.
+    /// Writes to what a vertex stores, by its law; where it stores nothing, nothing changes. Where memory is refused
+    /// all is as it was.
     pub(crate) fn write(&mut self, alloc: Global, name: u64, value: u64) -> Result<(), AllocError>
         ensures values { OnOk result ((y : ℕ) → value_of self.new y ≡ written_at (value_of self.old) name value y) }
         ensures labels { OnOk result (label_between self.new ≡ label_between self.old) }
