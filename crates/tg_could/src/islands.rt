@@ -142,15 +142,23 @@ fn joined(
     reached: &[u64],
 ) -> Result<Vec<u64>, AllocError> {
     let mut joined = vec![in alloc; 0; actors.len()]?;
+    join_actors(joined.as_mut_slice(), names, actors, reached);
+    join_entries(joined.as_mut_slice(), entries, reached);
+    Ok(joined)
+}
+
+// Each who acts is of an island with those who walk to it.
+fn join_actors(joined: &mut [u64], names: &Names, actors: &[u64], reached: &[u64]) {
     for (at, word) in joined.iter_mut().enumerate() {
         *word = bit_of(at);
     }
     for actor in actors {
-        join(
-            joined.as_mut_slice(),
-            word_of(reached, names.number(*actor)),
-        );
+        join(joined, word_of(reached, names.number(*actor)));
     }
+}
+
+// Those who walk to either end of a grant edge are of one island.
+fn join_entries(joined: &mut [u64], entries: &[Entry], reached: &[u64]) {
     for entry in entries {
         if !has(entry.label, Right::G) {
             continue;
@@ -161,10 +169,9 @@ fn joined(
         }
         let to = word_of(reached, entry.to as u64);
         if to != 0 {
-            join(joined.as_mut_slice(), from | to);
+            join(joined, from | to);
         }
     }
-    Ok(joined)
 }
 
 // Joins the islands of all in a word.
