@@ -233,7 +233,7 @@ impl<P: Payload> Store<P> {
             subject,
             &command,
         )?;
-        self.journal.push(Entry {
+        self.journal.push_answer(Entry {
             worker,
             deed: Deed::Plain(command),
             reply: copy,
@@ -329,11 +329,12 @@ impl<P: Payload> Store<P> {
             return create_refused(draft, CreateFault::OutOfMemory);
         };
         if let Some(limit) = met {
-            self.journal.push(Entry {
+            let entry = Entry {
                 worker,
                 deed,
                 reply: limit.reply(),
-            });
+            };
+            self.journal.push_refusal(entry, limit.refusal());
             return create_refused(draft, limit.fault());
         }
         let name = self.made;

@@ -21,33 +21,33 @@ use Rattle.tg_store.specs.Making.{IsLimitMet, deed_making, reply_at}
 use Rattle.tg_store.proofs.MakingLaws as making
 use Rattle.tg_store.proofs.StandLaws.{IsStore-unchanged, StandsFor-entered, subject_here, active_here}
 use Rattle.tg_store.proofs.store.Store.make.Goals as goal
-use Rattle.tg_store.proofs.store.Store.make.Goals.{After-push, In_default-met}
+use Rattle.tg_store.proofs.store.Store.make.Goals.{After-push_refusal, In_default-met}
 
 -- a limit is met, and the reply that tells it is entered
 record IsLimited (old new : StoreState) (worker : ℕ) (kind : Making) (deed : Deed) (limit : Limit) : Type 0 where
   met : IsLimitMet (graph_of_store old) kind (Some limit)
   entry : Enters old new worker deed (reply_at limit)
 
-is_limited : (g : _) (c : After-push g) → IsLimited (record { opening = c.self.inside.opening; entries = c.self.inside.journal.entries; handed = c.self.inside.journal.start; heap = c.self.inside.heap }) (record { opening = c.self.inside.opening; entries = c.push.new.self.entries; handed = c.push.new.self.start; heap = c.self.inside.heap })
+is_limited : (g : _) (c : After-push_refusal g) → IsLimited (record { opening = c.self.inside.opening; entries = c.self.inside.journal.entries; handed = c.self.inside.journal.start; heap = c.self.inside.heap }) (record { opening = c.self.inside.opening; entries = c.push_refusal.new.self.entries; handed = c.push_refusal.new.self.start; heap = c.self.inside.heap })
     c.args.worker c.args.kind (deed_making c.args.kind c.args.label c.args.draft) c.in-Some-met.limit
 is_limited g c =
     let entries = c.self.inside.journal.entries in
     let deed : c.in-Ok.deed ≡ deed_making c.args.kind c.args.label c.args.draft = c.in-Ok.ensures.deed ∙ ap (λ (v : Value). deed_making c.args.kind c.args.label v) c.value.ensures.same in
     record {
       met = subst (λ (s : StoreState). IsLimitMet (graph_of_store s) c.args.kind (Some c.in-Some-met.limit)) (sym c.self.view_is) c.in-Some-met.ensures.met;
-      entry = c.push.ensures.entries ∙ ap (λ es. es ++ (record { worker = c.args.worker; deed = c.in-Ok.deed; reply = c.reply.result }) ∷ []) c.deed_to_enter.ensures.entries
+      entry = c.push_refusal.ensures.entries ∙ ap (λ es. es ++ (record { worker = c.args.worker; deed = c.in-Ok.deed; reply = c.reply.result }) ∷ []) c.deed_to_enter.ensures.entries
           ∙ ap (λ (r : Reply). entries ++ (record { worker = c.args.worker; deed = c.in-Ok.deed; reply = r }) ∷ []) c.reply.ensures
           ∙ ap (λ (d : Deed). entries ++ (record { worker = c.args.worker; deed = d; reply = reply_at c.in-Some-met.limit }) ∷ []) deed;
     }
 
 -- and nothing else is done
-only_enters : (g : _) (c : After-push g) (reply : Reply) → reply_at c.in-Some-met.limit ≡ reply
-    → OnlyEnters c.args.self.now (record { opening = c.self.inside.opening; entries = c.push.new.self.entries; handed = c.push.new.self.start; heap = c.self.inside.heap }) c.args.worker (deed_making c.args.kind c.args.label c.args.draft) reply
+only_enters : (g : _) (c : After-push_refusal g) (reply : Reply) → reply_at c.in-Some-met.limit ≡ reply
+    → OnlyEnters c.args.self.now (record { opening = c.self.inside.opening; entries = c.push_refusal.new.self.entries; handed = c.push_refusal.new.self.start; heap = c.self.inside.heap }) c.args.worker (deed_making c.args.kind c.args.label c.args.draft) reply
 only_enters g c reply is =
-    let new : StoreState = record { opening = c.self.inside.opening; entries = c.push.new.self.entries; handed = c.push.new.self.start; heap = c.self.inside.heap } in
+    let new : StoreState = record { opening = c.self.inside.opening; entries = c.push_refusal.new.self.entries; handed = c.push_refusal.new.self.start; heap = c.self.inside.heap } in
     let deed : Deed = deed_making c.args.kind c.args.label c.args.draft in
     subst (λ (s : StoreState). OnlyEnters s new c.args.worker deed reply) c.self.view_is
-    (record { entry = (is_limited g c).entry ∙ ap (λ (r : Reply). c.self.inside.journal.entries ++ (record { worker = c.args.worker; deed = deed; reply = r }) ∷ []) is; opening = refl; handed = c.push.ensures.start ∙ c.deed_to_enter.ensures.start; heap = refl })
+    (record { entry = (is_limited g c).entry ∙ ap (λ (r : Reply). c.self.inside.journal.entries ++ (record { worker = c.args.worker; deed = deed; reply = r }) ∷ []) is; opening = refl; handed = c.push_refusal.ensures.start ∙ c.deed_to_enter.ensures.start; heap = refl })
 
 -- no limit is met
 has_room : (g : _) (c : In_default-met g) → IsLimitMet (graph_of_store (record { opening = c.self.inside.opening; entries = c.self.inside.journal.entries; handed = c.self.inside.journal.start; heap = c.self.inside.heap })) c.args.kind None
@@ -77,15 +77,15 @@ returns-in_default-clause-refusals g c =
 pub invariant_of-self-in-Some-met : goal.invariant_of-self-in-Some-met
 invariant_of-self-in-Some-met g c =
     let old : StoreState = record { opening = c.self.inside.opening; entries = c.self.inside.journal.entries; handed = c.self.inside.journal.start; heap = c.self.inside.heap } in
-    let limited = is_limited g (goal.at.invariant_of-self-in-Some-met g c).After-push in
-    let new : StoreState = record { opening = c.self.inside.opening; entries = c.push.new.self.entries; handed = c.push.new.self.start; heap = c.self.inside.heap } in
+    let limited = is_limited g (goal.at.invariant_of-self-in-Some-met g c).After-push_refusal in
+    let new : StoreState = record { opening = c.self.inside.opening; entries = c.push_refusal.new.self.entries; handed = c.push_refusal.new.self.start; heap = c.self.inside.heap } in
     making.IsStore-limited old c.self.inside.made c.self.invariant c.args.worker (c.in-Some.ensures.active.0 refl) c.args.kind c.args.label c.args.draft c.in-Some-met.limit limited.met new c.value.ensures.fits refl limited.entry refl
 
 pub returns-in-Some-met-clause-refusals : goal.returns-in-Some-met-clause-refusals
 returns-in-Some-met-clause-refusals g c =
     let old : StoreState = record { opening = c.self.inside.opening; entries = c.self.inside.journal.entries; handed = c.self.inside.journal.start; heap = c.self.inside.heap } in
-    let limited = is_limited g (goal.at.returns-in-Some-met-clause-refusals g c).After-push in
-    let new : StoreState = record { opening = c.self.inside.opening; entries = c.push.new.self.entries; handed = c.push.new.self.start; heap = c.self.inside.heap } in
+    let limited = is_limited g (goal.at.returns-in-Some-met-clause-refusals g c).After-push_refusal in
+    let new : StoreState = record { opening = c.self.inside.opening; entries = c.push_refusal.new.self.entries; handed = c.push_refusal.new.self.start; heap = c.self.inside.heap } in
     record {
       no_such_worker = (λ graph stands.
           let here : StandsFor old graph = ap graph_of_store c.self.view_is ∙ stands in
@@ -105,7 +105,7 @@ returns-in-Some-met-clause-refusals g c =
           rw c.create_refused-in-Some-met.ensures after);
       handed_back = rw c.create_refused-in-Some-met.ensures refl;
       opening = ap (λ (s : StoreState). s.opening) c.self.view_is;
-      handed = c.push.ensures.start ∙ c.deed_to_enter.ensures.start ∙ ap (λ (s : StoreState). s.handed) c.self.view_is;
+      handed = c.push_refusal.ensures.start ∙ c.deed_to_enter.ensures.start ∙ ap (λ (s : StoreState). s.handed) c.self.view_is;
       limits = ap (λ (s : StoreState). s.heap.table.limits) c.self.view_is;
     }
 
@@ -153,16 +153,16 @@ returns-in_err-add_vertex-clause-refusals g c =
 pub invariant_of-self-2 : goal.invariant_of-self-2
 invariant_of-self-2 g c =
     let old : StoreState = record { opening = c.self.inside.opening; entries = c.self.inside.journal.entries; handed = c.self.inside.journal.start; heap = c.self.inside.heap } in
-    let new : StoreState = record { opening = c.self.inside.opening; entries = c.push-2.new.self.entries; handed = c.push-2.new.self.start; heap = c.add_vertex.new.heap } in
-    let entry = making.enters c.self.inside.journal.entries _ c.push-2.new.self.entries c.args.worker c.args.kind c.args.label c.args.draft _ _ (Name c.self.inside.made) c.in-Ok.ensures.deed c.value.ensures.same c.deed_to_enter.ensures.entries c.push-2.ensures.entries in
+    let new : StoreState = record { opening = c.self.inside.opening; entries = c.push.new.self.entries; handed = c.push.new.self.start; heap = c.add_vertex.new.heap } in
+    let entry = making.enters c.self.inside.journal.entries _ c.push.new.self.entries c.args.worker c.args.kind c.args.label c.args.draft _ _ (Name c.self.inside.made) c.in-Ok.ensures.deed c.value.ensures.same c.deed_to_enter.ensures.entries c.push.ensures.entries in
     making.IsStore-made old c.self.inside.made c.self.invariant c.args.worker (c.in-Some.ensures.active.0 refl) c.args.kind c.args.label c.args.draft (has_room g (goal.at.invariant_of-self-2 g c).In_default-met) new c.value.ensures.fits refl entry
     c.in_ok-add_vertex.ensures.made c.in_ok-add_vertex.ensures.subjects
 
 pub returns-clause-made : goal.returns-clause-made
 returns-clause-made g c =
     let old : StoreState = record { opening = c.self.inside.opening; entries = c.self.inside.journal.entries; handed = c.self.inside.journal.start; heap = c.self.inside.heap } in
-    let new : StoreState = record { opening = c.self.inside.opening; entries = c.push-2.new.self.entries; handed = c.push-2.new.self.start; heap = c.add_vertex.new.heap } in
-    let entry = making.enters c.self.inside.journal.entries _ c.push-2.new.self.entries c.args.worker c.args.kind c.args.label c.args.draft _ _ (Name c.self.inside.made) c.in-Ok.ensures.deed c.value.ensures.same c.deed_to_enter.ensures.entries c.push-2.ensures.entries in
+    let new : StoreState = record { opening = c.self.inside.opening; entries = c.push.new.self.entries; handed = c.push.new.self.start; heap = c.add_vertex.new.heap } in
+    let entry = making.enters c.self.inside.journal.entries _ c.push.new.self.entries c.args.worker c.args.kind c.args.label c.args.draft _ _ (Name c.self.inside.made) c.in-Ok.ensures.deed c.value.ensures.same c.deed_to_enter.ensures.entries c.push.ensures.entries in
     record {
       name = (λ graph stands.
           let here : StandsFor old graph = ap graph_of_store c.self.view_is ∙ stands in
@@ -192,7 +192,7 @@ returns-clause-refusals g c =
       same_graph = λ _ _. tt;
       handed_back = tt;
       opening = ap (λ (s : StoreState). s.opening) c.self.view_is;
-      handed = c.push-2.ensures.start ∙ c.deed_to_enter.ensures.start ∙ ap (λ (s : StoreState). s.handed) c.self.view_is;
+      handed = c.push.ensures.start ∙ c.deed_to_enter.ensures.start ∙ ap (λ (s : StoreState). s.handed) c.self.view_is;
       limits = c.in_ok-add_vertex.ensures.limits ∙ ap (λ (s : StoreState). s.heap.table.limits) c.self.view_is;
     }
 
@@ -245,16 +245,16 @@ returns-in_default-deed_to_enter-clause-no_more_entry g c = rw c.create_refused-
 
 pub returns-in-Some-met-clause-no_more_entry : goal.returns-in-Some-met-clause-no_more_entry
 returns-in-Some-met-clause-no_more_entry g c =
-    rw (c.create_refused-in-Some-met.ensures, c.fault.ensures) (λ e. only_enters g (goal.at.returns-in-Some-met-clause-no_more_entry g c).After-push VerticesFull (making.reply_vertices c.in-Some-met.limit e))
+    rw (c.create_refused-in-Some-met.ensures, c.fault.ensures) (λ e. only_enters g (goal.at.returns-in-Some-met-clause-no_more_entry g c).After-push_refusal VerticesFull (making.reply_vertices c.in-Some-met.limit e))
 
 pub returns-in-Some-met-clause-too_many_entry : goal.returns-in-Some-met-clause-too_many_entry
 returns-in-Some-met-clause-too_many_entry g c =
-    rw (c.create_refused-in-Some-met.ensures, c.fault.ensures) (λ e. only_enters g (goal.at.returns-in-Some-met-clause-too_many_entry g c).After-push WorkersFull (making.reply_workers c.in-Some-met.limit e))
+    rw (c.create_refused-in-Some-met.ensures, c.fault.ensures) (λ e. only_enters g (goal.at.returns-in-Some-met-clause-too_many_entry g c).After-push_refusal WorkersFull (making.reply_workers c.in-Some-met.limit e))
 
 pub returns-in-Some-met-clause-too_many : goal.returns-in-Some-met-clause-too_many
 returns-in-Some-met-clause-too_many g c =
     let old : StoreState = record { opening = c.self.inside.opening; entries = c.self.inside.journal.entries; handed = c.self.inside.journal.start; heap = c.self.inside.heap } in
-    let limited = is_limited g (goal.at.returns-in-Some-met-clause-too_many g c).After-push in
+    let limited = is_limited g (goal.at.returns-in-Some-met-clause-too_many g c).After-push_refusal in
     λ graph stands.
     let here : StandsFor old graph = ap graph_of_store c.self.view_is ∙ stands in
     rw (c.create_refused-in-Some-met.ensures, c.fault.ensures)
@@ -264,7 +264,7 @@ returns-in-Some-met-clause-too_many g c =
 pub returns-in-Some-met-clause-crowded : goal.returns-in-Some-met-clause-crowded
 returns-in-Some-met-clause-crowded g c =
     let old : StoreState = record { opening = c.self.inside.opening; entries = c.self.inside.journal.entries; handed = c.self.inside.journal.start; heap = c.self.inside.heap } in
-    let limited = is_limited g (goal.at.returns-in-Some-met-clause-crowded g c).After-push in
+    let limited = is_limited g (goal.at.returns-in-Some-met-clause-crowded g c).After-push_refusal in
     λ is graph stands subject low many.
     let here : StandsFor old graph = ap graph_of_store c.self.view_is ∙ stands in
     rw (c.create_refused-in-Some-met.ensures, c.fault.ensures) (making.told_workers (graph_of_store old) c.args.kind c.in-Some-met.limit limited.met (subst (λ (h : ProtectionGraph). h.made < h.limit) (sym here) low))
