@@ -6,9 +6,9 @@ use Rattle.tg_model.specs.Graph.{IsSubject}
 use Rattle.tg_store.specs.declared.fault.CreateFault.{CreateFault}
 use Rattle.tg_store.specs.declared.fault.CreateFault.TheVariants as fault
 use Rattle.tg_store.specs.Made.{IsMadeFor, MayRefuse}
-use Rattle.tg_store.specs.Store.{Enters, StandsFor, StoreState, graph_of_store}
+use Rattle.tg_store.specs.Store.{Enters, IsUnchanged, StandsFor, StoreState, graph_of_store}
 use Rattle.tg_shared.specs.declared.session.Session.{Session}
-use Rattle.tg_shared.specs.Sessions.{LockedState, made_subject, reply_entered}
+use Rattle.tg_shared.specs.Sessions.{KeepsReceipts, LockedState, RecordsNothing, SessionState, made_subject, reply_entered}
 use Rattle.tg_shared.proofs.Balances.{balanced_entered, balanced_spawned, goes_on_entered, grown, made_more, part_left, parts_left}
 use Rattle.tg_shared.proofs.Refusals.{refusals_made, refusals_none, refusals_same}
 use Rattle.tg_shared.proofs.locked.Locked.spawn.Goals.{in-Some, in_default+in-Many-1, in_default+in-None-1}
@@ -118,3 +118,19 @@ returns-after-entered-clause-too_many g c =
     let here : StandsFor c.self.inside.store graph = ap (λ (b : LockedState). graph_of_store b.store) c.self.view_is ∙ stands in
     subst (λ (w : ℕ). c.in-Err.refused.why ≡ fault.WorkersFull → IsSubject graph w × (graph.made < graph.limit) × (MAX_WORKERS ≤ length graph.subjects)) c.worker-worker.ensures
     (c.in-Err.ensures.too_many graph here)
+
+pub returns-after-entered-clause-refused : goal.returns-after-entered-clause-refused
+returns-after-entered-clause-refused g c =
+    λ no_more too_many.
+    let kept : IsUnchanged c.args.self.now.store c.spawn.new.self =
+    subst (λ (b : LockedState). IsUnchanged b.store c.spawn.new.self) c.self.view_is (c.in-Err.ensures.refused no_more too_many) in
+    let none : (s : StoreState) (t : SessionState) → s ≡ c.spawn.new.self → t ≡ c.take_copy-state.new.self → RecordsNothing c.args.self.now.store s c.args.session.now t =
+    λ s t store session. (
+      subst (λ (x : StoreState). IsUnchanged c.args.self.now.store x) (sym store) kept,
+      subst (λ (x : SessionState). KeepsReceipts c.args.session.now x) (sym session) c.take_copy-state.ensures.receipts,
+    ) in
+    elim c.match-entered.branch [
+      | in-Some w ↦ absurd (entered_as (λ _. ⊥) c.in-Err.refused.why w.in-Some.reply (sym c.entered.ensures ∙ w.in-Some.is) no_more too_many)
+      | in_default+in-Many-1 w ↦ none _ _ (ap (λ b. b.store) w.self-is) w.session-is
+      | in_default+in-None-1 w ↦ none _ _ (ap (λ b. b.store) w.self-is) w.session-is
+    ]
