@@ -204,11 +204,13 @@ typedef struct tg_record {
     uint64_t edge_count;      /* how many edges a list or an inspect answered */
 } tg_record;
 
-/* What the heap has, those that nobody reaches included until a full collection; and how many entries were made: 64 bytes. */
+/* What the heap has, those that nobody reaches included until a full collection; and how many entries and collections were made since
+   the store was opened: 80 bytes. */
 typedef struct tg_counts {
     uint64_t vertices, payloads, blocks;
     uint64_t entries, held;                        /* that were made, and of these those that weren't given up */
     uint64_t denied, vertices_full, workers_full;  /* of those made, how many tell of TG_DENIED, TG_VERTICES_FULL, TG_WORKERS_FULL */
+    uint64_t nursery_collections, full_collections;  /* that answered TG_DONE, those that moved nothing too */
 } tg_counts;
 
 enum {
@@ -322,7 +324,7 @@ tg_status tg_label(tg_store *store, uint64_t worker, uint64_t target, uint64_t *
 /* Collects, by TG_FULL or TG_NURSERY. How many vertices the heap then has goes to *left. No reply and no right changes. */
 tg_status tg_collect(tg_store *store, uint32_t kind, uint64_t *left);
 
-/* Counts what the heap has, and the entries. What is refused without an entry is in no number. */
+/* Counts what the heap has, the entries, and the collections. What is refused without an entry is in no number. */
 tg_status tg_census(tg_store *store, tg_counts *counts);
 
 /* The names of the vertices that the heap has, each once, in an order that the next collection may change: the first `room` of them

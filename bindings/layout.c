@@ -65,7 +65,7 @@ SAME(offsetof(tg_record, denial), 64);
 SAME(offsetof(tg_record, number_count), 96);
 SAME(offsetof(tg_record, edge_count), 104);
 
-SAME(sizeof(tg_counts), 64);
+SAME(sizeof(tg_counts), 80);
 SAME(offsetof(tg_counts, vertices), 0);
 SAME(offsetof(tg_counts, payloads), 8);
 SAME(offsetof(tg_counts, blocks), 16);
@@ -74,6 +74,8 @@ SAME(offsetof(tg_counts, held), 32);
 SAME(offsetof(tg_counts, denied), 40);
 SAME(offsetof(tg_counts, vertices_full), 48);
 SAME(offsetof(tg_counts, workers_full), 56);
+SAME(offsetof(tg_counts, nursery_collections), 64);
+SAME(offsetof(tg_counts, full_collections), 72);
 
 SAME(TG_READ | TG_WRITE << 8 | TG_TAKE << 16 | TG_GRANT << 24, 0x08040201);
 SAME(TG_APPEND | TG_INSPECT << 8 | TG_FREE_U << 16, 0x402010);

@@ -58,7 +58,7 @@ struct run {
     uint64_t active;
     tg_denial why;
     long answered, refused_memory, refused_heap;
-    uint64_t denied, vertices_full, workers_full;
+    uint64_t denied, vertices_full, workers_full, nursery_collections, full_collections;
 };
 
 static uint64_t seed, commands;
@@ -342,13 +342,14 @@ static uint64_t next_entry(struct run *run, tg_store *store) {
     return next;
 }
 
-/* What is counted of the entries is what was answered. */
-static void count_entries(struct run *run, tg_store *store) {
+/* What is counted of the entries and of the collections is what was answered. */
+static void count_answers(struct run *run, tg_store *store) {
     tg_counts has;
     uint64_t next = next_entry(run, store);
     want(run, tg_census(store, &has) == TG_DONE && has.entries == next && has.held == next - first_entry(run, store), "counted entries");
     want(run, has.denied == run->denied && has.vertices_full == run->vertices_full && has.workers_full == run->workers_full,
          "counted refusals");
+    want(run, has.nursery_collections == run->nursery_collections && has.full_collections == run->full_collections, "counted collections");
 }
 
 /* The auditor is fed. Where memory is refused it goes on from the entry that it came to. */
@@ -393,7 +394,7 @@ static void look_back(struct run *run, uint64_t which) {
         want(run, tg_auditor_sweep(auditor_of(run)) == TG_DONE || refused > before, "a sweep");
     else if (run->number % 2 == 1)
         forget_some(run, store);
-    count_entries(run, store);
+    count_answers(run, store);
 }
 
 /* ---- commands */
@@ -533,6 +534,8 @@ static void collect(struct run *run, uint32_t kind) {
     say(run, "%s", kind == TG_FULL ? "full" : "minor");
     tg_status status = tg_collect(store_of(run), kind, &left);
     want(run, (status == TG_DONE) == (left != UNTOUCHED), "a count of what isn't collected");
+    run->nursery_collections += status == TG_DONE && kind == TG_NURSERY;
+    run->full_collections += status == TG_DONE && kind == TG_FULL;
     if (status == TG_DONE && kind == TG_NURSERY)
         return;
     if (is_done(run, status, before))

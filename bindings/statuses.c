@@ -359,11 +359,13 @@ static void counts(tg_store *store) {
     WANT(row[1].to == 2 && row[1].rights == (TG_READ | TG_WRITE));
     WANT(row[2].to == 3 && row[3].to == UNTOUCHED && row[3].rights == UNTOUCHED);
     WANT(tg_remove(store, 0, 4, TG_READ | TG_WRITE, &why) == TG_DONE);
-    WANT(tg_census(store, &has) == TG_DONE && has.vertices == 5 && has.payloads == 5);
+    WANT(tg_census(store, &had) == TG_DONE && had.vertices == 5 && had.payloads == 5);
     names_below(store, 5);
     WANT(tg_collect(store, TG_NURSERY, &left) == TG_DONE && left >= 4);
     WANT(tg_collect(store, TG_FULL, &left) == TG_DONE && left == 4);
+    WANT(tg_collect(store, 2, &left) == TG_BAD_KIND);
     WANT(tg_census(store, &has) == TG_DONE && has.vertices == 4 && has.payloads == 4 && has.blocks >= 1);
+    WANT(has.nursery_collections == had.nursery_collections + 1 && has.full_collections == had.full_collections + 1);
     names_below(store, 4);
     WANT(tg_label(store, 0, 4, &left) == TG_DONE && left == 0);
     for (uint64_t i = 5; i < limits.max_vertices; i++)

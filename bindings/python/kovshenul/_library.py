@@ -79,7 +79,7 @@ class Record(ctypes.Structure):
 
 
 class Counts(ctypes.Structure):
-    """What the heap has, and how many entries were made."""
+    """What the heap has, and how many entries and collections were made."""
 
     _fields_ = [
         ("vertices", Number),
@@ -90,6 +90,8 @@ class Counts(ctypes.Structure):
         ("denied", Number),
         ("vertices_full", Number),
         ("workers_full", Number),
+        ("nursery_collections", Number),
+        ("full_collections", Number),
     ]
 
 

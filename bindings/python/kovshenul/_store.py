@@ -375,7 +375,7 @@ class Store(Held):
         return answer
 
     def census(self) -> Counts:
-        """What the heap has, and how many entries were made."""
+        """What the heap has, and how many entries and collections were made."""
         counts = _library.Counts()
         with self._lock:
             status = library.tg_census(self._at, byref(counts))

@@ -137,7 +137,8 @@ class Target(NamedTuple):
 
 class Counts(NamedTuple):
     """What the heap has, those that nobody reaches included until a full collection; and how many entries were made, how many of
-    these weren't given up, and how many tell of a denial and of each limit. What is refused without an entry is in no number."""
+    these weren't given up, and how many tell of a denial and of each limit. What is refused without an entry is in no number.
+    At last, how many collections of each kind were done since the store was opened, those that moved nothing too."""
 
     vertices: int
     payloads: int
@@ -147,3 +148,5 @@ class Counts(NamedTuple):
     denied: int
     vertices_full: int
     workers_full: int
+    nursery_collections: int
+    full_collections: int

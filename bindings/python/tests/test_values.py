@@ -396,9 +396,11 @@ class Stores(unittest.TestCase):
             self.assertIsInstance(store.census(), Counts)
             with self.assertRaises(Denied):
                 store.write(0, 1, 1)
-            self.assertEqual(store.census()[3:], (2, 2, 1, 0, 0))
+            self.assertEqual(store.census()[3:], (2, 2, 1, 0, 0, 0, 0))
             store.remove(0, 2, READ)
             self.assertEqual(store.collect(Kind.FULL), 2)
+            self.assertEqual([store.collect(Kind.NURSERY) for _ in range(2)], [2, 2])
+            self.assertEqual(store.census()[8:], (2, 1))
             self.assertEqual(store.audit(), 3)
 
     def test_another_thread_closes_it(self):

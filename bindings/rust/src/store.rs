@@ -284,7 +284,7 @@ impl Store {
         Ok(left)
     }
 
-    /// What the heap has, and how many entries were made.
+    /// What the heap has, and how many entries and collections were made.
     pub fn census(&self) -> Result<Counts, Error> {
         let mut counts = Counts::default();
         served(unsafe { raw::tg_census(self.at(), &mut counts) })?;

@@ -84,8 +84,8 @@ impl From<&RawTarget> for Target {
     }
 }
 
-/// What the heap has, those that nobody reaches included until a full collection, and how many entries were made. What is
-/// refused without an entry is in no number.
+/// What the heap has, those that nobody reaches included until a full collection, and how many entries and collections were
+/// made since the store was opened. What is refused without an entry is in no number.
 #[repr(C)]
 #[derive(Clone, Copy, Default, PartialEq, Eq, Hash, Debug)]
 pub struct Counts {
@@ -105,4 +105,8 @@ pub struct Counts {
     pub vertices_full: u64,
     /// How many tell that as many workers as may be were there.
     pub workers_full: u64,
+    /// How many nursery collections were done, those that moved nothing too.
+    pub nursery_collections: u64,
+    /// How many full collections were done.
+    pub full_collections: u64,
 }

@@ -273,6 +273,7 @@ fn what_looks_borrows_only() {
     let counts = store.census().unwrap();
     assert_eq!((store.names().unwrap().len(), counts.vertices), (3, 3));
     assert_eq!((counts.entries, counts.held, counts.denied, counts.vertices_full, counts.workers_full), (1, 1, 0, 0, 0));
+    assert_eq!((counts.nursery_collections, counts.full_collections), (0, 0));
     assert_eq!((journal.next(), store.subjects()), (store.entry(0).ok(), Ok(vec![0, 1])));
     assert_eq!((journal.next(), store.entries(), store.audit()), (None, Ok(1), Ok(1)));
 }

@@ -31,7 +31,7 @@ use Rattle.tg_store.specs.Collecting.{IsSwept, KeepsHistory}
 use Rattle.tg_store.specs.Made.{IsMadeFor}
 use Rattle.tg_store.specs.Making.{deed_making}
 use Rattle.tg_store.specs.Room.{LacksRoomToCollect}
-use Rattle.tg_store.specs.Counts.{refusals_in}
+use Rattle.tg_store.specs.Counts.{no_collections, refusals_in}
 use Rattle.tg_store.specs.Store.{StoreState, StandsFor, Enters, HasFewBlocks, HoldsFrom, OnlyEnters, IsUnchanged}
 use Rattle.tg_store.specs.declared.census.Census.{Census}
 use Rattle.tg_store.specs.declared.fault.ApplyFault.{ApplyFault}
@@ -89,6 +89,7 @@ pub record Applies (worker : ℕ) (asked : Command) (old new : StoreState) (answ
   pub refused : OnErr answer (IsUnchanged old new)
   pub opening : new.opening ≡ old.opening
   pub limits : new.heap.table.limits ≡ old.heap.table.limits
+  pub collections : new.collections ≡ old.collections
 
 abbrev pub Asks : StorePlace → StorePlace → ℕ → Command → (Result Reply CallRefusal → Type 0) → Type 0
 Asks old new worker asked = IsCall of_apply (Applies worker asked) old new
@@ -177,6 +178,7 @@ pub record Makes (kind : Making) (worker : ℕ) (label : RightSet) (value : Valu
   pub same_graph : (g : ProtectionGraph) → StandsFor old g → OnErr answer (StandsFor new g)
   pub opening : new.opening ≡ old.opening
   pub limits : new.heap.table.limits ≡ old.heap.table.limits
+  pub collections : new.collections ≡ old.collections
 
 -- A call that makes what stores this value, over which the worker is to have the rights of these bits: where the bits are no label's it is
 -- refused, or else where the value is of no law, and else the store is asked.
@@ -212,6 +214,7 @@ census_of s = record {
   entries = length s.entries;
   held = length s.entries - s.handed;
   refusals = refusals_in s.entries;
+  collections = s.collections;
 }
 
 abbrev pub Counts : StorePlace → StorePlace → (Result Census CallRefusal → Type 0) → Type 0
@@ -333,6 +336,7 @@ pub record IsOpenedStore (s : StoreState) (workers : List ValueIn) (edges : List
   pub opening : s.opening ≡ plan_of workers edges limits.max_vertices
   pub stands : StandsFor s (start_of (plan_of workers edges limits.max_vertices))
   pub no_entry : s.entries ≡ []
+  pub none_collected : s.collections ≡ no_collections
   pub limits_kept : s.heap.table.limits ≡ limits_of limits.max_blocks limits.max_space_blocks
 
 -- the refusal is want of memory, or else this one, and then what it says holds

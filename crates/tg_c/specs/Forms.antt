@@ -116,4 +116,6 @@ census_out c = record {
   denied = c.refusals.denied;
   vertices_full = c.refusals.vertices_full;
   workers_full = c.refusals.workers_full;
+  nursery_collections = c.collections.nursery;
+  full_collections = c.collections.full;
 }

@@ -54,7 +54,7 @@ subject_held g x h =
 
 -- with the opening and the entries of before, a store stands for the graph of before
 pub stands_still : (old new : StoreState) (g : ProtectionGraph) → new.opening ≡ old.opening → new.entries ≡ old.entries → StandsFor old g → StandsFor new g
-stands_still old new g opening entries stands = (λ i. graph_of_store (record { opening = opening i; entries = entries i; handed = new.handed; heap = new.heap })) ∙ stands
+stands_still old new g opening entries stands = (λ i. graph_of_store (record { opening = opening i; entries = entries i; handed = new.handed; heap = new.heap; collections = new.collections })) ∙ stands
 
 other_way : {T E : Type 0} (x : T) (e : E) → Ok x ≡ Err e → ⊥
 other_way x e same = cc

@@ -26,12 +26,12 @@ refusals_same deed value old old' new x y r same named told =
 -- what was made is another thing
 pub refusals_made : {P T U : Type 0} (deed : Deed) (value : Value) (old new : StoreState) (x : ℕ) (t : T) (u : U) → MayRefuse {P = P} deed x value old new (Ok t) → MayRefuse {P = P} deed x value old new (Ok u)
 refusals_made deed value old new x t u told =
-    record { no_such_worker = told.no_such_worker; no_more = told.no_more; exhausted = told.exhausted; full = told.full; same_graph = told.same_graph; handed_back = told.handed_back; opening = told.opening; handed = told.handed; limits = told.limits }
+    record { no_such_worker = told.no_such_worker; no_more = told.no_more; exhausted = told.exhausted; full = told.full; same_graph = told.same_graph; handed_back = told.handed_back; opening = told.opening; handed = told.handed; limits = told.limits; collections = told.collections }
 
 -- nothing was
 pub refusals_none : {P T U : Type 0} (deed : Deed) (value : Value) (old new : StoreState) (x : ℕ) (refused : CreateRefused P) → MayRefuse {T = T} deed x value old new (Err refused) → MayRefuse {T = U} deed x value old new (Err refused)
 refusals_none deed value old new x refused told =
-    record { no_such_worker = told.no_such_worker; no_more = told.no_more; exhausted = told.exhausted; full = told.full; same_graph = told.same_graph; handed_back = told.handed_back; opening = told.opening; handed = told.handed; limits = told.limits }
+    record { no_such_worker = told.no_such_worker; no_more = told.no_more; exhausted = told.exhausted; full = told.full; same_graph = told.same_graph; handed_back = told.handed_back; opening = told.opening; handed = told.handed; limits = told.limits; collections = told.collections }
 
 -- what a session is told of them, whose call found the store behind the lock after room was made for its receipt
 pub refusals_at_some : {P T : Type 0} (start : SharedStart) (s next : StoreState) (old ready new : SessionState) (deed : Deed) (value : Value) (r : Result T (CreateRefused P)) → GoesOn start s → IsFaithful s

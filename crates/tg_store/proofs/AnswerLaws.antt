@@ -19,6 +19,9 @@ use Rattle.tg_graph.proofs.StandingLaws.{answer_of-stands, denial_of-stands, Sta
 use Rattle.tg_model.proofs.AllowedLaws.{permits-no_denial, step-allowed, step-denied}
 use Rattle.tg_model.proofs.NameLaws.{each_reply}
 use Rattle.tg_rules.specs.Effect.{IsReplyOn, OnlyLooks}
+use Rattle.tg_store.specs.Counts.{refusal_told}
+use Rattle.tg_store.specs.declared.census.Refusal.{Refusal}
+use Rattle.tg_store.specs.declared.census.Refusal.TheVariants.{Denied as DeniedAlone}
 
 -- a command that changes something is answered that it is done
 pub reply_of-done : (label : ℕ → ℕ → RightSet) (value : ℕ → Option Value) (n x : ℕ) (command : Command) → (OnlyLooks command → ⊥) → reply_of label value n x command ≡ Done
@@ -77,6 +80,16 @@ pub denial-answered : (c : Content) (g : ProtectionGraph) (x : ℕ) (command : C
 denial-answered c g x command denial stands subject e =
     denial_of-stands c g stands x command subject
     ∙ from_denied (denial_of g.label g.value x command) (reply_of g.label g.value g.made x command) denial (not_denied g.label g.value g.made x command denial) e
+
+-- of all refusals that have an entry a command meets denials alone
+told_alone : (o : Option Denial) (reply : Reply) → refusal_told reply ≡ None → (refusal : Refusal) → refusal_told (denied_or o reply) ≡ Some refusal → refusal ≡ DeniedAlone
+told_alone None reply none refusal told = let f : ⊥ = cc (none, told) in absurd f
+told_alone (Some denial) reply none refusal told = cc told
+
+pub denial_alone : (g : ProtectionGraph) (x : ℕ) (command : Command) (reply : Reply) → reply ≡ answer_of g x (Plain command) → (refusal : Refusal) → refusal_told reply ≡ Some refusal → refusal ≡ DeniedAlone
+denial_alone g x command reply is refusal told =
+    told_alone (denial_of g.label g.value x command) (reply_of g.label g.value g.made x command)
+    (each_reply (λ r. refusal_told r ≡ None) refl (λ values. refl) (λ edges. refl) g.label g.value g.made x command) refusal (sym (ap refusal_told is) ∙ told)
 
 made_either : (o : Option Denial) (g : ProtectionGraph) (x : ℕ) (command : Command) → (unless_denied o g (effect g x command)).made ≡ g.made
 made_either None g x command = refl

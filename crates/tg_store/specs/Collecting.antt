@@ -8,6 +8,7 @@ use Rattle.tg_space.specs.declared.kind.Kind.TheVariants.{Full, Nursery}
 use Rattle.tg_graph.specs.Content.{IsNamed}
 use Rattle.tg_graph.specs.Heap.{content_of}
 use Rattle.tg_graph.specs.Kept.{VerticesOfOldStay}
+use Rattle.tg_store.specs.Counts.{with_one_collection}
 use Rattle.tg_store.specs.Store.{StoreState, IsCountOf, StandsFor}
 
 -- The store after a collection of a kind, beside the one before it, and the number that is answered.
@@ -25,6 +26,8 @@ pub record IsSwept (kind : Kind) (old new : StoreState) (count : ℕ) : Type 0 w
   pub none_needed : kind ≡ Full → new.heap.remembered ≡ []
   -- a nursery collection keeps the vertices of Old
   pub stay : kind ≡ Nursery → VerticesOfOldStay old.heap.table.spaces new.heap.table.spaces
+  -- one more collection of the kind is counted, and none of the other
+  pub counted : new.collections ≡ with_one_collection kind old.collections
 
 -- What a collection leaves as it was, whatever comes of it: the opening, the limits and the journal; and where it is refused, all.
 pub record KeepsHistory {T E : Type 0} (old new : StoreState) (result : Result T E) : Type 0 where

@@ -1,8 +1,11 @@
--- How many refusals the entries of a store tell of.
-use Rattle.std.specs.Prelude.{ℕ, ◌+◌, Bool, true, false, List, Option, Some, None, count_by}
+-- How many refusals the entries of a store tell of, and how many collections it made.
+use Rattle.std.specs.Prelude.{ℕ, ◌+◌, ◌-◌, ◌^◌, min, Bool, true, false, List, Option, Some, None, count_by}
 use Rattle.tg_model.specs.declared.reply.Reply.{Reply}
 use Rattle.tg_model.specs.declared.reply.Reply.TheVariants as reply
 use Rattle.tg_journal.specs.declared.entry.Entry.{Entry}
+use Rattle.tg_space.specs.declared.kind.Kind.{Kind}
+use Rattle.tg_space.specs.declared.kind.Kind.TheVariants.{Full, Nursery}
+use Rattle.tg_store.specs.declared.census.Collections.{Collections}
 use Rattle.tg_store.specs.declared.census.Refusal.{Refusal}
 use Rattle.tg_store.specs.declared.census.Refusal.TheVariants.{Denied, VerticesFull, WorkersFull}
 use Rattle.tg_store.specs.declared.census.Refusals.{Refusals}
@@ -37,3 +40,12 @@ abbrev pub with_one_refusal : Refusal → Refusals → Refusals
 with_one_refusal Denied r = record r { denied = r.denied + 1 }
 with_one_refusal VerticesFull r = record r { vertices_full = r.vertices_full + 1 }
 with_one_refusal WorkersFull r = record r { workers_full = r.workers_full + 1 }
+
+-- one more collection of a kind; a number that came to 2^64 - 1 stays there
+abbrev pub with_one_collection : Kind → Collections → Collections
+with_one_collection Nursery c = record c { nursery = min (c.nursery + 1) (2 ^ 64 - 1) }
+with_one_collection Full c = record c { full = min (c.full + 1) (2 ^ 64 - 1) }
+
+-- before the first
+abbrev pub no_collections : Collections
+no_collections = record { nursery = 0; full = 0 }

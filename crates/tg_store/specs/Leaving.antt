@@ -31,3 +31,4 @@ pub record HasLeft (worker : ℕ) (old new : StoreState) : Type 0 where
   pub opening : new.opening ≡ old.opening
   pub handed : new.handed ≡ old.handed
   pub limits : new.heap.table.limits ≡ old.heap.table.limits
+  pub collections : new.collections ≡ old.collections

@@ -22,7 +22,7 @@ pub record IsMadeFor (deed : Deed) (worker : ℕ) (label : RightSet) (value : Va
   pub stored : IsNamed (content_of new.heap) vertex × ((content_of new.heap).value vertex ≡ Some value)
   pub placed : IsMadeInRow old.heap.table new.heap.table old.heap.remembered new.heap.remembered (nursery_space (nursery_of old.heap worker)) worker vertex label
 
--- When a worker's deed makes no vertex, by the graph that the store stands for, and what stays then; opening and limits stay always.
+-- When a worker's deed makes no vertex, by the graph that the store stands for, and what stays then; opening, limits and counts stay always.
 pub record MayRefuse {P T : Type 0} (deed : Deed) (worker : ℕ) (value : Value) (old new : StoreState) (result : Result T (CreateRefused P)) : Type 0 where
   pub no_such_worker : (g : ProtectionGraph) → StandsFor old g → IsErrAnd result (λ refused. refused.why ≡ NoSuchWorker) ↔ (¬ IsSubject g worker)
   pub no_more : (g : ProtectionGraph) → StandsFor old g → IfErr result (λ refused. refused.why ≡ VerticesFull → IsSubject g worker × (g.limit ≤ g.made))
@@ -35,3 +35,4 @@ pub record MayRefuse {P T : Type 0} (deed : Deed) (worker : ℕ) (value : Value)
   pub opening : new.opening ≡ old.opening
   pub handed : new.handed ≡ old.handed
   pub limits : new.heap.table.limits ≡ old.heap.table.limits
+  pub collections : new.collections ≡ old.collections

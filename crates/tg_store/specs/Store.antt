@@ -16,14 +16,17 @@ use Rattle.tg_graph.specs.Heap as graph
 use Rattle.tg_graph.specs.Heap.{HeapState, content_of}
 use Rattle.tg_graph.specs.Kept.{AreWritten, rewritten_at}
 use Rattle.tg_graph.specs.Standing as standing
+use Rattle.tg_store.specs.declared.census.Collections.{Collections}
 
 -- What a store is: the opening that it was opened with, all entries that were made since, oldest first, how many of these were handed
--- out or given up, and its heap. The store holds the entries from that number on; which those before it are, clauses alone say.
+-- out or given up, its heap, and how many collections were done. The store holds the entries from that number on; which those before
+-- it are, clauses alone say.
 pub record StoreState : Type 0 where
   pub opening : Plan
   pub entries : List Entry
   pub handed : ℕ
   pub heap : HeapState
+  pub collections : Collections
 
 -- the graph that was never collected: the opening's, after the deeds of all entries
 abbrev pub graph_of_store : StoreState → ProtectionGraph
@@ -58,6 +61,7 @@ pub record OnlyEnters (old new : StoreState) (worker : ℕ) (deed : Deed) (reply
   pub opening : new.opening ≡ old.opening
   pub handed : new.handed ≡ old.handed
   pub heap : new.heap ≡ old.heap
+  pub collections : new.collections ≡ old.collections
 
 -- the two stores are the same but for room for more payloads
 pub record IsUnchanged (old new : StoreState) : Type 0 where
@@ -65,6 +69,7 @@ pub record IsUnchanged (old new : StoreState) : Type 0 where
   pub entries : new.entries ≡ old.entries
   pub handed : new.handed ≡ old.handed
   pub heap : graph.IsUnchangedHeap old.heap new.heap
+  pub collections : new.collections ≡ old.collections
 
 -- The store holds the entries from a place on, and nothing else changed: those before it were handed out or given up.
 pub record HoldsFrom (first : ℕ) (old new : StoreState) : Type 0 where
@@ -72,6 +77,7 @@ pub record HoldsFrom (first : ℕ) (old new : StoreState) : Type 0 where
   pub handed : new.handed ≡ first
   pub opening : new.opening ≡ old.opening
   pub heap : new.heap ≡ old.heap
+  pub collections : new.collections ≡ old.collections
 
 -- the same of all that were made: none is held any more
 abbrev pub HandsOut : StoreState → StoreState → Type 0

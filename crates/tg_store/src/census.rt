@@ -1,8 +1,10 @@
 //! Counts of what a store has, and of what its entries tell.
 ghost use Rattle.std.specs.Prelude.{◌≡◌, ◌+◌, ◌-◌, ◌^◌, ◌<◌};
-ghost use Rattle.tg_store.specs.Counts.{refusals_of, with_one_refusal};
+ghost use Rattle.tg_store.specs.Counts.{refusals_of, with_one_collection, with_one_refusal};
 
-/// What a store has, and how many entries were made since it was opened.
+use tg_space::Kind;
+
+/// What a store has, and how many entries and collections were made since it was opened.
 #[derive(Clone, Copy, PartialEq, Eq, Debug)]
 pub struct Census {
     /// How many vertices the heap has. Those that nobody reaches are counted until a full collection.
@@ -17,6 +19,8 @@ pub struct Census {
     pub held: u64,
     /// How many of the entries tell of a refusal. What is refused without an entry is in no number.
     pub refusals: Refusals,
+    /// How many collections were done, and not refused.
+    pub collections: Collections,
 }
 
 /// How many entries tell of each refusal that has one.
@@ -28,6 +32,16 @@ pub struct Refusals {
     pub vertices_full: u64,
     /// Spawns for which there were as many active subjects as may be.
     pub workers_full: u64,
+}
+
+/// How many collections of each kind were done. One that found nothing to move was done too. Each number stays at
+/// 2^64 - 1, should it ever come to that.
+#[derive(Clone, Copy, PartialEq, Eq, Debug)]
+pub struct Collections {
+    /// Nursery collections.
+    pub nursery: u64,
+    /// Full collections.
+    pub full: u64,
 }
 
 /// A refusal that has an entry.
@@ -50,6 +64,18 @@ impl Refusals {
             Refusal::Denied => self.denied += 1,
             Refusal::VerticesFull => self.vertices_full += 1,
             Refusal::WorkersFull => self.workers_full += 1,
+        }
+    }
+}
+
+impl Collections {
+    /// Counts one more.
+    pub(crate) fn add(&mut self, kind: Kind)
+        ensures { self.new ≡ with_one_collection kind self.old }
+    {
+        match kind {
+            Kind::Nursery => self.nursery = self.nursery.saturating_add(1),
+            Kind::Full => self.full = self.full.saturating_add(1),
         }
     }
 }

@@ -44,7 +44,7 @@ mod store;
 mod store_fault;
 mod tallied;
 
-pub use census::{Census, Refusals};
+pub use census::{Census, Collections, Refusals};
 pub use fault::{ApplyFault, CreateFault, CreateRefused, OpenFault, OpenRefused, StoreAuditFault};
 pub use making::Making;
 pub use store::Store;

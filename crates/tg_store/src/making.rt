@@ -1,13 +1,15 @@
 //! The two kinds of vertices that a store makes, and which limit stands in the way.
-ghost use Rattle.std.specs.Prelude.{◌≡◌, ◌<◌, IfErr, IfOk, OnErr, OnOk, length};
+ghost use Rattle.std.specs.Prelude.{◌≡◌, ◌<◌, IfErr, IfOk, OnErr, OnOk, Some, length};
 ghost use Rattle.std.specs.List.{All};
 ghost use Rattle.tg_word.specs.Word.{nursery_space};
 ghost use Rattle.tg_word.specs.declared.TheConstants.{MAX_NURSERIES};
 ghost use Rattle.tg_graph.specs.Content.{IsNamed};
 ghost use Rattle.tg_graph.specs.Heap.{IsActive, IsUnchangedHeap, content_of, nursery_of, subject_names};
 ghost use Rattle.tg_graph.specs.Spots.{IsMadeInRow, LacksCellsFor};
+ghost use Rattle.tg_store.specs.Counts.{refusal_told};
 ghost use Rattle.tg_store.specs.Making.{IsCreated, deed_making, fault_at, reply_at, subjects_making};
 
+use crate::census::Refusal;
 use crate::fault::CreateFault;
 use crate::tallied::TalliedJournal;
 use std::alloc::{AllocError, Global};
@@ -56,6 +58,16 @@ impl Limit {
         match self {
             Limit::Vertices => Reply::VerticesFull,
             Limit::Subjects => Reply::WorkersFull,
+        }
+    }
+
+    /// How that is counted.
+    pub(crate) fn refusal(self) -> Refusal
+        ensures { refusal_told (reply_at self) ≡ Some result }
+    {
+        match self {
+            Limit::Vertices => Refusal::VerticesFull,
+            Limit::Subjects => Refusal::WorkersFull,
         }
     }
 

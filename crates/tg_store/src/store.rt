@@ -9,7 +9,7 @@ mod leave;
 mod picture;
 
 use crate::answer::{Replies, answer_command};
-use crate::census::Census;
+use crate::census::{Census, Collections};
 use crate::fault::{ApplyFault, CreateFault, CreateRefused, OpenFault, OpenRefused};
 use crate::making::{Limit, Making, add_vertex, deed_to_enter};
 use crate::tallied::TalliedJournal;
@@ -37,6 +37,7 @@ pub struct Store<P: Payload> {
     made: u64,
     heap: Heap<P>,
     journal: TalliedJournal,
+    collections: Collections,
 }
 
 impl<P: Payload> Model for Store<P> {
@@ -45,9 +46,9 @@ impl<P: Payload> Model for Store<P> {
 
     ghost Value = { StoreState };
 
-    ghost view = { λ a. record { opening = a.opening; entries = a.journal.entries; handed = a.journal.start; heap = a.heap } };
+    ghost view = { λ a. record { opening = a.opening; entries = a.journal.entries; handed = a.journal.start; heap = a.heap; collections = a.collections } };
 
-    ghost invariant = { λ a. IsStore (record { opening = a.opening; entries = a.journal.entries; handed = a.journal.start; heap = a.heap }) a.made };
+    ghost invariant = { λ a. IsStore (record { opening = a.opening; entries = a.journal.entries; handed = a.journal.start; heap = a.heap; collections = a.collections }) a.made };
 }
 
 impl<P: Payload> Store<P> {
@@ -69,7 +70,7 @@ impl<P: Payload> Store<P> {
     ghost use Rattle.tg_subjects.specs.Subjects.{AreSubjects, names_of};
     ghost use Rattle.tg_rules.specs.Effect.{AddsEdge, LacksCellsToServe};
     ghost use Rattle.tg_store.specs.Collecting.{IsSwept, KeepsHistory};
-    ghost use Rattle.tg_store.specs.Counts.{refusals_in};
+    ghost use Rattle.tg_store.specs.Counts.{no_collections, refusals_in};
     ghost use Rattle.tg_store.specs.Held.{IsHeldOver};
     ghost use Rattle.tg_store.specs.Made.{IsMadeFor, MayRefuse};
     ghost use Rattle.tg_store.specs.Making.{IsLimitMet, deed_making};
@@ -92,6 +93,7 @@ impl<P: Payload> Store<P> {
         ensures opening { IfOk result (λ store. store.opening ≡ opening) }
         ensures no_entry { IfOk result (λ store. store.entries ≡ []) }
         ensures none_handed { IfOk result (λ store. store.handed ≡ 0) }
+        ensures none_collected { IfOk result (λ store. store.collections ≡ no_collections) }
         ensures limits { IfOk result (λ store. store.heap.table.limits ≡ limits) }
         ensures blocks { IfOk result (λ store. block_count store.heap.table.spaces ≡ opening.workers) }
         ensures mismatch { (at : ℕ) → IsErrAnd result (λ refused. refused.why ≡ OpenFault.PayloadMismatch at) ↔ IsFirstDifference opening.values drafts.items at }
@@ -109,6 +111,10 @@ impl<P: Payload> Store<P> {
                 opening,
                 heap,
                 journal: TalliedJournal::new(alloc),
+                collections: Collections {
+                    nursery: 0,
+                    full: 0,
+                },
             }),
             Err(refused) => {
                 let HeapRefused { drafts, why } = refused;
@@ -181,7 +187,8 @@ impl<P: Payload> Store<P> {
     pub fn let_go(self) {}
 
     /// How many vertices, payloads and blocks the heap has, how many entries were made, how many of them are held,
-    /// and how many tell of each refusal. Takes no memory, and goes over nothing.
+    /// how many tell of each refusal, and how many collections of each kind were done since the store was opened, of
+    /// which one that was refused is none. Takes no memory, and goes over nothing.
     pub fn census(&self) -> Census
         ensures vertices { result.vertices ≡ length (content_of self.now.heap).names }
         ensures payloads { result.payloads ≡ count self.now.heap.payloads }
@@ -189,6 +196,7 @@ impl<P: Payload> Store<P> {
         ensures entries { result.entries ≡ length self.now.entries }
         ensures held { result.held ≡ length self.now.entries - self.now.handed }
         ensures refusals { result.refusals ≡ refusals_in self.now.entries }
+        ensures collections { result.collections ≡ self.now.collections }
     {
         let journal = self.journal.journal();
         let entries = journal.len();
@@ -199,6 +207,7 @@ impl<P: Payload> Store<P> {
             entries,
             held: entries - journal.start(),
             refusals: self.journal.refusals(),
+            collections: self.collections,
         }
     }
 
@@ -222,6 +231,7 @@ impl<P: Payload> Store<P> {
         ensures opening { self.new.opening ≡ self.old.opening }
         ensures handed { self.new.handed ≡ self.old.handed }
         ensures limits { self.new.heap.table.limits ≡ self.old.heap.table.limits }
+        ensures collections { self.new.collections ≡ self.old.collections }
     {
         let Some(subject) = self.heap.subject(worker) else {
             return Err(ApplyFault::NoSuchWorker);
@@ -233,7 +243,7 @@ impl<P: Payload> Store<P> {
             subject,
             &command,
         )?;
-        self.journal.push(Entry {
+        self.journal.push_answer(Entry {
             worker,
             deed: Deed::Plain(command),
             reply: copy,
@@ -329,11 +339,12 @@ impl<P: Payload> Store<P> {
             return create_refused(draft, CreateFault::OutOfMemory);
         };
         if let Some(limit) = met {
-            self.journal.push(Entry {
+            let entry = Entry {
                 worker,
                 deed,
                 reply: limit.reply(),
-            });
+            };
+            self.journal.push_refusal(entry, limit.refusal());
             return create_refused(draft, limit.fault());
         }
         let name = self.made;
@@ -424,7 +435,8 @@ impl<P: Payload> Store<P> {
     /// leaves the blocks of Old, and adds no more than the younger cells in use need, or one more, since it fills
     /// blocks of Old and of Aged. No space has more blocks than `Limits` gives it, or else no more than it had.
     ///
-    /// A nursery collection that finds no younger cells, and none that are remembered, takes no memory.
+    /// A nursery collection that finds no younger cells, and none that are remembered, takes no memory. It counts as
+    /// one, as each does that isn't refused.
     ///
     /// `HeapFull` is answered only where the cells that are reached and would be moved may not fit into the blocks that
     /// a space may have, so never for what nobody reaches; else `OutOfMemory` alone. The store is then as it was.
@@ -436,6 +448,7 @@ impl<P: Payload> Store<P> {
         ensures history { KeepsHistory self.old self.new result }
     {
         if kind == Kind::Nursery && self.is_all_old() {
+            self.collections.add(kind);
             return Ok(self.heap.vertices());
         }
         let spare = self.take_spare();
@@ -492,7 +505,8 @@ impl<P: Payload> Store<P> {
     }
 
     /// Puts what a collection of the store's own cells made, from its own roots, in the place of what it moved, and
-    /// answers how many vertices the heap then has. Fails only when out of memory; the store is then as it was.
+    /// answers how many vertices the heap then has. It counts as a collection. Fails only when out of memory; the store
+    /// is then as it was.
     pub fn settle(&mut self, kind: Kind, copied: Copied) -> Result<u64, AllocError>
         requires { IsCollection kind self.old.heap.table.spaces (roots_of kind self.old.heap) copied.forward.words copied.adoption.aged copied.adoption.old copied.remembered.places }
         ensures swept { IfOk result (IsSwept kind self.old self.new) }
@@ -505,6 +519,7 @@ impl<P: Payload> Store<P> {
             remembered,
         } = copied;
         self.heap.settle(kind, forward, adoption, remembered)?;
+        self.collections.add(kind);
         Ok(self.heap.vertices())
     }
 }

@@ -1,6 +1,7 @@
 //! A journal that counts the refusals that are entered.
-ghost use Rattle.std.specs.Prelude.{◌≡◌, ◌+◌, ◌<◌, ◌≤◌, [], ◌∷◌, ◌++◌, length, OnErr, OnOk};
+ghost use Rattle.std.specs.Prelude.{◌≡◌, ◌+◌, ◌<◌, ◌≤◌, [], ◌∷◌, ◌++◌, length, None, Some, OnErr, OnOk};
 ghost use Rattle.tg_store.specs.Counts.{refusal_told, refusals_in};
+ghost use Rattle.tg_store.specs.declared.census.Refusal.{Refusal as Refused};
 
 use crate::census::{Refusal, Refusals};
 use std::alloc::{AllocError, Global};
@@ -78,20 +79,46 @@ impl TalliedJournal {
         self.journal.reserve_many(more)
     }
 
-    /// Adds an entry, for which there has to be room, and counts the refusal that it tells of. Takes no memory.
+    /// Adds an entry that tells of no refusal, for which there has to be room. Takes no memory, and looks at no reply.
     #[inline(always)]
     pub(crate) fn push(&mut self, entry: Entry)
-        requires { 0 < self.old.spare }
+        requires room { 0 < self.old.spare }
+        requires told { refusal_told entry.reply ≡ None }
         ensures entries { self.new.entries ≡ self.old.entries ++ entry ∷ [] }
         ensures start { self.new.start ≡ self.old.start }
         ensures spare { self.new.spare + 1 ≡ self.old.spare }
     {
-        let refusal = refusal_in(&entry.reply);
+        self.journal.push(entry);
+    }
+
+    /// Adds an entry that tells of a refusal, for which there has to be room, and counts it. Takes no memory.
+    #[cold]
+    #[inline(never)]
+    pub(crate) fn push_refusal(&mut self, entry: Entry, refusal: Refusal)
+        requires room { 0 < self.old.spare }
+        requires told { refusal_told entry.reply ≡ Some refusal }
+        ensures entries { self.new.entries ≡ self.old.entries ++ entry ∷ [] }
+        ensures start { self.new.start ≡ self.old.start }
+        ensures spare { self.new.spare + 1 ≡ self.old.spare }
+    {
         self.journal.push(entry);
         // It tells that the entries have a number, and so their refusals have.
         let _ = self.journal.len();
-        if let Some(refusal) = refusal {
-            self.refusals.add(refusal);
+        self.refusals.add(refusal);
+    }
+
+    /// Adds the entry of a command that was served or denied, for which there has to be room. Takes no memory.
+    #[inline(always)]
+    pub(crate) fn push_answer(&mut self, entry: Entry)
+        requires room { 0 < self.old.spare }
+        requires told { (refusal : Refused) → refusal_told entry.reply ≡ Some refusal → refusal ≡ Refusal.Denied }
+        ensures entries { self.new.entries ≡ self.old.entries ++ entry ∷ [] }
+        ensures start { self.new.start ≡ self.old.start }
+        ensures spare { self.new.spare + 1 ≡ self.old.spare }
+    {
+        match entry.reply {
+            Reply::Denied(_) => self.push_refusal(entry, Refusal::Denied),
+            _ => self.push(entry),
         }
     }
 
@@ -111,18 +138,5 @@ impl TalliedJournal {
         ensures start { self.new.start ≡ upto }
     {
         self.journal.forget(upto);
-    }
-}
-
-// The refusal that a reply tells of.
-#[inline(always)]
-fn refusal_in(reply: &Reply) -> Option<Refusal>
-    ensures { result ≡ refusal_told reply.now }
-{
-    match reply {
-        Reply::Denied(_) => Some(Refusal::Denied),
-        Reply::VerticesFull => Some(Refusal::VerticesFull),
-        Reply::WorkersFull => Some(Refusal::WorkersFull),
-        Reply::Done | Reply::Name(_) | Reply::Values(_) | Reply::Edges(_) => None,
     }
 }

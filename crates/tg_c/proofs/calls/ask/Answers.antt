@@ -14,7 +14,7 @@ returns-in_err-reply-clause-asked c =
     served of_apply (Applies c.args.worker c.args.command) c.args.place.now c.put.new.self c.from_residual.result
     c.deref_mut.result.now.store c.apply-reply.new.self c.apply-reply.result
     c.in-Some.ensures.taken.0 c.put.ensures.open (sym (ap (λ s. s.store) (c.deref_mut.ensures.value ∙ c.in-Some.ensures.taken.1))) (ap (λ s. s.store) c.put.ensures.opened)
-    (given.1 ∙ ap Err given.2 ∙ sym (ap (λ a. refused_as of_apply a) c.in_err-reply.was)) (record { entry = told.entry; replied = told.reply; next = told.step; denied = told.denied; no_such_worker = told.no_such_worker; full = told.full; refused = told.refused; opening = told.opening; limits = told.limits })
+    (given.1 ∙ ap Err given.2 ∙ sym (ap (λ a. refused_as of_apply a) c.in_err-reply.was)) (record { entry = told.entry; replied = told.reply; next = told.step; denied = told.denied; no_such_worker = told.no_such_worker; full = told.full; refused = told.refused; opening = told.opening; limits = told.limits; collections = told.collections })
 
 pub returns-clause-asked : goal.returns-clause-asked
 returns-clause-asked c =
@@ -22,7 +22,7 @@ returns-clause-asked c =
     served of_apply (Applies c.args.worker c.args.command) c.args.place.now c.put.new.self (Ok c.in_ok-reply.field-0)
     c.deref_mut.result.now.store c.apply-reply.new.self c.apply-reply.result
     c.in-Some.ensures.taken.0 c.put.ensures.open (sym (ap (λ s. s.store) (c.deref_mut.ensures.value ∙ c.in-Some.ensures.taken.1))) (ap (λ s. s.store) c.put.ensures.opened)
-    (sym (ap (λ a. refused_as of_apply a) c.in_ok-reply.was)) (record { entry = told.entry; replied = told.reply; next = told.step; denied = told.denied; no_such_worker = told.no_such_worker; full = told.full; refused = told.refused; opening = told.opening; limits = told.limits })
+    (sym (ap (λ a. refused_as of_apply a) c.in_ok-reply.was)) (record { entry = told.entry; replied = told.reply; next = told.step; denied = told.denied; no_such_worker = told.no_such_worker; full = told.full; refused = told.refused; opening = told.opening; limits = told.limits; collections = told.collections })
 
 pub returns-clause-reply : goal.returns-clause-reply
 returns-clause-reply c =

@@ -28,6 +28,7 @@ returns-then-not-is_subject c = record {
   same_graph = λ g stands. stands;
   opening = refl;
   limits = refl;
+  collections = refl;
 }
 
 -- and then that memory is wanting
@@ -50,6 +51,7 @@ returns-in_default c = record {
   same_graph = λ g stands. stands;
   opening = refl;
   limits = refl;
+  collections = refl;
 }
 
 pub returns-in-Ok-make : goal.returns-in-Ok-make
@@ -70,6 +72,7 @@ returns-in-Ok-make c =
       same_graph = λ g stands. tt;
       opening = told.refusals.opening;
       limits = told.refusals.limits;
+      collections = told.refusals.collections;
     })
 
 pub returns-in-Err : goal.returns-in-Err
@@ -90,4 +93,5 @@ returns-in-Err c =
       same_graph = told.refusals.same_graph;
       opening = told.refusals.opening;
       limits = told.refusals.limits;
+      collections = told.refusals.collections;
     })

@@ -10,13 +10,13 @@ use Rattle.tg_graph.specs.Standing.{IsContentOf}
 use Rattle.tg_graph.specs.Heap.{IsActive, content_of, nursery_of, subject_names}
 use Rattle.tg_rules.specs.Effect.{LacksCellsToServe}
 use Rattle.tg_store.specs.Store.{StoreState, Enters, IsUnchanged, OnlyEnters, StandsFor, graph_of_store}
-use Rattle.tg_store.proofs.AnswerLaws.{denial-answered, made-plain, permitted}
+use Rattle.tg_store.proofs.AnswerLaws.{denial-answered, denial_alone, made-plain, permitted}
 use Rattle.tg_store.proofs.StandLaws.{IsStore-unchanged, IsStore-entered, StandsFor-entered, subject_here, subject_named, active_here}
 use Rattle.tg_store.proofs.store.Store.apply.Goals as goal
 
 pub returns-in_default-clause-no_such_worker : goal.returns-in_default-clause-no_such_worker
 returns-in_default-clause-no_such_worker g c =
-    let old : StoreState = record { opening = c.self.inside.opening; entries = c.self.inside.journal.entries; handed = c.self.inside.journal.start; heap = c.self.inside.heap } in
+    let old : StoreState = record { opening = c.self.inside.opening; entries = c.self.inside.journal.entries; handed = c.self.inside.journal.start; heap = c.self.inside.heap; collections = c.self.inside.collections } in
     let none : IsActive old.heap c.args.worker → ⊥ = λ is. let f : ⊥ = cc (c.in_default.ensures.active.1 is) in f in
     λ graph stands.
     let here : StandsFor old graph = ap graph_of_store c.self.view_is ∙ stands in
@@ -24,7 +24,7 @@ returns-in_default-clause-no_such_worker g c =
 
 pub returns-in_err-reserve-clause-no_such_worker : goal.returns-in_err-reserve-clause-no_such_worker
 returns-in_err-reserve-clause-no_such_worker g c =
-    let old : StoreState = record { opening = c.self.inside.opening; entries = c.self.inside.journal.entries; handed = c.self.inside.journal.start; heap = c.self.inside.heap } in
+    let old : StoreState = record { opening = c.self.inside.opening; entries = c.self.inside.journal.entries; handed = c.self.inside.journal.start; heap = c.self.inside.heap; collections = c.self.inside.collections } in
     let active : IsActive old.heap c.args.worker = c.in-Some.ensures.active.0 refl in
     let named : c.in-Some.subject.name ≡ c.args.worker = c.in-Some.ensures.there.named in
     let given = err_from_is_err_and c.from_residual.result c.from_residual.ensures.1 in
@@ -34,14 +34,14 @@ returns-in_err-reserve-clause-no_such_worker g c =
 
 pub invariant_of-self-in_err-reply : goal.invariant_of-self-in_err-reply
 invariant_of-self-in_err-reply g c =
-    let old : StoreState = record { opening = c.self.inside.opening; entries = c.self.inside.journal.entries; handed = c.self.inside.journal.start; heap = c.self.inside.heap } in
-    let new : StoreState = record { opening = c.self.inside.opening; entries = c.reserve.new.self.entries; handed = c.reserve.new.self.start; heap = c.answer_command.new.heap } in
-    let unchanged : IsUnchanged old new = record { opening = refl; entries = c.reserve.ensures.entries; handed = c.reserve.ensures.start; heap = c.in_err-reply.ensures.answered.kept.refused } in
+    let old : StoreState = record { opening = c.self.inside.opening; entries = c.self.inside.journal.entries; handed = c.self.inside.journal.start; heap = c.self.inside.heap; collections = c.self.inside.collections } in
+    let new : StoreState = record { opening = c.self.inside.opening; entries = c.reserve.new.self.entries; handed = c.reserve.new.self.start; heap = c.answer_command.new.heap; collections = c.self.inside.collections } in
+    let unchanged : IsUnchanged old new = record { opening = refl; entries = c.reserve.ensures.entries; handed = c.reserve.ensures.start; heap = c.in_err-reply.ensures.answered.kept.refused; collections = refl } in
     IsStore-unchanged old new c.self.inside.made c.self.invariant unchanged
 
 pub returns-in_err-reply-clause-no_such_worker : goal.returns-in_err-reply-clause-no_such_worker
 returns-in_err-reply-clause-no_such_worker g c =
-    let old : StoreState = record { opening = c.self.inside.opening; entries = c.self.inside.journal.entries; handed = c.self.inside.journal.start; heap = c.self.inside.heap } in
+    let old : StoreState = record { opening = c.self.inside.opening; entries = c.self.inside.journal.entries; handed = c.self.inside.journal.start; heap = c.self.inside.heap; collections = c.self.inside.collections } in
     let named : c.in-Some.subject.name ≡ c.args.worker = c.in-Some.ensures.there.named in
     let given = err_from_is_err_and c.from_residual-in_err-reply.result c.from_residual-in_err-reply.ensures.1 in
     λ graph stands.
@@ -50,7 +50,7 @@ returns-in_err-reply-clause-no_such_worker g c =
 
 pub returns-in_err-reply-clause-full : goal.returns-in_err-reply-clause-full
 returns-in_err-reply-clause-full g c =
-    let old : StoreState = record { opening = c.self.inside.opening; entries = c.self.inside.journal.entries; handed = c.self.inside.journal.start; heap = c.self.inside.heap } in
+    let old : StoreState = record { opening = c.self.inside.opening; entries = c.self.inside.journal.entries; handed = c.self.inside.journal.start; heap = c.self.inside.heap; collections = c.self.inside.collections } in
     let active : IsActive old.heap c.args.worker = c.in-Some.ensures.active.0 refl in
     let named : c.in-Some.subject.name ≡ c.args.worker = c.in-Some.ensures.there.named in
     let given = err_from_is_err_and c.from_residual-in_err-reply.result c.from_residual-in_err-reply.ensures.1 in
@@ -69,10 +69,18 @@ returns-in_err-reply-clause-full g c =
       subst (λ (s : StoreState). LacksCellsToServe s.heap.table (nursery_of s.heap c.args.worker) c.args.worker c.args.command) c.self.view_is lacks,
     )
 
+pub push_answer-requires-clause-told : goal.push_answer-requires-clause-told
+push_answer-requires-clause-told g c =
+    let old : StoreState = record { opening = c.self.inside.opening; entries = c.self.inside.journal.entries; handed = c.self.inside.journal.start; heap = c.self.inside.heap; collections = c.self.inside.collections } in
+    let graph : ProtectionGraph = graph_of_store old in
+    let own : IsSubject graph c.in-Some.subject.name = subject_named old c.self.invariant.faithful c.args.worker c.in-Some.subject.name c.in-Some.ensures.there.named (c.in-Some.ensures.active.0 refl) in
+    denial_alone graph c.in-Some.subject.name c.args.command c.in_ok-reply.field-0.copy
+    (c.in_ok-reply.ensures.answered.replied.copy ∙ c.in_ok-reply.ensures.answered.replied.reply graph c.self.invariant.faithful.stands own)
+
 pub invariant_of-self-2 : goal.invariant_of-self-2
 invariant_of-self-2 g c =
-    let old : StoreState = record { opening = c.self.inside.opening; entries = c.self.inside.journal.entries; handed = c.self.inside.journal.start; heap = c.self.inside.heap } in
-    let new : StoreState = record { opening = c.self.inside.opening; entries = c.push.new.self.entries; handed = c.push.new.self.start; heap = c.answer_command.new.heap } in
+    let old : StoreState = record { opening = c.self.inside.opening; entries = c.self.inside.journal.entries; handed = c.self.inside.journal.start; heap = c.self.inside.heap; collections = c.self.inside.collections } in
+    let new : StoreState = record { opening = c.self.inside.opening; entries = c.push_answer.new.self.entries; handed = c.push_answer.new.self.start; heap = c.answer_command.new.heap; collections = c.self.inside.collections } in
     let graph : ProtectionGraph = graph_of_store old in
     let active : IsActive old.heap c.args.worker = c.in-Some.ensures.active.0 refl in
     let named : c.in-Some.subject.name ≡ c.args.worker = c.in-Some.ensures.there.named in
@@ -80,7 +88,7 @@ invariant_of-self-2 g c =
     let stands = c.self.invariant.faithful.stands in
     let copy : Reply = c.in_ok-reply.field-0.copy in
     let entry : Enters old new c.args.worker (Plain c.args.command) copy =
-    c.push.ensures.entries ∙ ap (λ es. es ++ (record { worker = c.args.worker; deed = Plain c.args.command; reply = copy }) ∷ []) c.reserve.ensures.entries in
+    c.push_answer.ensures.entries ∙ ap (λ es. es ++ (record { worker = c.args.worker; deed = Plain c.args.command; reply = copy }) ∷ []) c.reserve.ensures.entries in
     IsStore-entered old new c.args.worker (Plain c.args.command) copy refl entry c.self.inside.made c.self.invariant.faithful subject tt
     (c.in_ok-reply.ensures.answered.replied.copy ∙ c.in_ok-reply.ensures.answered.replied.reply graph stands (subst (λ (x : ℕ). IsSubject graph x) (sym named) subject) ∙ ap (λ (x : ℕ). answer_of graph x (Plain c.args.command)) named)
     (subst (λ (x : ℕ). IsContentOf (content_of new.heap) (step graph x (Plain c.args.command))) named (c.in_ok-reply.ensures.answered.replied.step graph stands (subst (λ (x : ℕ). IsSubject graph x) (sym named) subject)))
@@ -90,7 +98,7 @@ invariant_of-self-2 g c =
 
 pub returns-clause-reply : goal.returns-clause-reply
 returns-clause-reply g c =
-    let old : StoreState = record { opening = c.self.inside.opening; entries = c.self.inside.journal.entries; handed = c.self.inside.journal.start; heap = c.self.inside.heap } in
+    let old : StoreState = record { opening = c.self.inside.opening; entries = c.self.inside.journal.entries; handed = c.self.inside.journal.start; heap = c.self.inside.heap; collections = c.self.inside.collections } in
     let graph : ProtectionGraph = graph_of_store old in
     let own : IsSubject graph c.in-Some.subject.name = subject_named old c.self.invariant.faithful c.args.worker c.in-Some.subject.name c.in-Some.ensures.there.named (c.in-Some.ensures.active.0 refl) in
     λ other stands.
@@ -100,36 +108,36 @@ returns-clause-reply g c =
 
 pub returns-clause-step : goal.returns-clause-step
 returns-clause-step g c =
-    let old : StoreState = record { opening = c.self.inside.opening; entries = c.self.inside.journal.entries; handed = c.self.inside.journal.start; heap = c.self.inside.heap } in
-    let new : StoreState = record { opening = c.self.inside.opening; entries = c.push.new.self.entries; handed = c.push.new.self.start; heap = c.answer_command.new.heap } in
+    let old : StoreState = record { opening = c.self.inside.opening; entries = c.self.inside.journal.entries; handed = c.self.inside.journal.start; heap = c.self.inside.heap; collections = c.self.inside.collections } in
+    let new : StoreState = record { opening = c.self.inside.opening; entries = c.push_answer.new.self.entries; handed = c.push_answer.new.self.start; heap = c.answer_command.new.heap; collections = c.self.inside.collections } in
     let copy : Reply = c.in_ok-reply.field-0.copy in
     let entry : Enters old new c.args.worker (Plain c.args.command) copy =
-    c.push.ensures.entries ∙ ap (λ es. es ++ (record { worker = c.args.worker; deed = Plain c.args.command; reply = copy }) ∷ []) c.reserve.ensures.entries in
+    c.push_answer.ensures.entries ∙ ap (λ es. es ++ (record { worker = c.args.worker; deed = Plain c.args.command; reply = copy }) ∷ []) c.reserve.ensures.entries in
     λ other stands.
     let here : StandsFor old other = ap graph_of_store c.self.view_is ∙ stands in
     StandsFor-entered old new c.args.worker (Plain c.args.command) copy refl entry other here
 
 pub returns-clause-denied : goal.returns-clause-denied
 returns-clause-denied g c =
-    let old : StoreState = record { opening = c.self.inside.opening; entries = c.self.inside.journal.entries; handed = c.self.inside.journal.start; heap = c.self.inside.heap } in
+    let old : StoreState = record { opening = c.self.inside.opening; entries = c.self.inside.journal.entries; handed = c.self.inside.journal.start; heap = c.self.inside.heap; collections = c.self.inside.collections } in
     let graph : ProtectionGraph = graph_of_store old in
     let named : c.in-Some.subject.name ≡ c.args.worker = c.in-Some.ensures.there.named in
     let subject : IsSubject graph c.args.worker = subject_here old c.self.invariant.faithful graph c.args.worker refl (c.in-Some.ensures.active.0 refl) in
     let stands = c.self.invariant.faithful.stands in
     λ denial same.
-    let new : StoreState = record { opening = c.self.inside.opening; entries = c.push.new.self.entries; handed = c.push.new.self.start; heap = c.answer_command.new.heap } in
+    let new : StoreState = record { opening = c.self.inside.opening; entries = c.push_answer.new.self.entries; handed = c.push_answer.new.self.start; heap = c.answer_command.new.heap; collections = c.self.inside.collections } in
     let is : c.in_ok-reply.field-0.reply ≡ Denied denial = cc same in
     let denied = denial-answered (content_of old.heap) graph c.args.worker c.args.command denial stands subject (sym is ∙ c.in_ok-reply.ensures.answered.replied.reply graph stands (subst (λ (x : ℕ). IsSubject graph x) (sym named) subject) ∙ ap (λ (x : ℕ). answer_of graph x (Plain c.args.command)) named) in
     let copy : c.in_ok-reply.field-0.copy ≡ Denied denial = c.in_ok-reply.ensures.answered.replied.copy ∙ is in
     let entry : Enters old new c.args.worker (Plain c.args.command) (Denied denial) =
-    c.push.ensures.entries ∙ ap (λ es. es ++ (record { worker = c.args.worker; deed = Plain c.args.command; reply = c.in_ok-reply.field-0.copy }) ∷ []) c.reserve.ensures.entries
+    c.push_answer.ensures.entries ∙ ap (λ es. es ++ (record { worker = c.args.worker; deed = Plain c.args.command; reply = c.in_ok-reply.field-0.copy }) ∷ []) c.reserve.ensures.entries
     ∙ ap (λ (r : Reply). old.entries ++ (record { worker = c.args.worker; deed = Plain c.args.command; reply = r }) ∷ []) copy in
-    let only : OnlyEnters old new c.args.worker (Plain c.args.command) (Denied denial) = record { entry = entry; opening = refl; handed = c.push.ensures.start ∙ c.reserve.ensures.start; heap = c.answer_command.ensures.denied denial (subst (λ (x : ℕ). denial_of (content_of old.heap).label (content_of old.heap).value x c.args.command ≡ Some denial) (sym named) denied) } in
+    let only : OnlyEnters old new c.args.worker (Plain c.args.command) (Denied denial) = record { entry = entry; opening = refl; handed = c.push_answer.ensures.start ∙ c.reserve.ensures.start; heap = c.answer_command.ensures.denied denial (subst (λ (x : ℕ). denial_of (content_of old.heap).label (content_of old.heap).value x c.args.command ≡ Some denial) (sym named) denied); collections = refl } in
     subst (λ (s : StoreState). OnlyEnters s new c.args.worker (Plain c.args.command) (Denied denial)) c.self.view_is only
 
 pub returns-clause-no_such_worker : goal.returns-clause-no_such_worker
 returns-clause-no_such_worker g c =
-    let old : StoreState = record { opening = c.self.inside.opening; entries = c.self.inside.journal.entries; handed = c.self.inside.journal.start; heap = c.self.inside.heap } in
+    let old : StoreState = record { opening = c.self.inside.opening; entries = c.self.inside.journal.entries; handed = c.self.inside.journal.start; heap = c.self.inside.heap; collections = c.self.inside.collections } in
     let active : IsActive old.heap c.args.worker = c.in-Some.ensures.active.0 refl in
     let named : c.in-Some.subject.name ≡ c.args.worker = c.in-Some.ensures.there.named in
     λ graph stands.
@@ -215,7 +223,19 @@ pub returns-clause-opening : goal.returns-clause-opening
 returns-clause-opening g c = ap (λ (s : StoreState). s.opening) c.self.view_is
 
 pub returns-clause-handed : goal.returns-clause-handed
-returns-clause-handed g c = c.push.ensures.start ∙ c.reserve.ensures.start ∙ ap (λ (s : StoreState). s.handed) c.self.view_is
+returns-clause-handed g c = c.push_answer.ensures.start ∙ c.reserve.ensures.start ∙ ap (λ (s : StoreState). s.handed) c.self.view_is
 
 pub returns-clause-limits : goal.returns-clause-limits
 returns-clause-limits g c = c.answer_command.ensures.answered.kept.limits ∙ ap (λ (s : StoreState). s.heap.table.limits) c.self.view_is
+
+pub returns-in_default-clause-collections : goal.returns-in_default-clause-collections
+returns-in_default-clause-collections g c = refl
+
+pub returns-in_err-reserve-clause-collections : goal.returns-in_err-reserve-clause-collections
+returns-in_err-reserve-clause-collections g c = ap (λ (s : StoreState). s.collections) c.self.view_is
+
+pub returns-in_err-reply-clause-collections : goal.returns-in_err-reply-clause-collections
+returns-in_err-reply-clause-collections g c = ap (λ (s : StoreState). s.collections) c.self.view_is
+
+pub returns-clause-collections : goal.returns-clause-collections
+returns-clause-collections g c = ap (λ (s : StoreState). s.collections) c.self.view_is

@@ -10,11 +10,11 @@ forget-requires g c =
 
 pub invariant_of-self : goal.invariant_of-self
 invariant_of-self g c =
-    let old : StoreState = record { opening = c.self.inside.opening; entries = c.self.inside.journal.entries; handed = c.self.inside.journal.start; heap = c.self.inside.heap } in
-    let new : StoreState = record { opening = c.self.inside.opening; entries = c.forget.new.self.entries; handed = c.forget.new.self.start; heap = c.self.inside.heap } in
-    IsStore-handed c.args.upto old new c.self.inside.made c.self.invariant (record { entries = c.forget.ensures.entries; handed = c.forget.ensures.start; opening = refl; heap = refl })
+    let old : StoreState = record { opening = c.self.inside.opening; entries = c.self.inside.journal.entries; handed = c.self.inside.journal.start; heap = c.self.inside.heap; collections = c.self.inside.collections } in
+    let new : StoreState = record { opening = c.self.inside.opening; entries = c.forget.new.self.entries; handed = c.forget.new.self.start; heap = c.self.inside.heap; collections = c.self.inside.collections } in
+    IsStore-handed c.args.upto old new c.self.inside.made c.self.invariant (record { entries = c.forget.ensures.entries; handed = c.forget.ensures.start; opening = refl; heap = refl; collections = refl })
 
 pub returns : goal.returns
 returns g c =
-    let new : StoreState = record { opening = c.self.inside.opening; entries = c.forget.new.self.entries; handed = c.forget.new.self.start; heap = c.self.inside.heap } in
-    subst (λ (s : StoreState). HoldsFrom c.args.upto s new) c.self.view_is (record { entries = c.forget.ensures.entries; handed = c.forget.ensures.start; opening = refl; heap = refl })
+    let new : StoreState = record { opening = c.self.inside.opening; entries = c.forget.new.self.entries; handed = c.forget.new.self.start; heap = c.self.inside.heap; collections = c.self.inside.collections } in
+    subst (λ (s : StoreState). HoldsFrom c.args.upto s new) c.self.view_is (record { entries = c.forget.ensures.entries; handed = c.forget.ensures.start; opening = refl; heap = refl; collections = refl })

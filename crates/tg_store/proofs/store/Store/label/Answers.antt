@@ -8,7 +8,7 @@ use Rattle.tg_store.proofs.store.Store.label.Goals as goal
 
 pub returns-in_err-subject : goal.returns-in_err-subject
 returns-in_err-subject g c =
-    let store : StoreState = record { opening = c.self.inside.opening; entries = c.self.inside.journal.entries; handed = c.self.inside.journal.start; heap = c.self.inside.heap } in
+    let store : StoreState = record { opening = c.self.inside.opening; entries = c.self.inside.journal.entries; handed = c.self.inside.journal.start; heap = c.self.inside.heap; collections = c.self.inside.collections } in
     record {
       held = λ graph stands.
           held_by_none store c.self.invariant.faithful c.args.worker c.args.target c.from_residual.result (λ is. let f : ⊥ = cc (c.in_err-subject.ensures.active.1 is) in f)
@@ -17,7 +17,7 @@ returns-in_err-subject g c =
 
 pub returns-in_err-found : goal.returns-in_err-found
 returns-in_err-found g c =
-    let store : StoreState = record { opening = c.self.inside.opening; entries = c.self.inside.journal.entries; handed = c.self.inside.journal.start; heap = c.self.inside.heap } in
+    let store : StoreState = record { opening = c.self.inside.opening; entries = c.self.inside.journal.entries; handed = c.self.inside.journal.start; heap = c.self.inside.heap; collections = c.self.inside.collections } in
     let named = c.in_ok-subject.ensures.vertex.named in
     record {
       held = λ graph stands.
@@ -28,7 +28,7 @@ returns-in_err-found g c =
 
 pub returns : goal.returns
 returns g c =
-    let store : StoreState = record { opening = c.self.inside.opening; entries = c.self.inside.journal.entries; handed = c.self.inside.journal.start; heap = c.self.inside.heap } in
+    let store : StoreState = record { opening = c.self.inside.opening; entries = c.self.inside.journal.entries; handed = c.self.inside.journal.start; heap = c.self.inside.heap; collections = c.self.inside.collections } in
     let named = c.in_ok-subject.ensures.vertex.named in
     record {
       held = λ graph stands.

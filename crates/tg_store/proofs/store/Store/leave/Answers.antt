@@ -35,8 +35,8 @@ left_heap before after g x w row named is sound subject stands each =
 
 pub invariant_of-self-2 : goal.invariant_of-self-2
 invariant_of-self-2 g c =
-    let old : StoreState = record { opening = c.self.inside.opening; entries = c.self.inside.journal.entries; handed = c.self.inside.journal.start; heap = c.self.inside.heap } in
-    let new : StoreState = record { opening = c.self.inside.opening; entries = c.leave_heap.new.journal.entries; handed = c.leave_heap.new.journal.start; heap = c.leave_heap.new.heap } in
+    let old : StoreState = record { opening = c.self.inside.opening; entries = c.self.inside.journal.entries; handed = c.self.inside.journal.start; heap = c.self.inside.heap; collections = c.self.inside.collections } in
+    let new : StoreState = record { opening = c.self.inside.opening; entries = c.leave_heap.new.journal.entries; handed = c.leave_heap.new.journal.start; heap = c.leave_heap.new.heap; collections = c.self.inside.collections } in
     let graph : ProtectionGraph = graph_of_store old in
     let x = c.in-Some.subject.name in
     let w = c.args.worker in
@@ -53,8 +53,8 @@ invariant_of-self-2 g c =
 
 pub returns-clause-left : goal.returns-clause-left
 returns-clause-left g c =
-    let old : StoreState = record { opening = c.self.inside.opening; entries = c.self.inside.journal.entries; handed = c.self.inside.journal.start; heap = c.self.inside.heap } in
-    let new : StoreState = record { opening = c.self.inside.opening; entries = c.leave_heap.new.journal.entries; handed = c.leave_heap.new.journal.start; heap = c.leave_heap.new.heap } in
+    let old : StoreState = record { opening = c.self.inside.opening; entries = c.self.inside.journal.entries; handed = c.self.inside.journal.start; heap = c.self.inside.heap; collections = c.self.inside.collections } in
+    let new : StoreState = record { opening = c.self.inside.opening; entries = c.leave_heap.new.journal.entries; handed = c.leave_heap.new.journal.start; heap = c.leave_heap.new.heap; collections = c.self.inside.collections } in
     let graph : ProtectionGraph = graph_of_store old in
     let x = c.in-Some.subject.name in
     let w = c.args.worker in
@@ -70,12 +70,13 @@ returns-clause-left g c =
       opening = refl;
       handed = c.leave_heap.ensures.start ∙ c.reserve_many.ensures.start;
       limits = c.leave_heap.ensures.limits;
+      collections = refl;
     } in
     subst (λ (s : StoreState). HasLeft w s new) c.self.view_is left
 
 pub returns-clause-count : goal.returns-clause-count
 returns-clause-count g c = λ other stands.
-    let old : StoreState = record { opening = c.self.inside.opening; entries = c.self.inside.journal.entries; handed = c.self.inside.journal.start; heap = c.self.inside.heap } in
+    let old : StoreState = record { opening = c.self.inside.opening; entries = c.self.inside.journal.entries; handed = c.self.inside.journal.start; heap = c.self.inside.heap; collections = c.self.inside.collections } in
     let here : StandsFor old other = ap graph_of_store c.self.view_is ∙ stands in
     let w = c.args.worker in
     let faithful = c.self.invariant.faithful in

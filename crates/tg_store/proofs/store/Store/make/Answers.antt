@@ -21,41 +21,41 @@ use Rattle.tg_store.specs.Making.{IsLimitMet, deed_making, reply_at}
 use Rattle.tg_store.proofs.MakingLaws as making
 use Rattle.tg_store.proofs.StandLaws.{IsStore-unchanged, StandsFor-entered, subject_here, active_here}
 use Rattle.tg_store.proofs.store.Store.make.Goals as goal
-use Rattle.tg_store.proofs.store.Store.make.Goals.{After-push, In_default-met}
+use Rattle.tg_store.proofs.store.Store.make.Goals.{After-push_refusal, In_default-met}
 
 -- a limit is met, and the reply that tells it is entered
 record IsLimited (old new : StoreState) (worker : ℕ) (kind : Making) (deed : Deed) (limit : Limit) : Type 0 where
   met : IsLimitMet (graph_of_store old) kind (Some limit)
   entry : Enters old new worker deed (reply_at limit)
 
-is_limited : (g : _) (c : After-push g) → IsLimited (record { opening = c.self.inside.opening; entries = c.self.inside.journal.entries; handed = c.self.inside.journal.start; heap = c.self.inside.heap }) (record { opening = c.self.inside.opening; entries = c.push.new.self.entries; handed = c.push.new.self.start; heap = c.self.inside.heap })
+is_limited : (g : _) (c : After-push_refusal g) → IsLimited (record { opening = c.self.inside.opening; entries = c.self.inside.journal.entries; handed = c.self.inside.journal.start; heap = c.self.inside.heap; collections = c.self.inside.collections }) (record { opening = c.self.inside.opening; entries = c.push_refusal.new.self.entries; handed = c.push_refusal.new.self.start; heap = c.self.inside.heap; collections = c.self.inside.collections })
     c.args.worker c.args.kind (deed_making c.args.kind c.args.label c.args.draft) c.in-Some-met.limit
 is_limited g c =
     let entries = c.self.inside.journal.entries in
     let deed : c.in-Ok.deed ≡ deed_making c.args.kind c.args.label c.args.draft = c.in-Ok.ensures.deed ∙ ap (λ (v : Value). deed_making c.args.kind c.args.label v) c.value.ensures.same in
     record {
       met = subst (λ (s : StoreState). IsLimitMet (graph_of_store s) c.args.kind (Some c.in-Some-met.limit)) (sym c.self.view_is) c.in-Some-met.ensures.met;
-      entry = c.push.ensures.entries ∙ ap (λ es. es ++ (record { worker = c.args.worker; deed = c.in-Ok.deed; reply = c.reply.result }) ∷ []) c.deed_to_enter.ensures.entries
+      entry = c.push_refusal.ensures.entries ∙ ap (λ es. es ++ (record { worker = c.args.worker; deed = c.in-Ok.deed; reply = c.reply.result }) ∷ []) c.deed_to_enter.ensures.entries
           ∙ ap (λ (r : Reply). entries ++ (record { worker = c.args.worker; deed = c.in-Ok.deed; reply = r }) ∷ []) c.reply.ensures
           ∙ ap (λ (d : Deed). entries ++ (record { worker = c.args.worker; deed = d; reply = reply_at c.in-Some-met.limit }) ∷ []) deed;
     }
 
 -- and nothing else is done
-only_enters : (g : _) (c : After-push g) (reply : Reply) → reply_at c.in-Some-met.limit ≡ reply
-    → OnlyEnters c.args.self.now (record { opening = c.self.inside.opening; entries = c.push.new.self.entries; handed = c.push.new.self.start; heap = c.self.inside.heap }) c.args.worker (deed_making c.args.kind c.args.label c.args.draft) reply
+only_enters : (g : _) (c : After-push_refusal g) (reply : Reply) → reply_at c.in-Some-met.limit ≡ reply
+    → OnlyEnters c.args.self.now (record { opening = c.self.inside.opening; entries = c.push_refusal.new.self.entries; handed = c.push_refusal.new.self.start; heap = c.self.inside.heap; collections = c.self.inside.collections }) c.args.worker (deed_making c.args.kind c.args.label c.args.draft) reply
 only_enters g c reply is =
-    let new : StoreState = record { opening = c.self.inside.opening; entries = c.push.new.self.entries; handed = c.push.new.self.start; heap = c.self.inside.heap } in
+    let new : StoreState = record { opening = c.self.inside.opening; entries = c.push_refusal.new.self.entries; handed = c.push_refusal.new.self.start; heap = c.self.inside.heap; collections = c.self.inside.collections } in
     let deed : Deed = deed_making c.args.kind c.args.label c.args.draft in
     subst (λ (s : StoreState). OnlyEnters s new c.args.worker deed reply) c.self.view_is
-    (record { entry = (is_limited g c).entry ∙ ap (λ (r : Reply). c.self.inside.journal.entries ++ (record { worker = c.args.worker; deed = deed; reply = r }) ∷ []) is; opening = refl; handed = c.push.ensures.start ∙ c.deed_to_enter.ensures.start; heap = refl })
+    (record { entry = (is_limited g c).entry ∙ ap (λ (r : Reply). c.self.inside.journal.entries ++ (record { worker = c.args.worker; deed = deed; reply = r }) ∷ []) is; opening = refl; handed = c.push_refusal.ensures.start ∙ c.deed_to_enter.ensures.start; heap = refl; collections = refl })
 
 -- no limit is met
-has_room : (g : _) (c : In_default-met g) → IsLimitMet (graph_of_store (record { opening = c.self.inside.opening; entries = c.self.inside.journal.entries; handed = c.self.inside.journal.start; heap = c.self.inside.heap })) c.args.kind None
+has_room : (g : _) (c : In_default-met g) → IsLimitMet (graph_of_store (record { opening = c.self.inside.opening; entries = c.self.inside.journal.entries; handed = c.self.inside.journal.start; heap = c.self.inside.heap; collections = c.self.inside.collections })) c.args.kind None
 has_room g c = subst (λ (s : StoreState). IsLimitMet (graph_of_store s) c.args.kind None) (sym c.self.view_is) c.in_default-met.ensures.met
 
 pub returns-in_default-clause-refusals : goal.returns-in_default-clause-refusals
 returns-in_default-clause-refusals g c =
-    let old : StoreState = record { opening = c.self.inside.opening; entries = c.self.inside.journal.entries; handed = c.self.inside.journal.start; heap = c.self.inside.heap } in
+    let old : StoreState = record { opening = c.self.inside.opening; entries = c.self.inside.journal.entries; handed = c.self.inside.journal.start; heap = c.self.inside.heap; collections = c.self.inside.collections } in
     let none : IsActive old.heap c.args.worker → ⊥ = λ is. let f : ⊥ = cc (c.in_default.ensures.active.1 is) in f in
     record {
       no_such_worker = (λ graph stands.
@@ -72,20 +72,21 @@ returns-in_default-clause-refusals g c =
       opening = refl;
       handed = refl;
       limits = refl;
+      collections = refl;
     }
 
 pub invariant_of-self-in-Some-met : goal.invariant_of-self-in-Some-met
 invariant_of-self-in-Some-met g c =
-    let old : StoreState = record { opening = c.self.inside.opening; entries = c.self.inside.journal.entries; handed = c.self.inside.journal.start; heap = c.self.inside.heap } in
-    let limited = is_limited g (goal.at.invariant_of-self-in-Some-met g c).After-push in
-    let new : StoreState = record { opening = c.self.inside.opening; entries = c.push.new.self.entries; handed = c.push.new.self.start; heap = c.self.inside.heap } in
+    let old : StoreState = record { opening = c.self.inside.opening; entries = c.self.inside.journal.entries; handed = c.self.inside.journal.start; heap = c.self.inside.heap; collections = c.self.inside.collections } in
+    let limited = is_limited g (goal.at.invariant_of-self-in-Some-met g c).After-push_refusal in
+    let new : StoreState = record { opening = c.self.inside.opening; entries = c.push_refusal.new.self.entries; handed = c.push_refusal.new.self.start; heap = c.self.inside.heap; collections = c.self.inside.collections } in
     making.IsStore-limited old c.self.inside.made c.self.invariant c.args.worker (c.in-Some.ensures.active.0 refl) c.args.kind c.args.label c.args.draft c.in-Some-met.limit limited.met new c.value.ensures.fits refl limited.entry refl
 
 pub returns-in-Some-met-clause-refusals : goal.returns-in-Some-met-clause-refusals
 returns-in-Some-met-clause-refusals g c =
-    let old : StoreState = record { opening = c.self.inside.opening; entries = c.self.inside.journal.entries; handed = c.self.inside.journal.start; heap = c.self.inside.heap } in
-    let limited = is_limited g (goal.at.returns-in-Some-met-clause-refusals g c).After-push in
-    let new : StoreState = record { opening = c.self.inside.opening; entries = c.push.new.self.entries; handed = c.push.new.self.start; heap = c.self.inside.heap } in
+    let old : StoreState = record { opening = c.self.inside.opening; entries = c.self.inside.journal.entries; handed = c.self.inside.journal.start; heap = c.self.inside.heap; collections = c.self.inside.collections } in
+    let limited = is_limited g (goal.at.returns-in-Some-met-clause-refusals g c).After-push_refusal in
+    let new : StoreState = record { opening = c.self.inside.opening; entries = c.push_refusal.new.self.entries; handed = c.push_refusal.new.self.start; heap = c.self.inside.heap; collections = c.self.inside.collections } in
     record {
       no_such_worker = (λ graph stands.
           let here : StandsFor old graph = ap graph_of_store c.self.view_is ∙ stands in
@@ -105,8 +106,9 @@ returns-in-Some-met-clause-refusals g c =
           rw c.create_refused-in-Some-met.ensures after);
       handed_back = rw c.create_refused-in-Some-met.ensures refl;
       opening = ap (λ (s : StoreState). s.opening) c.self.view_is;
-      handed = c.push.ensures.start ∙ c.deed_to_enter.ensures.start ∙ ap (λ (s : StoreState). s.handed) c.self.view_is;
+      handed = c.push_refusal.ensures.start ∙ c.deed_to_enter.ensures.start ∙ ap (λ (s : StoreState). s.handed) c.self.view_is;
       limits = ap (λ (s : StoreState). s.heap.table.limits) c.self.view_is;
+      collections = ap (λ (s : StoreState). s.collections) c.self.view_is;
     }
 
 pub add_vertex-requires-clause-fresh : goal.add_vertex-requires-clause-fresh
@@ -114,14 +116,14 @@ add_vertex-requires-clause-fresh g c = making.fresh _ c.self.inside.made c.self.
 
 pub invariant_of-self-in_err-add_vertex : goal.invariant_of-self-in_err-add_vertex
 invariant_of-self-in_err-add_vertex g c =
-    let old : StoreState = record { opening = c.self.inside.opening; entries = c.self.inside.journal.entries; handed = c.self.inside.journal.start; heap = c.self.inside.heap } in
-    let new : StoreState = record { opening = c.self.inside.opening; entries = c.deed_to_enter.new.journal.entries; handed = c.deed_to_enter.new.journal.start; heap = c.add_vertex.new.heap } in
-    let unchanged : IsUnchanged old new = record { opening = refl; entries = c.deed_to_enter.ensures.entries; handed = c.deed_to_enter.ensures.start; heap = c.in_err-add_vertex.ensures.refused } in
+    let old : StoreState = record { opening = c.self.inside.opening; entries = c.self.inside.journal.entries; handed = c.self.inside.journal.start; heap = c.self.inside.heap; collections = c.self.inside.collections } in
+    let new : StoreState = record { opening = c.self.inside.opening; entries = c.deed_to_enter.new.journal.entries; handed = c.deed_to_enter.new.journal.start; heap = c.add_vertex.new.heap; collections = c.self.inside.collections } in
+    let unchanged : IsUnchanged old new = record { opening = refl; entries = c.deed_to_enter.ensures.entries; handed = c.deed_to_enter.ensures.start; heap = c.in_err-add_vertex.ensures.refused; collections = refl } in
     IsStore-unchanged old new c.self.inside.made c.self.invariant unchanged
 
 pub returns-in_err-add_vertex-clause-refusals : goal.returns-in_err-add_vertex-clause-refusals
 returns-in_err-add_vertex-clause-refusals g c =
-    let old : StoreState = record { opening = c.self.inside.opening; entries = c.self.inside.journal.entries; handed = c.self.inside.journal.start; heap = c.self.inside.heap } in
+    let old : StoreState = record { opening = c.self.inside.opening; entries = c.self.inside.journal.entries; handed = c.self.inside.journal.start; heap = c.self.inside.heap; collections = c.self.inside.collections } in
     let active : IsActive old.heap c.args.worker = c.in-Some.ensures.active.0 refl in
     let given = err_from_is_err_and c.from_residual.result c.from_residual.ensures.1 in
     let room = has_room g (goal.at.returns-in_err-add_vertex-clause-refusals g c).In_default-met in
@@ -148,21 +150,22 @@ returns-in_err-add_vertex-clause-refusals g c =
       opening = ap (λ (s : StoreState). s.opening) c.self.view_is;
       handed = c.deed_to_enter.ensures.start ∙ ap (λ (s : StoreState). s.handed) c.self.view_is;
       limits = ap (λ (t : SpaceTable). t.limits) c.in_err-add_vertex.ensures.refused.table ∙ ap (λ (s : StoreState). s.heap.table.limits) c.self.view_is;
+      collections = ap (λ (s : StoreState). s.collections) c.self.view_is;
     }
 
 pub invariant_of-self-2 : goal.invariant_of-self-2
 invariant_of-self-2 g c =
-    let old : StoreState = record { opening = c.self.inside.opening; entries = c.self.inside.journal.entries; handed = c.self.inside.journal.start; heap = c.self.inside.heap } in
-    let new : StoreState = record { opening = c.self.inside.opening; entries = c.push-2.new.self.entries; handed = c.push-2.new.self.start; heap = c.add_vertex.new.heap } in
-    let entry = making.enters c.self.inside.journal.entries _ c.push-2.new.self.entries c.args.worker c.args.kind c.args.label c.args.draft _ _ (Name c.self.inside.made) c.in-Ok.ensures.deed c.value.ensures.same c.deed_to_enter.ensures.entries c.push-2.ensures.entries in
+    let old : StoreState = record { opening = c.self.inside.opening; entries = c.self.inside.journal.entries; handed = c.self.inside.journal.start; heap = c.self.inside.heap; collections = c.self.inside.collections } in
+    let new : StoreState = record { opening = c.self.inside.opening; entries = c.push.new.self.entries; handed = c.push.new.self.start; heap = c.add_vertex.new.heap; collections = c.self.inside.collections } in
+    let entry = making.enters c.self.inside.journal.entries _ c.push.new.self.entries c.args.worker c.args.kind c.args.label c.args.draft _ _ (Name c.self.inside.made) c.in-Ok.ensures.deed c.value.ensures.same c.deed_to_enter.ensures.entries c.push.ensures.entries in
     making.IsStore-made old c.self.inside.made c.self.invariant c.args.worker (c.in-Some.ensures.active.0 refl) c.args.kind c.args.label c.args.draft (has_room g (goal.at.invariant_of-self-2 g c).In_default-met) new c.value.ensures.fits refl entry
     c.in_ok-add_vertex.ensures.made c.in_ok-add_vertex.ensures.subjects
 
 pub returns-clause-made : goal.returns-clause-made
 returns-clause-made g c =
-    let old : StoreState = record { opening = c.self.inside.opening; entries = c.self.inside.journal.entries; handed = c.self.inside.journal.start; heap = c.self.inside.heap } in
-    let new : StoreState = record { opening = c.self.inside.opening; entries = c.push-2.new.self.entries; handed = c.push-2.new.self.start; heap = c.add_vertex.new.heap } in
-    let entry = making.enters c.self.inside.journal.entries _ c.push-2.new.self.entries c.args.worker c.args.kind c.args.label c.args.draft _ _ (Name c.self.inside.made) c.in-Ok.ensures.deed c.value.ensures.same c.deed_to_enter.ensures.entries c.push-2.ensures.entries in
+    let old : StoreState = record { opening = c.self.inside.opening; entries = c.self.inside.journal.entries; handed = c.self.inside.journal.start; heap = c.self.inside.heap; collections = c.self.inside.collections } in
+    let new : StoreState = record { opening = c.self.inside.opening; entries = c.push.new.self.entries; handed = c.push.new.self.start; heap = c.add_vertex.new.heap; collections = c.self.inside.collections } in
+    let entry = making.enters c.self.inside.journal.entries _ c.push.new.self.entries c.args.worker c.args.kind c.args.label c.args.draft _ _ (Name c.self.inside.made) c.in-Ok.ensures.deed c.value.ensures.same c.deed_to_enter.ensures.entries c.push.ensures.entries in
     record {
       name = (λ graph stands.
           let here : StandsFor old graph = ap graph_of_store c.self.view_is ∙ stands in
@@ -177,7 +180,7 @@ returns-clause-made g c =
 
 pub returns-clause-refusals : goal.returns-clause-refusals
 returns-clause-refusals g c =
-    let old : StoreState = record { opening = c.self.inside.opening; entries = c.self.inside.journal.entries; handed = c.self.inside.journal.start; heap = c.self.inside.heap } in
+    let old : StoreState = record { opening = c.self.inside.opening; entries = c.self.inside.journal.entries; handed = c.self.inside.journal.start; heap = c.self.inside.heap; collections = c.self.inside.collections } in
     let active : IsActive old.heap c.args.worker = c.in-Some.ensures.active.0 refl in
     let room = has_room g (goal.at.returns-clause-refusals g c).In_default-met in
     record {
@@ -192,8 +195,9 @@ returns-clause-refusals g c =
       same_graph = λ _ _. tt;
       handed_back = tt;
       opening = ap (λ (s : StoreState). s.opening) c.self.view_is;
-      handed = c.push-2.ensures.start ∙ c.deed_to_enter.ensures.start ∙ ap (λ (s : StoreState). s.handed) c.self.view_is;
+      handed = c.push.ensures.start ∙ c.deed_to_enter.ensures.start ∙ ap (λ (s : StoreState). s.handed) c.self.view_is;
       limits = c.in_ok-add_vertex.ensures.limits ∙ ap (λ (s : StoreState). s.heap.table.limits) c.self.view_is;
+      collections = ap (λ (s : StoreState). s.collections) c.self.view_is;
     }
 
 pub returns-in_default-clause-entry : goal.returns-in_default-clause-entry
@@ -217,7 +221,7 @@ returns-in-Some-met-clause-refused g c =
 
 pub returns-in_default-deed_to_enter-clause-refusals : goal.returns-in_default-deed_to_enter-clause-refusals
 returns-in_default-deed_to_enter-clause-refusals g c =
-    let old : StoreState = record { opening = c.self.inside.opening; entries = c.self.inside.journal.entries; handed = c.self.inside.journal.start; heap = c.self.inside.heap } in
+    let old : StoreState = record { opening = c.self.inside.opening; entries = c.self.inside.journal.entries; handed = c.self.inside.journal.start; heap = c.self.inside.heap; collections = c.self.inside.collections } in
     let active : IsActive old.heap c.args.worker = c.in-Some.ensures.active.0 refl in
     record {
       no_such_worker = (λ graph stands.
@@ -232,6 +236,7 @@ returns-in_default-deed_to_enter-clause-refusals g c =
       opening = ap (λ (s : StoreState). s.opening) c.self.view_is;
       handed = c.deed_to_enter.ensures.start ∙ ap (λ (s : StoreState). s.handed) c.self.view_is;
       limits = ap (λ (s : StoreState). s.heap.table.limits) c.self.view_is;
+      collections = ap (λ (s : StoreState). s.collections) c.self.view_is;
     }
 
 pub returns-in_default-deed_to_enter-clause-entry : goal.returns-in_default-deed_to_enter-clause-entry
@@ -245,16 +250,16 @@ returns-in_default-deed_to_enter-clause-no_more_entry g c = rw c.create_refused-
 
 pub returns-in-Some-met-clause-no_more_entry : goal.returns-in-Some-met-clause-no_more_entry
 returns-in-Some-met-clause-no_more_entry g c =
-    rw (c.create_refused-in-Some-met.ensures, c.fault.ensures) (λ e. only_enters g (goal.at.returns-in-Some-met-clause-no_more_entry g c).After-push VerticesFull (making.reply_vertices c.in-Some-met.limit e))
+    rw (c.create_refused-in-Some-met.ensures, c.fault.ensures) (λ e. only_enters g (goal.at.returns-in-Some-met-clause-no_more_entry g c).After-push_refusal VerticesFull (making.reply_vertices c.in-Some-met.limit e))
 
 pub returns-in-Some-met-clause-too_many_entry : goal.returns-in-Some-met-clause-too_many_entry
 returns-in-Some-met-clause-too_many_entry g c =
-    rw (c.create_refused-in-Some-met.ensures, c.fault.ensures) (λ e. only_enters g (goal.at.returns-in-Some-met-clause-too_many_entry g c).After-push WorkersFull (making.reply_workers c.in-Some-met.limit e))
+    rw (c.create_refused-in-Some-met.ensures, c.fault.ensures) (λ e. only_enters g (goal.at.returns-in-Some-met-clause-too_many_entry g c).After-push_refusal WorkersFull (making.reply_workers c.in-Some-met.limit e))
 
 pub returns-in-Some-met-clause-too_many : goal.returns-in-Some-met-clause-too_many
 returns-in-Some-met-clause-too_many g c =
-    let old : StoreState = record { opening = c.self.inside.opening; entries = c.self.inside.journal.entries; handed = c.self.inside.journal.start; heap = c.self.inside.heap } in
-    let limited = is_limited g (goal.at.returns-in-Some-met-clause-too_many g c).After-push in
+    let old : StoreState = record { opening = c.self.inside.opening; entries = c.self.inside.journal.entries; handed = c.self.inside.journal.start; heap = c.self.inside.heap; collections = c.self.inside.collections } in
+    let limited = is_limited g (goal.at.returns-in-Some-met-clause-too_many g c).After-push_refusal in
     λ graph stands.
     let here : StandsFor old graph = ap graph_of_store c.self.view_is ∙ stands in
     rw (c.create_refused-in-Some-met.ensures, c.fault.ensures)
@@ -263,15 +268,15 @@ returns-in-Some-met-clause-too_many g c =
 
 pub returns-in-Some-met-clause-crowded : goal.returns-in-Some-met-clause-crowded
 returns-in-Some-met-clause-crowded g c =
-    let old : StoreState = record { opening = c.self.inside.opening; entries = c.self.inside.journal.entries; handed = c.self.inside.journal.start; heap = c.self.inside.heap } in
-    let limited = is_limited g (goal.at.returns-in-Some-met-clause-crowded g c).After-push in
+    let old : StoreState = record { opening = c.self.inside.opening; entries = c.self.inside.journal.entries; handed = c.self.inside.journal.start; heap = c.self.inside.heap; collections = c.self.inside.collections } in
+    let limited = is_limited g (goal.at.returns-in-Some-met-clause-crowded g c).After-push_refusal in
     λ is graph stands subject low many.
     let here : StandsFor old graph = ap graph_of_store c.self.view_is ∙ stands in
     rw (c.create_refused-in-Some-met.ensures, c.fault.ensures) (making.told_workers (graph_of_store old) c.args.kind c.in-Some-met.limit limited.met (subst (λ (h : ProtectionGraph). h.made < h.limit) (sym here) low))
 
 pub returns-in_err-add_vertex-clause-crowded : goal.returns-in_err-add_vertex-clause-crowded
 returns-in_err-add_vertex-clause-crowded g c =
-    let old : StoreState = record { opening = c.self.inside.opening; entries = c.self.inside.journal.entries; handed = c.self.inside.journal.start; heap = c.self.inside.heap } in
+    let old : StoreState = record { opening = c.self.inside.opening; entries = c.self.inside.journal.entries; handed = c.self.inside.journal.start; heap = c.self.inside.heap; collections = c.self.inside.collections } in
     let active : IsActive old.heap c.args.worker = c.in-Some.ensures.active.0 refl in
     let room = has_room g (goal.at.returns-in_err-add_vertex-clause-crowded g c).In_default-met in
     λ is graph stands subject low many.
@@ -295,7 +300,7 @@ returns-in_err-add_vertex-clause-no_more_entry g c =
 
 pub returns-clause-crowded : goal.returns-clause-crowded
 returns-clause-crowded g c =
-    let old : StoreState = record { opening = c.self.inside.opening; entries = c.self.inside.journal.entries; handed = c.self.inside.journal.start; heap = c.self.inside.heap } in
+    let old : StoreState = record { opening = c.self.inside.opening; entries = c.self.inside.journal.entries; handed = c.self.inside.journal.start; heap = c.self.inside.heap; collections = c.self.inside.collections } in
     let active : IsActive old.heap c.args.worker = c.in-Some.ensures.active.0 refl in
     let room = has_room g (goal.at.returns-clause-crowded g c).In_default-met in
     λ is graph stands subject low many.
@@ -307,14 +312,14 @@ add_vertex-requires-clause-above g c = making.above _ c.self.inside.made c.self.
 
 pub add_vertex-requires-clause-few : goal.add_vertex-requires-clause-few
 add_vertex-requires-clause-few g c =
-    let old : StoreState = record { opening = c.self.inside.opening; entries = c.self.inside.journal.entries; handed = c.self.inside.journal.start; heap = c.self.inside.heap } in
+    let old : StoreState = record { opening = c.self.inside.opening; entries = c.self.inside.journal.entries; handed = c.self.inside.journal.start; heap = c.self.inside.heap; collections = c.self.inside.collections } in
     let active : IsActive old.heap c.args.worker = c.in-Some.ensures.active.0 refl in
     let room = has_room g (goal.at.add_vertex-requires-clause-few g c).In_default-met in
     making.few old c.self.inside.made c.self.invariant c.args.worker active c.args.kind c.args.label c.args.draft room
 
 pub returns-in_default-clause-crowded : goal.returns-in_default-clause-crowded
 returns-in_default-clause-crowded g c =
-    let old : StoreState = record { opening = c.self.inside.opening; entries = c.self.inside.journal.entries; handed = c.self.inside.journal.start; heap = c.self.inside.heap } in
+    let old : StoreState = record { opening = c.self.inside.opening; entries = c.self.inside.journal.entries; handed = c.self.inside.journal.start; heap = c.self.inside.heap; collections = c.self.inside.collections } in
     let none : IsActive old.heap c.args.worker → ⊥ = λ is. let f : ⊥ = cc (c.in_default.ensures.active.1 is) in f in
     λ _ graph stands subject _ _.
     let here : StandsFor old graph = ap graph_of_store c.self.view_is ∙ stands in
@@ -342,7 +347,7 @@ returns-in_default-deed_to_enter-clause-too_many_entry g c =
 
 pub overflow_add-self : goal.overflow_add-self
 overflow_add-self g c =
-    let old : StoreState = record { opening = c.self.inside.opening; entries = c.self.inside.journal.entries; handed = c.self.inside.journal.start; heap = c.self.inside.heap } in
+    let old : StoreState = record { opening = c.self.inside.opening; entries = c.self.inside.journal.entries; handed = c.self.inside.journal.start; heap = c.self.inside.heap; collections = c.self.inside.collections } in
     let room = has_room g (goal.at.overflow_add-self g c).In_default-met in
     let range : (graph_of_store old).limit < 2 ^ 64 = subst (λ (s : StoreState). (graph_of_store s).limit < 2 ^ 64) (sym c.self.view_is) c.limit_met-met.ensures.range in
     omega (arith, room.0, range, c.self.invariant.is_made)

@@ -11,14 +11,14 @@ use Rattle.tg_store.proofs.store.Store.payload.Goals as goal
 
 pub returns-in_default-clause-allowed : goal.returns-in_default-clause-allowed
 returns-in_default-clause-allowed g c =
-    let store : StoreState = record { opening = c.self.inside.opening; entries = c.self.inside.journal.entries; handed = c.self.inside.journal.start; heap = c.self.inside.heap } in
+    let store : StoreState = record { opening = c.self.inside.opening; entries = c.self.inside.journal.entries; handed = c.self.inside.journal.start; heap = c.self.inside.heap; collections = c.self.inside.collections } in
     λ graph stands.
     let here : StandsFor store graph = ap graph_of_store c.self.view_is ∙ stands in
     (λ some. let f : ⊥ = cc some in absurd f, λ is. let f : ⊥ = cc (c.in_default.ensures.active.1 (active_here store c.self.invariant.faithful graph c.args.worker here is.0)) in absurd f)
 
 pub returns-clause-allowed : goal.returns-clause-allowed
 returns-clause-allowed g c =
-    let store : StoreState = record { opening = c.self.inside.opening; entries = c.self.inside.journal.entries; handed = c.self.inside.journal.start; heap = c.self.inside.heap } in
+    let store : StoreState = record { opening = c.self.inside.opening; entries = c.self.inside.journal.entries; handed = c.self.inside.journal.start; heap = c.self.inside.heap; collections = c.self.inside.collections } in
     let graph : ProtectionGraph = graph_of_store store in
     let subject : IsSubject graph c.args.worker = subject_here store c.self.invariant.faithful graph c.args.worker refl (c.in-Some.ensures.active.0 refl) in
     let served = read-permitted (content_of store.heap) graph c.self.invariant.faithful.stands c.args.worker c.args.name subject in
@@ -29,7 +29,7 @@ returns-clause-allowed g c =
 
 pub returns-clause-stored : goal.returns-clause-stored
 returns-clause-stored g c =
-    let store : StoreState = record { opening = c.self.inside.opening; entries = c.self.inside.journal.entries; handed = c.self.inside.journal.start; heap = c.self.inside.heap } in
+    let store : StoreState = record { opening = c.self.inside.opening; entries = c.self.inside.journal.entries; handed = c.self.inside.journal.start; heap = c.self.inside.heap; collections = c.self.inside.collections } in
     let graph : ProtectionGraph = graph_of_store store in
     let subject : IsSubject graph c.args.worker = subject_here store c.self.invariant.faithful graph c.args.worker refl (c.in-Some.ensures.active.0 refl) in
     λ other stands.

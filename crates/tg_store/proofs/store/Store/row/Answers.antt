@@ -10,7 +10,7 @@ use Rattle.tg_store.proofs.store.Store.row.Goals as goal
 
 pub returns-clause-edges : goal.returns-clause-edges
 returns-clause-edges g c = λ h stands.
-    let old : StoreState = record { opening = c.self.inside.opening; entries = c.self.inside.journal.entries; handed = c.self.inside.journal.start; heap = c.self.inside.heap } in
+    let old : StoreState = record { opening = c.self.inside.opening; entries = c.self.inside.journal.entries; handed = c.self.inside.journal.start; heap = c.self.inside.heap; collections = c.self.inside.collections } in
     let here : StandsFor old h = ap graph_of_store c.self.view_is ∙ stands in
     let faithful = c.self.invariant.faithful in
     listed (content_of old.heap) h c.args.worker c.in_ok-row.row

@@ -3,20 +3,21 @@ use Rattle.std.proofs.Common.{◌∙◌, refl, ap, subst}
 use Rattle.std.proofs.lemmas.Result.{err_from_is_err_and}
 use Rattle.tg_graph.specs.Heap.{content_of, subject_names}
 use Rattle.tg_graph.specs.Kept.{VerticesOfOldStay}
+use Rattle.tg_store.specs.Counts.{with_one_collection}
 use Rattle.tg_store.specs.Store.{HasAdopted, StoreState, StandsFor, graph_of_store}
 use Rattle.tg_store.proofs.CollectLaws.{IsStore-collected, counted_left, kept_in_full, names_left}
 use Rattle.tg_store.proofs.store.Store.settle.Goals as goal
 
 pub invariant_of-self-2 : goal.invariant_of-self-2
 invariant_of-self-2 g c =
-    let old : StoreState = record { opening = c.self.inside.opening; entries = c.self.inside.journal.entries; handed = c.self.inside.journal.start; heap = c.self.inside.heap } in
-    let new : StoreState = record { opening = c.self.inside.opening; entries = c.self.inside.journal.entries; handed = c.self.inside.journal.start; heap = c.settle.new.self } in
+    let old : StoreState = record { opening = c.self.inside.opening; entries = c.self.inside.journal.entries; handed = c.self.inside.journal.start; heap = c.self.inside.heap; collections = c.self.inside.collections } in
+    let new : StoreState = record { opening = c.self.inside.opening; entries = c.self.inside.journal.entries; handed = c.self.inside.journal.start; heap = c.settle.new.self; collections = c.add.new.self } in
     IsStore-collected old new c.self.inside.made c.self.invariant c.args.kind c.in_ok-settle.ensures.kept refl refl c.settle.ensures.subjects
 
 pub returns-clause-swept : goal.returns-clause-swept
 returns-clause-swept g c =
-    let old : StoreState = record { opening = c.self.inside.opening; entries = c.self.inside.journal.entries; handed = c.self.inside.journal.start; heap = c.self.inside.heap } in
-    let new : StoreState = record { opening = c.self.inside.opening; entries = c.self.inside.journal.entries; handed = c.self.inside.journal.start; heap = c.settle.new.self } in
+    let old : StoreState = record { opening = c.self.inside.opening; entries = c.self.inside.journal.entries; handed = c.self.inside.journal.start; heap = c.self.inside.heap; collections = c.self.inside.collections } in
+    let new : StoreState = record { opening = c.self.inside.opening; entries = c.self.inside.journal.entries; handed = c.self.inside.journal.start; heap = c.settle.new.self; collections = c.add.new.self } in
     record {
       number = c.vertices.ensures.number;
       names = (λ graph stands full.
@@ -32,6 +33,7 @@ returns-clause-swept g c =
       needed = c.in_ok-settle.ensures.needed;
       none_needed = c.in_ok-settle.ensures.none_needed;
       stay = (λ nursery. subst (λ (state : StoreState). VerticesOfOldStay state.heap.table.spaces c.settle.new.self.table.spaces) c.self.view_is (c.in_ok-settle.ensures.stay nursery));
+      counted = c.add.ensures ∙ ap (λ (s : StoreState). with_one_collection c.args.kind s.collections) c.self.view_is;
     }
 
 pub returns-clause-adopted : goal.returns-clause-adopted
@@ -63,7 +65,7 @@ returns-in_err-settle-clause-history g c =
     record {
       entries = ap (λ (s : StoreState). s.entries) c.self.view_is;
       handed = ap (λ (s : StoreState). s.handed) c.self.view_is;
-      refused = rw given.1 ((λ i. record { opening = c.self.inside.opening; entries = c.self.inside.journal.entries; handed = c.self.inside.journal.start; heap = same i }) ∙ c.self.view_is);
+      refused = rw given.1 ((λ i. record { opening = c.self.inside.opening; entries = c.self.inside.journal.entries; handed = c.self.inside.journal.start; heap = same i; collections = c.self.inside.collections }) ∙ c.self.view_is);
       opening = ap (λ (s : StoreState). s.opening) c.self.view_is;
       limits = c.settle.ensures.limits ∙ ap (λ (s : StoreState). s.heap.table.limits) c.self.view_is;
     }
