@@ -5,5 +5,4 @@ pub mod Jobs
 pub mod Merged
 pub mod Whole
 pub mod Faults
-pub mod Lending
 pub mod Shares

@@ -10,7 +10,7 @@ use crate::job::Job;
 use crate::seat::Seat;
 use std::alloc::Global;
 use tg_block::Block;
-use tg_evac::{Copies, walk};
+use tg_evac::{Copies, Walk};
 use tg_space::{RoomFault, Root};
 
 // How many roots a chunk has; the last may have fewer.
@@ -60,14 +60,12 @@ fn copy_chunk<G: Gate>(
     ensures copied { OnOk result (HasCopiedAt job.now seat.exit.now.done.chunks seat.exit.now copies.exit.now) }
 {
     let roots = chunk_of(job.task.roots, chunk);
-    walk(
-        seat,
-        job.task.spaces,
-        job.task.kind,
-        job.task.reads,
-        roots,
-        copies,
-    )
+    let walk = Walk {
+        spaces: job.task.spaces,
+        kind: job.task.kind,
+        reads: job.task.reads,
+    };
+    walk.along(seat, roots, copies)
 }
 
 // The roots of a chunk: eights of them are counted from the end. What stands first reaches more of what the others

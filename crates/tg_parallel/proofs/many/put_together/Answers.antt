@@ -19,8 +19,8 @@ pub merged-requires-clause-old : goal.merged-requires-clause-old
 merged-requires-clause-old g c =
     old_few c.args.plan.kind c.args.task.now.spaces.now c.args.task.now.roots.now c.requires.made.0 c.args.forward.words c.requires.made.1 c.args.part.aged.items c.args.part.old.items c.requires.plan.spaces c.requires.plan.limit c.requires.made.2
 
-pub notes_of-requires-clause-forward : goal.notes_of-requires-clause-forward
-notes_of-requires-clause-forward g c =
+pub notes-requires-clause-forward : goal.notes-requires-clause-forward
+notes-requires-clause-forward g c =
     let h = c.args.task.now.spaces.now.spaces in let closed = c.requires.made.2.closed in
     record {
       pointers = have_pointers h c.args.task.now.roots.now c.requires.plan.sound (table_list c.args.task.now.spaces.now c.requires.plan.spaces);
@@ -28,8 +28,8 @@ notes_of-requires-clause-forward g c =
       places = have_places c.requires.made.0 c.args.forward.words c.requires.made.1 closed;
     }
 
-pub notes_of-requires-clause-few : goal.notes_of-requires-clause-few
-notes_of-requires-clause-few g c =
+pub notes-requires-clause-few : goal.notes-requires-clause-few
+notes-requires-clause-few g c =
     let aged = numbered_aged c.args.plan.kind c.args.task.now.spaces.now c.args.task.now.roots.now c.requires.made.0 c.args.forward.words c.requires.made.1 c.args.part.aged.items c.args.part.old.items c.requires.plan.spaces c.requires.plan.limit c.requires.made.2 in
     let old = numbered_old c.args.plan.kind c.args.task.now.spaces.now c.args.task.now.roots.now c.requires.made.0 c.args.forward.words c.requires.made.1 c.args.part.aged.items c.args.part.old.items c.requires.plan.spaces c.requires.plan.limit c.requires.made.2 in
     let merged = c.in_ok-adoption.ensures (kept_blocks c.args.plan.kind c.args.task.now.spaces.now.spaces) aged old in
@@ -38,8 +38,8 @@ notes_of-requires-clause-few g c =
     let kept = c.requires.plan.planned.kept in
     omega arith
 
-pub notes_of-requires-clause-full : goal.notes_of-requires-clause-full
-notes_of-requires-clause-full g c =
+pub notes-requires-clause-full : goal.notes-requires-clause-full
+notes-requires-clause-full g c =
     let aged = numbered_aged c.args.plan.kind c.args.task.now.spaces.now c.args.task.now.roots.now c.requires.made.0 c.args.forward.words c.requires.made.1 c.args.part.aged.items c.args.part.old.items c.requires.plan.spaces c.requires.plan.limit c.requires.made.2 in
     let old = numbered_old c.args.plan.kind c.args.task.now.spaces.now c.args.task.now.roots.now c.requires.made.0 c.args.forward.words c.requires.made.1 c.args.part.aged.items c.args.part.old.items c.requires.plan.spaces c.requires.plan.limit c.requires.made.2 in
     let merged = c.in_ok-adoption.ensures (kept_blocks c.args.plan.kind c.args.task.now.spaces.now.spaces) aged old in
