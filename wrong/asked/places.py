@@ -121,7 +121,7 @@ NAMED = {
     ("tg_entries/src/stream.rt", "audit_lines", "u64::MAX"): "a line of the reader each",
     ("tg_plain/src/script.rt", "read", "u64::MAX"): "a line of the input each",
     ("tg_evac/src/copies.rt", "scan", "while next<claimer.len()"): "a cell that was won each",
-    ("tg_evac/src/from_roots.rt", "walk_each", "loop"): "a root each",
+    ("tg_evac/src/walk.rt", "each", "loop"): "a root each",
     ("tg_graph/src/followed.rt", "follow_rows", "while i<rows.len()"): "an indexed row each",
     ("tg_graph/src/rows.rt", "edges_of", "loop"): "a cell of the row each",
     ("tg_graph/src/rows.rt", "places_of", "loop"): "a cell of the row each",

@@ -1,15 +1,15 @@
--- The blocks of a space, lent out of those of both.
-use Rattle.std.specs.Prelude.{ℕ, Bool, List, [], if◌then◌else◌}
+-- One of two values, lent out of both.
+use Rattle.std.specs.Prelude.{Bool, [], if◌then◌else◌}
 use Rattle.std.specs.Borrow.{Lends, MutBor, Fml}
 use mir.Syntax.{named}
-use Rattle.tg_evac.specs.declared.copies.Both.{Both}
-use Rattle.tg_evac.specs.contracts.copies.Both.{the_row}
-use Rattle.tg_evac.specs.contracts.new_blocks.NewBlocks as new_blocks
+use denote.RattleType.{RattleType}
+use Rattle.tg_evac.specs.declared.both.Both.{Both}
+use Rattle.tg_evac.specs.contracts.both.Both.{the_row}
 
--- the blocks of both spaces, with these cells in Old or in Aged
-abbrev pub with_blocks : Both → Bool → List (List ℕ) → Both
-with_blocks s is_in_old w = if is_in_old then record s { old = record s.old { now = w } } else record s { aged = record s.aged { now = w } }
+-- both, with this one for Old or for Aged
+abbrev pub with_one : {T : Type 0} → Both T → Bool → T → Both T
+with_one s is_in_old w = if is_in_old then record s { old = record s.old { now = w } } else record s { aged = record s.aged { now = w } }
 
--- those of Old or of Aged end as the last value behind r, and the others stay
-abbrev pub LendsBlocks : MutBor Both → Bool → MutBor (List (List ℕ)) → Fml
-LendsBlocks s is_in_old r = Lends (the_row (record { mir = named 0; lft = [] })) new_blocks.the_row s r (with_blocks s.now is_in_old)
+-- that for Old or for Aged ends as the last value behind r, and the other stays
+abbrev pub LendsOne : (T : RattleType) → MutBor (Both T.Denot) → Bool → MutBor T.Denot → Fml
+LendsOne T s is_in_old r = Lends (the_row (record { mir = named 0; lft = [] }) T) T s r (with_one s.now is_in_old)

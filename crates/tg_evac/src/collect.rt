@@ -11,9 +11,9 @@ ghost use Rattle.tg_evac.specs.Walks.{MayWalk};
 
 use crate::claims::Claims;
 use crate::copies::{Copies, Reads};
-use crate::from_roots::walk;
-use crate::notes::notes_of;
+use crate::notes::Moves;
 use crate::plan::Plan;
+use crate::walk::Walk;
 use std::alloc::Global;
 use tg_block::Block;
 use tg_remember::Remembered;
@@ -58,14 +58,15 @@ pub fn collect_one(
 {
     match kind {
         Kind::Full => collect_full(alloc, spaces, roots, spare),
-        Kind::Nursery => collect_kind(
-            alloc,
-            spaces,
-            roots,
-            Kind::Nursery,
-            Reads::of(spaces),
-            spare,
-        ),
+        Kind::Nursery => {
+            let reads = Reads::of(spaces);
+            Walk {
+                spaces,
+                kind: Kind::Nursery,
+                reads,
+            }
+            .collect(alloc, roots, spare)
+        }
     }
 }
 
@@ -81,7 +82,12 @@ fn collect_full(
     ensures { Collects RoomFault.HeapFull Kind.Full spaces.now roots.now 0 1 result }
 {
     match Reads::of(spaces) {
-        Reads::Each => collect_kind(alloc, spaces, roots, Kind::Full, Reads::Each, spare),
+        Reads::Each => Walk {
+            spaces,
+            kind: Kind::Full,
+            reads: Reads::Each,
+        }
+        .collect(alloc, roots, spare),
         Reads::Ahead => collect_ahead(alloc, spaces, roots, spare),
     }
 }
@@ -97,69 +103,65 @@ fn collect_ahead(
     requires { AreSound spaces.now.spaces roots.now }
     ensures { Collects RoomFault.HeapFull Kind.Full spaces.now roots.now 0 1 result }
 {
-    collect_kind(alloc, spaces, roots, Kind::Full, Reads::Ahead, spare)
-}
-
-// The collection of a kind. It is compiled for each, so that a full one asks of no cell which kind this is, nor how
-// cells are read.
-#[inline(always)]
-#[tactic(auto, using(crate::proofs::Behind::kept_within))]
-fn collect_kind(
-    alloc: Global,
-    spaces: &Spaces,
-    roots: &[Root],
-    kind: Kind,
-    reads: Reads,
-    spare: Spare,
-) -> Result<Copied, RoomFault>
-    requires { AreSound spaces.now.spaces roots.now }
-    ensures { Collects RoomFault.HeapFull kind spaces.now roots.now 0 1 result }
-{
-    let cells = spaces.cells();
-    let plan = Plan::of(kind, spaces);
-    let Spare { blocks, words } = spare;
-    let mut claims = Claims::new(alloc, cells, plan, words)?;
-    let copies = trace(alloc, &mut claims, spaces, kind, reads, roots, blocks)?;
-    let Claims { forward, .. } = claims;
-    let forward = forward.into_forwarding();
-    let adoption = copies.finish()?;
-    let remembered = notes_of(
-        alloc,
+    Walk {
         spaces,
-        kind,
-        &forward,
-        roots,
-        &adoption.old,
-        plan.kept,
-    )?;
-    Ok(Copied {
-        forward,
-        adoption,
-        remembered,
-    })
+        kind: Kind::Full,
+        reads: Reads::Ahead,
+    }
+    .collect(alloc, roots, spare)
 }
 
-// Claims and copies all that the roots reach, and nothing else.
-#[inline(always)]
-fn trace(
-    alloc: Global,
-    claims: &mut Claims,
-    spaces: &Spaces,
-    kind: Kind,
-    reads: Reads,
-    roots: &[Root],
-    spare: Vec<Block>,
-) -> Result<Copies, RoomFault>
-    requires walk { MayWalk kind spaces.now.spaces (walked_of claims.old) }
-    requires roots { All (IsRootIn spaces.now.spaces) roots.now }
-    requires none_yet { claims.old.won ≡ [] }
-    ensures traced { OnOk result (IsTracedFrom claims.old.plan.kind spaces.now.spaces roots.now claims.new) }
-    ensures plan { claims.new.plan ≡ claims.old.plan }
-    ensures aged { IfOk result (λ copies. (to : ℕ → PlaceOf) → HasPlacesOf claims.new.won to → copies.aged ≡ copies_to 1 claims.old.plan.kind spaces.now.spaces to claims.new.won) }
-    ensures old { IfOk result (λ copies. (to : ℕ → PlaceOf) → HasPlacesOf claims.new.won to → copies.old ≡ copies_to 0 claims.old.plan.kind spaces.now.spaces to claims.new.won) }
-    ensures full { IfErr result (λ fault. fault ≡ RoomFault.HeapFull → HasFilledRoom claims.new × All (IsReachedFrom claims.old.plan.kind spaces.now.spaces roots.now) (cells_won claims.new.won)) }
-{
-    let mut copies = Copies::new(alloc, spare)?;
-    walk(claims, spaces, kind, reads, roots, &mut copies)?;
-    Ok(copies)
+impl Walk<'_> {
+    // The collection of a kind. It is compiled for each, so that a full one asks of no cell which kind this is, nor how
+    // cells are read.
+    #[inline(always)]
+    #[tactic(auto, using(crate::proofs::Behind::kept_within))]
+    fn collect(self, alloc: Global, roots: &[Root], spare: Spare) -> Result<Copied, RoomFault>
+        requires { AreSound self.spaces.now.spaces roots.now }
+        ensures { Collects RoomFault.HeapFull self.entry.kind self.entry.spaces.now roots.now 0 1 result }
+    {
+        let Walk { spaces, kind, .. } = self;
+        let cells = spaces.cells();
+        let plan = Plan::of(kind, spaces);
+        let Spare { blocks, words } = spare;
+        let mut claims = Claims::new(alloc, cells, plan, words)?;
+        let copies = self.trace(alloc, &mut claims, roots, blocks)?;
+        let Claims { forward, .. } = claims;
+        let forward = forward.into_forwarding();
+        let adoption = copies.finish()?;
+        let moves = Moves {
+            spaces,
+            kind,
+            forward: &forward,
+        };
+        let remembered = moves.notes(alloc, roots, &adoption.old, plan.kept)?;
+        Ok(Copied {
+            forward,
+            adoption,
+            remembered,
+        })
+    }
+
+    // Claims and copies all that the roots reach, and nothing else.
+    #[inline(always)]
+    fn trace(
+        self,
+        alloc: Global,
+        claims: &mut Claims,
+        roots: &[Root],
+        spare: Vec<Block>,
+    ) -> Result<Copies, RoomFault>
+        requires walk { MayWalk self.kind self.spaces.now.spaces (walked_of claims.old) }
+        requires roots { All (IsRootIn self.spaces.now.spaces) roots.now }
+        requires none_yet { claims.old.won ≡ [] }
+        ensures traced { OnOk result (IsTracedFrom claims.old.plan.kind self.entry.spaces.now.spaces roots.now claims.new) }
+        ensures plan { claims.new.plan ≡ claims.old.plan }
+        ensures aged { IfOk result (λ copies. (to : ℕ → PlaceOf) → HasPlacesOf claims.new.won to → copies.aged ≡ copies_to 1 claims.old.plan.kind self.entry.spaces.now.spaces to claims.new.won) }
+        ensures old { IfOk result (λ copies. (to : ℕ → PlaceOf) → HasPlacesOf claims.new.won to → copies.old ≡ copies_to 0 claims.old.plan.kind self.entry.spaces.now.spaces to claims.new.won) }
+        ensures full { IfErr result (λ fault. fault ≡ RoomFault.HeapFull → HasFilledRoom claims.new × All (IsReachedFrom claims.old.plan.kind self.entry.spaces.now.spaces roots.now) (cells_won claims.new.won)) }
+    {
+        let mut copies = Copies::new(alloc, spare)?;
+        self.along(claims, roots, &mut copies)?;
+        Ok(copies)
+    }
 }

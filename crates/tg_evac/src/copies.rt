@@ -1,6 +1,5 @@
 //! The scan of won cells: each is copied, and what it names is claimed, until none is left.
 ghost use Rattle.std.specs.Prelude.{◌≡◌, ◌↔◌, ℕ, ◌+◌, ◌<◌, ◌≤◌, ◌-◌, ◌==◌, ◌^◌, true, false, [], IfOk, OnOk, length, slice_index_or};
-ghost use Rattle.std.specs.Borrow.{sem};
 ghost use Rattle.tg_space.specs.SpaceList.{IsSpace, cells_of};
 ghost use Rattle.tg_space.specs.Soundness.{IsPointer};
 ghost use Rattle.tg_space.specs.Targets.{cell_numbered, from_space, named_by, pointers_of};
@@ -11,12 +10,13 @@ ghost use Rattle.tg_evac.specs.declared.copies.TheConstants.{FAR, NEAR};
 ghost use Rattle.tg_evac.specs.Claims.{win_at, won_in};
 ghost use Rattle.tg_evac.specs.Copies.{HoldCells};
 ghost use Rattle.tg_evac.specs.Claimers.{AddsCopy, AreRead};
-ghost use Rattle.tg_evac.specs.Lending.{LendsBlocks};
 ghost use Rattle.tg_evac.specs.Reads.{HasRead};
 ghost use Rattle.tg_evac.specs.Walks.{ClaimsAll, IsTableFor, IsUnderWay, Scans};
 
+use crate::both::Both;
 use crate::claimer::Claimer;
-use crate::new_blocks::NewBlocks;
+use crate::new_blocks::{NewBlocks, Original};
+use crate::walk::Walk;
 use std::alloc::{AllocError, Global};
 use tg_block::{Block, WORDS};
 use tg_space::{Adoption, Kind, RoomFault, Spaces};
@@ -98,94 +98,33 @@ impl Copies {
         })
     }
 
-    // Puts the copy of the cell that is scanned next, which has these words, behind the others of Old or of Aged. What
-    // they name is claimed.
+    // Puts the copy of the cell that is scanned next behind the others of Old or of Aged. What its words name is
+    // claimed.
     #[inline(always)]
     fn push_copy<C: Claimer>(
         &mut self,
         claimer: &mut C,
-        spaces: &Spaces,
-        kind: Kind,
-        words: &[u64; WORDS],
-        is_in_old: bool,
+        walk: Walk<'_>,
+        original: Original<'_>,
     ) -> Result<(), RoomFault>
-        requires old_room { is_in_old ≡ true → length self.now.old < MOST_SPACE_CELLS }
-        requires aged_room { is_in_old ≡ false → length self.now.aged < MOST_SPACE_CELLS }
-        requires pointers { All (IsPointer spaces.now.spaces) (pointers_of words.now) }
-        requires table { IsTableFor kind spaces.now.spaces (C.walked claimer.old) }
-        ensures claims { ClaimsAll C.walked C.knows C.is_full spaces.now.spaces is_in_old (named_by (from_space (C.walked claimer.old).kind) spaces.now.spaces (pointers_of words.now)) claimer.old claimer.new result }
-        ensures old { OnOk result (is_in_old ≡ true → AddsCopy (C.walked claimer.old).kind spaces.now.spaces (C.knows claimer.new) words.now self.entry.now.old self.exit.now.old) }
-        ensures old_kept { is_in_old ≡ false → self.exit.now.old ≡ self.entry.now.old }
-        ensures aged { OnOk result (is_in_old ≡ false → AddsCopy (C.walked claimer.old).kind spaces.now.spaces (C.knows claimer.new) words.now self.entry.now.aged self.exit.now.aged) }
-        ensures aged_kept { is_in_old ≡ true → self.exit.now.aged ≡ self.entry.now.aged }
+        requires old_room { original.is_in_old ≡ true → length self.now.old < MOST_SPACE_CELLS }
+        requires aged_room { original.is_in_old ≡ false → length self.now.aged < MOST_SPACE_CELLS }
+        requires pointers { All (IsPointer walk.spaces.now.spaces) (pointers_of original.words.now) }
+        requires table { IsTableFor walk.kind walk.spaces.now.spaces (C.walked claimer.old) }
+        ensures claims { ClaimsAll C.walked C.knows C.is_full walk.entry.spaces.now.spaces original.entry.is_in_old (named_by (from_space (C.walked claimer.old).kind) walk.entry.spaces.now.spaces (pointers_of original.entry.words.now)) claimer.old claimer.new result }
+        ensures old { OnOk result (original.entry.is_in_old ≡ true → AddsCopy (C.walked claimer.old).kind walk.entry.spaces.now.spaces (C.knows claimer.new) original.entry.words.now self.entry.now.old self.exit.now.old) }
+        ensures old_kept { original.entry.is_in_old ≡ false → self.exit.now.old ≡ self.entry.now.old }
+        ensures aged { OnOk result (original.entry.is_in_old ≡ false → AddsCopy (C.walked claimer.old).kind walk.entry.spaces.now.spaces (C.knows claimer.new) original.entry.words.now self.entry.now.aged self.exit.now.aged) }
+        ensures aged_kept { original.entry.is_in_old ≡ true → self.exit.now.aged ≡ self.entry.now.aged }
         ensures scanned { self.exit.now.scanned ≡ self.entry.now.scanned }
     {
         let mut both = Both {
             old: &mut self.old,
             aged: &mut self.aged,
         };
-        both.blocks_in(is_in_old)
-            .push_copy(&mut self.spare, claimer, spaces, kind, words, is_in_old)
+        both.one(original.is_in_old)
+            .push_copy(&mut self.spare, claimer, walk, original)
     }
-}
-
-// The blocks of both spaces. A copy goes to those of one, so that what puts it there is compiled once.
-#[derive(Drop)]
-struct Both<'a> {
-    old: &'a mut NewBlocks,
-    aged: &'a mut NewBlocks,
-}
-
-impl<'a> Both<'a> {
-    // The blocks of Old, or of Aged.
-    #[inline(always)]
-    fn blocks_in(&mut self, is_in_old: bool) -> &mut NewBlocks
-        ensures* writes_back { sem 𝓛 (LendsBlocks self.entry is_in_old result) }
-        ensures old { is_in_old ≡ true → result.now ≡ self.entry.now.old.now }
-        ensures aged { is_in_old ≡ false → result.now ≡ self.entry.now.aged.now }
-    {
-        if is_in_old {
-            &mut *self.old
-        } else {
-            &mut *self.aged
-        }
-    }
-}
-
-/// Scans the won cells that were not, in the order in which they were won, until none is left. What a cell names whose
-/// copy is in Old goes straight to Old.
-///
-/// It is refused as a claim is, or with `OutOfMemory` where memory for a copy was refused. What was claimed till then
-/// stays so.
-#[inline(always)]
-pub fn scan<C: Claimer>(
-    claimer: &mut C,
-    spaces: &Spaces,
-    kind: Kind,
-    reads: Reads,
-    copies: &mut Copies,
-) -> Result<(), RoomFault>
-    requires { IsUnderWay C.walked C.knows kind spaces.now.spaces claimer.old copies.now.scanned copies.now.aged copies.now.old }
-    ensures scans { Scans C.walked C.knows C.is_full spaces.now.spaces claimer.old claimer.new (length (C.walked claimer.new).won) copies.exit.now.aged copies.exit.now.old result }
-    ensures ended { OnOk result (copies.exit.now.scanned ≡ length (C.walked claimer.new).won) }
-{
-    let mut next = copies.scanned;
-    let mut near = OLD;
-    let mut ahead = Ahead::new();
-    while next < claimer.len() {
-        // The scan of a cell stands here once, for both ways to read.
-        let words = match reads {
-            Reads::Each => spaces.words_near(claimer.won_cell(next), &mut near),
-            Reads::Ahead => {
-                ahead.read(claimer, spaces, next, &mut near);
-                ahead.words(next)
-            }
-        };
-        scan_next(claimer, spaces, kind, copies, next, words)?;
-        next += 1;
-    }
-    copies.scanned = next;
-    Ok(())
 }
 
 // Some won cells that were read, one behind the other.
@@ -265,25 +204,60 @@ fn read_some<C: Claimer>(
     count
 }
 
-// Scans the next won cell, the k-th, which has these words.
-#[inline(always)]
-fn scan_next<C: Claimer>(
-    claimer: &mut C,
-    spaces: &Spaces,
-    kind: Kind,
-    copies: &mut Copies,
-    k: usize,
-    words: &[u64; WORDS],
-) -> Result<(), RoomFault>
-    requires walk { IsUnderWay C.walked C.knows kind spaces.now.spaces claimer.old k copies.now.aged copies.now.old }
-    requires next { k < length (C.walked claimer.old).won }
-    requires words { words.now ≡ cell_numbered spaces.now.spaces (win_at (C.walked claimer.old).won k).cell }
-    requires room { (space : ℕ) → space < 2 → length (won_in space (C.walked claimer.old).won) ≤ MOST_SPACE_CELLS }
-    ensures scans { Scans C.walked C.knows C.is_full spaces.now.spaces claimer.old claimer.new (k + 1) copies.exit.now.aged copies.exit.now.old result }
-    ensures next { copies.exit.now.scanned ≡ copies.entry.now.scanned }
-{
-    let straight = is_in_old(claimer, kind, k);
-    copies.push_copy(claimer, spaces, kind, words, straight)
+impl Walk<'_> {
+    /// Scans the won cells that were not, in the order in which they were won, until none is left. What a cell names
+    /// whose copy is in Old goes straight to Old.
+    ///
+    /// It is refused as a claim is, or with `OutOfMemory` where memory for a copy was refused. What was claimed till
+    /// then stays so.
+    #[inline(always)]
+    pub fn scan<C: Claimer>(self, claimer: &mut C, copies: &mut Copies) -> Result<(), RoomFault>
+        requires { IsUnderWay C.walked C.knows self.kind self.spaces.now.spaces claimer.old copies.now.scanned copies.now.aged copies.now.old }
+        ensures scans { Scans C.walked C.knows C.is_full self.entry.spaces.now.spaces claimer.old claimer.new (length (C.walked claimer.new).won) copies.exit.now.aged copies.exit.now.old result }
+        ensures ended { OnOk result (copies.exit.now.scanned ≡ length (C.walked claimer.new).won) }
+    {
+        let mut next = copies.scanned;
+        let mut near = OLD;
+        let mut ahead = Ahead::new();
+        while next < claimer.len() {
+            // The scan of a cell stands here once, for both ways to read.
+            let words = match self.reads {
+                Reads::Each => self.spaces.words_near(claimer.won_cell(next), &mut near),
+                Reads::Ahead => {
+                    ahead.read(claimer, self.spaces, next, &mut near);
+                    ahead.words(next)
+                }
+            };
+            self.scan_next(claimer, copies, next, words)?;
+            next += 1;
+        }
+        copies.scanned = next;
+        Ok(())
+    }
+
+    // Scans the next won cell, the k-th, which has these words.
+    #[inline(always)]
+    fn scan_next<C: Claimer>(
+        self,
+        claimer: &mut C,
+        copies: &mut Copies,
+        k: usize,
+        words: &[u64; WORDS],
+    ) -> Result<(), RoomFault>
+        requires walk { IsUnderWay C.walked C.knows self.kind self.spaces.now.spaces claimer.old k copies.now.aged copies.now.old }
+        requires next { k < length (C.walked claimer.old).won }
+        requires words { words.now ≡ cell_numbered self.spaces.now.spaces (win_at (C.walked claimer.old).won k).cell }
+        requires room { (space : ℕ) → space < 2 → length (won_in space (C.walked claimer.old).won) ≤ MOST_SPACE_CELLS }
+        ensures scans { Scans C.walked C.knows C.is_full self.entry.spaces.now.spaces claimer.old claimer.new (k + 1) copies.exit.now.aged copies.exit.now.old result }
+        ensures next { copies.exit.now.scanned ≡ copies.entry.now.scanned }
+    {
+        let straight = is_in_old(claimer, self.kind, k);
+        let original = Original {
+            words,
+            is_in_old: straight,
+        };
+        copies.push_copy(claimer, self, original)
+    }
 }
 
 // Whether the copy of the k-th won cell is in Old. All copies of a full collection are, so that nothing is looked up

@@ -10,52 +10,102 @@ ghost use Rattle.tg_evac.specs.Walks.{ClaimsAll, IsTableFor};
 
 use crate::claimer::Claimer;
 use crate::plan::space_for;
+use crate::walk::Walk;
 use tg_block::{CHUNK_POINTERS, CHUNK_TAG, OBJECT_POINTERS, OBJECT_TAG, WORDS};
-use tg_space::{Kind, RoomFault, Spaces};
+use tg_space::RoomFault;
 use tg_word::{place_of, rights_of};
 
-/// Makes these words of a cell those of its copy. What they name is claimed, to go straight to Old or not.
-#[inline(always)]
-pub fn move_cell<C: Claimer>(
-    claimer: &mut C,
-    spaces: &Spaces,
-    kind: Kind,
-    straight: bool,
-    cell: &mut [u64; WORDS],
-) -> Result<(), RoomFault>
-    requires pointers { All (IsPointer spaces.now.spaces) (pointers_of cell.old) }
-    requires table { IsTableFor kind spaces.now.spaces (C.walked claimer.old) }
-    ensures claims { ClaimsAll C.walked C.knows C.is_full spaces.now.spaces straight (named_by (from_space (C.walked claimer.old).kind) spaces.now.spaces (pointers_of cell.old)) claimer.old claimer.new result }
-    ensures long { length cell.new ≡ 8 }
-    ensures image { OnOk result ((to : ℕ → PlaceOf) → C.knows claimer.new to → cell.new ≡ image_of (from_space (C.walked claimer.old).kind) spaces.now.spaces to cell.old) }
-{
-    // A loop from a known word on is laid out word by word.
-    match cell[0] {
-        OBJECT_TAG => move_object(claimer, spaces, kind, straight, cell),
-        CHUNK_TAG => move_from(claimer, spaces, kind, straight, CHUNK_POINTERS, cell),
-        _ => Ok(()),
+impl Walk<'_> {
+    /// Makes these words of a cell those of its copy. What they name is claimed, to go straight to Old or not.
+    #[inline(always)]
+    pub fn move_cell<C: Claimer>(
+        self,
+        claimer: &mut C,
+        straight: bool,
+        cell: &mut [u64; WORDS],
+    ) -> Result<(), RoomFault>
+        requires pointers { All (IsPointer self.spaces.now.spaces) (pointers_of cell.old) }
+        requires table { IsTableFor self.kind self.spaces.now.spaces (C.walked claimer.old) }
+        ensures claims { ClaimsAll C.walked C.knows C.is_full self.entry.spaces.now.spaces straight (named_by (from_space (C.walked claimer.old).kind) self.entry.spaces.now.spaces (pointers_of cell.old)) claimer.old claimer.new result }
+        ensures long { length cell.new ≡ 8 }
+        ensures image { OnOk result ((to : ℕ → PlaceOf) → C.knows claimer.new to → cell.new ≡ image_of (from_space (C.walked claimer.old).kind) self.entry.spaces.now.spaces to cell.old) }
+    {
+        // A loop from a known word on is laid out word by word.
+        match cell[0] {
+            OBJECT_TAG => self.move_object(claimer, straight, cell),
+            CHUNK_TAG => self.move_from(claimer, straight, CHUNK_POINTERS, cell),
+            _ => Ok(()),
+        }
     }
-}
 
-// Moves the words of an object. Most objects name nothing, which one test tells.
-#[inline(always)]
-fn move_object<C: Claimer>(
-    claimer: &mut C,
-    spaces: &Spaces,
-    kind: Kind,
-    straight: bool,
-    cell: &mut [u64; WORDS],
-) -> Result<(), RoomFault>
-    requires pointers { All (IsPointer spaces.now.spaces) (drop 4 cell.old) }
-    requires table { IsTableFor kind spaces.now.spaces (C.walked claimer.old) }
-    ensures claims { ClaimsAll C.walked C.knows C.is_full spaces.now.spaces straight (named_by (from_space (C.walked claimer.old).kind) spaces.now.spaces (drop 4 cell.old)) claimer.old claimer.new result }
-    ensures long { length cell.new ≡ 8 }
-    ensures image { OnOk result ((to : ℕ → PlaceOf) → C.knows claimer.new to → cell.new ≡ take 4 cell.old ++ map (moved_word (from_space (C.walked claimer.old).kind) spaces.now.spaces to) (drop 4 cell.old)) }
-{
-    if names_nothing(cell) {
-        return Ok(());
+    // Moves the words of an object. Most objects name nothing, which one test tells.
+    #[inline(always)]
+    fn move_object<C: Claimer>(
+        self,
+        claimer: &mut C,
+        straight: bool,
+        cell: &mut [u64; WORDS],
+    ) -> Result<(), RoomFault>
+        requires pointers { All (IsPointer self.spaces.now.spaces) (drop 4 cell.old) }
+        requires table { IsTableFor self.kind self.spaces.now.spaces (C.walked claimer.old) }
+        ensures claims { ClaimsAll C.walked C.knows C.is_full self.entry.spaces.now.spaces straight (named_by (from_space (C.walked claimer.old).kind) self.entry.spaces.now.spaces (drop 4 cell.old)) claimer.old claimer.new result }
+        ensures long { length cell.new ≡ 8 }
+        ensures image { OnOk result ((to : ℕ → PlaceOf) → C.knows claimer.new to → cell.new ≡ take 4 cell.old ++ map (moved_word (from_space (C.walked claimer.old).kind) self.entry.spaces.now.spaces to) (drop 4 cell.old)) }
+    {
+        if names_nothing(cell) {
+            return Ok(());
+        }
+        self.move_from(claimer, straight, OBJECT_POINTERS, cell)
     }
-    move_from(claimer, spaces, kind, straight, OBJECT_POINTERS, cell)
+
+    /// Moves the words of a cell from one on. What they name is claimed.
+    #[inline(always)]
+    pub fn move_from<C: Claimer>(
+        self,
+        claimer: &mut C,
+        straight: bool,
+        first: usize,
+        cell: &mut [u64; WORDS],
+    ) -> Result<(), RoomFault>
+        requires inside { first ≤ 8 }
+        requires pointers { All (IsPointer self.spaces.now.spaces) (drop first cell.old) }
+        requires table { IsTableFor self.kind self.spaces.now.spaces (C.walked claimer.old) }
+        ensures claims { ClaimsAll C.walked C.knows C.is_full self.entry.spaces.now.spaces straight (named_by (from_space (C.walked claimer.old).kind) self.entry.spaces.now.spaces (drop first cell.old)) claimer.old claimer.new result }
+        ensures long { length cell.new ≡ 8 }
+        ensures image { OnOk result ((to : ℕ → PlaceOf) → C.knows claimer.new to → cell.new ≡ take first cell.old ++ map (moved_word (from_space (C.walked claimer.old).kind) self.entry.spaces.now.spaces to) (drop first cell.old)) }
+    {
+        for i in first..WORDS {
+            self.move_word(claimer, straight, &mut cell[i])?;
+        }
+        Ok(())
+    }
+
+    // Puts the new place of the cell that a word names into the word, where that cell is moved. It is claimed.
+    #[inline(always)]
+    #[tactic(auto, using(crate::proofs::Behind::moved_behind))]
+    fn move_word<C: Claimer>(
+        self,
+        claimer: &mut C,
+        straight: bool,
+        word: &mut u64,
+    ) -> Result<(), RoomFault>
+        requires pointer { IsPointer self.spaces.now.spaces word.old }
+        requires table { IsTableFor self.kind self.spaces.now.spaces (C.walked claimer.old) }
+        ensures claims { ClaimsAll C.walked C.knows C.is_full self.entry.spaces.now.spaces straight (target_in (from_space (C.walked claimer.old).kind) self.entry.spaces.now.spaces word.old) claimer.old claimer.new result }
+        ensures word { OnOk result ((to : ℕ → PlaceOf) → C.knows claimer.new to → word.new ≡ moved_word (from_space (C.walked claimer.old).kind) self.entry.spaces.now.spaces to word.old) }
+    {
+        let old = *word;
+        if old == 0 {
+            return Ok(());
+        }
+        let space = place_of(old).space;
+        if !self.kind.moves(space) {
+            return Ok(());
+        }
+        let link = claimer.claim(self.spaces.target_of(old), space_for(straight, space))?;
+        *word = with_rights(link, old);
+        Ok(())
+    }
 }
 
 // Whether the references and the link of an object are all 0.
@@ -64,57 +114,6 @@ fn names_nothing(object: &[u64; WORDS]) -> bool
     ensures { IsTrue result → (i : ℕ) → 4 ≤ i → i < 8 → get_or object.now i 0 ≡ 0 }
 {
     object[4] | object[5] | object[6] | object[7] == 0
-}
-
-/// Moves the words of a cell from one on. What they name is claimed.
-#[inline(always)]
-pub fn move_from<C: Claimer>(
-    claimer: &mut C,
-    spaces: &Spaces,
-    kind: Kind,
-    straight: bool,
-    first: usize,
-    cell: &mut [u64; WORDS],
-) -> Result<(), RoomFault>
-    requires inside { first ≤ 8 }
-    requires pointers { All (IsPointer spaces.now.spaces) (drop first cell.old) }
-    requires table { IsTableFor kind spaces.now.spaces (C.walked claimer.old) }
-    ensures claims { ClaimsAll C.walked C.knows C.is_full spaces.now.spaces straight (named_by (from_space (C.walked claimer.old).kind) spaces.now.spaces (drop first cell.old)) claimer.old claimer.new result }
-    ensures long { length cell.new ≡ 8 }
-    ensures image { OnOk result ((to : ℕ → PlaceOf) → C.knows claimer.new to → cell.new ≡ take first cell.old ++ map (moved_word (from_space (C.walked claimer.old).kind) spaces.now.spaces to) (drop first cell.old)) }
-{
-    for i in first..WORDS {
-        move_word(claimer, spaces, kind, straight, &mut cell[i])?;
-    }
-    Ok(())
-}
-
-// Puts the new place of the cell that a word names into the word, where that cell is moved. It is claimed.
-#[inline(always)]
-#[tactic(auto, using(crate::proofs::Behind::moved_behind))]
-fn move_word<C: Claimer>(
-    claimer: &mut C,
-    spaces: &Spaces,
-    kind: Kind,
-    straight: bool,
-    word: &mut u64,
-) -> Result<(), RoomFault>
-    requires pointer { IsPointer spaces.now.spaces word.old }
-    requires table { IsTableFor kind spaces.now.spaces (C.walked claimer.old) }
-    ensures claims { ClaimsAll C.walked C.knows C.is_full spaces.now.spaces straight (target_in (from_space (C.walked claimer.old).kind) spaces.now.spaces word.old) claimer.old claimer.new result }
-    ensures word { OnOk result ((to : ℕ → PlaceOf) → C.knows claimer.new to → word.new ≡ moved_word (from_space (C.walked claimer.old).kind) spaces.now.spaces to word.old) }
-{
-    let old = *word;
-    if old == 0 {
-        return Ok(());
-    }
-    let space = place_of(old).space;
-    if !kind.moves(space) {
-        return Ok(());
-    }
-    let link = claimer.claim(spaces.target_of(old), space_for(straight, space))?;
-    *word = with_rights(link, old);
-    Ok(())
 }
 
 // The reference with the rights in a word, to the place of a link.

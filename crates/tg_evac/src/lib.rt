@@ -49,29 +49,31 @@
 //! that it is promised. A collection that is refused has changed nothing.
 //!
 //! **What other collectors may use.** The walk asks of its table of claims only what [`Claimer`] says, so it serves any
-//! table: [`walk`] is generic, and [`Copies`] holds what it copies. That won pairs with their copies
+//! table: [`Walk::along`] is generic, and [`Copies`] holds what it copies. That won pairs with their copies
 //! are a collection is proved of any list of pairs, in whatever order and by whomever they were won
 //! (`proofs/Collecting.antt`), where each was claimed for a reason: that the reasons put copies in the space of their
 //! generation stands in `proofs/Reasons.antt`, and that no more cells are won than aren't free in
 //! `proofs/Counting.antt`. The other lemmas are told by 'Maps of the proofs' in docs/ARCHITECTURE.md.
 #![tactic(auto)]
 
+pub use both::Both;
 pub use claimer::Claimer;
 pub use collect::{Copied, collect_one};
 pub use copies::{Copies, Reads};
-pub use from_roots::walk;
-pub use new_blocks::NewBlocks;
-pub use notes::notes_of;
+pub use new_blocks::{NewBlocks, Original};
+pub use notes::Moves;
 pub use plan::Plan;
 pub use tg_space::Root;
+pub use walk::Walk;
 
+mod both;
 mod claimer;
 mod claims;
 mod collect;
 mod copies;
-mod from_roots;
 mod images;
 mod new_blocks;
 mod notes;
 mod plan;
 mod roots;
+mod walk;

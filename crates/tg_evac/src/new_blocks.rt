@@ -11,13 +11,22 @@ ghost use Rattle.tg_evac.specs.Copies.{HaveOpenBlock, HoldCells, IsOpenBlock};
 ghost use Rattle.tg_evac.specs.Walks.{ClaimsAll, IsTableFor};
 
 use crate::claimer::Claimer;
-use crate::images::move_cell;
+use crate::walk::Walk;
 use std::alloc::{AllocError, Global};
 use std::marker::Model;
 use std::mem;
 use tg_block::{Block, WORDS};
-use tg_space::{Kind, RoomFault, Space, Spaces};
+use tg_space::{RoomFault, Space};
 use tg_word::CELLS;
+
+/// A won cell that is to be copied.
+#[derive(Clone, Copy)]
+pub struct Original<'a> {
+    /// Its words.
+    pub words: &'a [u64; WORDS],
+    /// Whether its copy is in Old.
+    pub is_in_old: bool,
+}
 
 /// The blocks that a collection makes in a space. Contracts see the list of their cells.
 ///
@@ -56,8 +65,8 @@ impl NewBlocks {
         })
     }
 
-    /// Puts the copy of a cell with these words behind the others: what they name is claimed, to go straight to Old or
-    /// not, while its words are moved where they stand. A block that it opens is one of the spare ones, as long as
+    /// Puts the copy of a cell behind the others: what its words name is claimed, to go straight to Old where the copy
+    /// is in Old, while they are moved where they stand. A block that it opens is one of the spare ones, as long as
     /// there are any.
     ///
     /// It is refused as a claim is, or with `OutOfMemory` where memory for a block was refused.
@@ -66,21 +75,19 @@ impl NewBlocks {
         &mut self,
         spare: &mut Vec<Block>,
         claimer: &mut C,
-        spaces: &Spaces,
-        kind: Kind,
-        words: &[u64; WORDS],
-        straight: bool,
+        walk: Walk<'_>,
+        original: Original<'_>,
     ) -> Result<(), RoomFault>
         requires room { length self.old < MOST_SPACE_CELLS }
-        requires pointers { All (IsPointer spaces.now.spaces) (pointers_of words.now) }
-        requires table { IsTableFor kind spaces.now.spaces (C.walked claimer.old) }
-        ensures claims { ClaimsAll C.walked C.knows C.is_full spaces.now.spaces straight (named_by (from_space (C.walked claimer.old).kind) spaces.now.spaces (pointers_of words.now)) claimer.old claimer.new result }
-        ensures copied { OnOk result (AddsCopy (C.walked claimer.old).kind spaces.now.spaces (C.knows claimer.new) words.now self.old self.new) }
+        requires pointers { All (IsPointer walk.spaces.now.spaces) (pointers_of original.words.now) }
+        requires table { IsTableFor walk.kind walk.spaces.now.spaces (C.walked claimer.old) }
+        ensures claims { ClaimsAll C.walked C.knows C.is_full walk.entry.spaces.now.spaces original.entry.is_in_old (named_by (from_space (C.walked claimer.old).kind) walk.entry.spaces.now.spaces (pointers_of original.entry.words.now)) claimer.old claimer.new result }
+        ensures copied { OnOk result (AddsCopy (C.walked claimer.old).kind walk.entry.spaces.now.spaces (C.knows claimer.new) original.entry.words.now self.old self.new) }
     {
         make_room(self.alloc, spare, &mut self.full, &mut self.last)?;
         let at = self.last.len();
-        self.last.push_reserved(*words);
-        move_cell(claimer, spaces, kind, straight, &mut self.last[at])
+        self.last.push_reserved(*original.words);
+        walk.move_cell(claimer, original.is_in_old, &mut self.last[at])
     }
 
     /// The blocks, with free cells behind the last one. It is refused only where memory was.

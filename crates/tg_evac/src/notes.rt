@@ -14,71 +14,72 @@ use tg_remember::Remembered;
 use tg_space::{Forwarding, Kind, Root, Space, Spaces, first_pointer};
 use tg_word::{CELLS, OLD, Place, place_of};
 
-/// The remembered cells that will name young ones, and those of these blocks of Old that do, which stand behind as many
-/// others. A full collection leaves none.
-///
-/// It is refused only where memory was.
-pub fn notes_of(
-    alloc: Global,
-    spaces: &Spaces,
-    kind: Kind,
-    forward: &Forwarding,
-    roots: &[Root],
-    old: &Space,
-    kept: u64,
-) -> Result<Remembered, AllocError>
-    requires forward { AreForwarded spaces.now.spaces forward.now.words }
-    requires roots { All (IsRootIn spaces.now.spaces) roots.now }
-    requires few { kept + length old.now ≤ MOST_SPACE_BLOCKS }
-    requires full { kind ≡ Kind.Full → (p : PlaceOf) → IsPlaceIn 0 kept old.now p → NamesYoung (new_cell kept old.now p) → ⊥ }
-    ensures { IfOk result (λ noted. (p : PlaceOf) → Contains noted.places p ↔ ((Contains roots.now (RememberedAt p) × NamesYoung (moved_cell kind spaces.now.spaces forward.now.words p)) ⊎ (IsPlaceIn 0 kept old.now p × NamesYoung (new_cell kept old.now p)))) }
-{
-    let mut remembered = Remembered::new(alloc);
-    note_roots(&mut remembered, spaces, kind, forward, roots)?;
-    match kind {
-        Kind::Full => Ok(remembered),
-        Kind::Nursery => {
-            note_blocks(&mut remembered, old, kept)?;
-            Ok(remembered)
+/// What a collection has made of cells of these spaces.
+#[derive(Clone, Copy)]
+pub struct Moves<'a> {
+    /// The spaces, which are only read.
+    pub spaces: &'a Spaces,
+    /// Which cells are moved.
+    pub kind: Kind,
+    /// For each cell the word of its new place.
+    pub forward: &'a Forwarding,
+}
+
+impl Moves<'_> {
+    /// The remembered cells that will name young ones, and those of these blocks of Old that do, which stand behind as
+    /// many others. A full collection leaves none.
+    ///
+    /// It is refused only where memory was.
+    pub fn notes(
+        self,
+        alloc: Global,
+        roots: &[Root],
+        old: &Space,
+        kept: u64,
+    ) -> Result<Remembered, AllocError>
+        requires forward { AreForwarded self.spaces.now.spaces self.forward.now.words }
+        requires roots { All (IsRootIn self.spaces.now.spaces) roots.now }
+        requires few { kept + length old.now ≤ MOST_SPACE_BLOCKS }
+        requires full { self.kind ≡ Kind.Full → (p : PlaceOf) → IsPlaceIn 0 kept old.now p → NamesYoung (new_cell kept old.now p) → ⊥ }
+        ensures { IfOk result (λ noted. (p : PlaceOf) → Contains noted.places p ↔ ((Contains roots.now (RememberedAt p) × NamesYoung (moved_cell self.entry.kind self.entry.spaces.now.spaces self.entry.forward.now.words p)) ⊎ (IsPlaceIn 0 kept old.now p × NamesYoung (new_cell kept old.now p)))) }
+    {
+        let mut remembered = Remembered::new(alloc);
+        self.note_roots(&mut remembered, roots)?;
+        match self.kind {
+            Kind::Full => Ok(remembered),
+            Kind::Nursery => {
+                note_blocks(&mut remembered, old, kept)?;
+                Ok(remembered)
+            }
         }
     }
-}
 
-// Notes the remembered cells that will name young ones.
-fn note_roots(
-    remembered: &mut Remembered,
-    spaces: &Spaces,
-    kind: Kind,
-    forward: &Forwarding,
-    roots: &[Root],
-) -> Result<(), AllocError>
-    requires forward { AreForwarded spaces.now.spaces forward.now.words }
-    requires roots { All (IsRootIn spaces.now.spaces) roots.now }
-    ensures { OnOk result ((p : PlaceOf) → Contains remembered.new.places p ↔ (Contains remembered.old.places p ⊎ (Contains roots.now (RememberedAt p) × NamesYoung (moved_cell kind spaces.now.spaces forward.now.words p)))) }
-{
-    for root in roots {
-        note_root(remembered, spaces, kind, forward, *root)?;
+    // Notes the remembered cells that will name young ones.
+    fn note_roots(self, remembered: &mut Remembered, roots: &[Root]) -> Result<(), AllocError>
+        requires forward { AreForwarded self.spaces.now.spaces self.forward.now.words }
+        requires roots { All (IsRootIn self.spaces.now.spaces) roots.now }
+        ensures { OnOk result ((p : PlaceOf) → Contains remembered.new.places p ↔ (Contains remembered.old.places p ⊎ (Contains roots.now (RememberedAt p) × NamesYoung (moved_cell self.entry.kind self.entry.spaces.now.spaces self.entry.forward.now.words p)))) }
+    {
+        for root in roots {
+            self.note_root(remembered, *root)?;
+        }
+        Ok(())
     }
-    Ok(())
-}
 
-// Notes the cell of a root, where it is remembered and will name a young one.
-fn note_root(
-    remembered: &mut Remembered,
-    spaces: &Spaces,
-    kind: Kind,
-    forward: &Forwarding,
-    root: Root,
-) -> Result<(), AllocError>
-    requires forward { AreForwarded spaces.now.spaces forward.now.words }
-    requires root { IsRootIn spaces.now.spaces root }
-    ensures { OnOk result ((p : PlaceOf) → Contains remembered.new.places p ↔ (Contains remembered.old.places p ⊎ ((root ≡ RememberedAt p) × NamesYoung (moved_cell kind spaces.now.spaces forward.now.words p)))) }
-{
-    match root {
-        Root::Row(_) => Ok(()),
-        Root::Remembered(place) => {
-            let words = spaces.image(kind, forward, *spaces.words(place));
-            note_young(remembered, place, &words)
+    // Notes the cell of a root, where it is remembered and will name a young one.
+    fn note_root(self, remembered: &mut Remembered, root: Root) -> Result<(), AllocError>
+        requires forward { AreForwarded self.spaces.now.spaces self.forward.now.words }
+        requires root { IsRootIn self.spaces.now.spaces root }
+        ensures { OnOk result ((p : PlaceOf) → Contains remembered.new.places p ↔ (Contains remembered.old.places p ⊎ ((root ≡ RememberedAt p) × NamesYoung (moved_cell self.entry.kind self.entry.spaces.now.spaces self.entry.forward.now.words p)))) }
+    {
+        match root {
+            Root::Row(_) => Ok(()),
+            Root::Remembered(place) => {
+                let words = self
+                    .spaces
+                    .image(self.kind, self.forward, *self.spaces.words(place));
+                note_young(remembered, place, &words)
+            }
         }
     }
 }

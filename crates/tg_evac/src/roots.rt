@@ -8,113 +8,106 @@ ghost use Rattle.tg_evac.specs.Claims.{chunk_targets, is_straight as straight_fr
 ghost use Rattle.tg_evac.specs.Walks.{ClaimsAll, MayWalk};
 
 use crate::claimer::Claimer;
-use crate::images::move_from;
 use crate::plan::{is_straight, space_for};
+use crate::walk::Walk;
 use tg_block::LINK;
-use tg_space::{Kind, RoomFault, Root, Spaces, first_pointer};
+use tg_space::{RoomFault, Root, first_pointer};
 use tg_word::{Place, place_of};
 
-/// Claims the targets of a root.
-///
-/// It is refused as a claim is. What was claimed till then stays so.
-#[inline(always)]
-pub fn claim_root<C: Claimer>(
-    claimer: &mut C,
-    spaces: &Spaces,
-    kind: Kind,
-    root: Root,
-) -> Result<(), RoomFault>
-    requires walk { MayWalk kind spaces.now.spaces (C.walked claimer.old) }
-    requires root { IsRootIn spaces.now.spaces root }
-    ensures { ClaimsAll C.walked C.knows C.is_full spaces.now.spaces (straight_from (C.walked claimer.old).kind root) (root_targets_of (from_space (C.walked claimer.old).kind) spaces.now.spaces root) claimer.old claimer.new result }
-{
-    let straight = is_straight(kind, root);
-    match root {
-        Root::Row(object) => claim_row(claimer, spaces, kind, object, straight),
-        Root::Remembered(place) => claim_targets(claimer, spaces, kind, place, straight),
+impl Walk<'_> {
+    /// Claims the targets of a root.
+    ///
+    /// It is refused as a claim is. What was claimed till then stays so.
+    #[inline(always)]
+    pub fn claim_root<C: Claimer>(self, claimer: &mut C, root: Root) -> Result<(), RoomFault>
+        requires walk { MayWalk self.kind self.spaces.now.spaces (C.walked claimer.old) }
+        requires root { IsRootIn self.spaces.now.spaces root }
+        ensures { ClaimsAll C.walked C.knows C.is_full self.entry.spaces.now.spaces (straight_from (C.walked claimer.old).kind root) (root_targets_of (from_space (C.walked claimer.old).kind) self.entry.spaces.now.spaces root) claimer.old claimer.new result }
+    {
+        let straight = is_straight(self.kind, root);
+        match root {
+            Root::Row(object) => self.claim_row(claimer, object, straight),
+            Root::Remembered(place) => self.claim_targets(claimer, place, straight),
+        }
     }
-}
 
-// Claims the object of a row where it is moved, and else the targets of the cells that are met outside from-space.
-#[inline(always)]
-#[tactic(auto, using(crate::proofs::Behind::moved_behind))]
-fn claim_row<C: Claimer>(
-    claimer: &mut C,
-    spaces: &Spaces,
-    kind: Kind,
-    object: Place,
-    straight: bool,
-) -> Result<(), RoomFault>
-    requires walk { MayWalk kind spaces.now.spaces (C.walked claimer.old) }
-    requires held { Holds spaces.now.spaces object }
-    ensures { ClaimsAll C.walked C.knows C.is_full spaces.now.spaces straight (root_targets_of (from_space (C.walked claimer.old).kind) spaces.now.spaces (Row object)) claimer.old claimer.new result }
-{
-    if kind.moves(object.space) {
-        claimer.claim(spaces.flat(object), space_for(straight, object.space))?;
-        return Ok(());
-    }
-    claim_from_row(claimer, spaces, kind, object, straight)
-}
-
-// Claims the targets of the cells of a row that are met outside from-space.
-#[inline(never)]
-fn claim_from_row<C: Claimer>(
-    claimer: &mut C,
-    spaces: &Spaces,
-    kind: Kind,
-    object: Place,
-    straight: bool,
-) -> Result<(), RoomFault>
-    requires walk { MayWalk kind spaces.now.spaces (C.walked claimer.old) }
-    requires held { Holds spaces.now.spaces object }
-    requires kept { from_space kind object.space ≡ false }
-    ensures { ClaimsAll C.walked C.knows C.is_full spaces.now.spaces straight (root_targets_of (from_space (C.walked claimer.old).kind) spaces.now.spaces (Row object)) claimer.old claimer.new result }
-{
-    claim_targets(claimer, spaces, kind, object, straight)?;
-    claim_chunks(claimer, spaces, kind, spaces.read(object, LINK), straight)
-}
-
-// Claims the targets of the chunks to which a link leads, up to one that is moved.
-fn claim_chunks<C: Claimer>(
-    claimer: &mut C,
-    spaces: &Spaces,
-    kind: Kind,
-    first: u64,
-    straight: bool,
-) -> Result<(), RoomFault>
-    requires walk { MayWalk kind spaces.now.spaces (C.walked claimer.old) }
-    requires link { IsPointer spaces.now.spaces first }
-    ensures { ClaimsAll C.walked C.knows C.is_full spaces.now.spaces straight (chunk_targets (from_space (C.walked claimer.old).kind) spaces.now.spaces (length (cells_of spaces.now.spaces)) first) claimer.old claimer.new result }
-{
-    let mut link = first;
-    for _ in 0..spaces.cells() {
-        if link == 0 {
+    // Claims the object of a row where it is moved, and else the targets of the cells that are met outside from-space.
+    #[inline(always)]
+    #[tactic(auto, using(crate::proofs::Behind::moved_behind))]
+    fn claim_row<C: Claimer>(
+        self,
+        claimer: &mut C,
+        object: Place,
+        straight: bool,
+    ) -> Result<(), RoomFault>
+        requires walk { MayWalk self.kind self.spaces.now.spaces (C.walked claimer.old) }
+        requires held { Holds self.spaces.now.spaces object }
+        ensures { ClaimsAll C.walked C.knows C.is_full self.entry.spaces.now.spaces straight (root_targets_of (from_space (C.walked claimer.old).kind) self.entry.spaces.now.spaces (Row object)) claimer.old claimer.new result }
+    {
+        if self.kind.moves(object.space) {
+            claimer.claim(self.spaces.flat(object), space_for(straight, object.space))?;
             return Ok(());
         }
-        let chunk = place_of(link);
-        if kind.moves(chunk.space) {
-            return Ok(());
-        }
-        claim_targets(claimer, spaces, kind, chunk, straight)?;
-        link = spaces.read(chunk, LINK);
+        self.claim_from_row(claimer, object, straight)
     }
-    Ok(())
-}
 
-// Claims the targets of the cell at a place.
-#[inline(always)]
-fn claim_targets<C: Claimer>(
-    claimer: &mut C,
-    spaces: &Spaces,
-    kind: Kind,
-    place: Place,
-    straight: bool,
-) -> Result<(), RoomFault>
-    requires walk { MayWalk kind spaces.now.spaces (C.walked claimer.old) }
-    requires held { Holds spaces.now.spaces place }
-    ensures { ClaimsAll C.walked C.knows C.is_full spaces.now.spaces straight (targets_at (from_space (C.walked claimer.old).kind) spaces.now.spaces place) claimer.old claimer.new result }
-{
-    let mut words = *spaces.words(place);
-    let first = first_pointer(words[0]);
-    move_from(claimer, spaces, kind, straight, first, &mut words)
+    // Claims the targets of the cells of a row that are met outside from-space.
+    #[inline(never)]
+    fn claim_from_row<C: Claimer>(
+        self,
+        claimer: &mut C,
+        object: Place,
+        straight: bool,
+    ) -> Result<(), RoomFault>
+        requires walk { MayWalk self.kind self.spaces.now.spaces (C.walked claimer.old) }
+        requires held { Holds self.spaces.now.spaces object }
+        requires kept { from_space self.kind object.space ≡ false }
+        ensures { ClaimsAll C.walked C.knows C.is_full self.entry.spaces.now.spaces straight (root_targets_of (from_space (C.walked claimer.old).kind) self.entry.spaces.now.spaces (Row object)) claimer.old claimer.new result }
+    {
+        self.claim_targets(claimer, object, straight)?;
+        self.claim_chunks(claimer, self.spaces.read(object, LINK), straight)
+    }
+
+    // Claims the targets of the chunks to which a link leads, up to one that is moved.
+    fn claim_chunks<C: Claimer>(
+        self,
+        claimer: &mut C,
+        first: u64,
+        straight: bool,
+    ) -> Result<(), RoomFault>
+        requires walk { MayWalk self.kind self.spaces.now.spaces (C.walked claimer.old) }
+        requires link { IsPointer self.spaces.now.spaces first }
+        ensures { ClaimsAll C.walked C.knows C.is_full self.entry.spaces.now.spaces straight (chunk_targets (from_space (C.walked claimer.old).kind) self.entry.spaces.now.spaces (length (cells_of self.entry.spaces.now.spaces)) first) claimer.old claimer.new result }
+    {
+        let mut link = first;
+        for _ in 0..self.spaces.cells() {
+            if link == 0 {
+                return Ok(());
+            }
+            let chunk = place_of(link);
+            if self.kind.moves(chunk.space) {
+                return Ok(());
+            }
+            self.claim_targets(claimer, chunk, straight)?;
+            link = self.spaces.read(chunk, LINK);
+        }
+        Ok(())
+    }
+
+    // Claims the targets of the cell at a place.
+    #[inline(always)]
+    fn claim_targets<C: Claimer>(
+        self,
+        claimer: &mut C,
+        place: Place,
+        straight: bool,
+    ) -> Result<(), RoomFault>
+        requires walk { MayWalk self.kind self.spaces.now.spaces (C.walked claimer.old) }
+        requires held { Holds self.spaces.now.spaces place }
+        ensures { ClaimsAll C.walked C.knows C.is_full self.entry.spaces.now.spaces straight (targets_at (from_space (C.walked claimer.old).kind) self.entry.spaces.now.spaces place) claimer.old claimer.new result }
+    {
+        let mut words = *self.spaces.words(place);
+        let first = first_pointer(words[0]);
+        self.move_from(claimer, straight, first, &mut words)
+    }
 }

@@ -28,8 +28,8 @@ use Rattle.tg_space.specs.declared.room_fault.RoomFault.TheVariants.{HeapFull}
 use Rattle.tg_evac.specs.Claimers.{AddsWins, IsLink}
 use Rattle.tg_evac.specs.Walks.{ClaimsCell}
 use Rattle.tg_parallel.specs.declared.own_blocks.OwnBlocks.{OwnBlocks}
-use Rattle.tg_parallel.specs.declared.seat.Both.{Both}
-use Rattle.tg_parallel.specs.Lending.{with_blocks}
+use Rattle.tg_evac.specs.declared.both.Both.{Both}
+use Rattle.tg_evac.specs.Lending.{with_one}
 use Rattle.tg_parallel.specs.Parts.{HasClaimedPast, HasPlaceOf, HasPlaces, cells_met, win_of, wins_of}
 use Rattle.tg_parallel.specs.Seats.{AreFilled, Finds, HasRoomFor, HasRoomForNumbers, IsReady, IsSeat, KnowsNext, OtherStays, Sitting, StayFilled, pair_at, pairs_in, used_of, walked_at}
 use Rattle.tg_parallel.proofs.Lists.{all_left, any_has, map_found}
@@ -260,24 +260,24 @@ module _ (limit : ℕ) (board : Board) (before after : Seated) (aged old : OwnBl
       seat_now old.aged finds aged now seat.is_aged (space ∙ seat.is_old) rest.0 (subst (λ (a : Bool). AreFilled a after.done now.numbers.items (used_of a after.done)) seat.is_old filled) rest.1 next seat.aged_room (let was = seat.old_room in omega arith)
 
 -- blocks of the space that is asked for are of the right age
-pub right_age : (space : ℕ) → space < 2 → (was aged old : OwnBlocks) → aged.aged ≡ true → old.aged ≡ false → ((space == 1) ≡ true → was ≡ aged) → ((space == 1) ≡ false → was ≡ old) → space ≡ space_of_age was.aged
+pub right_age : (space : ℕ) → space < 2 → (was aged old : OwnBlocks) → aged.aged ≡ true → old.aged ≡ false → ((space == 0) ≡ true → was ≡ old) → ((space == 0) ≡ false → was ≡ aged) → space ≡ space_of_age was.aged
 right_age space two was aged old is_aged is_old first second = ⊎_elim
-    (λ (e : space ≡ 1). e ∙ ap space_of_age (sym (ap (λ (b : OwnBlocks). b.aged) (first (eq-eqb space 1 e)) ∙ is_aged)))
-    (λ (ne : space ≢ 1). let e : space ≡ 0 = omega arith in e ∙ ap space_of_age (sym (ap (λ (b : OwnBlocks). b.aged) (second (rw e refl)) ∙ is_old)))
-    (cases_eq space 1)
+    (λ (e : space ≡ 0). e ∙ ap space_of_age (sym (ap (λ (b : OwnBlocks). b.aged) (first (eq-eqb space 0 e)) ∙ is_old)))
+    (λ (ne : space ≢ 0). let e : space ≡ 1 = omega arith in e ∙ ap space_of_age (sym (ap (λ (b : OwnBlocks). b.aged) (second (rw e refl)) ∙ is_aged)))
+    (cases_eq space 0)
 
 -- it is a seat still, whichever blocks a place was given from
-pub seat_given : (limit : ℕ) (board : Board) (before after : Seated) (both : Both) → IsSeat limit board before both.aged.now both.old.now → (at : CellWord) → IsWordIn board at → has_met before.done at.cell ≡ false
-    → (a : Bool) (was now : OwnBlocks) → (a ≡ true → was ≡ both.aged.now) → (a ≡ false → was ≡ both.old.now) → StayFilled was before now after → Finds at.cell was.aged before.done after.done → KnowsNext limit after.done now
-    → IsSeat limit board after (with_blocks both a now).aged.now (with_blocks both a now).old.now
+pub seat_given : (limit : ℕ) (board : Board) (before after : Seated) (both : Both OwnBlocks) → IsSeat limit board before both.aged.now both.old.now → (at : CellWord) → IsWordIn board at → has_met before.done at.cell ≡ false
+    → (a : Bool) (was now : OwnBlocks) → (a ≡ true → was ≡ both.old.now) → (a ≡ false → was ≡ both.aged.now) → StayFilled was before now after → Finds at.cell was.aged before.done after.done → KnowsNext limit after.done now
+    → IsSeat limit board after (with_one both a now).aged.now (with_one both a now).old.now
 seat_given limit board before after both seat at word unmet true was now first second stay finds next =
     let is = first refl in
     let kept = subst (λ (b : OwnBlocks). StayFilled b before now after) is stay in
-    seat_aged limit board before after both.aged.now both.old.now seat stay.seat at word unmet now kept.space kept.room (subst (λ (b : OwnBlocks). Finds at.cell b.aged before.done after.done) is finds) kept.filled kept.other next
+    seat_old limit board before after both.aged.now both.old.now seat stay.seat at word unmet now kept.space kept.room (subst (λ (b : OwnBlocks). Finds at.cell b.aged before.done after.done) is finds) kept.filled kept.other next
 seat_given limit board before after both seat at word unmet false was now first second stay finds next =
     let is = second refl in
     let kept = subst (λ (b : OwnBlocks). StayFilled b before now after) is stay in
-    seat_old limit board before after both.aged.now both.old.now seat stay.seat at word unmet now kept.space kept.room (subst (λ (b : OwnBlocks). Finds at.cell b.aged before.done after.done) is finds) kept.filled kept.other next
+    seat_aged limit board before after both.aged.now both.old.now seat stay.seat at word unmet now kept.space kept.room (subst (λ (b : OwnBlocks). Finds at.cell b.aged before.done after.done) is finds) kept.filled kept.other next
 
 -- what is asked of a seat is known of what it is seen as
 pub asked : (at : CellWord) (seen now : Sitting) → seen ≡ now → IsWordIn now.board at → has_met now.done at.cell ≡ false → IsWordIn seen.board at × (has_met seen.done at.cell ≡ false)

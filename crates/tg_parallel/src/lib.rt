@@ -39,11 +39,13 @@
 
 pub use fault::HelpersFault;
 pub use gate::{Gate, NoGate};
+pub use job::help;
 pub use many::{MOST_HELPERS, collect_many, collect_seated};
-pub use part::{Helped, Part, help};
+pub use part::{Helped, Part};
 
 mod fault;
 mod gate;
+mod job;
 pub mod laws;
 mod links;
 mod many;

@@ -16,6 +16,7 @@ ghost use Rattle.tg_evac.specs.Copies.{IsPlaceIn, moved_cell, new_cell};
 ghost use Rattle.tg_parallel.specs.declared.many.TheConstants.{MOST_HELPERS};
 ghost use Rattle.tg_parallel.specs.Faults.{IsNotStarted};
 ghost use Rattle.tg_parallel.specs.Helping.{AllHelped, IsHelped, IsNew};
+ghost use Rattle.tg_parallel.specs.Jobs.{AllDone, IsCollected, IsDone, IsOpen, MayCollect, MayHelp};
 ghost use Rattle.tg_parallel.specs.Merged.{AreMerged};
 ghost use Rattle.tg_parallel.specs.Parts.{AreCountsOf, IsOpenedFor};
 ghost use Rattle.tg_parallel.specs.Shares.{IsMostFilled, MayFill};
@@ -23,14 +24,15 @@ ghost use Rattle.tg_parallel.specs.Whole.{IsWholePart, MayFinish};
 
 use crate::fault::HelpersFault;
 use crate::gate::{Gate, NoGate};
+use crate::job::{Job, Newcomer, Task, help};
 use crate::merge::{joined, merged};
-use crate::part::{Helped, Part, help};
+use crate::part::{Helped, Part};
 use std::alloc::{AllocError, Global};
 use std::sync::Wait;
 use std::thread;
 use std::thread::{Promise, PromisedHandle, Scope, Threads, join_promised};
 use tg_block::Block;
-use tg_evac::{Copied, Plan, notes_of};
+use tg_evac::{Copied, Moves, Plan, Reads};
 use tg_race::{Helper, Opened, RaceTable};
 use tg_space::{Forwarding, Kind, RoomFault, Root, Spaces, Spare};
 use tg_word::CELLS;
@@ -53,36 +55,43 @@ pub fn collect_seated(
     requires { AreSound spaces.now.spaces roots.now }
     ensures { Collects RoomFault.HeapFull kind spaces.now roots.now 1 1 result }
 {
-    collect_alone(alloc, spaces, roots, kind, &NoGate, spare)
+    collect_alone(alloc, &Task::new(spaces, roots, kind, &NoGate), spare)
 }
 
 // A collection by one helper at a table of its own, on the calling thread, who passes the gate.
 #[tactic(auto, using(tg_evac::proofs::Behind::kept_within))]
 fn collect_alone<G: Gate>(
     alloc: Global,
-    spaces: &Spaces,
-    roots: &[Root],
-    kind: Kind,
-    gate: &G,
+    task: &Task<'_, G>,
     spare: Spare,
 ) -> Result<Copied, RoomFault>
-    requires { AreSound spaces.now.spaces roots.now }
-    ensures { Collects RoomFault.HeapFull kind spaces.now roots.now 1 1 result }
+    requires { MayCollect task.now }
+    ensures { IsCollected RoomFault.HeapFull task.now 1 result }
 {
-    let cells = spaces.cells();
-    let plan = Plan::of(kind, spaces);
+    let cells = task.spaces.cells();
+    let plan = Plan::of(task.kind, task.spaces);
     let Spare { blocks, words } = spare;
     let Opened {
         table,
         helper,
         room,
-    } = RaceTable::open(alloc, cells, roots.len() as u64, plan.kept, 1, words)?;
+    } = RaceTable::open(alloc, cells, task.roots.len() as u64, plan.kept, 1, words)?;
     let spare = Spare {
         blocks,
         words: room,
     };
-    let helped = help(alloc, &table, helper, 0, spaces, roots, kind, gate, spare);
-    finish(alloc, table, spaces, roots, plan, helped)
+    let helped = help(
+        alloc,
+        &table,
+        helper,
+        0,
+        task.spaces,
+        task.roots,
+        task.kind,
+        task.gate,
+        spare,
+    );
+    finish(alloc, table, task, plan, helped)
 }
 
 /// Copies what the roots reach into new blocks, by as many helpers as are wanted: one on the calling thread, and each
@@ -113,10 +122,17 @@ pub fn collect_many<R: Threads + Wait + Sync, G: Gate>(
     ensures collects { Collects HelpersFault.HeapFull kind spaces.now roots.now helpers helpers result }
     ensures alone { helpers ≡ 1 → IfErr result (λ fault. fault ≢ HelpersFault.NoThread) }
 {
+    let task = Task {
+        spaces,
+        roots,
+        kind,
+        reads: Reads::of(spaces),
+        gate,
+    };
     let cells = spaces.cells();
     let plan = Plan::of(kind, spaces);
     if helpers == 1 || cells == CELLS * plan.kept {
-        return Ok(collect_alone(alloc, spaces, roots, kind, gate, spare)?);
+        return Ok(collect_alone(alloc, &task, spare)?);
     }
     let Spare { blocks, words } = spare;
     let Opened {
@@ -124,79 +140,91 @@ pub fn collect_many<R: Threads + Wait + Sync, G: Gate>(
         helper,
         room,
     } = RaceTable::open(alloc, cells, roots.len() as u64, plan.kept, helpers, words)?;
-    let spare = Spare {
-        blocks,
-        words: room,
+    let newcomer = Newcomer {
+        helper,
+        number: 0,
+        spare: Spare {
+            blocks,
+            words: room,
+        },
     };
-    let helped = work_all(
-        rt, alloc, &table, helper, helpers, spaces, roots, kind, gate, spare,
-    )?;
-    Ok(finish(alloc, table, spaces, roots, plan, helped)?)
+    let job = Job {
+        table: &table,
+        task: Task {
+            spaces,
+            roots,
+            kind,
+            reads: task.reads,
+            gate,
+        },
+    };
+    let helped = work_all(rt, alloc, &job, helpers, newcomer)?;
+    Ok(finish(alloc, table, &task, plan, helped)?)
 }
 
-// What a helper on a thread promises.
-#[derive(Clone, Copy)]
-struct Helps<'a> {
-    table: &'a RaceTable,
-    spaces: &'a Spaces,
-    roots: &'a [Root],
-    kind: Kind,
+// A helper on a thread promises what one does on the calling thread.
+impl<'a, G> Promise<Helped> for Job<'a, G> {
+    ghost use Rattle.tg_parallel.specs.Jobs.{IsDone};
+
+    ghost kept_by = { λ job r. IsDone job 1 r };
 }
 
-impl<'a> Promise<Helped> for Helps<'a> {
-    ghost use Rattle.tg_parallel.specs.Helping.{IsHelped};
-
-    ghost kept_by = { λ p r. IsHelped p.kind p.spaces.now p.roots.now p.table.now 1 r };
-}
-
-// As many helpers as `helper` stands for: one here, and each other on a thread of its own. None works here before all
-// others have started.
+// As many helpers as the newcomer stands for: one here, and each other on a thread of its own. None works here before
+// all others have started.
 fn work_all<R: Threads + Wait + Sync, G: Gate>(
     rt: &R,
     alloc: Global,
-    table: &RaceTable,
-    mut helper: Helper,
+    job: &Job<'_, G>,
     helpers: u32,
-    spaces: &Spaces,
-    roots: &[Root],
-    kind: Kind,
-    gate: &G,
-    spare: Spare,
+    newcomer: Newcomer,
 ) -> Result<Helped, HelpersFault>
-    requires table { IsOpenedFor kind spaces.now.spaces roots.now table.now.counts }
-    requires own { helper.table ≡ table.now.table }
-    requires fresh { helper.done ≡ empty helpers }
+    requires table { IsOpen job.now }
+    requires own { newcomer.helper.table ≡ job.now.table.now.table }
+    requires fresh { newcomer.helper.done ≡ empty helpers }
     requires some { 1 ≤ helpers }
-    ensures helped { IfOk result (λ helped. IsHelped kind spaces.now roots.now table.now helpers helped) }
+    ensures helped { IfOk result (IsDone job.now helpers) }
     ensures refused { IfErr result (λ fault. fault ≢ HelpersFault.HeapFull) }
     ensures alone { helpers ≡ 1 → IfErr result (λ fault. fault ≢ HelpersFault.NoThread) }
 {
-    let others = split_all(alloc, table, &mut helper, helpers)?;
-    let (mine, theirs) = work_in_scope(
-        rt, alloc, table, helper, others, spaces, roots, kind, gate, spare,
-    )?;
-    Ok(all_joined(table, mine, theirs))
+    let Newcomer {
+        mut helper,
+        number,
+        spare,
+    } = newcomer;
+    let others = split_all(alloc, job.table, &mut helper, helpers)?;
+    let first = Newcomer {
+        helper,
+        number,
+        spare,
+    };
+    let (mine, theirs) = work_in_scope(rt, alloc, job, first, others)?;
+    Ok(all_joined(job.table, mine, theirs))
 }
 
 // A helper here, and each other on a thread of its own.
 fn work_in_scope<R: Threads + Wait, G: Gate>(
     rt: &R,
     alloc: Global,
-    table: &RaceTable,
-    helper: Helper,
+    job: &Job<'_, G>,
+    first: Newcomer,
     others: Vec<Helper>,
-    spaces: &Spaces,
-    roots: &[Root],
-    kind: Kind,
-    gate: &G,
-    mut spare: Spare,
 ) -> Result<(Helped, Vec<Helped>), HelpersFault>
-    requires table { IsOpenedFor kind spaces.now.spaces roots.now table.now.counts }
-    requires new { IsNew table.now helper }
-    requires others { All (IsNew table.now) others.items }
-    ensures made { IfOk result (λ x. AllHelped kind spaces.now roots.now table.now (length others.items) x.0 x.1.items) }
+    requires first { MayHelp job.now job.now.task.kind first }
+    requires others { All (IsNew job.now.table.now) others.items }
+    ensures made { IfOk result (λ x. AllDone job.now (length others.items) x.0 x.1.items) }
     ensures refused { IfErr result (IsNotStarted (length others.items)) }
 {
+    let table = job.table;
+    let spaces = job.task.spaces;
+    let roots = job.task.roots;
+    let kind = job.task.kind;
+    let reads = job.task.reads;
+    let gate = job.task.gate;
+    let Newcomer {
+        helper,
+        number,
+        mut spare,
+    } = first;
     thread::scope(
         thread::scope_env(),
         rt,
@@ -204,14 +232,23 @@ fn work_in_scope<R: Threads + Wait, G: Gate>(
             requires { IsOpenedFor kind spaces.now.spaces roots.now table.now.counts × IsNew table.now helper × All (IsNew table.now) others.items }
             ensures { IfOk result (λ x. AllHelped kind spaces.entry.now roots.entry.now table.entry.now (length others.items) x.0 x.1.items) × IfErr result (IsNotStarted (length others.items)) }
         {
-            let promise = Helps {
+            let job = Job {
                 table,
-                spaces,
-                roots,
-                kind,
+                task: Task {
+                    spaces,
+                    roots,
+                    kind,
+                    reads,
+                    gate,
+                },
             };
-            let children = start_all(alloc, scope, promise, others, gate, &mut spare)?;
-            let mine = help(alloc, table, helper, 0, spaces, roots, kind, gate, spare);
+            let children = start_all(alloc, scope, &job, others, &mut spare)?;
+            let first = Newcomer {
+                helper,
+                number,
+                spare,
+            };
+            let mine = job.help(alloc, first);
             let theirs = join_promised(rt, children)?;
             Ok((mine, theirs))
         },
@@ -222,20 +259,19 @@ fn work_in_scope<R: Threads + Wait, G: Gate>(
 fn start_all<'s, E, G: Gate>(
     alloc: Global,
     scope: &Scope<'s, E>,
-    promise: Helps<'s>,
+    job: &Job<'s, G>,
     others: Vec<Helper>,
-    gate: &'s G,
     spare: &mut Spare,
-) -> Result<Vec<PromisedHandle<Helped, Helps<'s>>>, HelpersFault>
-    requires table { IsOpenedFor promise.kind promise.spaces.now.spaces promise.roots.now promise.table.now.counts }
-    requires new { All (IsNew promise.table.now) others.items }
-    ensures promises { IfOk result (λ children. All (λ child. child.promise ≡ promise.entry) children.items) }
+) -> Result<Vec<PromisedHandle<Helped, Job<'s, G>>>, HelpersFault>
+    requires table { IsOpen job.now }
+    requires new { All (IsNew job.now.table.now) others.items }
+    ensures promises { IfOk result (λ children. All (λ child. child.promise ≡ job.now) children.items) }
     ensures many { IfOk result (λ children. length children.items ≡ length others.items) }
     ensures refused { IfErr result (IsNotStarted (length others.items)) }
 {
     let mut children = Vec::with_capacity(alloc, others.len())?;
     let like = spare.blocks.len() / (others.len() + 1);
-    let blocks = like.min(most_filled(promise.spaces, promise.kind));
+    let blocks = like.min(most_filled(job.task.spaces, job.task.kind));
     let mut number: u32 = 0;
     for other in others {
         number = number.wrapping_add(1);
@@ -243,7 +279,12 @@ fn start_all<'s, E, G: Gate>(
             blocks: take_last(&mut spare.blocks, blocks)?,
             words: Vec::new(alloc),
         };
-        let child = start(alloc, scope, promise, other, number, gate, share)?;
+        let newcomer = Newcomer {
+            helper: other,
+            number,
+            spare: share,
+        };
+        let child = start(alloc, scope, job, newcomer)?;
         children.push(child)?;
     }
     Ok(children)
@@ -263,32 +304,43 @@ fn most_filled(spaces: &Spaces, kind: Kind) -> usize
 fn start<'s, E, G: Gate>(
     alloc: Global,
     scope: &Scope<'s, E>,
-    promise: Helps<'s>,
-    other: Helper,
-    number: u32,
-    gate: &'s G,
-    spare: Spare,
-) -> Result<PromisedHandle<Helped, Helps<'s>>, HelpersFault>
-    requires table { IsOpenedFor promise.kind promise.spaces.now.spaces promise.roots.now promise.table.now.counts }
-    requires new { IsNew promise.table.now other }
-    requires share { MayFill promise.kind promise.spaces.now.spaces (length spare.blocks.items) }
-    ensures promise { IfOk result (λ child. child.promise ≡ promise.entry) }
+    job: &Job<'s, G>,
+    other: Newcomer,
+) -> Result<PromisedHandle<Helped, Job<'s, G>>, HelpersFault>
+    requires new { MayHelp job.now job.now.task.kind other }
+    requires share { MayFill job.now.task.kind job.now.task.spaces.now.spaces (length other.spare.blocks.items) }
+    ensures promise { IfOk result (λ child. child.promise ≡ job.now) }
     ensures refused { IfErr result (λ fault. fault ≡ HelpersFault.NoThread) }
 {
-    let Helps {
+    let table = job.table;
+    let spaces = job.task.spaces;
+    let roots = job.task.roots;
+    let kind = job.task.kind;
+    let reads = job.task.reads;
+    let gate = job.task.gate;
+    let promise = Job {
         table,
-        spaces,
-        roots,
-        kind,
-    } = promise;
+        task: Task {
+            spaces,
+            roots,
+            kind,
+            reads,
+            gate,
+        },
+    };
+    let Newcomer {
+        helper,
+        number,
+        spare,
+    } = other;
     let Ok(child) = scope.spawn_with(
         promise,
         move || -> Helped
-            requires { IsOpenedFor kind spaces.now.spaces roots.now table.now.counts × (other.table ≡ table.now.table) × (other.done ≡ empty 1) }
+            requires { IsOpenedFor kind spaces.now.spaces roots.now table.now.counts × IsNew table.now helper }
             ensures { IsHelped kind spaces.entry.now roots.entry.now table.entry.now 1 result }
         {
             help(
-                alloc, table, other, number, spaces, roots, kind, gate, spare,
+                alloc, table, helper, number, spaces, roots, kind, gate, spare,
             )
         },
     ) else {
@@ -340,53 +392,48 @@ fn all_joined(table: &RaceTable, mine: Helped, theirs: Vec<Helped>) -> Helped
 }
 
 // The collection, from the table and what the helper that stands for all has made.
-fn finish(
+fn finish<G: Gate>(
     alloc: Global,
     table: RaceTable,
-    spaces: &Spaces,
-    roots: &[Root],
+    task: &Task<'_, G>,
     plan: Plan,
     helped: Helped,
 ) -> Result<Copied, RoomFault>
-    requires plan { MayFinish spaces.now roots.now plan }
+    requires plan { MayFinish task.now.spaces.now task.now.roots.now plan }
     requires few { plan.kept ≤ MOST_SPACE_BLOCKS }
-    requires counts { AreCountsOf plan.kind spaces.now.spaces roots.now table.counts }
-    requires helped { IsHelped plan.kind spaces.now roots.now table table.counts.helpers helped }
-    ensures { Collects RoomFault.HeapFull plan.kind spaces.now roots.now table.counts.helpers table.counts.helpers result }
+    requires counts { AreCountsOf plan.kind task.now.spaces.now.spaces task.now.roots.now table.counts }
+    requires helped { IsHelped plan.kind task.now.spaces.now task.now.roots.now table table.counts.helpers helped }
+    ensures { Collects RoomFault.HeapFull plan.kind task.now.spaces.now task.now.roots.now table.counts.helpers table.counts.helpers result }
 {
     let Helped { helper, part, room } = helped;
     let forward = Forwarding::of_closed(CELLS * plan.kept, table.close(helper), room);
     match part {
-        Ok(part) => Ok(put_together(alloc, forward, spaces, roots, plan, part)?),
+        Ok(part) => Ok(put_together(alloc, forward, task, plan, part)?),
         Err(fault) => Err(fault),
     }
 }
 
 // What is handed over, of the closed words and of all blocks.
-fn put_together(
+fn put_together<G: Gate>(
     alloc: Global,
     forward: Forwarding,
-    spaces: &Spaces,
-    roots: &[Root],
+    task: &Task<'_, G>,
     plan: Plan,
     part: Part,
 ) -> Result<Copied, AllocError>
-    requires plan { MayFinish spaces.now roots.now plan }
-    requires made { (k : Counts) × (done : Record) × IsWholePart plan.kind spaces.now roots.now k forward.words done part.aged.items part.old.items }
+    requires plan { MayFinish task.now.spaces.now task.now.roots.now plan }
+    requires made { (k : Counts) × (done : Record) × IsWholePart plan.kind task.now.spaces.now task.now.roots.now k forward.words done part.aged.items part.old.items }
     ensures words { IfOk result (λ copied. copied.forward.words ≡ forward.words) }
-    ensures merged { IfOk result (λ copied. AreMerged plan.kind (kept_blocks plan.kind spaces.now.spaces) part.aged.items part.old.items copied.adoption.aged copied.adoption.old) }
-    ensures noted { IfOk result (λ copied. (p : PlaceOf) → Contains copied.remembered.places p ↔ ((Contains roots.now (RememberedAt p) × NamesYoung (moved_cell plan.kind spaces.now.spaces forward.words p)) ⊎ (IsPlaceIn 0 (kept_blocks plan.kind spaces.now.spaces) copied.adoption.old p × NamesYoung (new_cell (kept_blocks plan.kind spaces.now.spaces) copied.adoption.old p)))) }
+    ensures merged { IfOk result (λ copied. AreMerged plan.kind (kept_blocks plan.kind task.now.spaces.now.spaces) part.aged.items part.old.items copied.adoption.aged copied.adoption.old) }
+    ensures noted { IfOk result (λ copied. (p : PlaceOf) → Contains copied.remembered.places p ↔ ((Contains task.now.roots.now (RememberedAt p) × NamesYoung (moved_cell plan.kind task.now.spaces.now.spaces forward.words p)) ⊎ (IsPlaceIn 0 (kept_blocks plan.kind task.now.spaces.now.spaces) copied.adoption.old p × NamesYoung (new_cell (kept_blocks plan.kind task.now.spaces.now.spaces) copied.adoption.old p)))) }
 {
     let adoption = merged(alloc, plan.kind, part)?;
-    let remembered = notes_of(
-        alloc,
-        spaces,
-        plan.kind,
-        &forward,
-        roots,
-        &adoption.old,
-        plan.kept,
-    )?;
+    let moves = Moves {
+        spaces: task.spaces,
+        kind: plan.kind,
+        forward: &forward,
+    };
+    let remembered = moves.notes(alloc, task.roots, &adoption.old, plan.kept)?;
     Ok(Copied {
         forward,
         adoption,

@@ -1,23 +1,18 @@
-//! One helper of a collection.
-ghost use Rattle.std.specs.Prelude.{◌≡◌, ◌<◌, ◌≤◌, ◌^◌, ◌⊎◌, ℕ, All, Contains, IfErr, IfOk, Ok, OnOk, drop, length, nat_lt, slice_index_or, vec_capacity};
+//! What a helper hands over.
+ghost use Rattle.std.specs.Prelude.{◌≡◌, ◌<◌, ◌≤◌, ◌^◌, ◌⊎◌, ℕ, All, Contains, IfErr, IfOk, OnOk, drop, length, nat_lt, slice_index_or};
 ghost use Rattle.std.specs.List.{list_all};
 ghost use Rattle.std.specs.Vec.Iter.{into_iter_items};
 ghost use Rattle.tg_word.specs.declared.TheConstants.{MOST_SPACE_CELLS};
 ghost use Rattle.tg_block.specs.Cells.{free_block};
-ghost use Rattle.tg_parallel.specs.Parts.{AreOnce, IsOpenedFor, numbers_of};
-ghost use Rattle.tg_parallel.specs.Helping.{IsHelped, IsNew};
-ghost use Rattle.tg_parallel.specs.Seats.{AreEmptyLists, AreLaidOut, AreSmallLists, block_at};
+ghost use Rattle.tg_parallel.specs.Parts.{numbers_of};
+ghost use Rattle.tg_parallel.specs.Seats.{AreLaidOut, block_at};
 
-use crate::gate::Gate;
-use crate::seat::{Left, Lists, Seat};
-use crate::work::work;
 use std::alloc::{AllocError, Global};
 use std::vec::IntoIter;
 use tg_block::Block;
-use tg_evac::{Copies, Reads};
-use tg_race::{Helper, RaceTable};
-use tg_space::{Kind, RoomFault, Root, Space, Spaces, Spare};
-use tg_word::CELLS;
+use tg_evac::Copies;
+use tg_race::Helper;
+use tg_space::{RoomFault, Space};
 
 /// What a helper has copied: its blocks, each with its number. And the spare blocks that it had no use for.
 #[derive(Drop)]
@@ -106,205 +101,4 @@ fn next_block(alloc: Global, blocks: &mut IntoIter<Block>) -> Result<Block, Allo
         Some(block) => Ok(block),
         None => Block::new(alloc),
     }
-}
-
-/// Claims roots until there are none left, wins the cells that they lead to and that no other helper has won, and
-/// copies each to its place: one of several that collect together, as the collectors of Halstead's Multilisp do. No
-/// call of it waits, but that of the gate may. Copies go to the spare blocks first, and its list of won cells stands in
-/// the spare room.
-///
-/// The record of the helper tells what it has won and seen, and its part has the copies of what it has won. It claims
-/// no block number twice. A helper that is refused memory, or room, says so and leaves what it has claimed claimed: the
-/// collection is then refused.
-pub fn help<G: Gate>(
-    alloc: Global,
-    table: &RaceTable,
-    helper: Helper,
-    number: u32,
-    spaces: &Spaces,
-    roots: &[Root],
-    kind: Kind,
-    gate: &G,
-    spare: Spare,
-) -> Helped
-    requires table { IsOpenedFor kind spaces.now.spaces roots.now table.now.counts }
-    requires new { IsNew table.now helper }
-    ensures helped { IsHelped kind spaces.now roots.now table.now 1 result }
-    ensures once { AreOnce result.helper.done.aged_blocks × AreOnce result.helper.done.old_blocks }
-{
-    match kind {
-        Kind::Full => help_in_full(alloc, table, helper, number, spaces, roots, gate, spare),
-        Kind::Nursery => help_nursery(alloc, table, helper, number, spaces, roots, gate, spare),
-    }
-}
-
-// The same in a full collection. Each way to read cells is compiled apart, so that the seat is kept in registers.
-#[inline(always)]
-fn help_in_full<G: Gate>(
-    alloc: Global,
-    table: &RaceTable,
-    helper: Helper,
-    number: u32,
-    spaces: &Spaces,
-    roots: &[Root],
-    gate: &G,
-    spare: Spare,
-) -> Helped
-    requires table { IsOpenedFor Kind.Full spaces.now.spaces roots.now table.now.counts }
-    requires new { IsNew table.now helper }
-    ensures helped { IsHelped Kind.Full spaces.now roots.now table.now 1 result }
-    ensures once { AreOnce result.helper.done.aged_blocks × AreOnce result.helper.done.old_blocks }
-{
-    match Reads::of(spaces) {
-        Reads::Each => help_kind(
-            alloc,
-            table,
-            helper,
-            number,
-            spaces,
-            roots,
-            Kind::Full,
-            Reads::Each,
-            gate,
-            spare,
-        ),
-        Reads::Ahead => help_ahead(alloc, table, helper, number, spaces, roots, gate, spare),
-    }
-}
-
-// The same in a full collection that reads cells ahead.
-#[inline(never)]
-fn help_ahead<G: Gate>(
-    alloc: Global,
-    table: &RaceTable,
-    helper: Helper,
-    number: u32,
-    spaces: &Spaces,
-    roots: &[Root],
-    gate: &G,
-    spare: Spare,
-) -> Helped
-    requires table { IsOpenedFor Kind.Full spaces.now.spaces roots.now table.now.counts }
-    requires new { IsNew table.now helper }
-    ensures helped { IsHelped Kind.Full spaces.now roots.now table.now 1 result }
-    ensures once { AreOnce result.helper.done.aged_blocks × AreOnce result.helper.done.old_blocks }
-{
-    help_kind(
-        alloc,
-        table,
-        helper,
-        number,
-        spaces,
-        roots,
-        Kind::Full,
-        Reads::Ahead,
-        gate,
-        spare,
-    )
-}
-
-// The same in a nursery collection.
-#[inline(never)]
-fn help_nursery<G: Gate>(
-    alloc: Global,
-    table: &RaceTable,
-    helper: Helper,
-    number: u32,
-    spaces: &Spaces,
-    roots: &[Root],
-    gate: &G,
-    spare: Spare,
-) -> Helped
-    requires table { IsOpenedFor Kind.Nursery spaces.now.spaces roots.now table.now.counts }
-    requires new { IsNew table.now helper }
-    ensures helped { IsHelped Kind.Nursery spaces.now roots.now table.now 1 result }
-    ensures once { AreOnce result.helper.done.aged_blocks × AreOnce result.helper.done.old_blocks }
-{
-    help_kind(
-        alloc,
-        table,
-        helper,
-        number,
-        spaces,
-        roots,
-        Kind::Nursery,
-        Reads::of(spaces),
-        gate,
-        spare,
-    )
-}
-
-// The same in a collection of a kind.
-#[inline(always)]
-fn help_kind<G: Gate>(
-    alloc: Global,
-    table: &RaceTable,
-    helper: Helper,
-    number: u32,
-    spaces: &Spaces,
-    roots: &[Root],
-    kind: Kind,
-    reads: Reads,
-    gate: &G,
-    spare: Spare,
-) -> Helped
-    requires table { IsOpenedFor kind spaces.now.spaces roots.now table.now.counts }
-    requires new { IsNew table.now helper }
-    ensures helped { IsHelped kind spaces.now roots.now table.now 1 result }
-    ensures once { AreOnce result.helper.done.aged_blocks × AreOnce result.helper.done.old_blocks }
-{
-    let limit = spaces.limits().space_blocks();
-    let Spare { blocks, words } = spare;
-    let Ok(lists) = lists_of(alloc, table.len(), words) else {
-        return Helped {
-            helper,
-            part: Err(RoomFault::OutOfMemory),
-            room: Vec::new(alloc),
-        };
-    };
-    let mut seat = Seat::new(table, helper, kind, limit, lists);
-    let worked = work(
-        alloc, &mut seat, number, spaces, roots, kind, reads, gate, blocks,
-    );
-    let Left { helper, lists } = seat.into_left();
-    let Lists { won, aged, old } = lists;
-    match worked {
-        Ok(copies) => Helped {
-            helper,
-            part: Part::of(alloc, copies, &aged, &old, limit),
-            room: won,
-        },
-        Err(fault) => Helped {
-            helper,
-            part: Err(fault),
-            room: won,
-        },
-    }
-}
-
-// The lists of a helper at a table of so many words that has done nothing yet. That of what it will have won stands in
-// the room, where that is enough.
-fn lists_of(alloc: Global, words: usize, room: Vec<u64>) -> Result<Lists, AllocError>
-    ensures lists { IfOk result (AreEmptyLists words) }
-    ensures few { IfOk result (AreSmallLists words (vec_capacity room)) }
-{
-    // All of its blocks of a space but the last are full of cells that it has won.
-    let blocks = words / CELLS as usize + 1;
-    Ok(Lists {
-        won: roomy(alloc, words, room)?,
-        aged: Vec::with_capacity(alloc, blocks)?,
-        old: Vec::with_capacity(alloc, blocks)?,
-    })
-}
-
-// Room for so many words: this, where it is enough.
-fn roomy(alloc: Global, words: usize, room: Vec<u64>) -> Result<Vec<u64>, AllocError>
-    ensures room { IfOk result (λ held. words ≤ vec_capacity held) }
-    ensures same { words ≤ vec_capacity room → result ≡ Ok room }
-    ensures exact { vec_capacity room < words → IfOk result (λ held. vec_capacity held ≡ words) }
-{
-    if words <= room.capacity() {
-        return Ok(room);
-    }
-    Vec::with_capacity(alloc, words)
 }

@@ -1,6 +1,5 @@
 //! A helper at its seat, which claims cells at the table that it shares with others.
 ghost use Rattle.std.specs.Prelude.{◌≡◌, ℕ, ◌+◌, ◌*◌, ◌<◌, ◌≤◌, ◌==◌, ◌^◌, false, true, All, IsTrue, length};
-ghost use Rattle.std.specs.Borrow.{sem};
 ghost use Rattle.tg_word.specs.declared.TheConstants.{CELLS, MOST_SPACE_BLOCKS, MOST_SPACE_CELLS};
 ghost use Rattle.tg_word.specs.Word.{IsPlace, place_in};
 ghost use Rattle.tg_race.specs.Course.{has_met};
@@ -10,17 +9,16 @@ ghost use Rattle.tg_race.specs.Seats.{IsWordIn};
 ghost use Rattle.tg_evac.specs.Claims.{win_at, won_in};
 ghost use Rattle.tg_evac.specs.Walks.{ClaimsCell, MayClaim};
 ghost use Rattle.tg_parallel.specs.Helping.{IsNew};
-ghost use Rattle.tg_parallel.specs.Lending.{LendsBlocks};
 ghost use Rattle.tg_parallel.specs.Parts.{HasClaimedPast, HasPlaces, wins_of};
 ghost use Rattle.tg_parallel.specs.Seats.{AreEmptyLists, AreFilled, walked_at};
 
 use crate::own_blocks::OwnBlocks;
 use crate::winner::Winner;
 use std::marker::Model;
-use tg_evac::Claimer;
+use tg_evac::{Both, Claimer};
 use tg_race::{CellWord, Helper, RaceTable};
 use tg_space::{Kind, RoomFault};
-use tg_word::AGED;
+use tg_word::OLD;
 
 /// A helper with its own blocks, at the table that it shares with other helpers.
 #[derive(Drop)]
@@ -175,34 +173,11 @@ impl<'a> Seat<'a> {
         ensures { ClaimsCell walked_at (λ s. HasPlaces s.done) (λ s. HasClaimedPast s.limit s.done) at.cell space self.entry.now self.exit.now result }
     {
         let mut both = Both {
-            aged: &mut self.aged,
             old: &mut self.old,
+            aged: &mut self.aged,
         };
-        both.blocks_in(space == AGED)
+        both.one(space == OLD)
             .word_of(&mut self.winner, self.table, at, self.limit)
-    }
-}
-
-// The blocks of both spaces. A place is given from those of one, so that what gives it is compiled once.
-#[derive(Drop)]
-struct Both<'a> {
-    aged: &'a mut OwnBlocks,
-    old: &'a mut OwnBlocks,
-}
-
-impl<'a> Both<'a> {
-    // The blocks of Aged, or of Old.
-    #[inline(always)]
-    fn blocks_in(&mut self, is_aged: bool) -> &mut OwnBlocks
-        ensures* writes_back { sem 𝓛 (LendsBlocks self.entry is_aged result) }
-        ensures aged { is_aged ≡ true → result.now ≡ self.entry.now.aged.now }
-        ensures old { is_aged ≡ false → result.now ≡ self.entry.now.old.now }
-    {
-        if is_aged {
-            &mut *self.aged
-        } else {
-            &mut *self.old
-        }
     }
 }
 

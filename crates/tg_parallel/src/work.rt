@@ -1,15 +1,17 @@
 //! The work of a helper: chunks of roots are claimed until there are none left, and what they lead to is copied.
 ghost use Rattle.std.specs.Prelude.{◌≡◌, ℕ, ◌*◌, ◌<◌, List, OnOk, length};
 ghost use Rattle.tg_parallel.specs.declared.work.TheConstants.{CHUNK};
-ghost use Rattle.tg_parallel.specs.Parts.{AreEarned, roots_of_chunk};
-ghost use Rattle.tg_parallel.specs.Seats.{HasCopied, HasDrawn, HasWorked, HasWorkedAll, MayBegin, MayWork};
+ghost use Rattle.tg_parallel.specs.Jobs.{HasCopiedAt, HasDone, HasDoneAll, HasEarned, MayBeginAt, SitsAt};
+ghost use Rattle.tg_parallel.specs.Parts.{roots_of_chunk};
+ghost use Rattle.tg_parallel.specs.Seats.{HasDrawn};
 
 use crate::gate::Gate;
+use crate::job::Job;
 use crate::seat::Seat;
 use std::alloc::Global;
 use tg_block::Block;
-use tg_evac::{Copies, Reads, walk};
-use tg_space::{Kind, RoomFault, Root, Spaces};
+use tg_evac::{Copies, Walk};
+use tg_space::{RoomFault, Root};
 
 // How many roots a chunk has; the last may have fewer.
 const CHUNK: u64 = 8;
@@ -21,25 +23,21 @@ const CHUNK: u64 = 8;
 #[inline(always)]
 pub fn work<G: Gate>(
     alloc: Global,
+    job: &Job<'_, G>,
     seat: &mut Seat,
     number: u32,
-    spaces: &Spaces,
-    roots: &[Root],
-    kind: Kind,
-    reads: Reads,
-    gate: &G,
     spare: Vec<Block>,
 ) -> Result<Copies, RoomFault>
-    requires { MayBegin kind spaces.now.spaces roots.now seat.now }
-    ensures { HasWorkedAll kind spaces.now.spaces roots.now seat.entry.now seat.exit.now result }
+    requires { MayBeginAt job.now seat.now }
+    ensures { HasDoneAll job.now seat.entry.now seat.exit.now result }
 {
     let mut copies = Copies::new(alloc, spare)?;
-    let chunks = (roots.len() as u64).div_ceil(CHUNK);
-    gate.pass(number);
+    let chunks = (job.task.roots.len() as u64).div_ceil(CHUNK);
+    job.task.gate.pass(number);
     let mut chunk = seat.claim_chunk();
     while chunk < chunks {
-        copy_chunk(seat, spaces, roots, kind, reads, chunk, &mut copies)?;
-        gate.pass(number);
+        copy_chunk(job, seat, chunk, &mut copies)?;
+        job.task.gate.pass(number);
         chunk = seat.claim_chunk();
     }
     Ok(copies)
@@ -47,24 +45,27 @@ pub fn work<G: Gate>(
 
 // Copies what the roots of a chunk lead to, which was just claimed.
 #[inline(always)]
-fn copy_chunk(
+fn copy_chunk<G: Gate>(
+    job: &Job<'_, G>,
     seat: &mut Seat,
-    spaces: &Spaces,
-    roots: &[Root],
-    kind: Kind,
-    reads: Reads,
     chunk: u64,
     copies: &mut Copies,
 ) -> Result<(), RoomFault>
-    requires seat { MayWork kind spaces.now.spaces roots.now seat.now }
-    requires inside { CHUNK * chunk < length roots.now }
-    requires earned { AreEarned kind spaces.now.spaces roots.now seat.now.done }
-    requires drawn { (before : List ℕ) × HasDrawn before chunk seat.now × HasCopied kind spaces.now.spaces roots.now before seat.now copies.now.scanned copies.now.aged copies.now.old }
-    ensures worked { HasWorked kind spaces.now.spaces roots.now seat.entry.now seat.exit.now result }
+    requires seat { SitsAt job.now seat.now }
+    requires inside { CHUNK * chunk < length job.now.task.roots.now }
+    requires earned { HasEarned job.now seat.now }
+    requires drawn { (before : List ℕ) × HasDrawn before chunk seat.now × HasCopiedAt job.now before seat.now copies.now }
+    ensures worked { HasDone job.now seat.entry.now seat.exit.now result }
     ensures chunks { seat.exit.now.done.chunks ≡ seat.entry.now.done.chunks }
-    ensures copied { OnOk result (HasCopied kind spaces.now.spaces roots.now seat.exit.now.done.chunks seat.exit.now copies.exit.now.scanned copies.exit.now.aged copies.exit.now.old) }
+    ensures copied { OnOk result (HasCopiedAt job.now seat.exit.now.done.chunks seat.exit.now copies.exit.now) }
 {
-    walk(seat, spaces, kind, reads, chunk_of(roots, chunk), copies)
+    let roots = chunk_of(job.task.roots, chunk);
+    let walk = Walk {
+        spaces: job.task.spaces,
+        kind: job.task.kind,
+        reads: job.task.reads,
+    };
+    walk.along(seat, roots, copies)
 }
 
 // The roots of a chunk: eights of them are counted from the end. What stands first reaches more of what the others

@@ -8,4 +8,4 @@ pub returns-in-Full : goal.returns-in-Full
 returns-in-Full c = subst (λ (k : Kind). Collects HeapFull k c.args.spaces.now c.args.roots.now 0 1 c.collect_full.result) (sym c.in-Full.is) c.collect_full.ensures
 
 pub returns-in-Nursery : goal.returns-in-Nursery
-returns-in-Nursery c = subst (λ (k : Kind). Collects HeapFull k c.args.spaces.now c.args.roots.now 0 1 c.collect_kind.result) (sym c.in-Nursery.is) c.collect_kind.ensures
+returns-in-Nursery c = subst (λ (k : Kind). Collects HeapFull k c.args.spaces.now c.args.roots.now 0 1 c.collect.result) (sym c.in-Nursery.is) c.collect.ensures

@@ -11,6 +11,6 @@ returns-in_err-table g c = collects_refused c.from_residual.result _ c.from_resi
 
 pub returns : goal.returns
 returns g c =
-    let t = c.args.spaces.now in let roots = c.args.roots.now in let helpers = c.in_ok-table.field-0.table.counts.helpers in
-    subst (λ (n : ℕ). Collects HeapFull c.args.kind t roots n n c.finish.result) (ap (λ (k : Counts). k.helpers) c.in_ok-table.ensures.counts)
+    let t = c.args.task.now.spaces.now in let roots = c.args.task.now.roots.now in let helpers = c.in_ok-table.field-0.table.counts.helpers in
+    subst (λ (n : ℕ). Collects HeapFull c.args.task.now.kind t roots n n c.finish.result) (ap (λ (k : Counts). k.helpers) c.in_ok-table.ensures.counts)
     (subst (λ (kind : Kind). Collects HeapFull kind t roots helpers helpers c.finish.result) c.of-plan.ensures.plan.same c.finish.ensures)

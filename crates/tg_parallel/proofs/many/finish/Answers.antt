@@ -14,28 +14,29 @@ use Rattle.tg_parallel.proofs.Finish.{finished}
 use Rattle.tg_parallel.proofs.Merging.{err_at, ok_at}
 use Rattle.tg_parallel.proofs.Room.{few_blocks, lacks, moved_few}
 use Rattle.tg_parallel.proofs.many.finish.Goals as goal
+use Rattle.tg_parallel.proofs.many.finish.Given.{Over}
 use Rattle.tg_parallel.proofs.many.finish.Goals.{In_ok-put_together-in-Ok}
 
 -- the words of all cells: a 0 for each of those that stay, and the closed ones
 words_are : (kept skipped : ℕ) → kept ≡ skipped → (ws : List ℕ) (f : ForwardingWords) → f ≡ record { skipped = 64 * skipped; words = replicate (64 * skipped) 0 ++ ws } → f.words ≡ replicate (64 * kept) 0 ++ ws
 words_are kept skipped same ws f is = ap (λ (x : ForwardingWords). x.words) is ∙ ap (λ (n : ℕ). replicate (64 * n) 0 ++ ws) (sym same)
 
-whole : (c : In_ok-put_together-in-Ok) → IsWholePart c.args.plan.kind c.args.spaces.now c.args.roots.now c.args.table.counts c.of_closed-forward.result.words c.args.helped.helper.done c.in-Ok.part.aged.items c.in-Ok.part.old.items
-whole c =
+whole : (g : Over) (c : In_ok-put_together-in-Ok g) → IsWholePart c.args.plan.kind c.args.task.now.spaces.now c.args.task.now.roots.now c.args.table.counts c.of_closed-forward.result.words c.args.helped.helper.done c.in-Ok.part.aged.items c.in-Ok.part.old.items
+whole g c =
     let v = c.args.helped.helper.done in let p = c.in-Ok.part in
     record {
       counts = c.requires.counts;
       closed = subst (λ (ws : List ℕ). IsClosedTable c.args.table.counts ws v) (sym (words_are c.args.table.counts.kept c.args.plan.kept (c.requires.counts.kept ∙ sym c.requires.plan.planned.kept) c.close.result c.of_closed-forward.result c.of_closed-forward.ensures)) c.close.ensures;
       last = ok_at (λ (_ : Part). 0 < past c.args.table.counts v) c.args.helped.part p c.in-Ok.is c.requires.helped.last;
       earned = c.requires.helped.earned;
-      part = ok_at (λ (q : Part). IsPart c.args.plan.kind c.args.spaces.now c.args.roots.now v q.aged.items q.old.items) c.args.helped.part p c.in-Ok.is c.requires.helped.whole;
+      part = ok_at (λ (q : Part). IsPart c.args.plan.kind c.args.task.now.spaces.now c.args.task.now.roots.now v q.aged.items q.old.items) c.args.helped.part p c.in-Ok.is c.requires.helped.whole;
     }
 
 pub returns-in_ok-put_together-in-Ok : goal.returns-in_ok-put_together-in-Ok
-returns-in_ok-put_together-in-Ok c =
-    let kind = c.args.plan.kind in let t = c.args.spaces.now in let roots = c.args.roots.now in let k = c.args.table.counts in
+returns-in_ok-put_together-in-Ok g c =
+    let kind = c.args.plan.kind in let t = c.args.task.now.spaces.now in let roots = c.args.task.now.roots.now in let k = c.args.table.counts in
     let v = c.args.helped.helper.done in let p = c.in-Ok.part in let made = c.in_ok-put_together-in-Ok.field-0 in let told = c.in_ok-put_together-in-Ok.ensures in
-    let words = c.of_closed-forward.result.words in let all = whole c in
+    let words = c.of_closed-forward.result.words in let all = whole g c in
     record {
       collected = subst (λ (ws : List ℕ). IsCollection kind t.spaces roots ws made.adoption.aged made.adoption.old made.remembered.places) (sym told.words)
           (finished kind t roots k words v p.aged.items p.old.items c.requires.plan.spaces c.requires.plan.limit all made.adoption.aged made.adoption.old told.merged made.remembered.places told.noted);
@@ -47,15 +48,15 @@ returns-in_ok-put_together-in-Ok c =
     }
 
 pub returns-in_err-put_together-in-Ok : goal.returns-in_err-put_together-in-Ok
-returns-in_err-put_together-in-Ok c = collects_refused c.from_residual.result _ c.from_residual.ensures.1 (λ is. absurd cc)
+returns-in_err-put_together-in-Ok g c = collects_refused c.from_residual.result _ c.from_residual.ensures.1 (λ is. absurd cc)
 
 pub returns-in-Err : goal.returns-in-Err
-returns-in-Err c =
+returns-in-Err g c =
     record {
       collected = tt;
       moved = tt;
       few = tt;
       full = λ is.
-          let past = err_at (λ (fault : RoomFault). fault ≡ HeapFull → IsPastLimit c.args.spaces.now c.args.helped.helper.done) c.args.helped.part c.in-Err.fault c.in-Err.is c.requires.helped.full is in
-          lacks c.args.plan.kind c.args.spaces.now c.args.roots.now c.args.table.counts _ c.args.helped.helper.done c.requires.counts c.close.ensures c.requires.helped.earned past;
+          let past = err_at (λ (fault : RoomFault). fault ≡ HeapFull → IsPastLimit c.args.task.now.spaces.now c.args.helped.helper.done) c.args.helped.part c.in-Err.fault c.in-Err.is c.requires.helped.full is in
+          lacks c.args.plan.kind c.args.task.now.spaces.now c.args.task.now.roots.now c.args.table.counts _ c.args.helped.helper.done c.requires.counts c.close.ensures c.requires.helped.earned past;
     }

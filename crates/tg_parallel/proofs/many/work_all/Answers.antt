@@ -1,5 +1,5 @@
 use Rattle.std.proofs.Common.{◌≡◌, ℕ, ◌+◌, length, subst, arith}
-use Rattle.tg_parallel.specs.Helping.{IsHelped}
+use Rattle.tg_parallel.specs.Jobs.{IsDone}
 use Rattle.tg_parallel.proofs.many.work_all.Goals as goal
 
 pub returns-clause-helped : goal.returns-clause-helped
@@ -7,5 +7,5 @@ returns-clause-helped g c =
     let many = c.in_ok-others.ensures.many in
     let all = c.in_ok-mine.ensures.made.many in
     let e : 1 + length c.in_ok-mine.theirs.items ≡ c.args.helpers = omega arith in
-    subst (λ (n : ℕ). IsHelped c.args.kind c.args.spaces.now c.args.roots.now c.args.table.now n c.all_joined.result) e
-    (c.all_joined.ensures c.args.kind c.args.spaces.now c.args.roots.now 1 c.in_ok-mine.ensures.made.first c.in_ok-mine.ensures.made.rest)
+    subst (λ (n : ℕ). IsDone c.args.job.now n c.all_joined.result) e
+    (c.all_joined.ensures c.args.job.now.task.kind c.args.job.now.task.spaces.now c.args.job.now.task.roots.now 1 c.in_ok-mine.ensures.made.first c.in_ok-mine.ensures.made.rest)

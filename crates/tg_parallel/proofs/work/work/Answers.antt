@@ -9,35 +9,35 @@ use Rattle.tg_parallel.proofs.work.work.Goals as goal
 pub loop-chunk-init : goal.loop-chunk-init
 loop-chunk-init g c =
     let s = c.args.seat.now in let t = c.claim_chunk-chunk.new.self in let is = c.claim_chunk-chunk.ensures.drawn in let r = c.claim_chunk-chunk.result in
-    let h = c.args.spaces.now.spaces in let roots = c.args.roots.now in let copies = c.in_ok-copies.copies in
+    let h = c.args.job.now.task.spaces.now.spaces in let roots = c.args.job.now.task.roots.now in let copies = c.in_ok-copies.copies in
     let none : t.done.won ≡ [] = ap (λ (x : Sitting). x.done.won) is ∙ ap (λ (v : Record). v.won) c.requires.fresh in
     record {
       same = same_drawn s t r is;
-      earned = earned_none c.args.kind h roots t.done none;
-      drawn = ([], drawn_first s t r c.requires.fresh is, copied_none c.args.kind h roots t copies.scanned copies.aged copies.old none c.in_ok-copies.ensures.scanned c.in_ok-copies.ensures.aged c.in_ok-copies.ensures.old);
+      earned = earned_none c.args.job.now.task.kind h roots t.done none;
+      drawn = ([], drawn_first s t r c.requires.fresh is, copied_none c.args.job.now.task.kind h roots t copies.scanned copies.aged copies.old none c.in_ok-copies.ensures.scanned c.in_ok-copies.ensures.aged c.in_ok-copies.ensures.old);
     }
 
 pub copy_chunk-requires-clause-seat : goal.copy_chunk-requires-clause-seat
-copy_chunk-requires-clause-seat g c =
+copy_chunk-requires-clause-seat g c κs within =
     let seat = c.requires.seat in let same = c.loop-chunk.invariant.same in
     record {
       pointers = seat.pointers;
       roots_held = seat.roots_held;
       same = same.kind ∙ seat.same;
-      counts = subst (λ (b : Board). AreCountsOf c.args.kind c.args.spaces.now.spaces c.args.roots.now b.counts) (sym same.board) seat.counts;
+      counts = subst (λ (b : Board). AreCountsOf c.args.job.now.task.kind c.args.job.now.task.spaces.now.spaces c.args.job.now.task.roots.now b.counts) (sym same.board) seat.counts;
     }
 
 pub copy_chunk-requires-clause-earned : goal.copy_chunk-requires-clause-earned
-copy_chunk-requires-clause-earned g c = c.loop-chunk.invariant.earned
+copy_chunk-requires-clause-earned g c κs within = c.loop-chunk.invariant.earned
 
 pub copy_chunk-requires-clause-drawn : goal.copy_chunk-requires-clause-drawn
-copy_chunk-requires-clause-drawn g c = c.loop-chunk.invariant.drawn
+copy_chunk-requires-clause-drawn g c κs within = c.loop-chunk.invariant.drawn
 
 pub returns-in_err-copies : goal.returns-in_err-copies
 returns-in_err-copies g c =
     let s = c.args.seat.now in
     work_refused c.from_residual.result _ c.from_residual.ensures.1 (record { kind = refl; limit = refl; board = refl; share = refl })
-    (earned_none c.args.kind c.args.spaces.now.spaces c.args.roots.now s.done (ap (λ (v : Record). v.won) c.requires.fresh)) (λ is. absurd cc)
+    (earned_none c.args.job.now.task.kind c.args.job.now.task.spaces.now.spaces c.args.job.now.task.roots.now s.done (ap (λ (v : Record). v.won) c.requires.fresh)) (λ is. absurd cc)
 
 pub returns-in_err-copy_chunk : goal.returns-in_err-copy_chunk
 returns-in_err-copy_chunk g c =
@@ -61,14 +61,14 @@ loop-chunk-preserved g c =
     let d = c.loop-chunk.invariant.drawn in
     let n = count c.requires.seat.counts c.loop-chunk.invariant.same c.div_ceil-chunks.ensures in
     let s = c.loop-chunk.seat in let u = c.copy_chunk.new.seat in let v = c.claim_chunk-chunk-in-loop-chunk.new.self in let r = c.claim_chunk-chunk-in-loop-chunk.result in
-    let is = c.claim_chunk-chunk-in-loop-chunk.ensures.drawn in let h = c.args.spaces.now.spaces in let roots = c.args.roots.now in let copies = c.copy_chunk.new.copies in
+    let is = c.claim_chunk-chunk-in-loop-chunk.ensures.drawn in let h = c.args.job.now.task.spaces.now.spaces in let roots = c.args.job.now.task.roots.now in let copies = c.copy_chunk.new.copies in
     record {
       same = same_both c.loop-chunk.invariant.same (same_both c.copy_chunk.ensures.worked.same (same_drawn u v r is));
-      earned = earned_drawn c.args.kind h roots u v r is c.copy_chunk.ensures.worked.earned;
+      earned = earned_drawn c.args.job.now.task.kind h roots u v r is c.copy_chunk.ensures.worked.earned;
       drawn = (
         u.done.chunks,
         drawn_next d.0 c.loop-chunk.chunk s u v r d.1 (omega (arith, c.loop-chunk-test.true)) c.copy_chunk.ensures.worked.same c.copy_chunk.ensures.chunks is,
-        copied_drawn c.args.kind h roots u v r is u.done.chunks copies.scanned copies.aged copies.old c.in_ok-copy_chunk.ensures.copied,
+        copied_drawn c.args.job.now.task.kind h roots u v r is u.done.chunks copies.scanned copies.aged copies.old c.in_ok-copy_chunk.ensures.copied,
       );
     }
 
@@ -80,6 +80,6 @@ returns g c =
     record {
       worked = record { same = c.loop-chunk.invariant.same; earned = c.loop-chunk.invariant.earned; full = tt };
       last = past_last d.0 c.loop-chunk.chunk c.loop-chunk.seat d.1 (omega (arith, c.loop-chunk-test.false));
-      copied = copied_all c.args.kind c.args.spaces.now.spaces c.args.roots.now d.0 c.loop-chunk.chunk c.loop-chunk.seat copies.scanned copies.aged copies.old d.1
-          (chunks_past c.args.roots.now c.loop-chunk.chunk c.div_ceil-chunks.result c.div_ceil-chunks.ensures c.loop-chunk-test.false) d.2;
+      copied = copied_all c.args.job.now.task.kind c.args.job.now.task.spaces.now.spaces c.args.job.now.task.roots.now d.0 c.loop-chunk.chunk c.loop-chunk.seat copies.scanned copies.aged copies.old d.1
+          (chunks_past c.args.job.now.task.roots.now c.loop-chunk.chunk c.div_ceil-chunks.result c.div_ceil-chunks.ensures c.loop-chunk-test.false) d.2;
     }

@@ -1,0 +1,223 @@
+//! What the helpers of a collection share, and what one of them does.
+ghost use Rattle.std.specs.Prelude.{◌≡◌, ◌<◌, ◌≤◌, IfOk, Ok, vec_capacity};
+ghost use Rattle.tg_parallel.specs.Parts.{AreOnce, IsOpenedFor};
+ghost use Rattle.tg_parallel.specs.Helping.{IsHelped, IsNew};
+ghost use Rattle.tg_parallel.specs.Jobs.{HasHelped, MayHelp};
+ghost use Rattle.tg_parallel.specs.Seats.{AreEmptyLists, AreSmallLists};
+
+use crate::gate::Gate;
+use crate::part::{Helped, Part};
+use crate::seat::{Left, Lists, Seat};
+use crate::work::work;
+use std::alloc::{AllocError, Global};
+use tg_evac::Reads;
+use tg_race::{Helper, RaceTable};
+use tg_space::{Kind, RoomFault, Root, Spaces, Spare};
+use tg_word::CELLS;
+
+/// What is collected and how, and the gate that each helper passes.
+#[derive(Drop)]
+pub struct Task<'a, G> {
+    /// The spaces, which are only read.
+    pub spaces: &'a Spaces,
+    /// Where the walk begins.
+    pub roots: &'a [Root],
+    /// Which cells are moved.
+    pub kind: Kind,
+    /// How won cells are read.
+    pub reads: Reads,
+    /// Passed before each claim of roots.
+    pub gate: &'a G,
+}
+
+/// A task, and the table at which its helpers claim cells.
+#[derive(Drop)]
+pub struct Job<'a, G> {
+    /// The table.
+    pub table: &'a RaceTable,
+    /// The task.
+    pub task: Task<'a, G>,
+}
+
+/// A helper that has done nothing yet, its number, and the spare blocks and the room that it has for itself.
+#[derive(Drop)]
+pub struct Newcomer {
+    /// The helper.
+    pub helper: Helper,
+    /// Its number, which the gate is told.
+    pub number: u32,
+    /// What it fills first, and where its list of won cells stands.
+    pub spare: Spare,
+}
+
+impl<'a, G: Gate> Task<'a, G> {
+    /// The task of collecting these spaces, whose cells are read in the faster way.
+    pub fn new(spaces: &'a Spaces, roots: &'a [Root], kind: Kind, gate: &'a G) -> Self
+        ensures spaces { result.spaces.now ≡ spaces.now }
+        ensures roots { result.roots.now ≡ roots.now }
+        ensures kind { result.kind ≡ kind }
+    {
+        Task {
+            spaces,
+            roots,
+            kind,
+            reads: Reads::of(spaces),
+            gate,
+        }
+    }
+}
+
+impl<'a, G: Gate> Job<'a, G> {
+    /// What `help` says.
+    pub fn help(&self, alloc: Global, newcomer: Newcomer) -> Helped
+        requires { MayHelp self.now self.now.task.kind newcomer }
+        ensures { HasHelped self.now result }
+    {
+        match self.task.kind {
+            Kind::Full => match self.task.reads {
+                Reads::Each => self
+                    .known(Kind::Full, Reads::Each)
+                    .help_here(alloc, newcomer),
+                Reads::Ahead => self.help_ahead(alloc, newcomer),
+            },
+            Kind::Nursery => self.help_nursery(alloc, newcomer),
+        }
+    }
+
+    // The same in a full collection that reads cells ahead. Each way to read cells is compiled apart, so that the seat
+    // is kept in registers.
+    #[inline(never)]
+    fn help_ahead(&self, alloc: Global, newcomer: Newcomer) -> Helped
+        requires { MayHelp self.now Kind.Full newcomer }
+        ensures { HasHelped self.now result }
+    {
+        self.known(Kind::Full, Reads::Ahead)
+            .help_here(alloc, newcomer)
+    }
+
+    // The same in a nursery collection.
+    #[inline(never)]
+    fn help_nursery(&self, alloc: Global, newcomer: Newcomer) -> Helped
+        requires { MayHelp self.now Kind.Nursery newcomer }
+        ensures { HasHelped self.now result }
+    {
+        self.known(Kind::Nursery, self.task.reads)
+            .help_here(alloc, newcomer)
+    }
+
+    // The same. It is compiled wherever it is called, for the kind and the way to read cells that are known there.
+    #[inline(always)]
+    fn help_here(&self, alloc: Global, newcomer: Newcomer) -> Helped
+        requires { MayHelp self.now self.now.task.kind newcomer }
+        ensures { HasHelped self.now result }
+    {
+        let limit = self.task.spaces.limits().space_blocks();
+        let Newcomer {
+            helper,
+            number,
+            spare,
+        } = newcomer;
+        let Spare { blocks, words } = spare;
+        let Ok(lists) = lists_of(alloc, self.table.len(), words) else {
+            return Helped {
+                helper,
+                part: Err(RoomFault::OutOfMemory),
+                room: Vec::new(alloc),
+            };
+        };
+        let mut seat = Seat::new(self.table, helper, self.task.kind, limit, lists);
+        let worked = work(alloc, self, &mut seat, number, blocks);
+        let Left { helper, lists } = seat.into_left();
+        let Lists { won, aged, old } = lists;
+        match worked {
+            Ok(copies) => Helped {
+                helper,
+                part: Part::of(alloc, copies, &aged, &old, limit),
+                room: won,
+            },
+            Err(fault) => Helped {
+                helper,
+                part: Err(fault),
+                room: won,
+            },
+        }
+    }
+
+    // The same job, of a kind and a way to read that are known where this stands.
+    #[inline(always)]
+    fn known(&self, kind: Kind, reads: Reads) -> Self
+        requires { kind ≡ self.now.task.kind }
+        ensures { result ≡ record self.now { task = record self.now.task { reads = reads } } }
+    {
+        Job {
+            table: self.table,
+            task: Task {
+                spaces: self.task.spaces,
+                roots: self.task.roots,
+                kind,
+                reads,
+                gate: self.task.gate,
+            },
+        }
+    }
+}
+
+/// Claims roots until there are none left, wins the cells that they lead to and that no other helper has won, and
+/// copies each to its place: one of several that collect together, as the collectors of Halstead's Multilisp do. No
+/// call of it waits, but that of the gate may. Copies go to the spare blocks first, and its list of won cells stands in
+/// the spare room.
+///
+/// The record of the helper tells what it has won and seen, and its part has the copies of what it has won. It claims
+/// no block number twice. A helper that is refused memory, or room, says so and leaves what it has claimed claimed: the
+/// collection is then refused.
+pub fn help<G: Gate>(
+    alloc: Global,
+    table: &RaceTable,
+    helper: Helper,
+    number: u32,
+    spaces: &Spaces,
+    roots: &[Root],
+    kind: Kind,
+    gate: &G,
+    spare: Spare,
+) -> Helped
+    requires table { IsOpenedFor kind spaces.now.spaces roots.now table.now.counts }
+    requires new { IsNew table.now helper }
+    ensures helped { IsHelped kind spaces.now roots.now table.now 1 result }
+    ensures once { AreOnce result.helper.done.aged_blocks × AreOnce result.helper.done.old_blocks }
+{
+    let newcomer = Newcomer {
+        helper,
+        number,
+        spare,
+    };
+    let task = Task::new(spaces, roots, kind, gate);
+    Job { table, task }.help(alloc, newcomer)
+}
+
+// The lists of a helper at a table of so many words that has done nothing yet. That of what it will have won stands in
+// the room, where that is enough.
+fn lists_of(alloc: Global, words: usize, room: Vec<u64>) -> Result<Lists, AllocError>
+    ensures lists { IfOk result (AreEmptyLists words) }
+    ensures few { IfOk result (AreSmallLists words (vec_capacity room)) }
+{
+    // All of its blocks of a space but the last are full of cells that it has won.
+    let blocks = words / CELLS as usize + 1;
+    Ok(Lists {
+        won: roomy(alloc, words, room)?,
+        aged: Vec::with_capacity(alloc, blocks)?,
+        old: Vec::with_capacity(alloc, blocks)?,
+    })
+}
+
+// Room for so many words: this, where it is enough.
+fn roomy(alloc: Global, words: usize, room: Vec<u64>) -> Result<Vec<u64>, AllocError>
+    ensures room { IfOk result (λ held. words ≤ vec_capacity held) }
+    ensures same { words ≤ vec_capacity room → result ≡ Ok room }
+    ensures exact { vec_capacity room < words → IfOk result (λ held. vec_capacity held ≡ words) }
+{
+    if words <= room.capacity() {
+        return Ok(room);
+    }
+    Vec::with_capacity(alloc, words)
+}
