@@ -1,10 +1,12 @@
 -- Words that are joined.
-use Rattle.std.proofs.Common.{◌≡◌, ℕ, List, [], ◌∷◌, ◌++◌, ap, append-nil, map}
-use Rattle.std.proofs.Common.{Bor}
-use Rattle.std.specs.List.{flat_map, join_with_byte}
+use Rattle.std.proofs.Common.{◌≡◌, ℕ, List, [], ◌∷◌, ◌++◌, refl, ap, ◌∙◌, append_assoc, append-nil}
+use Rattle.std.specs.List.{join_with_byte}
+use Rattle.tg_text.specs.Words.{words_behind}
 
--- words behind a first one, each behind a space, are joined by spaces
-pub words_join : (first : List ℕ) (words : List (Bor (List ℕ))) →
-    first ++ flat_map (λ word. 32 ∷ word.now) words ≡ join_with_byte 32 (first ∷ map (λ word. word.now) words)
-words_join first [] = append-nil first
-words_join first (word ∷ words) = ap (λ (ys : List ℕ). first ++ 32 ∷ ys) (words_join word.now words)
+join_behind : (word : List ℕ) (words : List (List ℕ)) → word ++ words_behind words ≡ join_with_byte 32 (word ∷ words)
+join_behind word [] = append-nil word
+join_behind word (w ∷ ws) = refl
+
+-- two words, and others behind them
+pub words_join : (first word : List ℕ) (words : List (List ℕ)) → (first ++ 32 ∷ word) ++ words_behind words ≡ join_with_byte 32 (first ∷ word ∷ words)
+words_join first word words = append_assoc first (32 ∷ word) (words_behind words) ∙ ap (λ (text : List ℕ). first ++ 32 ∷ text) (join_behind word words)

@@ -6,22 +6,17 @@ use Rattle.tg_model.specs.declared.reply.Reply.{Reply}
 use Rattle.tg_model.specs.declared.reply.Reply.TheVariants.{Done, Name, Values, Edges, Denied, VerticesFull, WorkersFull}
 use Rattle.tg_model.specs.declared.reply.Denial.{Denial}
 use Rattle.tg_model.specs.declared.reply.Rule.{Rule}
-use Rattle.tg_model.specs.declared.reply.Rule.TheVariants as rule
 use Rattle.tg_model.specs.declared.reply.Cause.{Cause}
 use Rattle.tg_model.specs.declared.reply.Cause.TheVariants.{NotDistinct, Missing, NotLog}
+use Rattle.tg_model.specs.Commands.{verb_of, word_of}
 use Rattle.tg_text.specs.declared.answer.Answer.{Answer}
 use Rattle.tg_text.specs.declared.answer.Answer.TheVariants as answer
 use Rattle.tg_text.specs.declared.answer.Refusal.{Refusal}
 use Rattle.tg_text.specs.declared.answer.Refusal.TheVariants as refusal
 
+-- the word of the commands that it is of
 abbrev pub rule_text : Rule → List ℕ
-rule_text rule.Take = codes "take"
-rule_text rule.Grant = codes "grant"
-rule_text rule.Remove = codes "remove"
-rule_text rule.Read = codes "read"
-rule_text rule.Write = codes "write"
-rule_text rule.Append = codes "append"
-rule_text rule.Inspect = codes "inspect"
+rule_text rule = word_of (verb_of rule)
 
 abbrev pub cause_text : Cause → List ℕ
 cause_text NotDistinct = codes "distinct"

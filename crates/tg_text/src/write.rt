@@ -1,11 +1,12 @@
 //! Lines, written as text.
-ghost use Rattle.std.specs.Prelude.{◌≡◌, ◌<◌, ◌∷◌, [], IfOk, map, codes, decimal};
-ghost use Rattle.std.specs.List.{flat_map, join_with_byte};
+ghost use Rattle.std.specs.Prelude.{◌≡◌, ◌<◌, ◌∷◌, ◌++◌, [], IfOk, decimal};
+ghost use Rattle.std.specs.List.{join_with_byte};
 ghost use Rattle.tg_rights.specs.RightSet.{text_of};
 ghost use Rattle.tg_text.specs.declared.line.Line.TheVariants as Line;
 ghost use Rattle.tg_text.specs.Deeds.{deed_line};
-ghost use Rattle.tg_text.specs.Grammar.{line_text};
+ghost use Rattle.tg_text.specs.Grammar.{line_text, words_of_arguments};
 ghost use Rattle.tg_text.specs.Sinks.{Writes};
+ghost use Rattle.tg_text.specs.Words.{words_behind};
 
 use crate::count::Count;
 use crate::line::Line;
@@ -15,7 +16,7 @@ use itoa::Buffer;
 use std::alloc::{AllocError, Global};
 use std::marker::Brand;
 use std::sync::ledger::{Blank, Ledger};
-use tg_model::{Command, Deed, Edge};
+use tg_model::{Arguments, Command, Deed, Edge};
 use tg_rights::Label;
 
 /// Writes the line's text without its line feed, or a front of it where the sink fails. Takes no memory.
@@ -24,9 +25,9 @@ pub fn write_line<K: Sink>(sink: &mut K, line: Line) -> Result<(), WriteFailed>
         (K.taken sink.new) (K.failures sink.new) }
 {
     match line {
-        Line::Edge(edge) => write_edge_words(sink, edge),
-        Line::Create { worker, label } => write_making_words(sink, worker, b"create", label),
-        Line::Spawn { worker, label } => write_making_words(sink, worker, b"spawn", label),
+        Line::Edge(edge) => write_edge(sink, edge),
+        Line::Create { worker, label } => write_making(sink, worker, b"create", label),
+        Line::Spawn { worker, label } => write_making(sink, worker, b"spawn", label),
         Line::Plain { worker, command } => write_command(sink, worker, command),
         Line::Full => put_all(sink, b"full"),
         Line::Minor => put_all(sink, b"minor"),
@@ -76,27 +77,17 @@ fn bytes_counted<L: Ledger>(alloc: Global, blank: Blank, line: Line) -> Result<V
     }
 }
 
-// Writes the words of an edge.
-fn write_edge_words<K: Sink>(sink: &mut K, edge: Edge) -> Result<(), WriteFailed>
+// Writes the words of an edge: two vertices and rights, as behind a take.
+fn write_edge<K: Sink>(sink: &mut K, edge: Edge) -> Result<(), WriteFailed>
     ensures { Writes (K.taken sink.old) (K.failures sink.old) (line_text (Line.Edge edge)) result
         (K.taken sink.new) (K.failures sink.new) }
 {
-    let mut first = Buffer::new();
-    let mut second = Buffer::new();
-    let rights = edge.label.rights().text();
-    write_words(
-        sink,
-        b"edge",
-        &[
-            first.format(edge.from).as_bytes(),
-            second.format(edge.to).as_bytes(),
-            rights.as_bytes(),
-        ],
-    )
+    put_all(sink, b"edge")?;
+    write_move(sink, edge.from, edge.to, edge.label)
 }
 
 // Writes the words by which a vertex is made.
-fn write_making_words<K: Sink>(
+fn write_making<K: Sink>(
     sink: &mut K,
     worker: u64,
     word: &[u8],
@@ -106,13 +97,8 @@ fn write_making_words<K: Sink>(
         (join_with_byte 32 (decimal worker ∷ word.now ∷ text_of label ∷ [])) result
         (K.taken sink.new) (K.failures sink.new) }
 {
-    let mut first = Buffer::new();
-    let rights = label.rights().text();
-    write_words(
-        sink,
-        first.format(worker).as_bytes(),
-        &[word, rights.as_bytes()],
-    )
+    write_front(sink, worker, word)?;
+    write_rights(sink, label)
 }
 
 // Writes the words of a command.
@@ -120,161 +106,86 @@ fn write_command<K: Sink>(sink: &mut K, worker: u64, command: Command) -> Result
     ensures { Writes (K.taken sink.old) (K.failures sink.old) (line_text (Line.Plain worker command)) result
         (K.taken sink.new) (K.failures sink.new) }
 {
-    match command {
-        Command::Take {
-            rights,
+    let (verb, arguments) = command.parts();
+    write_front(sink, worker, verb.word())?;
+    write_arguments(sink, arguments)
+}
+
+// Writes who asks, and the word.
+fn write_front<K: Sink>(sink: &mut K, worker: u64, word: &[u8]) -> Result<(), WriteFailed>
+    ensures { Writes (K.taken sink.old) (K.failures sink.old) (decimal worker ++ 32 ∷ word.now) result
+        (K.taken sink.new) (K.failures sink.new) }
+{
+    let mut digits = Buffer::new();
+    put_texts(sink, &[digits.format(worker).as_bytes(), b" ", word])
+}
+
+// Writes what stands behind the word of a command, each word behind a space.
+#[inline(always)]
+fn write_arguments<K: Sink>(sink: &mut K, arguments: Arguments) -> Result<(), WriteFailed>
+    ensures { Writes (K.taken sink.old) (K.failures sink.old) (words_behind (words_of_arguments arguments)) result
+        (K.taken sink.new) (K.failures sink.new) }
+{
+    match arguments {
+        Arguments::Bare => Ok(()),
+        Arguments::Target { target } => write_number(sink, target),
+        Arguments::Value { target, value } => write_value(sink, target, value),
+        Arguments::Rights { target, rights } => write_held(sink, target, rights),
+        Arguments::Move {
             via,
             target,
-        } => write_move(sink, worker, b"take", via, target, rights),
-        Command::Grant {
             rights,
-            via,
-            target,
-        } => write_move(sink, worker, b"grant", via, target, rights),
-        Command::Remove { target, rights } => write_removal(sink, worker, target, rights),
-        Command::Read { target } => write_of_one(sink, worker, b"read", target),
-        Command::Inspect { target } => write_of_one(sink, worker, b"inspect", target),
-        Command::Write { target, value } => write_of_two(sink, worker, b"write", target, value),
-        Command::Append { target, value } => write_of_two(sink, worker, b"append", target, value),
-        Command::List => write_bare(sink, worker, b"list"),
-        Command::Retire => write_bare(sink, worker, b"retire"),
+        } => write_move(sink, via, target, rights),
     }
 }
 
-// Writes the words of a take or a grant.
-fn write_move<K: Sink>(
-    sink: &mut K,
-    worker: u64,
-    word: &[u8],
-    via: u64,
-    target: u64,
-    label: Label,
-) -> Result<(), WriteFailed>
+// Writes a vertex and a value.
+#[inline(always)]
+fn write_value<K: Sink>(sink: &mut K, target: u64, value: u64) -> Result<(), WriteFailed>
     ensures { Writes (K.taken sink.old) (K.failures sink.old)
-        (join_with_byte 32 (decimal worker ∷ word.now ∷ decimal via ∷ decimal target ∷ text_of label ∷ [])) result
+        (words_behind (decimal target ∷ decimal value ∷ [])) result
         (K.taken sink.new) (K.failures sink.new) }
 {
-    let mut first = Buffer::new();
-    let mut second = Buffer::new();
-    let mut third = Buffer::new();
+    write_number(sink, target)?;
+    write_number(sink, value)
+}
+
+// Writes a vertex and rights.
+#[inline(always)]
+fn write_held<K: Sink>(sink: &mut K, target: u64, label: Label) -> Result<(), WriteFailed>
+    ensures { Writes (K.taken sink.old) (K.failures sink.old)
+        (words_behind (decimal target ∷ text_of label ∷ [])) result
+        (K.taken sink.new) (K.failures sink.new) }
+{
+    write_number(sink, target)?;
+    write_rights(sink, label)
+}
+
+// Writes two vertices and rights.
+#[inline(always)]
+fn write_move<K: Sink>(sink: &mut K, via: u64, target: u64, label: Label) -> Result<(), WriteFailed>
+    ensures { Writes (K.taken sink.old) (K.failures sink.old)
+        (words_behind (decimal via ∷ decimal target ∷ text_of label ∷ [])) result
+        (K.taken sink.new) (K.failures sink.new) }
+{
+    write_number(sink, via)?;
+    write_held(sink, target, label)
+}
+
+// Writes a number behind a space.
+fn write_number<K: Sink>(sink: &mut K, number: u64) -> Result<(), WriteFailed>
+    ensures { Writes (K.taken sink.old) (K.failures sink.old) (32 ∷ decimal number) result
+        (K.taken sink.new) (K.failures sink.new) }
+{
+    let mut digits = Buffer::new();
+    put_texts(sink, &[b" ", digits.format(number).as_bytes()])
+}
+
+// Writes rights behind a space.
+fn write_rights<K: Sink>(sink: &mut K, label: Label) -> Result<(), WriteFailed>
+    ensures { Writes (K.taken sink.old) (K.failures sink.old) (32 ∷ text_of label) result
+        (K.taken sink.new) (K.failures sink.new) }
+{
     let rights = label.rights().text();
-    write_words(
-        sink,
-        first.format(worker).as_bytes(),
-        &[
-            word,
-            second.format(via).as_bytes(),
-            third.format(target).as_bytes(),
-            rights.as_bytes(),
-        ],
-    )
-}
-
-// Writes the words of a removal.
-fn write_removal<K: Sink>(
-    sink: &mut K,
-    worker: u64,
-    target: u64,
-    label: Label,
-) -> Result<(), WriteFailed>
-    ensures { Writes (K.taken sink.old) (K.failures sink.old)
-        (join_with_byte 32 (decimal worker ∷ codes "remove" ∷ decimal target ∷ text_of label ∷ [])) result
-        (K.taken sink.new) (K.failures sink.new) }
-{
-    let mut first = Buffer::new();
-    let mut second = Buffer::new();
-    let rights = label.rights().text();
-    write_words(
-        sink,
-        first.format(worker).as_bytes(),
-        &[
-            b"remove",
-            second.format(target).as_bytes(),
-            rights.as_bytes(),
-        ],
-    )
-}
-
-// Writes the words of a command with one number behind its own.
-fn write_of_one<K: Sink>(
-    sink: &mut K,
-    worker: u64,
-    word: &[u8],
-    number: u64,
-) -> Result<(), WriteFailed>
-    ensures { Writes (K.taken sink.old) (K.failures sink.old)
-        (join_with_byte 32 (decimal worker ∷ word.now ∷ decimal number ∷ [])) result
-        (K.taken sink.new) (K.failures sink.new) }
-{
-    let mut first = Buffer::new();
-    let mut second = Buffer::new();
-    write_words(
-        sink,
-        first.format(worker).as_bytes(),
-        &[word, second.format(number).as_bytes()],
-    )
-}
-
-// Writes the words of a command with two numbers behind its own.
-fn write_of_two<K: Sink>(
-    sink: &mut K,
-    worker: u64,
-    word: &[u8],
-    number: u64,
-    value: u64,
-) -> Result<(), WriteFailed>
-    ensures { Writes (K.taken sink.old) (K.failures sink.old)
-        (join_with_byte 32 (decimal worker ∷ word.now ∷ decimal number ∷ decimal value ∷ [])) result
-        (K.taken sink.new) (K.failures sink.new) }
-{
-    let mut first = Buffer::new();
-    let mut second = Buffer::new();
-    let mut third = Buffer::new();
-    write_words(
-        sink,
-        first.format(worker).as_bytes(),
-        &[
-            word,
-            second.format(number).as_bytes(),
-            third.format(value).as_bytes(),
-        ],
-    )
-}
-
-// Writes the words of a command with nothing behind its own.
-fn write_bare<K: Sink>(sink: &mut K, worker: u64, word: &[u8]) -> Result<(), WriteFailed>
-    ensures { Writes (K.taken sink.old) (K.failures sink.old)
-        (join_with_byte 32 (decimal worker ∷ word.now ∷ [])) result
-        (K.taken sink.new) (K.failures sink.new) }
-{
-    let mut first = Buffer::new();
-    write_words(sink, first.format(worker).as_bytes(), &[word])
-}
-
-// Writes words, with a space between two.
-fn write_words<K: Sink>(sink: &mut K, first: &[u8], others: &[&[u8]]) -> Result<(), WriteFailed>
-    ensures { Writes (K.taken sink.old) (K.failures sink.old)
-        (join_with_byte 32 (first.now ∷ map (λ word. word.now) others.now)) result
-        (K.taken sink.new) (K.failures sink.new) }
-{
-    put_all(sink, first)?;
-    write_others(sink, others)
-}
-
-// Writes words, each behind a space.
-fn write_others<K: Sink>(sink: &mut K, words: &[&[u8]]) -> Result<(), WriteFailed>
-    ensures { Writes (K.taken sink.old) (K.failures sink.old) (flat_map (λ word. 32 ∷ word.now) words.now) result
-        (K.taken sink.new) (K.failures sink.new) }
-{
-    for word in words {
-        write_other(sink, word)?;
-    }
-    Ok(())
-}
-
-fn write_other<K: Sink>(sink: &mut K, word: &[u8]) -> Result<(), WriteFailed>
-    ensures { Writes (K.taken sink.old) (K.failures sink.old) (32 ∷ word.now) result
-        (K.taken sink.new) (K.failures sink.new) }
-{
-    put_texts(sink, &[b" ", word])
+    put_texts(sink, &[b" ", rights.as_bytes()])
 }

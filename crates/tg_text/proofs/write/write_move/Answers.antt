@@ -1,17 +1,18 @@
-use Rattle.std.proofs.Common.{◌≡◌, ◌∙◌, ℕ, List, [], ◌∷◌, ap, subst}
-use Rattle.std.specs.Fmt.{decimal}
-use Rattle.std.specs.List.{join_with_byte}
+use Rattle.std.proofs.Common.{◌∷◌, []}
+use Rattle.std.specs.Prelude.{decimal}
 use Rattle.tg_rights.specs.RightSet.{text_of}
-use Rattle.tg_text.specs.Sinks.{Writes}
+use Rattle.tg_text.specs.Words.{words_behind}
+use Rattle.tg_text.proofs.SinkLaws.{writes_then, writes_cut_first}
 use Rattle.tg_text.proofs.write.write_move.Goals as goal
 
 pub returns : goal.returns
 returns g c =
     let s = g.K.Sink in
-    let n1 : c.as_bytes.result.now ≡ decimal c.args.worker = c.as_bytes.ensures.value ∙ c.format.ensures.text in
-    let n2 : c.as_bytes-2.result.now ≡ decimal c.args.via = c.as_bytes-2.ensures.value ∙ c.format-2.ensures.text in
-    let n3 : c.as_bytes-3.result.now ≡ decimal c.args.target = c.as_bytes-3.ensures.value ∙ c.format-3.ensures.text in
-    let n4 : c.as_bytes-4.result.now ≡ text_of c.args.label = c.as_bytes-4.ensures.letters ∙ c.text-rights.ensures ∙ ap text_of c.rights.ensures.same in
-    let words : c.as_bytes.result.now ∷ c.args.word.now ∷ c.as_bytes-2.result.now ∷ c.as_bytes-3.result.now ∷ c.as_bytes-4.result.now ∷ [] ≡ decimal c.args.worker ∷ c.args.word.now ∷ decimal c.args.via ∷ decimal c.args.target ∷ text_of c.args.label ∷ [] = cc in
-    subst (λ (ws : List (List ℕ)). Writes (s.taken c.args.sink.now) (s.failures c.args.sink.now) (join_with_byte 32 ws) c.write_words.result (s.taken c.write_words.new.sink) (s.failures c.write_words.new.sink)) words
-    c.write_words.ensures
+    writes_then (s.taken c.args.sink.now) (s.taken c.write_number.new.sink) (s.taken c.write_held.new.sink) (s.failures c.args.sink.now) (s.failures c.write_number.new.sink) (s.failures c.write_held.new.sink)
+    (32 ∷ decimal c.args.via) (words_behind (decimal c.args.target ∷ text_of c.args.label ∷ [])) c.write_held.result c.in_ok-write_number.ensures c.write_held.ensures
+
+pub returns-in_err-write_number : goal.returns-in_err-write_number
+returns-in_err-write_number g c =
+    let s = g.K.Sink in
+    writes_cut_first (s.taken c.args.sink.now) (s.taken c.write_number.new.sink) (s.failures c.args.sink.now) (s.failures c.write_number.new.sink)
+    (32 ∷ decimal c.args.via) (words_behind (decimal c.args.target ∷ text_of c.args.label ∷ [])) c.from_residual.result c.from_residual.ensures.0 c.in_err-write_number.ensures
