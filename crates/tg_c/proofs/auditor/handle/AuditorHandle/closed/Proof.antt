@@ -54,7 +54,7 @@ module _ {M : Type 1} {𝓤 : Ura M} (𝓛 : Logic 𝓤) (at_mem : Memory → SP
       let Post = (walk_of 𝓛 F.ended stayed (F.clauses 𝓛 at_mem run)).post z in
       let a = z.0.3.0 in
       let To = type_at (F.signature).result tt in
-      let made : To.Denot = record { at = null_ptr; alloc = a; is_open = false; opened = record { auditor = record { subjects = []; made = 0; limit = 0; labels = []; values = [] }; at = 0; found_bad = false } } in
+      let made : To.Denot = record { at = null_ptr; alloc = a; is_open = false; opened = record { auditor = record { subjects = []; made = 0; limit = 0; vertices = [] }; at = 0; found_bad = false } } in
       qed 𝓛 ((‵ ftrue ⊛ ‵ (fsep (Heap.the_row.own_val a z.0.4.0) ftrue)) ∷ raw (emp 𝓤) ∷ []) ∵ split ! $ drop ! $ fsplit ! $
       handle_tells E.al ! a z.0.4.0 (λ hv ws fa. move ! (1 ∷ 2 ∷ []) $ drop ! $ drop ! $
       let w : Val = vstruct (vcons (vint w64 0) (vcons hv vnil)) in
