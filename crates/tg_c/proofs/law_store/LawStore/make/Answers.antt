@@ -6,23 +6,23 @@ use Rattle.tg_c.proofs.MakeLaws.{no_worker_is_no_cell, no_worker_is_no_subject, 
 use Rattle.tg_c.specs.Calls.{Makes}
 use Rattle.tg_c.proofs.law_store.LawStore.make.Goals as goal
 
--- who isn't a worker is told so first
-pub returns-then-not-is_subject : goal.returns-then-not-is_subject
-returns-then-not-is_subject c = record {
+-- memory is wanting, and who isn't a worker is told so
+pub returns-in_default : goal.returns-in_default
+returns-in_default c = record {
   entry = tt;
   made = tt;
   no_such_worker = λ g stands. (
-    (λ is. subst (λ (h : ProtectionGraph). ¬ IsSubject h c.args.worker) stands (λ subject. let holds = (c.is_subject.ensures (graph_of_store c.args.self.now.store) refl).1 subject in not_both c.is_subject.result holds c.if-not-is_subject.true)),
+    (λ is. subst (λ (h : ProtectionGraph). ¬ IsSubject h c.args.worker) stands (λ subject. let holds = (c.is_subject.ensures (graph_of_store c.args.self.now.store) refl).1 subject in not_both c.is_subject.result holds c.if-is_subject.false)),
     (λ none. refl),
   );
   no_more = λ g stands is. absurd (no_worker_is_no_vertex is);
   exhausted = λ g stands subject full.
-      absurd (let holds = (c.is_subject.ensures (graph_of_store c.args.self.now.store) refl).1 (subst (λ (h : ProtectionGraph). IsSubject h c.args.worker) (sym stands) subject) in not_both c.is_subject.result holds c.if-not-is_subject.true);
+      absurd (let holds = (c.is_subject.ensures (graph_of_store c.args.self.now.store) refl).1 (subst (λ (h : ProtectionGraph). IsSubject h c.args.worker) (sym stands) subject) in not_both c.is_subject.result holds c.if-is_subject.false);
   no_more_entry = λ is. absurd (no_worker_is_no_vertex is);
   full = λ g stands is. absurd (no_worker_is_no_cell is);
   too_many = λ g stands is. absurd (no_worker_is_no_subject is);
   crowded = λ subjects g stands subject room many.
-      absurd (let holds = (c.is_subject.ensures (graph_of_store c.args.self.now.store) refl).1 (subst (λ (h : ProtectionGraph). IsSubject h c.args.worker) (sym stands) subject) in not_both c.is_subject.result holds c.if-not-is_subject.true);
+      absurd (let holds = (c.is_subject.ensures (graph_of_store c.args.self.now.store) refl).1 (subst (λ (h : ProtectionGraph). IsSubject h c.args.worker) (sym stands) subject) in not_both c.is_subject.result holds c.if-is_subject.false);
   too_many_entry = λ is. absurd (no_worker_is_no_subject is);
   refused = λ _ _. unchanged c.args.self.now.store;
   same_graph = λ g stands. stands;
@@ -31,14 +31,14 @@ returns-then-not-is_subject c = record {
   collections = refl;
 }
 
--- and then that memory is wanting
-pub returns-in_default : goal.returns-in_default
-returns-in_default c = record {
+-- a worker is told that memory is wanting
+pub returns-then-is_subject : goal.returns-then-is_subject
+returns-then-is_subject c = record {
   entry = tt;
   made = tt;
   no_such_worker = λ g stands. (
     (λ is. absurd (want_is_no_worker is)),
-    (λ none. absurd (none (subst (λ (h : ProtectionGraph). IsSubject h c.args.worker) stands ((c.is_subject.ensures (graph_of_store c.args.self.now.store) refl).0 c.if-not-is_subject.false)))),
+    (λ none. absurd (none (subst (λ (h : ProtectionGraph). IsSubject h c.args.worker) stands ((c.is_subject.ensures (graph_of_store c.args.self.now.store) refl).0 c.if-is_subject.true)))),
   );
   no_more = λ g stands is. absurd (want_is_no_vertex is);
   exhausted = λ g stands subject full. inr refl;
