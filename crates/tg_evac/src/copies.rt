@@ -10,7 +10,7 @@ ghost use Rattle.tg_evac.specs.declared.copies.TheConstants.{FAR, NEAR};
 ghost use Rattle.tg_evac.specs.Claims.{win_at, won_in};
 ghost use Rattle.tg_evac.specs.Copies.{HoldCells};
 ghost use Rattle.tg_evac.specs.Claimers.{AddsCopy, AreRead};
-ghost use Rattle.tg_evac.specs.Reads.{HasRead};
+ghost use Rattle.tg_evac.specs.Inner.Reads.{HasRead};
 ghost use Rattle.tg_evac.specs.Walks.{ClaimsAll, IsTableFor, IsUnderWay, Scans};
 
 use crate::both::Both;
