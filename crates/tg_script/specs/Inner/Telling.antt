@@ -16,9 +16,9 @@ use Rattle.tg_script.specs.declared.run.Run.{Run}
 use Rattle.tg_script.specs.declared.script.Script.{Script}
 use Rattle.tg_script.specs.Entering.{AreEntered, entered, unended_text}
 use Rattle.tg_script.specs.Lines.{IsBehind, IsOfReading, ReadsFrom}
-use Rattle.tg_script.specs.Run.{Handles, MakesEntry}
+use Rattle.tg_script.specs.Inner.Run.{Handles, MakesEntry}
 use Rattle.tg_script.specs.Script.{Scene, Serves}
-use Rattle.tg_script.specs.Supply.{values_left}
+use Rattle.tg_script.specs.Inner.Supply.{values_left}
 
 -- ---- what is told of lines
 

@@ -17,7 +17,7 @@ use Rattle.tg_script.specs.declared.run.Run.{Run}
 use Rattle.tg_text.specs.declared.fault.ScriptFault.{ScriptFault}
 use Rattle.tg_script.specs.Entering.{entered}
 use Rattle.tg_script.specs.Opening.{OpensStore}
-use Rattle.tg_script.specs.Supply.{values_left}
+use Rattle.tg_script.specs.Inner.Supply.{values_left}
 use Rattle.tg_script.specs.Script.{Scene, Serves}
 
 -- the store stands for the scene's graph, its stock is left, and its collections have as many helpers
