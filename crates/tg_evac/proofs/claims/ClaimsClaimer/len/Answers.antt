@@ -3,7 +3,7 @@ use Rattle.std.proofs.lemmas.List.{length-map}
 use Rattle.tg_evac.specs.Win.{Win}
 use Rattle.tg_evac.specs.Claims.{Claimed, cells_won, won_in, wins_at}
 use Rattle.tg_evac.proofs.Claiming.{in_room, won_le, won_length}
-use Rattle.tg_evac.proofs.claims.Claims.count.Goals as goal
+use Rattle.tg_evac.proofs.claims.ClaimsClaimer.len.Goals as goal
 
 pub returns-clause-few : goal.returns-clause-few
 returns-clause-few c =

@@ -1,7 +1,7 @@
 use Rattle.std.proofs.Common.{◌≡◌, ◌∙◌, length, refl, sym, ap, arith}
 use Rattle.tg_evac.specs.Claims.{Claimed, win_at, wins_at}
 use Rattle.tg_evac.proofs.Claiming.{pair_at, stands}
-use Rattle.tg_evac.proofs.claims.Claims.cell.Goals as goal
+use Rattle.tg_evac.proofs.claims.ClaimsClaimer.won_cell.Goals as goal
 
 pub returns-clause-cell : goal.returns-clause-cell
 returns-clause-cell c =

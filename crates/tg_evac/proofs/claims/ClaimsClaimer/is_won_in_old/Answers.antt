@@ -5,7 +5,7 @@ use Rattle.tg_word.specs.Word.{place_in}
 use Rattle.tg_evac.specs.Win.{Win}
 use Rattle.tg_evac.specs.Claims.{Claimed, win_at, wins_at}
 use Rattle.tg_evac.proofs.Claiming.{pair_at, stands, won_at, word_to}
-use Rattle.tg_evac.proofs.claims.Claims.is_in_old.Goals as goal
+use Rattle.tg_evac.proofs.claims.ClaimsClaimer.is_won_in_old.Goals as goal
 
 pub returns-clause-space : goal.returns-clause-space
 returns-clause-space c =
