@@ -6,7 +6,7 @@ use Rattle.tg_evac.specs.Room.{LacksRoomFor}
 use Rattle.tg_evac.proofs.Passing.{collects_refused}
 use Rattle.tg_parallel.specs.declared.fault.HelpersFault.TheVariants.{HeapFull}
 use Rattle.tg_parallel.specs.Faults.{helpers_fault_of}
-use Rattle.tg_parallel.proofs.many.collect_many.Goals as goal
+use Rattle.tg_parallel.proofs.job.Task.collect.Goals as goal
 
 was_full : (fault : RoomFault) → helpers_fault_of fault ≡ HeapFull → fault ≡ no_room.HeapFull
 was_full no_room.OutOfMemory is = absurd cc
@@ -23,4 +23,4 @@ lacks_more blocks helpers kept reached some lacks = record {
 pub returns-in_err-collect_alone-clause-collects : goal.returns-in_err-collect_alone-clause-collects
 returns-in_err-collect_alone-clause-collects g c =
     collects_refused c.from_residual.result _ c.from_residual.ensures.1
-    (λ is. lacks_more _ c.args.helpers _ _ c.requires.some (c.in_err-collect_alone.ensures.full (was_full _ is)))
+    (λ is. lacks_more _ c.args.helpers _ _ c.requires.may.some (c.in_err-collect_alone.ensures.full (was_full _ is)))

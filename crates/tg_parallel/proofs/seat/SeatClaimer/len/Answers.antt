@@ -3,7 +3,7 @@ use Rattle.tg_evac.specs.Claims.{won_in}
 use Rattle.tg_parallel.specs.Parts.{wins_of}
 use Rattle.tg_parallel.specs.Seats.{Sitting}
 use Rattle.tg_parallel.proofs.Seating.{won_few, won_room}
-use Rattle.tg_parallel.proofs.seat.Seat.count.Goals as goal
+use Rattle.tg_parallel.proofs.seat.SeatClaimer.len.Goals as goal
 
 pub returns-clause-few : goal.returns-clause-few
 returns-clause-few c =

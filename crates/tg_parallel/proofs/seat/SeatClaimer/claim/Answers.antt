@@ -9,7 +9,7 @@ use Rattle.tg_parallel.specs.Parts.{HasClaimedPast, HasPlaces}
 use Rattle.tg_parallel.specs.Seats.{Sitting, walked_at}
 use Rattle.tg_parallel.proofs.Filled.{finds_seen, seen_known, seen_met}
 use Rattle.tg_parallel.proofs.Seating.{claims_cell, which}
-use Rattle.tg_parallel.proofs.seat.Seat.claim_place.Goals as goal
+use Rattle.tg_parallel.proofs.seat.SeatClaimer.claim.Goals as goal
 
 pub word_of-at-requires-clause-inside : goal.word_of-at-requires-clause-inside
 word_of-at-requires-clause-inside c = subst (λ (x : Sitting). c.args.cell < x.board.counts.cells) (sym c.self.view_is) c.requires.inside
