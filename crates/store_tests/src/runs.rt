@@ -1,5 +1,5 @@
 //! Scripts in memory: replies of any length, and a race whose workers have threads of their own.
-ghost use Rattle.tg_script.specs.Counting.{MayCountInMemory};
+ghost use Rattle.tg_script.specs.Inner.Counting.{MayCountInMemory};
 
 use crate::meet::Meet;
 use std::alloc::{AllocError, Global};

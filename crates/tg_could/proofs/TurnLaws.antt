@@ -11,7 +11,7 @@ use Rattle.tg_model.specs.Rules.{HoldsOver, step, with_vertex}
 use Rattle.tg_model.specs.declared.value.Value.{Value}
 use Rattle.tg_model.proofs.PictureLaws.{or_true, Holds-pushed, Holds-still, Holds-added}
 use Rattle.tg_could.specs.Turns.{Turn, Acts, AreTurns, after}
-use Rattle.tg_could.specs.Trial.{Stands}
+use Rattle.tg_could.specs.Inner.Trial.{Stands}
 use Rattle.tg_could.specs.declared.trial.Trial.{Trial}
 
 pub AreTurns-push : (silent : ℕ → Type 0) (g : ProtectionGraph) (turns : List Turn) (turn : Turn) → AreTurns silent g turns → Acts silent (after g turns) turn.0 → AreTurns silent g (turns ++ turn ∷ [])

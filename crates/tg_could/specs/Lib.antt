@@ -1,7 +1,6 @@
 pub mod Turns
 pub mod Names
 pub mod Separation
-pub mod Trial
 pub mod Answered
 pub mod Reached
 pub mod Told
@@ -9,3 +8,4 @@ pub mod Listed
 pub mod View
 pub mod Led
 pub mod LedNames
+pub mod Inner

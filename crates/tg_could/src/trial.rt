@@ -12,7 +12,7 @@ ghost use Rattle.tg_model.specs.declared.value.Value.{Value};
 ghost use Rattle.tg_model.specs.declared.command.Command.TheVariants as command;
 ghost use Rattle.tg_model.specs.declared.command.Deed.TheVariants as deed;
 ghost use Rattle.tg_could.specs.Turns.{Acts, AreTurns, LeadThere, after, with_names};
-ghost use Rattle.tg_could.specs.Trial.{Stands};
+ghost use Rattle.tg_could.specs.Inner.Trial.{Stands};
 
 use crate::chains::{Chains, NONE};
 use crate::separation::is_silent;

@@ -7,7 +7,7 @@ use Rattle.tg_space.specs.Targets.{cell_numbered}
 use Rattle.tg_evac.specs.Win.{Win}
 use Rattle.tg_evac.specs.Claims.{win_at}
 use Rattle.tg_evac.specs.Claimers.{AddsWins, AreRead, Walked}
-use Rattle.tg_evac.specs.Reads.{HasRead}
+use Rattle.tg_evac.specs.Inner.Reads.{HasRead}
 use Rattle.tg_evac.specs.declared.copies.Ahead.{Ahead}
 
 -- one more row of words that are as they should be

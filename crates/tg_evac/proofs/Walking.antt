@@ -1,5 +1,5 @@
 -- A walk over the cells: claims one after the other, and the image of a cell word by word.
-use Rattle.std.proofs.Common.{◌≡◌, ℕ, suc, ◌<◌, ◌≤◌, ◌+◌, ◌-◌, ◌++◌, ◌∷◌, Bool, List, [], length, get_or, set, take, drop, map, refl, sym, ap, subst, arith, ◌∙◌, ⊎_elim}
+use Rattle.std.proofs.Common.{◌≡◌, ℕ, suc, ◌<◌, ◌≤◌, ◌+◌, ◌-◌, ◌++◌, ◌∷◌, Bool, List, [], Ok, length, get_or, set, take, drop, map, refl, sym, ap, subst, arith, ◌∙◌, ⊎_elim}
 use Rattle.std.specs.List.{All, Contains, flat_map}
 use Rattle.std.proofs.lemmas.Bool.{cases_lt, cases_eq}
 use Rattle.std.proofs.lemmas.Grind.{flat_map-append}
@@ -13,6 +13,7 @@ use Rattle.tg_space.proofs.Adding.{piece}
 use Rattle.tg_evac.specs.Win.{Win}
 use Rattle.tg_evac.specs.Claims.{IsClaimOf}
 use Rattle.tg_evac.specs.Claimers.{AddsWins, KnowsMore, Walked}
+use Rattle.tg_evac.specs.Walks.{MovesFrom}
 
 pub wins_none : {Fixed : Type 0} (reason : Win → Type 0) (a : Walked Fixed) → AddsWins reason a a
 wins_none reason a = record { added = []; is = sym (append-nil a.won); reasons = All-nil reason; still = λ _ held. held; same_kind = refl; same_kept = refl; same_room = refl; as_many = refl; same_fixed = refl }
@@ -181,13 +182,13 @@ module _ (h : SpaceList) (straight : Bool) (first : ℕ) (words : List ℕ) wher
       }
 
   module _ (image : List ℕ) (i : ℕ) (all : 8 ≤ i) {Fixed : Type 0} {a b : Walked Fixed} {before after : (ℕ → Place) → Type 0} (so : IsImaged h straight first words image i a b before after) where
-    pub imaged_met : All (Contains b.met) (named_by (from_space a.kind) h (drop first words))
+    imaged_met : All (Contains b.met) (named_by (from_space a.kind) h (drop first words))
     imaged_met =
         let high = so.high in let wide = so.wide in let l = length-drop first words in
         let whole : take (i - first) (drop first words) ≡ drop first words = take_all (i - first) (drop first words) (omega arith) in
         subst (λ (ws : List ℕ). All (Contains b.met) (named_by (from_space a.kind) h ws)) whole so.met
 
-    pub imaged_is : (to : ℕ → Place) → after to → image ≡ take first words ++ map (moved_word (from_space a.kind) h to) (drop first words)
+    imaged_is : (to : ℕ → Place) → after to → image ≡ take first words ++ map (moved_word (from_space a.kind) h to) (drop first words)
     imaged_is to agrees =
         let g = moved_word (from_space a.kind) h to in
         let low = so.low in let high = so.high in let wide = so.wide in let li = so.long in
@@ -210,3 +211,12 @@ module _ (h : SpaceList) (straight : Bool) (first : ℕ) (words : List ℕ) wher
         ∙ sym (get_or-map g (drop first words) (j - first) 0 0 (omega arith))
         ∙ sym (get_or-append_right (take first words) (map g (drop first words)) first j 0 lt late)))
         (cases_lt j first))
+
+-- where all words were looked at, what they name is claimed, and they are moved
+pub imaged_moves : {Table Fixed : Type 0} (walked : Table → Walked Fixed) (knows : Table → (ℕ → Place) → Type 0) (is_full : Table → Type 0) {before after : Table} (h : SpaceList) (straight : Bool) (first : ℕ) (words image : List ℕ) (i : ℕ) → 8 ≤ i
+    → IsImaged h straight first words image i (walked before) (walked after) (knows before) (knows after) → MovesFrom walked knows is_full h straight first words image before after (Ok (tt {0}))
+imaged_moves walked knows is_full h straight first words image i all so = record {
+  claims = record { added = so.added; grows = so.grows; met = imaged_met h straight first words image i all so; full = tt };
+  long = so.long;
+  image = imaged_is h straight first words image i all so;
+}

@@ -6,4 +6,4 @@ pub mod Lending
 pub mod Room
 pub mod Walks
 pub mod Collects
-pub mod Reads
+pub mod Inner

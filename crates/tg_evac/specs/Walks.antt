@@ -1,14 +1,14 @@
 -- What a walk over the cells is handed, and what its steps promise, whatever table of claims it has: what the table has won,
 -- what is known of it, and what it tells where it is full, are told by three functions of the table.
-use Rattle.std.specs.Prelude.{◌≡◌, ℕ, ◌*◌, ◌<◌, ◌≤◌, Bool, List, length, Result, IfErr, IfOk, OnOk}
+use Rattle.std.specs.Prelude.{◌≡◌, ℕ, ◌*◌, ◌++◌, ◌<◌, ◌≤◌, Bool, List, drop, length, map, take, Result, IfErr, IfOk, OnOk}
 use Rattle.std.specs.List.{All, Contains}
 use Rattle.tg_word.specs.declared.TheConstants.{CELLS}
 use Rattle.tg_word.specs.declared.Place.{Place}
 use Rattle.tg_word.specs.Word.{place_in}
 use Rattle.tg_space.specs.SpaceList.{SpaceList, cells_of}
 use Rattle.tg_space.specs.SpaceTable.{kept_blocks}
-use Rattle.tg_space.specs.Soundness.{IsRootIn}
-use Rattle.tg_space.specs.Targets.{all_root_targets, from_space}
+use Rattle.tg_space.specs.Soundness.{IsPointer, IsRootIn}
+use Rattle.tg_space.specs.Targets.{all_root_targets, from_space, moved_word, named_by}
 use Rattle.tg_space.specs.declared.kind.Kind.{Kind}
 use Rattle.tg_space.specs.declared.root.Root.{Root}
 use Rattle.tg_space.specs.declared.room_fault.RoomFault.{RoomFault}
@@ -61,6 +61,21 @@ pub record ClaimsAll {Table Fixed T : Type 0} (walked : Table → Walked Fixed) 
   pub grows : KnowsMore (knows before) (knows after)
   pub met : OnOk result (All (Contains (walked after).met) cells)
   pub full : IfErr result (λ fault. fault ≡ HeapFull → is_full after)
+
+-- ---- the copy of a cell
+
+-- what these words name may be claimed
+pub record MayMove {Fixed : Type 0} (kind : Kind) (h : SpaceList) (words : List ℕ) (w : Walked Fixed) : Type 0 where
+  pub pointers : All (IsPointer h) words
+  pub table : IsTableFor kind h w
+
+-- what the words of a cell name from the first of these on is claimed, and they are moved under whatever map agrees with all that is
+-- known
+pub record MovesFrom {Table Fixed T : Type 0} (walked : Table → Walked Fixed) (knows : Table → (ℕ → Place) → Type 0) (is_full : Table → Type 0)
+    (h : SpaceList) (straight : Bool) (first : ℕ) (cell copy : List ℕ) (before after : Table) (result : Result T RoomFault) : Type 0 where
+  pub claims : ClaimsAll walked knows is_full h straight (named_by (from_space (walked before).kind) h (drop first cell)) before after result
+  pub long : length copy ≡ 8
+  pub image : OnOk result ((to : ℕ → Place) → knows after to → copy ≡ take first cell ++ map (moved_word (from_space (walked before).kind) h to) (drop first cell))
 
 -- ---- the scan of what was won
 

@@ -1,9 +1,8 @@
 //! The plain table of claims, which one thread has for itself.
-ghost use Rattle.std.specs.Prelude.{◌≡◌, ◌≢◌, ℕ, ◌+◌, ◌<◌, ◌≤◌, ◌==◌, ◌*◌, [], length, slice_index, IfErr, IfOk};
+ghost use Rattle.std.specs.Prelude.{◌≡◌, ◌≢◌, ◌+◌, ◌<◌, ◌≤◌, ◌==◌, ◌*◌, [], length, slice_index, IfErr, IfOk};
 ghost use Rattle.std.specs.List.{Contains};
 ghost use Rattle.tg_word.specs.declared.TheConstants.{CELLS, MOST_SPACE_BLOCKS, MOST_SPACE_CELLS};
-ghost use Rattle.tg_word.specs.Word.{place_in};
-ghost use Rattle.tg_evac.specs.Claims.{HasFilledRoom, win_at, won_in};
+ghost use Rattle.tg_evac.specs.Claims.{HasFilledRoom};
 ghost use Rattle.tg_evac.specs.Claimers.{HasPlacesOf, IsLink, walked_of};
 ghost use Rattle.tg_evac.specs.Walks.{HasClaimed, MayClaim};
 
@@ -62,36 +61,6 @@ impl Claims {
         })
     }
 
-    // How many cells were won.
-    #[inline(always)]
-    fn count(&self) -> usize
-        ensures count { result ≡ length self.now.won }
-        ensures few { result ≤ length self.now.forward }
-        ensures room { (space : ℕ) → space < 2 → length (won_in space self.now.won) ≤ MOST_SPACE_CELLS }
-    {
-        self.won.len()
-    }
-
-    // The cell that was won as the k-th.
-    #[inline(always)]
-    fn cell(&self, k: usize) -> u64
-        requires { k < length self.now.won }
-        ensures cell { result ≡ (win_at self.now.won k).cell }
-        ensures inside { result < length self.now.forward }
-    {
-        self.won[k]
-    }
-
-    // Whether the copy of the cell that was won as the k-th is in Old.
-    #[inline(always)]
-    fn is_in_old(&self, k: usize) -> bool
-        requires { k < length self.now.won }
-        ensures space { result ≡ ((place_in (win_at self.now.won k).word).space == 0) }
-        ensures two { (place_in (win_at self.now.won k).word).space < 2 }
-    {
-        place_of(self.forward.moved_word(self.won[k])).space == OLD
-    }
-
     // The word of a cell that is moved; where it isn't 0, it is that of the cell's pair.
     #[inline(always)]
     fn word(&self, cell: u64) -> u64
@@ -102,19 +71,6 @@ impl Claims {
         ensures link { result ≢ 0 → IsLink result }
     {
         self.forward.moved_word(cell)
-    }
-
-    // The word of the place of a cell: the next of a space, unless it has one.
-    #[inline(always)]
-    fn claim_place(&mut self, cell: u64, space: u64) -> Result<u64, RoomFault>
-        requires { MayClaim (walked_of self.old) cell space }
-        ensures { HasClaimed cell space self.old self.new result }
-    {
-        let found = self.word(cell);
-        if found != 0 {
-            return Ok(found);
-        }
-        self.give_place(cell, space)
     }
 
     // Gives a cell the next place of a space, and answers its word.
@@ -147,21 +103,25 @@ impl Claimer for Claims {
 
     #[inline(always)]
     fn len(&self) -> usize {
-        self.count()
+        self.won.len()
     }
 
     #[inline(always)]
     fn won_cell(&self, k: usize) -> u64 {
-        self.cell(k)
+        self.won[k]
     }
 
     #[inline(always)]
     fn is_won_in_old(&self, k: usize) -> bool {
-        self.is_in_old(k)
+        place_of(self.forward.moved_word(self.won[k])).space == OLD
     }
 
     #[inline(always)]
     fn claim(&mut self, cell: u64, space: u64) -> Result<u64, RoomFault> {
-        self.claim_place(cell, space)
+        let found = self.word(cell);
+        if found != 0 {
+            return Ok(found);
+        }
+        self.give_place(cell, space)
     }
 }

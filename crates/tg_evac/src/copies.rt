@@ -1,7 +1,6 @@
 //! The scan of won cells: each is copied, and what it names is claimed, until none is left.
 ghost use Rattle.std.specs.Prelude.{◌≡◌, ◌↔◌, ℕ, ◌+◌, ◌<◌, ◌≤◌, ◌-◌, ◌==◌, ◌^◌, true, false, [], IfOk, OnOk, length, slice_index_or};
 ghost use Rattle.tg_space.specs.SpaceList.{IsSpace, cells_of};
-ghost use Rattle.tg_space.specs.Soundness.{IsPointer};
 ghost use Rattle.tg_space.specs.Targets.{cell_numbered, from_space, named_by, pointers_of};
 ghost use Rattle.std.specs.List.{All};
 ghost use Rattle.tg_word.specs.declared.TheConstants.{MOST_SPACE_CELLS};
@@ -10,8 +9,8 @@ ghost use Rattle.tg_evac.specs.declared.copies.TheConstants.{FAR, NEAR};
 ghost use Rattle.tg_evac.specs.Claims.{win_at, won_in};
 ghost use Rattle.tg_evac.specs.Copies.{HoldCells};
 ghost use Rattle.tg_evac.specs.Claimers.{AddsCopy, AreRead};
-ghost use Rattle.tg_evac.specs.Reads.{HasRead};
-ghost use Rattle.tg_evac.specs.Walks.{ClaimsAll, IsTableFor, IsUnderWay, Scans};
+ghost use Rattle.tg_evac.specs.Inner.Reads.{HasRead};
+ghost use Rattle.tg_evac.specs.Walks.{ClaimsAll, IsUnderWay, MayMove, Scans};
 
 use crate::both::Both;
 use crate::claimer::Claimer;
@@ -109,8 +108,7 @@ impl Copies {
     ) -> Result<(), RoomFault>
         requires old_room { original.is_in_old ≡ true → length self.now.old < MOST_SPACE_CELLS }
         requires aged_room { original.is_in_old ≡ false → length self.now.aged < MOST_SPACE_CELLS }
-        requires pointers { All (IsPointer walk.spaces.now.spaces) (pointers_of original.words.now) }
-        requires table { IsTableFor walk.kind walk.spaces.now.spaces (C.walked claimer.old) }
+        requires may { MayMove walk.kind walk.spaces.now.spaces (pointers_of original.words.now) (C.walked claimer.old) }
         ensures claims { ClaimsAll C.walked C.knows C.is_full walk.entry.spaces.now.spaces original.entry.is_in_old (named_by (from_space (C.walked claimer.old).kind) walk.entry.spaces.now.spaces (pointers_of original.entry.words.now)) claimer.old claimer.new result }
         ensures old { OnOk result (original.entry.is_in_old ≡ true → AddsCopy (C.walked claimer.old).kind walk.entry.spaces.now.spaces (C.knows claimer.new) original.entry.words.now self.entry.now.old self.exit.now.old) }
         ensures old_kept { original.entry.is_in_old ≡ false → self.exit.now.old ≡ self.entry.now.old }

@@ -1,12 +1,11 @@
 //! The copy of a cell, whose words are moved where they stand. What they name is claimed.
-ghost use Rattle.std.specs.Prelude.{◌≡◌, ℕ, ◌≤◌, ◌<◌, ◌++◌, drop, get_or, map, take, OnOk, IsTrue, length};
-ghost use Rattle.std.specs.List.{All};
+ghost use Rattle.std.specs.Prelude.{◌≡◌, ℕ, ◌≤◌, ◌<◌, drop, get_or, slice_index, OnOk, IsTrue};
 ghost use Rattle.tg_word.specs.declared.Place.{Place as PlaceOf};
 ghost use Rattle.tg_word.specs.Word.{place_in, rights_in, word_at};
 ghost use Rattle.tg_space.specs.Soundness.{IsPointer};
-ghost use Rattle.tg_space.specs.Targets.{from_space, image_of, moved_word, named_by, pointers_of, target_in};
+ghost use Rattle.tg_space.specs.Targets.{first_pointer, from_space, moved_word, pointers_of, target_in};
 ghost use Rattle.tg_evac.specs.Claimers.{IsLink};
-ghost use Rattle.tg_evac.specs.Walks.{ClaimsAll, IsTableFor};
+ghost use Rattle.tg_evac.specs.Walks.{ClaimsAll, IsTableFor, MayMove, MovesFrom};
 
 use crate::claimer::Claimer;
 use crate::plan::space_for;
@@ -24,11 +23,8 @@ impl Walk<'_> {
         straight: bool,
         cell: &mut [u64; WORDS],
     ) -> Result<(), RoomFault>
-        requires pointers { All (IsPointer self.spaces.now.spaces) (pointers_of cell.old) }
-        requires table { IsTableFor self.kind self.spaces.now.spaces (C.walked claimer.old) }
-        ensures claims { ClaimsAll C.walked C.knows C.is_full self.entry.spaces.now.spaces straight (named_by (from_space (C.walked claimer.old).kind) self.entry.spaces.now.spaces (pointers_of cell.old)) claimer.old claimer.new result }
-        ensures long { length cell.new ≡ 8 }
-        ensures image { OnOk result ((to : ℕ → PlaceOf) → C.knows claimer.new to → cell.new ≡ image_of (from_space (C.walked claimer.old).kind) self.entry.spaces.now.spaces to cell.old) }
+        requires { MayMove self.kind self.spaces.now.spaces (pointers_of cell.old) (C.walked claimer.old) }
+        ensures { MovesFrom C.walked C.knows C.is_full self.entry.spaces.now.spaces straight (first_pointer (slice_index cell.old 0)) cell.old cell.new claimer.old claimer.new result }
     {
         // A loop from a known word on is laid out word by word.
         match cell[0] {
@@ -46,11 +42,8 @@ impl Walk<'_> {
         straight: bool,
         cell: &mut [u64; WORDS],
     ) -> Result<(), RoomFault>
-        requires pointers { All (IsPointer self.spaces.now.spaces) (drop 4 cell.old) }
-        requires table { IsTableFor self.kind self.spaces.now.spaces (C.walked claimer.old) }
-        ensures claims { ClaimsAll C.walked C.knows C.is_full self.entry.spaces.now.spaces straight (named_by (from_space (C.walked claimer.old).kind) self.entry.spaces.now.spaces (drop 4 cell.old)) claimer.old claimer.new result }
-        ensures long { length cell.new ≡ 8 }
-        ensures image { OnOk result ((to : ℕ → PlaceOf) → C.knows claimer.new to → cell.new ≡ take 4 cell.old ++ map (moved_word (from_space (C.walked claimer.old).kind) self.entry.spaces.now.spaces to) (drop 4 cell.old)) }
+        requires { MayMove self.kind self.spaces.now.spaces (drop 4 cell.old) (C.walked claimer.old) }
+        ensures { MovesFrom C.walked C.knows C.is_full self.entry.spaces.now.spaces straight 4 cell.old cell.new claimer.old claimer.new result }
     {
         if names_nothing(cell) {
             return Ok(());
@@ -68,11 +61,8 @@ impl Walk<'_> {
         cell: &mut [u64; WORDS],
     ) -> Result<(), RoomFault>
         requires inside { first ≤ 8 }
-        requires pointers { All (IsPointer self.spaces.now.spaces) (drop first cell.old) }
-        requires table { IsTableFor self.kind self.spaces.now.spaces (C.walked claimer.old) }
-        ensures claims { ClaimsAll C.walked C.knows C.is_full self.entry.spaces.now.spaces straight (named_by (from_space (C.walked claimer.old).kind) self.entry.spaces.now.spaces (drop first cell.old)) claimer.old claimer.new result }
-        ensures long { length cell.new ≡ 8 }
-        ensures image { OnOk result ((to : ℕ → PlaceOf) → C.knows claimer.new to → cell.new ≡ take first cell.old ++ map (moved_word (from_space (C.walked claimer.old).kind) self.entry.spaces.now.spaces to) (drop first cell.old)) }
+        requires may { MayMove self.kind self.spaces.now.spaces (drop first cell.old) (C.walked claimer.old) }
+        ensures { MovesFrom C.walked C.knows C.is_full self.entry.spaces.now.spaces straight first cell.old cell.new claimer.old claimer.new result }
     {
         for i in first..WORDS {
             self.move_word(claimer, straight, &mut cell[i])?;

@@ -1,14 +1,13 @@
 //! New blocks of a space, filled cell after cell.
 ghost use Rattle.std.specs.Prelude.{◌≡◌, ◌<◌, ◌≤◌, ◌-◌, ◌++◌, ◌∷◌, [], length, replicate, vec_capacity, IfOk, OnOk};
-ghost use Rattle.std.specs.List.{All, flat_map};
+ghost use Rattle.std.specs.List.{flat_map};
 ghost use Rattle.tg_word.specs.declared.TheConstants.{CELLS, MOST_SPACE_BLOCKS, MOST_SPACE_CELLS};
 ghost use Rattle.tg_block.specs.Cells.{IsBlock, free_cell};
-ghost use Rattle.tg_space.specs.Soundness.{IsPointer};
 ghost use Rattle.tg_space.specs.SpaceList.{IsSpace};
 ghost use Rattle.tg_space.specs.Targets.{from_space, named_by, pointers_of};
 ghost use Rattle.tg_evac.specs.Claimers.{AddsCopy};
 ghost use Rattle.tg_evac.specs.Copies.{HaveOpenBlock, HoldCells, IsOpenBlock};
-ghost use Rattle.tg_evac.specs.Walks.{ClaimsAll, IsTableFor};
+ghost use Rattle.tg_evac.specs.Walks.{ClaimsAll, MayMove};
 
 use crate::claimer::Claimer;
 use crate::walk::Walk;
@@ -40,17 +39,15 @@ pub struct NewBlocks {
 }
 
 impl Model for NewBlocks {
-    ghost use Rattle.std.specs.Prelude.{ℕ, List, ◌≤◌, ◌++◌, vec_capacity};
+    ghost use Rattle.std.specs.Prelude.{ℕ, List, ◌++◌};
     ghost use Rattle.std.specs.List.{flat_map};
-    ghost use Rattle.tg_word.specs.declared.TheConstants.{CELLS};
-    ghost use Rattle.tg_space.specs.SpaceList.{IsSpace};
-    ghost use Rattle.tg_evac.specs.Copies.{IsOpenBlock};
+    ghost use Rattle.tg_evac.specs.Copies.{HaveOpenBlock};
 
     ghost Value = { List (List ℕ) };
 
     ghost view = { λ b. flat_map (λ block. block) b.full ++ b.last.items };
 
-    ghost invariant = { λ b. IsSpace b.full × IsOpenBlock b.last.items × (CELLS ≤ vec_capacity b.last) };
+    ghost invariant = { λ b. HaveOpenBlock b.full b.last };
 }
 
 impl NewBlocks {
@@ -79,8 +76,7 @@ impl NewBlocks {
         original: Original<'_>,
     ) -> Result<(), RoomFault>
         requires room { length self.old < MOST_SPACE_CELLS }
-        requires pointers { All (IsPointer walk.spaces.now.spaces) (pointers_of original.words.now) }
-        requires table { IsTableFor walk.kind walk.spaces.now.spaces (C.walked claimer.old) }
+        requires may { MayMove walk.kind walk.spaces.now.spaces (pointers_of original.words.now) (C.walked claimer.old) }
         ensures claims { ClaimsAll C.walked C.knows C.is_full walk.entry.spaces.now.spaces original.entry.is_in_old (named_by (from_space (C.walked claimer.old).kind) walk.entry.spaces.now.spaces (pointers_of original.entry.words.now)) claimer.old claimer.new result }
         ensures copied { OnOk result (AddsCopy (C.walked claimer.old).kind walk.entry.spaces.now.spaces (C.knows claimer.new) original.entry.words.now self.old self.new) }
     {
@@ -113,10 +109,8 @@ fn make_room(
     full: &mut Space,
     last: &mut Vec<[u64; WORDS]>,
 ) -> Result<(), AllocError>
-    requires space { IsSpace full.old }
-    requires fits { IsOpenBlock last.old.items }
+    requires open { HaveOpenBlock full.old last.old }
     requires room { length (flat_map (λ block. block) full.old ++ last.old.items) < MOST_SPACE_CELLS }
-    requires cells { CELLS ≤ vec_capacity last.old }
     ensures open { HaveOpenBlock full.new last.new }
     ensures ready { OnOk result (length last.new.items < CELLS) }
     ensures same { OnOk result (flat_map (λ block. block) full.new ++ last.new.items ≡ flat_map (λ block. block) full.old ++ last.old.items) }
@@ -136,9 +130,8 @@ fn close(
     last: &mut Vec<[u64; WORDS]>,
 ) -> Result<(), AllocError>
     requires whole { IsBlock last.old.items }
-    requires space { IsSpace full.old }
+    requires open { HaveOpenBlock full.old last.old }
     requires room { length full.old < MOST_SPACE_BLOCKS }
-    requires cells { CELLS ≤ vec_capacity last.old }
     ensures open { HaveOpenBlock full.new last.new }
     ensures full { OnOk result (full.new ≡ full.old ++ last.old.items ∷ []) }
     ensures empty { OnOk result (last.new.items ≡ []) }

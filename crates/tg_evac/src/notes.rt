@@ -7,6 +7,7 @@ ghost use Rattle.tg_space.specs.Generations.{NamesYoung};
 ghost use Rattle.tg_space.specs.Soundness.{IsRootIn};
 ghost use Rattle.tg_space.specs.declared.root.Root.TheVariants.{Remembered as RememberedAt};
 ghost use Rattle.tg_evac.specs.Copies.{AreForwarded, IsPlaceIn, moved_cell, new_cell};
+ghost use Rattle.tg_evac.specs.Inner.Steps.{MayNoteRoot, MayNoteRoots};
 
 use std::alloc::{AllocError, Global};
 use tg_block::WORDS;
@@ -56,8 +57,7 @@ impl Moves<'_> {
 
     // Notes the remembered cells that will name young ones.
     fn note_roots(self, remembered: &mut Remembered, roots: &[Root]) -> Result<(), AllocError>
-        requires forward { AreForwarded self.spaces.now.spaces self.forward.now.words }
-        requires roots { All (IsRootIn self.spaces.now.spaces) roots.now }
+        requires { MayNoteRoots self.spaces.now.spaces self.forward.now.words roots.now }
         ensures { OnOk result ((p : PlaceOf) → Contains remembered.new.places p ↔ (Contains remembered.old.places p ⊎ (Contains roots.now (RememberedAt p) × NamesYoung (moved_cell self.entry.kind self.entry.spaces.now.spaces self.entry.forward.now.words p)))) }
     {
         for root in roots {
@@ -68,8 +68,7 @@ impl Moves<'_> {
 
     // Notes the cell of a root, where it is remembered and will name a young one.
     fn note_root(self, remembered: &mut Remembered, root: Root) -> Result<(), AllocError>
-        requires forward { AreForwarded self.spaces.now.spaces self.forward.now.words }
-        requires root { IsRootIn self.spaces.now.spaces root }
+        requires { MayNoteRoot self.spaces.now.spaces self.forward.now.words root }
         ensures { OnOk result ((p : PlaceOf) → Contains remembered.new.places p ↔ (Contains remembered.old.places p ⊎ ((root ≡ RememberedAt p) × NamesYoung (moved_cell self.entry.kind self.entry.spaces.now.spaces self.entry.forward.now.words p)))) }
     {
         match root {

@@ -5,6 +5,7 @@ ghost use Rattle.tg_space.specs.SpaceList.{Holds, cells_of};
 ghost use Rattle.tg_space.specs.Targets.{from_space, root_targets_of, targets_at};
 ghost use Rattle.tg_space.specs.declared.root.Root.TheVariants.{Row};
 ghost use Rattle.tg_evac.specs.Claims.{chunk_targets, is_straight as straight_from};
+ghost use Rattle.tg_evac.specs.Inner.Steps.{MayClaimRow};
 ghost use Rattle.tg_evac.specs.Walks.{ClaimsAll, MayWalk};
 
 use crate::claimer::Claimer;
@@ -40,8 +41,7 @@ impl Walk<'_> {
         object: Place,
         straight: bool,
     ) -> Result<(), RoomFault>
-        requires walk { MayWalk self.kind self.spaces.now.spaces (C.walked claimer.old) }
-        requires held { Holds self.spaces.now.spaces object }
+        requires { MayClaimRow self.kind self.spaces.now.spaces object (C.walked claimer.old) }
         ensures { ClaimsAll C.walked C.knows C.is_full self.entry.spaces.now.spaces straight (root_targets_of (from_space (C.walked claimer.old).kind) self.entry.spaces.now.spaces (Row object)) claimer.old claimer.new result }
     {
         if self.kind.moves(object.space) {
@@ -59,8 +59,7 @@ impl Walk<'_> {
         object: Place,
         straight: bool,
     ) -> Result<(), RoomFault>
-        requires walk { MayWalk self.kind self.spaces.now.spaces (C.walked claimer.old) }
-        requires held { Holds self.spaces.now.spaces object }
+        requires row { MayClaimRow self.kind self.spaces.now.spaces object (C.walked claimer.old) }
         requires kept { from_space self.kind object.space ≡ false }
         ensures { ClaimsAll C.walked C.knows C.is_full self.entry.spaces.now.spaces straight (root_targets_of (from_space (C.walked claimer.old).kind) self.entry.spaces.now.spaces (Row object)) claimer.old claimer.new result }
     {

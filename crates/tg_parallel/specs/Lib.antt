@@ -6,3 +6,4 @@ pub mod Merged
 pub mod Whole
 pub mod Faults
 pub mod Shares
+pub mod Inner

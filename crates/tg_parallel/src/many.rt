@@ -15,6 +15,7 @@ ghost use Rattle.tg_evac.specs.Collects.{Collects};
 ghost use Rattle.tg_evac.specs.Copies.{IsPlaceIn, moved_cell, new_cell};
 ghost use Rattle.tg_parallel.specs.declared.many.TheConstants.{MOST_HELPERS};
 ghost use Rattle.tg_parallel.specs.Faults.{IsNotStarted};
+ghost use Rattle.tg_parallel.specs.Inner.Tasks.{MayCollectBy};
 ghost use Rattle.tg_parallel.specs.Helping.{AllHelped, IsHelped, IsNew};
 ghost use Rattle.tg_parallel.specs.Jobs.{AllDone, IsCollected, IsDone, IsOpen, MayCollect, MayHelp};
 ghost use Rattle.tg_parallel.specs.Merged.{AreMerged};
@@ -32,7 +33,7 @@ use std::sync::Wait;
 use std::thread;
 use std::thread::{Promise, PromisedHandle, Scope, Threads, join_promised};
 use tg_block::Block;
-use tg_evac::{Copied, Moves, Plan, Reads};
+use tg_evac::{Copied, Moves, Plan};
 use tg_race::{Helper, Opened, RaceTable};
 use tg_space::{Forwarding, Kind, RoomFault, Root, Spaces, Spare};
 use tg_word::CELLS;
@@ -105,7 +106,6 @@ fn collect_alone<G: Gate>(
 /// end before the answer. Each helper has a like share of the spare blocks, but no more than it may fill, and fills
 /// them first; the one here has the rest too. The table is laid out in the spare room first, where the list of won
 /// cells of the helper on the calling thread stands then.
-#[tactic(auto, using(tg_evac::proofs::Behind::kept_within))]
 pub fn collect_many<R: Threads + Wait + Sync, G: Gate>(
     rt: &R,
     alloc: Global,
@@ -122,44 +122,62 @@ pub fn collect_many<R: Threads + Wait + Sync, G: Gate>(
     ensures collects { Collects HelpersFault.HeapFull kind spaces.now roots.now helpers helpers result }
     ensures alone { helpers ≡ 1 → IfErr result (λ fault. fault ≢ HelpersFault.NoThread) }
 {
-    let task = Task {
-        spaces,
-        roots,
-        kind,
-        reads: Reads::of(spaces),
-        gate,
-    };
-    let cells = spaces.cells();
-    let plan = Plan::of(kind, spaces);
-    if helpers == 1 || cells == CELLS * plan.kept {
-        return Ok(collect_alone(alloc, &task, spare)?);
+    Task::new(spaces, roots, kind, gate).collect(rt, alloc, helpers, spare)
+}
+
+impl<'a, G: Gate> Task<'a, G> {
+    // What `collect_many` says.
+    #[tactic(auto, using(tg_evac::proofs::Behind::kept_within))]
+    fn collect<R: Threads + Wait + Sync>(
+        &self,
+        rt: &R,
+        alloc: Global,
+        helpers: u32,
+        spare: Spare,
+    ) -> Result<Copied, HelpersFault>
+        requires may { MayCollectBy helpers self.now }
+        ensures collects { IsCollected HelpersFault.HeapFull self.now helpers result }
+        ensures alone { helpers ≡ 1 → IfErr result (λ fault. fault ≢ HelpersFault.NoThread) }
+    {
+        let cells = self.spaces.cells();
+        let plan = Plan::of(self.kind, self.spaces);
+        if helpers == 1 || cells == CELLS * plan.kept {
+            return Ok(collect_alone(alloc, self, spare)?);
+        }
+        let Spare { blocks, words } = spare;
+        let Opened {
+            table,
+            helper,
+            room,
+        } = RaceTable::open(
+            alloc,
+            cells,
+            self.roots.len() as u64,
+            plan.kept,
+            helpers,
+            words,
+        )?;
+        let newcomer = Newcomer {
+            helper,
+            number: 0,
+            spare: Spare {
+                blocks,
+                words: room,
+            },
+        };
+        let job = Job {
+            table: &table,
+            task: Task {
+                spaces: self.spaces,
+                roots: self.roots,
+                kind: self.kind,
+                reads: self.reads,
+                gate: self.gate,
+            },
+        };
+        let helped = work_all(rt, alloc, &job, helpers, newcomer)?;
+        Ok(finish(alloc, table, self, plan, helped)?)
     }
-    let Spare { blocks, words } = spare;
-    let Opened {
-        table,
-        helper,
-        room,
-    } = RaceTable::open(alloc, cells, roots.len() as u64, plan.kept, helpers, words)?;
-    let newcomer = Newcomer {
-        helper,
-        number: 0,
-        spare: Spare {
-            blocks,
-            words: room,
-        },
-    };
-    let job = Job {
-        table: &table,
-        task: Task {
-            spaces,
-            roots,
-            kind,
-            reads: task.reads,
-            gate,
-        },
-    };
-    let helped = work_all(rt, alloc, &job, helpers, newcomer)?;
-    Ok(finish(alloc, table, &task, plan, helped)?)
 }
 
 // A helper on a thread promises what one does on the calling thread.

@@ -1,9 +1,9 @@
 //! The places that a helper gives away: in its own blocks of a space, one after the other.
-ghost use Rattle.std.specs.Prelude.{◌≡◌, ◌<◌, ◌≤◌, ◌*◌, ◌+◌, ◌^◌, [], false, length, vec_capacity};
-ghost use Rattle.tg_word.specs.declared.TheConstants.{CELLS, MOST_SPACE_BLOCKS};
+ghost use Rattle.std.specs.Prelude.{◌≡◌, ◌≤◌, [], false, vec_capacity};
+ghost use Rattle.tg_word.specs.declared.TheConstants.{MOST_SPACE_BLOCKS};
 ghost use Rattle.tg_race.specs.Seats.{IsWordIn};
-ghost use Rattle.tg_parallel.specs.Parts.{HasClaimedPast};
-ghost use Rattle.tg_parallel.specs.Seats.{AreReady, GivePlace, HasRoomFor, IsDrawn, IsHeldBy, KnowsNext, used_of};
+ghost use Rattle.tg_parallel.specs.Inner.Places.{MayDraw, MayMakeReady};
+ghost use Rattle.tg_parallel.specs.Seats.{AreReady, GivePlace, HasRoomFor, IsDrawn, IsHeldBy, KnowsNext};
 
 use crate::links::word_to;
 use crate::winner::Winner;
@@ -77,10 +77,7 @@ impl OwnBlocks {
         table: &RaceTable,
         limit: u64,
     ) -> Result<(), RoomFault>
-        requires held { IsHeldBy table.now winner.old self.now }
-        requires room { length winner.old.done.won + 3 < table.now.table.id.words }
-        requires limit { limit ≤ MOST_SPACE_BLOCKS }
-        requires next { KnowsNext limit winner.old.done self.now }
+        requires { MayMakeReady limit table.now winner.old self.now }
         ensures { AreReady limit self.entry.now winner.old self.exit.now winner.new result }
     {
         if self.next != self.end {
@@ -95,10 +92,7 @@ impl OwnBlocks {
     // kept in registers.
     #[inline(always)]
     fn open(&mut self, winner: &mut Winner, table: &RaceTable, limit: u64) -> Result<(), RoomFault>
-        requires held { IsHeldBy table.now winner.old self.now }
-        requires room { length winner.old.done.won + 3 < table.now.table.id.words }
-        requires limit { limit ≤ MOST_SPACE_BLOCKS }
-        requires next { KnowsNext limit winner.old.done self.now }
+        requires ready { MayMakeReady limit table.now winner.old self.now }
         requires none { self.now.next ≡ self.now.end }
         ensures { AreReady limit self.entry.now winner.old self.exit.now winner.new result }
     {
@@ -128,9 +122,7 @@ impl OwnBlocks {
     // has room for one number more.
     #[inline(always)]
     fn draw(&mut self, winner: &mut Winner, table: &RaceTable) -> u64
-        requires held { IsHeldBy table.now winner.old self.now }
-        requires room { length winner.old.done.won + 3 < table.now.table.id.words }
-        requires full { used_of self.now.aged winner.old.done ≡ CELLS * length self.now.numbers.items }
+        requires { MayDraw table.now winner.old self.now }
         ensures { IsDrawn self.entry.now winner.old self.exit.now winner.new result }
     {
         let number = winner.claim_block(table, self.aged);

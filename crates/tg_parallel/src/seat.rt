@@ -1,15 +1,14 @@
 //! A helper at its seat, which claims cells at the table that it shares with others.
-ghost use Rattle.std.specs.Prelude.{◌≡◌, ℕ, ◌+◌, ◌*◌, ◌<◌, ◌≤◌, ◌==◌, ◌^◌, false, true, All, IsTrue, length};
-ghost use Rattle.tg_word.specs.declared.TheConstants.{CELLS, MOST_SPACE_BLOCKS, MOST_SPACE_CELLS};
-ghost use Rattle.tg_word.specs.Word.{IsPlace, place_in};
+ghost use Rattle.std.specs.Prelude.{◌≡◌, ℕ, ◌+◌, ◌*◌, ◌<◌, ◌≤◌, ◌==◌, ◌^◌, false, true, All, IsTrue};
+ghost use Rattle.tg_word.specs.declared.TheConstants.{CELLS, MOST_SPACE_BLOCKS};
+ghost use Rattle.tg_word.specs.Word.{IsPlace};
 ghost use Rattle.tg_race.specs.Course.{has_met};
 ghost use Rattle.tg_race.specs.Conditions.{can_claim_roots};
 ghost use Rattle.tg_race.specs.Race.{with_chunk};
 ghost use Rattle.tg_race.specs.Seats.{IsWordIn};
-ghost use Rattle.tg_evac.specs.Claims.{win_at, won_in};
-ghost use Rattle.tg_evac.specs.Walks.{ClaimsCell, MayClaim};
+ghost use Rattle.tg_evac.specs.Walks.{ClaimsCell};
 ghost use Rattle.tg_parallel.specs.Helping.{IsNew};
-ghost use Rattle.tg_parallel.specs.Parts.{HasClaimedPast, HasPlaces, wins_of};
+ghost use Rattle.tg_parallel.specs.Parts.{HasClaimedPast, HasPlaces};
 ghost use Rattle.tg_parallel.specs.Seats.{AreEmptyLists, AreFilled, walked_at};
 
 use crate::own_blocks::OwnBlocks;
@@ -119,50 +118,6 @@ impl<'a> Seat<'a> {
         }
     }
 
-    // How many cells were won.
-    #[inline(always)]
-    fn count(&self) -> usize
-        ensures count { result ≡ length self.now.done.won }
-        ensures few { result ≤ self.now.board.counts.cells }
-        ensures room { (space : ℕ) → space < 2 → length (won_in space (wins_of self.now.done.won)) ≤ MOST_SPACE_CELLS }
-    {
-        self.winner.len()
-    }
-
-    // The cell that was won as the k-th.
-    #[inline(always)]
-    fn cell(&self, k: usize) -> u64
-        requires { k < length self.now.done.won }
-        ensures cell { result ≡ (win_at (wins_of self.now.done.won) k).cell }
-        ensures inside { result < self.now.board.counts.cells }
-    {
-        self.winner.cell(k)
-    }
-
-    // Whether the copy of the cell that was won as the k-th is in Old.
-    #[inline(always)]
-    fn is_in_old(&self, k: usize) -> bool
-        requires { k < length self.now.done.won }
-        ensures space { result ≡ ((place_in (win_at (wins_of self.now.done.won) k).word).space == 0) }
-        ensures two { (place_in (win_at (wins_of self.now.done.won) k).word).space < 2 }
-    {
-        self.winner.is_in_old(k)
-    }
-
-    // The word of the place of a cell: a new one in a space, unless it has one.
-    #[inline(always)]
-    fn claim_place(&mut self, cell: u64, space: u64) -> Result<u64, RoomFault>
-        requires { MayClaim (walked_at self.now) cell space }
-        ensures { ClaimsCell walked_at (λ s. HasPlaces s.done) (λ s. HasClaimedPast s.limit s.done) cell space self.entry.now self.exit.now result }
-    {
-        let at = self.table.word_of(cell);
-        let word = self.winner.look_word(self.table, at);
-        if word != 0 {
-            return Ok(word);
-        }
-        self.give_word(at, space)
-    }
-
     // Gives a cell that has no place the next one of a space, unless another helper does so first, and answers its
     // word.
     #[inline(always)]
@@ -195,21 +150,26 @@ impl<'a> Claimer for Seat<'a> {
 
     #[inline(always)]
     fn len(&self) -> usize {
-        self.count()
+        self.winner.len()
     }
 
     #[inline(always)]
     fn won_cell(&self, k: usize) -> u64 {
-        self.cell(k)
+        self.winner.cell(k)
     }
 
     #[inline(always)]
     fn is_won_in_old(&self, k: usize) -> bool {
-        self.is_in_old(k)
+        self.winner.is_in_old(k)
     }
 
     #[inline(always)]
     fn claim(&mut self, cell: u64, space: u64) -> Result<u64, RoomFault> {
-        self.claim_place(cell, space)
+        let at = self.table.word_of(cell);
+        let word = self.winner.look_word(self.table, at);
+        if word != 0 {
+            return Ok(word);
+        }
+        self.give_word(at, space)
     }
 }

@@ -1,12 +1,12 @@
 //! A helper with the list of what it has won.
-ghost use Rattle.std.specs.Prelude.{◌≡◌, ◌≢◌, ◌+◌, ◌<◌, ◌≤◌, ◌==◌, false, All, IsTrue, [], length, vec_capacity};
+ghost use Rattle.std.specs.Prelude.{◌≡◌, ◌≢◌, ◌+◌, ◌<◌, ◌≤◌, ◌==◌, false, [], length, vec_capacity};
 ghost use Rattle.tg_word.specs.Word.{IsPlace, place_in};
-ghost use Rattle.tg_race.specs.Conditions.{blocks_of, can_claim_block, can_claim_roots};
 ghost use Rattle.tg_race.specs.Course.{has_met};
 ghost use Rattle.tg_race.specs.Seats.{IsWordIn};
-ghost use Rattle.tg_race.specs.Race.{with_claimed_block, with_chunk, with_seen};
+ghost use Rattle.tg_race.specs.Race.{with_seen};
 ghost use Rattle.tg_evac.specs.Claims.{win_at};
 ghost use Rattle.tg_evac.specs.Claimers.{IsLink};
+ghost use Rattle.tg_parallel.specs.Inner.Places.{DrawsBlock, DrawsRoots, HasWonAt, MayDrawBlock, MayDrawRoots};
 ghost use Rattle.tg_parallel.specs.Parts.{wins_of};
 ghost use Rattle.tg_parallel.specs.Seats.{FindsNext, HasRoomFor, IsHeldBy, IsReady, used_of};
 
@@ -68,8 +68,7 @@ impl Winner {
     /// The cell that was won as the k-th.
     #[inline(always)]
     pub fn cell(&self, k: usize) -> u64
-        requires low { k < length self.now.done.won }
-        requires places { All (λ q. IsPlace q.1 × (q.1.space < 2)) self.now.done.won }
+        requires { HasWonAt k self.now }
         ensures { result ≡ (win_at (wins_of self.now.done.won) k).cell }
     {
         self.won[k] / 2
@@ -78,8 +77,7 @@ impl Winner {
     /// Whether the copy of the cell that was won as the k-th is in Old.
     #[inline(always)]
     pub fn is_in_old(&self, k: usize) -> bool
-        requires low { k < length self.now.done.won }
-        requires places { All (λ q. IsPlace q.1 × (q.1.space < 2)) self.now.done.won }
+        requires { HasWonAt k self.now }
         ensures { result ≡ ((place_in (win_at (wins_of self.now.done.won) k).word).space == 0) }
     {
         self.won[k] % 2 == 0
@@ -88,10 +86,8 @@ impl Winner {
     /// Claims the next chunk of roots, as the helper does.
     #[inline(always)]
     pub fn claim_roots(&mut self, table: &RaceTable) -> u64
-        requires own { self.old.table ≡ table.now.table }
-        requires allowed { IsTrue (can_claim_roots table.now.counts self.old.done) }
-        ensures drawn { self.new ≡ record self.old { done = with_chunk self.old.done result } }
-        ensures fresh { All (λ c. c < result) self.old.done.chunks }
+        requires { MayDrawRoots table.now self.old }
+        ensures { DrawsRoots self.old self.new result }
     {
         self.helper.claim_roots(table)
     }
@@ -134,10 +130,8 @@ impl Winner {
     /// Claims the next block of Aged or of Old, as the helper does.
     #[inline(always)]
     pub fn claim_block(&mut self, table: &RaceTable, aged: bool) -> u64
-        requires own { self.old.table ≡ table.now.table }
-        requires allowed { IsTrue (can_claim_block aged self.old.done) }
-        ensures drawn { self.new ≡ record self.old { done = with_claimed_block aged self.old.done result } }
-        ensures fresh { All (λ b. b < result) (blocks_of aged self.old.done) }
+        requires { MayDrawBlock aged table.now self.old }
+        ensures { DrawsBlock aged self.old self.new result }
     {
         self.helper.claim_block(table, aged)
     }

@@ -1,7 +1,7 @@
 //! A run between a reader and a writer.
 ghost use Rattle.std.specs.Prelude.{◌≡◌, IfErr, IfOk};
 ghost use Rattle.std.specs.Io.Buffered.{reader_remaining, writer_contents};
-ghost use Rattle.tg_script.specs.Counting.{MayCountStreams};
+ghost use Rattle.tg_script.specs.Inner.Counting.{MayCountStreams};
 ghost use Rattle.tg_program.specs.Faults.{status_of_stop};
 ghost use Rattle.tg_program.specs.Serving.{ServesFrom};
 ghost use Rattle.tg_program.specs.Starts.{MayServe};

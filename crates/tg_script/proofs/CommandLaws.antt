@@ -15,9 +15,9 @@ use Rattle.tg_script.specs.Entering.{entered}
 use Rattle.tg_script.specs.Script.{Scene}
 use Rattle.tg_script.specs.Lines.{ReadsFrom, Passes, Follows, IsBehind, IsOfReading}
 use Rattle.tg_script.specs.Opening.{IsCommand}
-use Rattle.tg_script.specs.Run.{Shows, Handles, MakesEntry}
-use Rattle.tg_script.specs.Supply.{values_left}
-use Rattle.tg_script.specs.Telling.{LineText, Tells, TellsCut, IsTold, StandsTold, CutsTold, TellsAll}
+use Rattle.tg_script.specs.Inner.Run.{Shows, Handles, MakesEntry}
+use Rattle.tg_script.specs.Inner.Supply.{values_left}
+use Rattle.tg_script.specs.Inner.Telling.{LineText, Tells, TellsCut, IsTold, StandsTold, CutsTold, TellsAll}
 use Rattle.tg_script.proofs.LinesLaws.{reads_behind, behind-append, may_stop_writing}
 
 -- ---- one line and those behind it

@@ -21,7 +21,7 @@ use Rattle.tg_script.specs.Lines.{Behind, IsOfReading, ReadsFrom}
 use Rattle.tg_script.specs.Opening.{IsCommand, edge_lines, OpensStore, ReadsEdges, ReadsFirst}
 use Rattle.tg_script.specs.Running.{Finishes}
 use Rattle.tg_script.specs.Script.{CanOpen, MayAnswer, Scene, Start, commands_of, edges_of}
-use Rattle.tg_script.specs.Telling.{AreLegal, EntersAll, ReadsCommands, StandsTold, TellsFirst, entry_of_line}
+use Rattle.tg_script.specs.Inner.Telling.{AreLegal, EntersAll, ReadsCommands, StandsTold, TellsFirst, entry_of_line}
 use Rattle.tg_script.proofs.LinesLaws.{keeps_known, may_stop_writing, reads_stop}
 use Rattle.tg_script.proofs.RanLaws.{IsFresh, commands_of-edges, commands_of-front, edges_of-front, fresh_reads, ran_edges_fault, ran_keeps, ran_store_fault, scene_with}
 use Rattle.tg_script.proofs.TellLaws.{entries_cut, entries_told}

@@ -16,7 +16,7 @@ use Rattle.tg_script.specs.Lines.{ReadsFrom, Behind, IsBehind}
 use Rattle.tg_script.specs.Opening.{IsCommand, edge_lines, ReadsFirst, ReadsEdges, OpensStore}
 use Rattle.tg_journal.specs.declared.entry.Entry.{Entry}
 use Rattle.tg_script.specs.Running.{IsWritten, IsUnopened, IsUnkept, IsCutOff, Ran, Finishes}
-use Rattle.tg_script.specs.Telling.{IsTold, StandsTold, StandsCut, TellsAll, reply_of_line}
+use Rattle.tg_script.specs.Inner.Telling.{IsTold, StandsTold, StandsCut, TellsAll, reply_of_line}
 use Rattle.tg_script.proofs.TellLaws.{replies_admissible, replies_cut}
 use Rattle.tg_script.proofs.LinesLaws.{MayStop, reads_stop, reads_end, reads_behind, behind-append, may_stop_writing, keeps_known}
 use Rattle.tg_script.proofs.OpeningLaws.{behind_all}

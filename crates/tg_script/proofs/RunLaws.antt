@@ -36,11 +36,11 @@ use Rattle.tg_text.specs.declared.answer.Answer.TheVariants as told
 use Rattle.tg_text.specs.declared.answer.Refusal.{Refusal}
 use Rattle.tg_text.specs.declared.answer.Refusal.TheVariants as refusal
 use Rattle.tg_script.specs.declared.run.Run.{Run}
-use Rattle.tg_script.specs.Supply.{values_left}
+use Rattle.tg_script.specs.Inner.Supply.{values_left}
 use Rattle.tg_script.specs.Script.{Scene, Answers, AnswersMaking, MayAnswerRefused, Serves, stock_left}
 use Rattle.tg_script.specs.Refusals.{apply_refusal, create_answer}
 use Rattle.tg_script.specs.Entering.{entered}
-use Rattle.tg_script.specs.Run.{Shows, HandlesBy, Handles, IsAsBefore, MakesEntry, MakesEntryBy, line_making, making_answer, values_back}
+use Rattle.tg_script.specs.Inner.Run.{Shows, HandlesBy, Handles, IsAsBefore, MakesEntry, MakesEntryBy, line_making, making_answer, values_back}
 
 -- ---- who is a subject, and which graph a store stands for
 

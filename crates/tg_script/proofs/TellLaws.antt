@@ -9,7 +9,7 @@ use Rattle.tg_text.specs.Texts.{answer_text}
 use Rattle.tg_entries.specs.Texts.{entry_text}
 use Rattle.tg_script.specs.Entering.{AreEntered, entered}
 use Rattle.tg_script.specs.Script.{Scene, Serves, IsAdmissible, IsCut}
-use Rattle.tg_script.specs.Telling.{Tells, TellsCut, entry_of_line, reply_of_line}
+use Rattle.tg_script.specs.Inner.Telling.{Tells, TellsCut, entry_of_line, reply_of_line}
 
 -- ---- replies
 

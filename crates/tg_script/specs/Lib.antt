@@ -1,11 +1,8 @@
 pub mod Refusals
 pub mod Script
-pub mod Counting
 pub mod Running
 pub mod Entering
 pub mod Lines
 pub mod Opening
-pub mod Supply
-pub mod Run
-pub mod Telling
 pub mod Whole
+pub mod Inner

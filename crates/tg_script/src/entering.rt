@@ -3,10 +3,10 @@ ghost use Rattle.std.specs.Prelude.{◌≡◌, ◌+◌, ◌≤◌, ℕ, List, []
 ghost use Rattle.tg_script.specs.Entering.{EntersFrom};
 ghost use Rattle.tg_script.specs.Lines.{CountsFailures, IsOfReading, read_failures, write_failures};
 ghost use Rattle.tg_script.specs.Opening.{IsCommand};
-ghost use Rattle.tg_script.specs.Run.{Shows};
+ghost use Rattle.tg_script.specs.Inner.Run.{Shows};
 ghost use Rattle.tg_script.specs.Running.{FinishesSink};
 ghost use Rattle.tg_script.specs.Script.{MayRun, Scene, start_with};
-ghost use Rattle.tg_script.specs.Telling.{EntersAll, TellsFirst, entry_of_line};
+ghost use Rattle.tg_script.specs.Inner.Telling.{EntersAll, TellsFirst, entry_of_line};
 
 use crate::collector::Collector;
 use crate::opening::{Front, read_edges};

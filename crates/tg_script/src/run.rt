@@ -28,8 +28,8 @@ pub(crate) struct Run<P: Payload> {
 impl<P: Payload> Run<P> {
     ghost use Rattle.std.specs.Prelude.{◌≡◌, ◌++◌, ◌∷◌, None, true};
     ghost use Rattle.tg_script.specs.Opening.{IsAnswerable};
-    ghost use Rattle.tg_script.specs.Run.{Handles, HandlesWith, IsAsBefore, MakesEntry, MakesEntryBy, line_making, making_answer, values_back};
-    ghost use Rattle.tg_script.specs.Supply.{values_left};
+    ghost use Rattle.tg_script.specs.Inner.Run.{Handles, HandlesWith, IsAsBefore, MakesEntry, MakesEntryBy, line_making, making_answer, values_back};
+    ghost use Rattle.tg_script.specs.Inner.Supply.{values_left};
     ghost use Rattle.tg_store.specs.Store.{HandsOut};
 
     /// Gives up what was entered, where it is many entries. A run's output is its journal.

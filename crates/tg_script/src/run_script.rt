@@ -2,13 +2,13 @@
 ghost use Rattle.std.specs.Prelude.{◌≡◌, ◌≢◌, ◌+◌, ◌≤◌, ℕ, List, [], Some, Err, true, false, IfErr};
 ghost use Rattle.std.specs.List.{All};
 ghost use Rattle.tg_model.specs.Opened.{Plan, JoinsWorkers};
-ghost use Rattle.tg_script.specs.Counting.{MayCountInMemory};
+ghost use Rattle.tg_script.specs.Inner.Counting.{MayCountInMemory};
 ghost use Rattle.tg_script.specs.Lines.{CountsFailures, IsOfReading, read_failures, write_failures};
 ghost use Rattle.tg_script.specs.Opening.{IsAnswerable};
-ghost use Rattle.tg_script.specs.Run.{OpensRun, Shows};
+ghost use Rattle.tg_script.specs.Inner.Run.{OpensRun, Shows};
 ghost use Rattle.tg_script.specs.Running.{Finishes, FinishesSink, IsDue, Ran, RunsFrom};
 ghost use Rattle.tg_script.specs.Script.{MayRun, MayStart, Scene, start_with};
-ghost use Rattle.tg_script.specs.Telling.{TellsAll};
+ghost use Rattle.tg_script.specs.Inner.Telling.{TellsAll};
 
 use crate::collector::{Collector, OneThread};
 use crate::helpers::Helpers;

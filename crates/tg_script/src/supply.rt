@@ -1,7 +1,7 @@
 //! The stock of a run: the payloads for the vertices that its script makes.
 ghost use Rattle.std.specs.Prelude.{◌≡◌, ◌++◌, ◌∷◌, [], None, IfNone};
 ghost use Rattle.std.specs.Option.{option_to_list};
-ghost use Rattle.tg_script.specs.Supply.{values_left};
+ghost use Rattle.tg_script.specs.Inner.Supply.{values_left};
 
 use tg_payload::{Draft, Payload};
 

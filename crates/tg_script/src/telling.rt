@@ -1,8 +1,8 @@
 //! How what came of a line is told: by its reply, or by the entry that it made.
 ghost use Rattle.std.specs.Prelude.{◌≡◌, Bool, false, true};
 ghost use Rattle.tg_script.specs.Opening.{IsAnswerable};
-ghost use Rattle.tg_script.specs.Run.{IsAsBefore};
-ghost use Rattle.tg_script.specs.Telling.{LineText, RunsLine, entry_of_line, reply_of_line};
+ghost use Rattle.tg_script.specs.Inner.Run.{IsAsBefore};
+ghost use Rattle.tg_script.specs.Inner.Telling.{LineText, RunsLine, entry_of_line, reply_of_line};
 
 use crate::collector::Collector;
 use crate::run::Run;
@@ -14,7 +14,7 @@ use tg_text::{Line, Sink, WriteFailed, write_reply};
 /// Whether what a command entered is held until it was told.
 pub(crate) trait Holding {
     ghost use Rattle.std.specs.Prelude.{◌≡◌, Bool, true};
-    ghost use Rattle.tg_script.specs.Run.{IsAsBefore};
+    ghost use Rattle.tg_script.specs.Inner.Run.{IsAsBefore};
 
     /// Whether it is held.
     ghost holds: { Bool };
@@ -28,7 +28,7 @@ pub(crate) trait Holding {
 /// How what came of a line is told. A run is the same over it.
 pub(crate) trait Telling {
     ghost use Rattle.tg_script.specs.Opening.{IsAnswerable};
-    ghost use Rattle.tg_script.specs.Telling.{LineText, RunsLine};
+    ghost use Rattle.tg_script.specs.Inner.Telling.{LineText, RunsLine};
 
     /// What is told of a line.
     ghost told: { LineText };

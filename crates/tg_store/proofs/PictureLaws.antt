@@ -13,7 +13,7 @@ use Rattle.tg_journal.proofs.HistoryLaws.{IsSound-opened}
 use Rattle.tg_graph.specs.Content.{Content}
 use Rattle.tg_graph.specs.Heap.{content_of, subject_names}
 use Rattle.tg_graph.proofs.StandingLaws.{IsReachable-IsReached, IsReached-IsReachable, OnlyNamedHold-content_of}
-use Rattle.tg_store.specs.Reaching.{AreBelow, IsReachedEdgeOf}
+use Rattle.tg_store.specs.Inner.Reaching.{AreBelow, IsReachedEdgeOf}
 use Rattle.tg_store.specs.Store.{StoreState, StandsFor, IsFaithful, graph_of_store}
 use Rattle.tg_store.proofs.StandLaws.{limit_of}
 

@@ -20,7 +20,7 @@ use Rattle.tg_graph.specs.Rows.{IsVertexAt}
 use Rattle.tg_graph.specs.Standing.{IsReached}
 use Rattle.tg_graph.proofs.Listing.{listed, listed_from}
 use Rattle.tg_graph.proofs.Members.{Contains-cases, Contains-from_map, Contains-map, Contains-none}
-use Rattle.tg_store.specs.Reaching.{FindsMore, IsEdgeOf, IsFoundIn, IsReachedEdgeOf, names_found}
+use Rattle.tg_store.specs.Inner.Reaching.{FindsMore, IsEdgeOf, IsFoundIn, IsReachedEdgeOf, names_found}
 use Rattle.tg_store.specs.declared.store.picture.Found.{Found}
 
 -- ---- one vertex more

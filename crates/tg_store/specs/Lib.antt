@@ -4,9 +4,8 @@ pub mod Faults
 pub mod Held
 pub mod Making
 pub mod Room
-pub mod Answering
 pub mod Collecting
 pub mod Made
-pub mod Reaching
 pub mod Leaving
 pub mod Holding
+pub mod Inner

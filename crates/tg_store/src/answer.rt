@@ -4,7 +4,7 @@ ghost use Rattle.tg_model.specs.Rules.{denial_of};
 ghost use Rattle.tg_graph.specs.Heap.{content_of};
 ghost use Rattle.tg_rules.specs.Effect.{AddsEdge, LacksCellsToServe, OnlyLooks};
 ghost use Rattle.tg_rules.specs.Verdict.{HasSubject};
-ghost use Rattle.tg_store.specs.Answering.{AnswersCommand, IsToServe};
+ghost use Rattle.tg_store.specs.Inner.Answering.{AnswersCommand, IsToServe};
 
 use crate::fault::ApplyFault;
 use std::alloc::Global;

@@ -1,7 +1,7 @@
 -- Words that are joined.
 use Rattle.std.proofs.Common.{◌≡◌, ℕ, List, [], ◌∷◌, ◌++◌, refl, ap, ◌∙◌, append_assoc, append-nil}
 use Rattle.std.specs.List.{join_with_byte}
-use Rattle.tg_text.specs.Words.{words_behind}
+use Rattle.tg_text.specs.Inner.Words.{words_behind}
 
 join_behind : (word : List ℕ) (words : List (List ℕ)) → word ++ words_behind words ≡ join_with_byte 32 (word ∷ words)
 join_behind word [] = append-nil word

@@ -6,7 +6,7 @@ ghost use Rattle.tg_text.specs.declared.line.Line.TheVariants as Line;
 ghost use Rattle.tg_text.specs.Deeds.{deed_line};
 ghost use Rattle.tg_text.specs.Grammar.{line_text, words_of_arguments};
 ghost use Rattle.tg_text.specs.Sinks.{Writes};
-ghost use Rattle.tg_text.specs.Words.{words_behind};
+ghost use Rattle.tg_text.specs.Inner.Words.{words_behind};
 
 use crate::count::Count;
 use crate::line::Line;

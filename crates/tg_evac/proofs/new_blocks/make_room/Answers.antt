@@ -7,6 +7,6 @@ use Rattle.tg_evac.proofs.new_blocks.make_room.Goals as goal
 pub close-requires-clause-room : goal.close-requires-clause-room
 close-requires-clause-room c =
     let full = c.args.full.now in let last = c.args.last.now.items in
-    let blocks = length-blocks full c.requires.space.1 in
+    let blocks = length-blocks full c.requires.open.space.1 in
     let long = length-append (flat_map (λ (b : List (List ℕ)). b) full) last in
     omega (arith, c.requires.room)

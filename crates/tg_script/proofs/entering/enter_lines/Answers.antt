@@ -2,7 +2,7 @@ use Rattle.std.proofs.Common.{refl, arith, subst}
 use Rattle.std.proofs.lemmas.Result.{err_from_is_err_and}
 use Rattle.tg_model.specs.Opened.{Plan}
 use Rattle.tg_script.specs.Script.{start_with}
-use Rattle.tg_script.specs.Telling.{EntersAll}
+use Rattle.tg_script.specs.Inner.Telling.{EntersAll}
 use Rattle.tg_script.proofs.LinesLaws.{keeps_known}
 use Rattle.tg_script.proofs.EnteringLaws.{asked_first, ran_entering, ran_entering_edges, ran_entering_store}
 use Rattle.tg_script.proofs.RanLaws.{IsFresh, scene_with, first_command}

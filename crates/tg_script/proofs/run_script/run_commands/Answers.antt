@@ -1,6 +1,6 @@
 use Rattle.std.proofs.Common.{refl, ◌+◌, ◌∙◌, arith, Some, None}
 use Rattle.std.proofs.lemmas.Result.{err_from_is_err_and}
-use Rattle.tg_script.specs.Supply.{values_left}
+use Rattle.tg_script.specs.Inner.Supply.{values_left}
 use Rattle.tg_script.proofs.LinesLaws.{wrote_keeps}
 use Rattle.tg_script.proofs.CommandLaws.{under_first, under_end, under_cut, under_next, tells_fault, next_command}
 use Rattle.tg_script.proofs.run_script.run_commands.Goals as goal

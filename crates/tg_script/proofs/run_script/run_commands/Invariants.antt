@@ -1,6 +1,6 @@
 use Rattle.std.proofs.Common.{◌≡◌, ◌+◌, ℕ, List, Some, false}
 use Rattle.tg_script.specs.Opening.{IsCommand}
-use Rattle.tg_script.specs.Run.{Shows}
+use Rattle.tg_script.specs.Inner.Run.{Shows}
 use Rattle.tg_script.specs.Script.{Scene}
 use Rattle.tg_script.proofs.CommandLaws.{Under}
 use Rattle.tg_script.proofs.run_script.run_commands.Given as goal

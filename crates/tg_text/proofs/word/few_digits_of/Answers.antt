@@ -1,7 +1,7 @@
 use Rattle.std.proofs.Common.{◌≡◌, ◌<◌, length, ℕ, ◌+◌, ◌-◌, ◌*◌, ◌^◌, ◌∙◌, List, true, get_or, drop, sym, ap, arith}
 use Rattle.std.specs.Char.{is_ascii_digit}
 use Rattle.std.proofs.lemmas.List.{drop_more}
-use Rattle.tg_text.specs.Words.{digits_on}
+use Rattle.tg_text.specs.Inner.Words.{digits_on}
 use Rattle.tg_text.proofs.NumberLaws.{below_ten, digit_read, few_fit, more_small}
 use Rattle.tg_text.proofs.word.few_digits_of.Goals as goal
 

@@ -1,5 +1,5 @@
 use Rattle.std.proofs.Common.{◌≡◌, ◌<◌, ◌^◌, drop}
-use Rattle.tg_text.specs.Words.{digits_on}
+use Rattle.tg_text.specs.Inner.Words.{digits_on}
 use Rattle.tg_text.proofs.word.few_digits_of.Given as goal
 
 -- the number read so far has as many digits as there were bytes

@@ -6,7 +6,7 @@ use Rattle.tg_model.specs.declared.verb.Arguments.{Arguments}
 use Rattle.tg_model.specs.Commands.{parts_of, word_of}
 use Rattle.tg_text.specs.Grammar.{words_of_arguments}
 use Rattle.tg_text.specs.Sinks.{Writes}
-use Rattle.tg_text.specs.Words.{words_behind}
+use Rattle.tg_text.specs.Inner.Words.{words_behind}
 use Rattle.tg_text.proofs.WriteLaws.{words_join}
 use Rattle.tg_text.proofs.SinkLaws.{writes_then, writes_cut_first}
 use Rattle.tg_text.proofs.write.write_command.Goals as goal

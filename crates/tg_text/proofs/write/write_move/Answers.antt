@@ -1,7 +1,7 @@
 use Rattle.std.proofs.Common.{◌∷◌, []}
 use Rattle.std.specs.Prelude.{decimal}
 use Rattle.tg_rights.specs.RightSet.{text_of}
-use Rattle.tg_text.specs.Words.{words_behind}
+use Rattle.tg_text.specs.Inner.Words.{words_behind}
 use Rattle.tg_text.proofs.SinkLaws.{writes_then, writes_cut_first}
 use Rattle.tg_text.proofs.write.write_move.Goals as goal
 

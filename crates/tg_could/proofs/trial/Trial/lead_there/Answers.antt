@@ -7,7 +7,7 @@ use Rattle.tg_model.specs.Graph.{ProtectionGraph}
 use Rattle.tg_model.specs.Picture.{Holds}
 use Rattle.tg_model.specs.Rules.{HoldsOver}
 use Rattle.tg_could.specs.Turns.{AreTurns, after, with_names}
-use Rattle.tg_could.specs.Trial.{Stands}
+use Rattle.tg_could.specs.Inner.Trial.{Stands}
 use Rattle.tg_could.proofs.trial.Trial.lead_there.Goals as goal
 
 pub returns : goal.returns

@@ -3,7 +3,7 @@ use Rattle.tg_model.specs.declared.command.Command.TheVariants.{Take}
 use Rattle.tg_rights.specs.RightSet.{RightSet}
 use Rattle.tg_model.specs.Rules.{HoldsOver}
 use Rattle.tg_model.proofs.AllowedLaws.{step-allowed}
-use Rattle.tg_could.specs.Trial.{Stands}
+use Rattle.tg_could.specs.Inner.Trial.{Stands}
 use Rattle.tg_could.proofs.TurnLaws.{stands-added}
 use Rattle.tg_could.proofs.trial.Trial.take.Goals as goal
 

@@ -2,7 +2,7 @@ use Rattle.std.proofs.Common.{sym, subst}
 use Rattle.tg_model.specs.declared.command.Command.{Command}
 use Rattle.tg_model.specs.declared.command.Deed.TheVariants.{Plain}
 use Rattle.tg_model.specs.Rules.{step}
-use Rattle.tg_could.specs.Trial.{Stands}
+use Rattle.tg_could.specs.Inner.Trial.{Stands}
 use Rattle.tg_could.proofs.trial.Trial.take_command.Goals as goal
 
 pub returns-in-Retire : goal.returns-in-Retire

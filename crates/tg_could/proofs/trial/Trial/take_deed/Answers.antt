@@ -7,7 +7,7 @@ use Rattle.tg_model.specs.declared.edge.Edge.{Edge}
 use Rattle.tg_model.specs.declared.law.Law.{Law}
 use Rattle.tg_model.specs.Graph.{ProtectionGraph}
 use Rattle.tg_model.specs.Rules.{step}
-use Rattle.tg_could.specs.Trial.{Stands}
+use Rattle.tg_could.specs.Inner.Trial.{Stands}
 use Rattle.tg_could.proofs.trial.Trial.take_deed.Goals as goal
 
 pub returns-in-Create : goal.returns-in-Create

@@ -2,7 +2,7 @@ use Rattle.std.proofs.Common.{◌<◌, ℕ, List, [], ◌∷◌, ◌++◌, take,
 use Rattle.std.specs.List.{Contains}
 use Rattle.std.proofs.lemmas.List.{take_more, take_all}
 use Rattle.tg_could.specs.Turns.{Turn, AreTurns, after}
-use Rattle.tg_could.specs.Trial.{Stands}
+use Rattle.tg_could.specs.Inner.Trial.{Stands}
 use Rattle.tg_could.proofs.TurnLaws.{AreTurns-push, after-push}
 use Rattle.tg_could.proofs.trial.Trial.take_turns.Goals as goal
 

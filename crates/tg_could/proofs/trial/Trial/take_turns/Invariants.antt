@@ -2,7 +2,7 @@ use Rattle.std.proofs.Common.{◌<◌, ℕ, take}
 use Rattle.std.specs.List.{Contains}
 use Rattle.tg_model.specs.Graph.{ProtectionGraph}
 use Rattle.tg_could.specs.Turns.{AreTurns, after}
-use Rattle.tg_could.specs.Trial.{Stands}
+use Rattle.tg_could.specs.Inner.Trial.{Stands}
 use Rattle.tg_could.proofs.trial.Trial.take_turns.Given as goal
 
 -- the turns before this place are those of who acts, and the trial stands for the graph behind them

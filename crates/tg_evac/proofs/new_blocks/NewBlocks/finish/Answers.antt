@@ -15,7 +15,7 @@ some n isnt e = ⊎_elim (λ none. absurd (let both : true ≡ false = sym none.
 pub push-requires : goal.push-requires
 push-requires c =
     let full = c.self.inside.full in let last = c.self.inside.last.items in
-    let blocks = length-blocks full c.self.invariant.0.1 in
+    let blocks = length-blocks full c.self.invariant.space.1 in
     let long = length-append (flat_map (λ (b : List (List ℕ)). b) full) last in
     let view : length (flat_map (λ (b : List (List ℕ)). b) full ++ last) ≡ length c.args.self = ap length c.self.view_is in
     let ne = some (vec_len c.self.inside.last) (sym c.is_empty.ensures ∙ c.if-is_empty.false) in

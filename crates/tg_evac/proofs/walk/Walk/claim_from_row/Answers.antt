@@ -9,17 +9,17 @@ use Rattle.tg_evac.proofs.walk.Walk.claim_from_row.Goals as goal
 pub returns-in_err-claim_targets : goal.returns-in_err-claim_targets
 returns-in_err-claim_targets g c =
     let m = g.C.Claimer in
-    let kept = ap (λ (k : Kind). from_space k c.args.object.space) c.requires.walk.table.same ∙ c.requires.kept in
+    let kept = ap (λ (k : Kind). from_space k c.args.object.space) c.requires.row.walk.table.same ∙ c.requires.kept in
     claims_refused m.walked m.knows m.is_full c.from_residual.result _ c.from_residual.ensures.1 (row_first c.args.self.spaces.now.spaces c.args.straight c.args.object kept c.claim_targets.ensures.added)
     c.claim_targets.ensures.grows c.in_err-claim_targets.ensures.full
 
 pub claim_chunks-requires-clause-walk : goal.claim_chunks-requires-clause-walk
-claim_chunks-requires-clause-walk g c = walk_still c.claim_targets.ensures.added c.requires.walk
+claim_chunks-requires-clause-walk g c = walk_still c.claim_targets.ensures.added c.requires.row.walk
 
 pub returns : goal.returns
 returns g c =
     let h = c.args.self.spaces.now.spaces in
-    let kept = ap (λ (k : Kind). from_space k c.args.object.space) c.requires.walk.table.same ∙ c.requires.kept in
+    let kept = ap (λ (k : Kind). from_space k c.args.object.space) c.requires.row.walk.table.same ∙ c.requires.kept in
     let two = rw c.read.ensures at c.claim_chunks.ensures.added in
     let rest = rw c.read.ensures at c.claim_chunks.ensures.met in
     record {

@@ -9,10 +9,10 @@ use Rattle.tg_evac.specs.Claims.{is_straight}
 use Rattle.tg_evac.specs.Walks.{ClaimsAll}
 use Rattle.tg_evac.proofs.walk.Walk.claim_root.Goals as goal
 
-pub claim_row-requires-clause-held : goal.claim_row-requires-clause-held
-claim_row-requires-clause-held g c =
+pub claim_row-requires : goal.claim_row-requires
+claim_row-requires g c =
     let row : IsRootIn c.args.self.spaces.now.spaces (Row c.in-Row.object) = subst (IsRootIn c.args.self.spaces.now.spaces) c.in-Row.is c.requires.root in
-    ⊎_elim (λ object. object.held) (λ chunk. chunk.held) row
+    record { walk = c.requires.walk; held = ⊎_elim (λ object. object.held) (λ chunk. chunk.held) row }
 
 -- what is so of the root of an arm, and of a flag that was computed, is so of the root that was passed in
 at_root : (P : Bool → List ℕ → Type 0) (h : SpaceList) (kind walked : Kind) (root r : Root) (straight : Bool) → straight ≡ is_straight walked root → walked ≡ kind → root ≡ r

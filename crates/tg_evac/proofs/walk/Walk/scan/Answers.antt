@@ -1,6 +1,6 @@
 use Rattle.std.proofs.Common.{arith, ℕ, ◌≤◌, Ok, sym, ap, subst, ◌∙◌}
 use Rattle.tg_space.specs.Targets.{cell_numbered}
-use Rattle.tg_evac.specs.Reads.{HasRead}
+use Rattle.tg_evac.specs.Inner.Reads.{HasRead}
 use Rattle.tg_evac.specs.Walks.{Scans}
 use Rattle.tg_evac.specs.declared.copies.Ahead.{Ahead}
 use Rattle.tg_evac.proofs.Reading.{has_read_none, has_read_still, read_ahead}

@@ -1,5 +1,5 @@
 use Rattle.std.proofs.Common.{◌≤◌, ◌-◌, Ok}
-use Rattle.tg_evac.specs.Reads.{HasRead}
+use Rattle.tg_evac.specs.Inner.Reads.{HasRead}
 use Rattle.tg_evac.specs.Walks.{Scans}
 use Rattle.tg_evac.proofs.walk.Walk.scan.Given as goal
 

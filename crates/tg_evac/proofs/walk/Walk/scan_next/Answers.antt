@@ -56,8 +56,11 @@ pointers_numbered h are n = ⊎_elim (λ low. are.numbered n low)
     (λ high. subst (λ (ws : List ℕ). All (IsPointer h) (pointers_of ws)) (sym (get_or_past (cells_of h) n [] high)) (All-nil (IsPointer h)))
     (cases_lt n (length (cells_of h)))
 
-pub push_copy-requires-clause-pointers : goal.push_copy-requires-clause-pointers
-push_copy-requires-clause-pointers g c =
+pub push_copy-requires-clause-may : goal.push_copy-requires-clause-may
+push_copy-requires-clause-may g c =
     let h = c.args.self.spaces.now.spaces in
-    subst (λ (ws : List ℕ). All (IsPointer h) (pointers_of ws)) (sym c.requires.words)
-    (pointers_numbered h c.requires.walk.walk.pointers (win_at (g.C.Claimer.walked c.args.claimer.now).won c.args.k).cell)
+    record {
+      pointers = subst (λ (ws : List ℕ). All (IsPointer h) (pointers_of ws)) (sym c.requires.words)
+          (pointers_numbered h c.requires.walk.walk.pointers (win_at (g.C.Claimer.walked c.args.claimer.now).won c.args.k).cell);
+      table = c.requires.walk.walk.table;
+    }

@@ -5,10 +5,10 @@ use Rattle.tg_parallel.specs.Seats.{used_of}
 use Rattle.tg_parallel.proofs.Filled.{filled_all, filled_grown, may_claim, only_claimed, other_claimed, used_few}
 use Rattle.tg_parallel.proofs.own_blocks.OwnBlocks.draw.Goals as goal
 
-pub claim_block-number-requires-clause-allowed : goal.claim_block-number-requires-clause-allowed
-claim_block-number-requires-clause-allowed c =
+pub claim_block-number-requires : goal.claim_block-number-requires
+claim_block-number-requires c =
     let b = c.args.self.now in let v = c.args.winner.now.done in
-    may_claim b.aged v b.numbers.items (used_of b.aged v) c.requires.held.filled c.requires.full
+    record { own = c.requires.held.own; allowed = may_claim b.aged v b.numbers.items (used_of b.aged v) c.requires.held.filled c.requires.full }
 
 pub push_reserved-requires : goal.push_reserved-requires
 push_reserved-requires c =

@@ -3,6 +3,9 @@ use Rattle.tg_parallel.specs.Seats.{Finds}
 use Rattle.tg_parallel.proofs.Filled.{finds_after, knows_after, stay_both}
 use Rattle.tg_parallel.proofs.own_blocks.OwnBlocks.word_of.Goals as goal
 
+pub make_ready-requires : goal.make_ready-requires
+make_ready-requires c = record { held = c.requires.held; room = c.requires.room.room; few = c.requires.limit; next = c.requires.next }
+
 pub returns : goal.returns
 returns c =
     let v = c.args.winner.now.done in let u = c.make_ready.new.winner.done in let w = c.claim_next.new.self.done in

@@ -3,7 +3,7 @@ use Rattle.tg_text.specs.declared.answer.Answer.TheVariants as told
 use Rattle.tg_text.specs.declared.line.Line.TheVariants as line
 use Rattle.tg_script.specs.declared.run.Run.{Run}
 use Rattle.tg_script.specs.Refusals.{apply_refusal}
-use Rattle.tg_script.specs.Supply.{values_left}
+use Rattle.tg_script.specs.Inner.Supply.{values_left}
 use Rattle.tg_script.proofs.RunLaws.{apply_done, apply_refused, handles_behind, makes_behind, makes_none}
 use Rattle.tg_script.proofs.run.Run.apply.Goals as goal
 

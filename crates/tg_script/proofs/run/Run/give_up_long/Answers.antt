@@ -1,5 +1,5 @@
 use Rattle.std.proofs.Common.{ap}
-use Rattle.tg_script.specs.Supply.{values_left}
+use Rattle.tg_script.specs.Inner.Supply.{values_left}
 use Rattle.tg_script.proofs.run.Run.give_up_long.Goals as goal
 
 pub returns-then-is_long : goal.returns-then-is_long

@@ -1,5 +1,5 @@
 use Rattle.std.proofs.Common.{ap}
-use Rattle.tg_script.specs.Supply.{values_left}
+use Rattle.tg_script.specs.Inner.Supply.{values_left}
 use Rattle.tg_script.proofs.run.Run.give_up_many.Goals as goal
 
 pub returns-then-entries-ge-MOST_ENTRIES : goal.returns-then-entries-ge-MOST_ENTRIES

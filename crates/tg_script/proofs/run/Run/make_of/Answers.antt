@@ -1,6 +1,6 @@
 use Rattle.std.proofs.Common.{ap, ◌∙◌}
 use Rattle.tg_store.specs.Store.{StoreState}
-use Rattle.tg_script.specs.Supply.{values_left}
+use Rattle.tg_script.specs.Inner.Supply.{values_left}
 use Rattle.tg_script.proofs.RunLaws.{handles_making, making_entry}
 use Rattle.tg_script.proofs.run.Run.make_of.Goals as goal
 

@@ -3,8 +3,8 @@ use Rattle.std.specs.List.{flat_map}
 use Rattle.tg_journal.specs.declared.entry.Entry.{Entry}
 use Rattle.tg_entries.specs.Texts.{entry_text}
 use Rattle.tg_script.specs.Entering.{entered}
-use Rattle.tg_script.specs.Run.{IsAsBefore}
-use Rattle.tg_script.specs.Supply.{values_left}
+use Rattle.tg_script.specs.Inner.Run.{IsAsBefore}
+use Rattle.tg_script.specs.Inner.Supply.{values_left}
 use Rattle.tg_text.specs.Sinks.{Writes}
 use Rattle.tg_script.proofs.EnteringLaws.{held_since}
 use Rattle.tg_script.proofs.RunLaws.{handles_before, makes_before}
