@@ -13,7 +13,7 @@ use Rattle.tg_model.specs.declared.edge.Edge.{Edge}
 use Rattle.tg_model.specs.declared.law.Law.{Law}
 use Rattle.tg_model.specs.declared.value.Value.{Value}
 use Rattle.tg_model.specs.declared.command.Command.{Command}
-use Rattle.tg_model.specs.declared.command.Command.TheVariants.{Take, Grant, Remove, Read, Write, Append, Inspect, List as Listing, Retire}
+use Rattle.tg_model.specs.declared.command.Command.TheVariants.{Take, Grant, Remove, Read, Write, Append}
 use Rattle.tg_model.specs.declared.command.Deed.{Deed}
 use Rattle.tg_model.specs.declared.command.Deed.TheVariants.{Create, Spawn, Plain}
 use Rattle.tg_model.specs.declared.reply.Denial.{Denial}
@@ -82,12 +82,7 @@ module _ (which : Right → Bool) (owner y : ℕ) (g : ProtectionGraph) (alone :
       nobody = λ x held. alone.untaken.nobody x (Holds-without_rights g.label p z rights x T owner held);
     };
   }
-  alone-effect (Read z) allowed never = same_labels _ refl refl
-  alone-effect (Write z v) allowed never = same_labels _ refl refl
-  alone-effect (Append z v) allowed never = same_labels _ refl refl
-  alone-effect (Inspect z) allowed never = same_labels _ refl refl
-  alone-effect Listing allowed never = same_labels _ refl refl
-  alone-effect Retire allowed never = same_labels _ refl refl
+  alone-effect command allowed never = same_labels (effect g p command) refl refl
 
   -- a new vertex is another
   of_new : (new : ProtectionGraph) (rights : RightSet) → new.label ≡ with_rights g.label p g.made rights → g.made ≤ new.made → IsAlone which owner y new
@@ -112,17 +107,11 @@ module _ (owner y : ℕ) (g : ProtectionGraph) (alone : IsAlone changes owner y 
   held z right holds is = has-holds_all (g.label p z) (only right) holds right is
 
   left-effect : (command : Command) → Permits g.label g.value p command → (p ≡ owner → Puts y (Plain command) → ⊥) → (effect g p command).value y ≡ g.value y
-  left-effect (Take rights via z) allowed never = refl
-  left-effect (Grant rights via z) allowed never = refl
-  left-effect (Remove rights z) allowed never = refl
-  left-effect (Read z) allowed never = refl
   left-effect (Write z v) allowed never =
       elsewhere z v (λ at_y. never (alone.alone p W refl (subst (Holds g.label p W) at_y (held z W allowed.1 refl))) at_y)
   left-effect (Append z v) allowed never =
       elsewhere z v (λ at_y. never (alone.alone p A refl (subst (Holds g.label p A) at_y (held z A allowed.1 refl))) at_y)
-  left-effect (Inspect z) allowed never = refl
-  left-effect Listing allowed never = refl
-  left-effect Retire allowed never = refl
+  left-effect command allowed never = refl
 
   not_new : (value : Value) → with_value g.value g.made value y ≡ g.value y
   not_new value = let below = alone.made in cond-false (y == g.made) _ _ (ne_eqb y g.made (λ e. omega (arith, e, below)))

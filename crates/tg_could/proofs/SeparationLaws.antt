@@ -8,7 +8,7 @@ use Rattle.tg_rights.specs.declared.Right.{Right}
 use Rattle.tg_rights.specs.declared.Right.TheVariants.{T, G}
 use Rattle.tg_model.specs.declared.value.Value.{Value}
 use Rattle.tg_model.specs.declared.command.Command.{Command}
-use Rattle.tg_model.specs.declared.command.Command.TheVariants.{Take, Grant, Remove, Read, Write, Append, Inspect, List as Listing, Retire}
+use Rattle.tg_model.specs.declared.command.Command.TheVariants.{Take, Grant, Remove}
 use Rattle.tg_model.specs.declared.command.Deed.{Deed}
 use Rattle.tg_model.specs.declared.command.Deed.TheVariants.{Create, Spawn, Plain}
 use Rattle.tg_model.specs.Graph.{ProtectionGraph, IsSubject, with_rights, without_rights}
@@ -138,12 +138,7 @@ module _ (silent : ℕ → Type 0) (s : Sides) (x : ℕ) (r : Right) (y : ℕ) (
       Parts-with_rights s x r y g.label parts via z rights
       (may_grant via z rights (Holds-each g.label p via (only G) allowed.3 G refl) allowed.4)
   Parts-after (Remove rights z) allowed = Parts-without_rights s x r y g.label parts p z rights
-  Parts-after (Read z) allowed = parts
-  Parts-after (Write z v) allowed = parts
-  Parts-after (Append z v) allowed = parts
-  Parts-after (Inspect z) allowed = parts
-  Parts-after Listing allowed = parts
-  Parts-after Retire allowed = parts
+  Parts-after command allowed = parts
 
   Separates-effect : (command : Command) → Permits g.label g.value p command → Separates silent s x r y (effect g p command)
   Separates-effect command allowed =
@@ -274,12 +269,7 @@ module _ (g : ProtectionGraph) (made : IsMade g) (p : ℕ) (subject : IsSubject 
       ends_with g.made via z rights (omega arith)
       (λ q is. ((made.ends p via G (Holds-each g.label p via (only G) allowed.3 G refl)).1, (made.ends p z q (Holds-each g.label p z rights allowed.4 q is)).1))
   ends_after (Remove rights z) allowed = λ c d q h. made.ends c d q (Holds-without_rights g.label p z rights c q d h)
-  ends_after (Read z) allowed = made.ends
-  ends_after (Write z v) allowed = made.ends
-  ends_after (Append z v) allowed = made.ends
-  ends_after (Inspect z) allowed = made.ends
-  ends_after Listing allowed = made.ends
-  ends_after Retire allowed = made.ends
+  ends_after command allowed = made.ends
 
   ends_made : (rights : RightSet) → (c d : ℕ) (q : Right) → Holds (with_rights g.label p g.made rights) c q d → (c < g.made + 1) × (d < g.made + 1)
   ends_made rights = ends_with (g.made + 1) p g.made rights (omega arith) (λ q is. let below = made.subjects p subject in (omega (arith, below), omega arith))

@@ -4,7 +4,7 @@ use Rattle.tg_rights.specs.RightSet.{RightSet}
 use Rattle.tg_rights.specs.declared.Right.{Right}
 use Rattle.tg_model.specs.declared.opening.TheConstants.{MAX_WORKERS}
 use Rattle.tg_model.specs.declared.command.Command.{Command}
-use Rattle.tg_model.specs.declared.command.Command.TheVariants.{Take, Grant, Remove, Read, Write, Append, Inspect, List as Listing, Retire}
+use Rattle.tg_model.specs.declared.command.Command.TheVariants.{Take, Grant, Remove, Retire}
 use Rattle.tg_model.specs.declared.command.Deed.{Deed}
 use Rattle.tg_model.specs.declared.command.Deed.TheVariants.{Create, Spawn, Plain}
 use Rattle.tg_model.specs.Graph.{ProtectionGraph, IsSubject, with_rights}
@@ -29,12 +29,7 @@ module _ (g : ProtectionGraph) (made : IsMade g) (p : ℕ) (subject : IsSubject 
   no_more (Take rights via z) allowed h = not_new p z rights allowed.2 (λ e. allowed.2 (sym e)) h
   no_more (Grant rights via z) allowed h = not_new via z rights allowed.1 (λ e. allowed.2 (sym e)) h
   no_more (Remove rights z) allowed h = Holds-without_rights g.label p z rights x r y h
-  no_more (Read z) allowed h = h
-  no_more (Write z v) allowed h = h
-  no_more (Append z v) allowed h = h
-  no_more (Inspect z) allowed h = h
-  no_more Listing allowed h = h
-  no_more Retire allowed h = h
+  no_more command allowed h = h
 
   abbrev Still : ProtectionGraph → Type 0
   Still h = Holds h.label x r y → Holds g.label x r y
@@ -64,19 +59,12 @@ module _ (silent : ℕ → Type 0) (x : ℕ) (r : Right) (y : ℕ) where
     many = ⊎_elim (λ full. full) (λ none. absurd (none y acts)) is.full
 
     alone-after : (command : Command) → IsAlone (effect g y command)
-    alone-after (Take rights via z) = record { alone = is.alone; full = is.full }
-    alone-after (Grant rights via z) = record { alone = is.alone; full = is.full }
-    alone-after (Remove rights z) = record { alone = is.alone; full = is.full }
-    alone-after (Read z) = record { alone = is.alone; full = is.full }
-    alone-after (Write z v) = record { alone = is.alone; full = is.full }
-    alone-after (Append z v) = record { alone = is.alone; full = is.full }
-    alone-after (Inspect z) = record { alone = is.alone; full = is.full }
-    alone-after Listing = record { alone = is.alone; full = is.full }
     alone-after Retire =
         let left : (p : ℕ) → Acts silent (effect g y Retire) p → ⊥ = λ p later.
         let was = (is_without g.subjects y p).0 later.0 in
         was.1 (is.alone p (was.0, later.1)) in
         record { alone = λ p later. absurd (left p later); full = inr left }
+    alone-after command = record { alone = is.alone; full = is.full }
 
     pub alone-step : (deed : Deed) → IsAlone (step g y deed)
     alone-step (Create rights law state) = create_cases g y IsAlone rights law state is (λ room. record { alone = is.alone; full = is.full })

@@ -3,7 +3,7 @@ use Rattle.std.proofs.Common.{◌≡◌, ℕ, ◌+◌, Bool, true, false, cond, 
 use Rattle.tg_rights.specs.RightSet.{RightSet}
 use Rattle.tg_model.specs.declared.value.Value.{Value}
 use Rattle.tg_model.specs.declared.command.Command.{Command}
-use Rattle.tg_model.specs.declared.command.Command.TheVariants.{Read, Inspect, List as Listing}
+use Rattle.tg_model.specs.declared.command.Command.TheVariants.{Take}
 use Rattle.tg_model.specs.declared.command.Deed.{Deed}
 use Rattle.tg_model.specs.declared.command.Deed.TheVariants.{Create, Spawn, Plain}
 use Rattle.tg_model.specs.declared.opening.TheConstants.{MAX_WORKERS}
@@ -27,10 +27,8 @@ spawned_name false c g k n name answer = let no : ⊥ = cc in absurd no
 -- a command that is served is answered that it is done, or what it asked for
 pub each_reply : (P : Reply → Type 0) → P Done → ((values : List ℕ) → P (Values values)) → ((edges : List (ℕ × RightSet)) → P (Edges edges))
     → (label : ℕ → ℕ → RightSet) (value : ℕ → Option Value) (n x : ℕ) (command : Command) → P (reply_of label value n x command)
-each_reply P done values edges label value n x (Read y) = values _
-each_reply P done values edges label value n x (Inspect y) = edges _
-each_reply P done values edges label value n x Listing = edges _
-each_reply P done values edges label value n x command = done
+each_reply P done values edges label value n x (Take rights y z) = done
+each_reply P done values edges label value n x command = search
 
 -- none is answered a name
 reply_no_name : (label : ℕ → ℕ → RightSet) (value : ℕ → Option Value) (n x : ℕ) (command : Command) (name : ℕ) → reply_of label value n x command ≡ Name name → ⊥

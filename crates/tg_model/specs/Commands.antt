@@ -1,6 +1,5 @@
 -- The table of commands: what each asks for, by which word, and what stands behind the word.
-use Rattle.std.specs.Prelude.{ℕ, List, Option, Some, None, codes, if◌then◌else◌}
-use Rattle.std.specs.Str.{bytes_eq}
+use Rattle.std.specs.Prelude.{ℕ, List, codes}
 use Rattle.tg_model.specs.declared.command.Command.{Command}
 use Rattle.tg_model.specs.declared.command.Command.TheVariants.{Take, Grant, Remove, Read, Write, Append, Inspect, List as Listing, Retire}
 use Rattle.tg_model.specs.declared.reply.Rule.{Rule}
@@ -43,15 +42,3 @@ verb_of rule.Read = verb.Read
 verb_of rule.Write = verb.Write
 verb_of rule.Append = verb.Append
 verb_of rule.Inspect = verb.Inspect
-
--- and back: the command of a word with this behind it
-abbrev pub command_named : List ℕ → Arguments → Option Command
-command_named word behind.Bare =
-    if bytes_eq word (codes "list") then Some Listing else if bytes_eq word (codes "retire") then Some Retire else None
-command_named word (behind.Target y) =
-    if bytes_eq word (codes "read") then Some (Read y) else if bytes_eq word (codes "inspect") then Some (Inspect y) else None
-command_named word (behind.Value y v) =
-    if bytes_eq word (codes "write") then Some (Write y v) else if bytes_eq word (codes "append") then Some (Append y v) else None
-command_named word (behind.Rights y rights) = if bytes_eq word (codes "remove") then Some (Remove rights y) else None
-command_named word (behind.Move y z rights) =
-    if bytes_eq word (codes "take") then Some (Take rights y z) else if bytes_eq word (codes "grant") then Some (Grant rights y z) else None

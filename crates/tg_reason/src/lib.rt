@@ -45,20 +45,18 @@ enum Kind {
 // What stands behind the word of an edge line.
 const EDGE: &[Kind] = &[Kind::Number, Kind::Number, Kind::Rights];
 
-// The words of the commands, each with what stands behind it.
-const COMMANDS: &[(&str, &[Kind])] = &[
-    ("create", &[Kind::Rights]),
-    ("spawn", &[Kind::Rights]),
-    ("list", &[]),
-    ("retire", &[]),
-    ("read", &[Kind::Number]),
-    ("inspect", &[Kind::Number]),
-    ("remove", &[Kind::Number, Kind::Rights]),
-    ("write", &[Kind::Number, Kind::Number]),
-    ("append", &[Kind::Number, Kind::Number]),
-    ("take", &[Kind::Number, Kind::Number, Kind::Rights]),
-    ("grant", &[Kind::Number, Kind::Number, Kind::Rights]),
+// What may stand behind the word of a command, and one text of it.
+const BEHIND: &[(&[Kind], &str)] = &[
+    (&[], ""),
+    (&[Kind::Number], " 0"),
+    (&[Kind::Rights], " r"),
+    (&[Kind::Number, Kind::Number], " 0 0"),
+    (&[Kind::Number, Kind::Rights], " 0 r"),
+    (&[Kind::Number, Kind::Number, Kind::Rights], " 0 0 r"),
 ];
+
+// The longest word of a command has fewer bytes, and so has each text of what stands behind one.
+const MOST_WORD_BYTES: usize = 20;
 
 /// Why a bad line of a script is bad, where so many workers are there at first: its bytes without the line feed, and
 /// whether one stood behind them. One sentence without its dot.
@@ -169,14 +167,28 @@ fn reason_of_command(words: &str) -> &'static str {
     }
 }
 
-// What stands behind the command's word, where it is one.
+// What stands behind the command's word, where it is one: where some line has it.
 fn kinds_behind(word: &str) -> Option<&'static [Kind]> {
-    for (command, kinds) in COMMANDS {
-        if *command == word {
+    for (kinds, text) in BEHIND {
+        if is_command(word.as_bytes(), text.as_bytes()) {
             return Some(*kinds);
         }
     }
     None
+}
+
+// Whether the word is that of a command that has this text behind it.
+fn is_command(word: &[u8], text: &[u8]) -> bool {
+    if word.len() > MOST_WORD_BYTES || text.len() > MOST_WORD_BYTES {
+        return false;
+    }
+    let mut line = [b' '; 2 + 2 * MOST_WORD_BYTES];
+    let behind = 2 + word.len();
+    let end = behind + text.len();
+    line[0] = b'0';
+    line[2..behind].copy_from_slice(word);
+    line[behind..end].copy_from_slice(text);
+    read_line(&line[..end]).is_some()
 }
 
 // What is wrong with the words behind the command's.

@@ -1,10 +1,11 @@
 -- What a command does that is served, and how a refused growth is told.
-use Rattle.std.specs.Prelude.{◌≡◌, ◌↔◌, ℕ, ◌<◌, Result, IfOk, OnErr, OnOk}
+use Rattle.std.specs.Prelude.{◌≡◌, ◌↔◌, ℕ, ◌<◌, None, Result, IfOk, OnErr, OnOk}
 use Rattle.std.specs.List.{All, Contains}
+use Rattle.tg_rights.specs.RightSet.{no_rights}
 use Rattle.tg_model.specs.declared.command.Command.{Command}
-use Rattle.tg_model.specs.declared.command.Command.TheVariants.{Take, Grant, Remove, Read, Write, Append, Inspect, List as Listing, Retire}
+use Rattle.tg_model.specs.declared.command.Command.TheVariants.{Take, Grant}
 use Rattle.tg_model.specs.declared.reply.Reply.{Reply}
-use Rattle.tg_model.specs.declared.reply.Reply.TheVariants.{Done}
+use Rattle.tg_model.specs.declared.reply.Reply.TheVariants.{Done, Values, Edges}
 use Rattle.tg_model.specs.Rules.{labels_after, values_after, reply_of}
 use Rattle.tg_word.specs.Word.{nursery_space}
 use Rattle.tg_space.specs.SpaceTable.{SpaceTable}
@@ -28,17 +29,15 @@ pub record KeepsVertices (old new : HeapState) : Type 0 where
   pub limits : new.table.limits ≡ old.table.limits
   pub vertices : (x : ℕ) (p : Place) → IsVertexAt old.table.spaces x p → IsVertexAt new.table.spaces x p
 
--- the command changes nothing where it is served
+-- the reply shows something, and not only that it is done
+abbrev pub ShowsSomething : Reply → Type 0
+ShowsSomething (Values values) = Unit {0}
+ShowsSomething (Edges edges) = Unit {0}
+ShowsSomething reply = ⊥
+
+-- The command changes nothing where it is served: it is one whose reply shows something, on whatever graph, so on one without edges.
 abbrev pub OnlyLooks : Command → Type 0
-OnlyLooks (Take rights y z) = ⊥
-OnlyLooks (Grant rights y z) = ⊥
-OnlyLooks (Remove rights y) = ⊥
-OnlyLooks (Read y) = Unit {0}
-OnlyLooks (Write y v) = ⊥
-OnlyLooks (Append y v) = ⊥
-OnlyLooks (Inspect y) = Unit {0}
-OnlyLooks Listing = Unit {0}
-OnlyLooks Retire = ⊥
+OnlyLooks command = ShowsSomething (reply_of (λ x y. no_rights) (λ x. None) 0 0 command)
 
 -- What a command that is to be served leaves as it was: where it is served the vertices stay, one that only looks changes nothing, and
 -- nor does one that is refused.
@@ -57,13 +56,7 @@ pub record IsDoneInPlace {E : Type 0} (old new : HeapState) (result : Result Rep
 abbrev pub AddsEdge : Command → Type 0
 AddsEdge (Take rights y z) = Unit {0}
 AddsEdge (Grant rights y z) = Unit {0}
-AddsEdge (Remove rights y) = ⊥
-AddsEdge (Read y) = ⊥
-AddsEdge (Write y v) = ⊥
-AddsEdge (Append y v) = ⊥
-AddsEdge (Inspect y) = ⊥
-AddsEdge Listing = ⊥
-AddsEdge Retire = ⊥
+AddsEdge command = ⊥
 
 -- the rows of the same vertices have an index
 abbrev pub SameIndexes : HeapState → HeapState → Type 0
@@ -80,10 +73,4 @@ pub record IndexesAfter (old new : HeapState) (x : ℕ) (command : Command) : Ty
 abbrev pub LacksCellsToServe : SpaceTable → ℕ → ℕ → Command → Type 0
 LacksCellsToServe t nursery x (Take rights y z) = LacksCellsFor t (nursery_space nursery) 0 x z
 LacksCellsToServe t nursery x (Grant rights y z) = LacksCellsFor t (nursery_space nursery) 0 y z
-LacksCellsToServe t nursery x (Remove rights y) = ⊥
-LacksCellsToServe t nursery x (Read y) = ⊥
-LacksCellsToServe t nursery x (Write y v) = ⊥
-LacksCellsToServe t nursery x (Append y v) = ⊥
-LacksCellsToServe t nursery x (Inspect y) = ⊥
-LacksCellsToServe t nursery x Listing = ⊥
-LacksCellsToServe t nursery x Retire = ⊥
+LacksCellsToServe t nursery x command = ⊥

@@ -6,7 +6,7 @@ use Rattle.tg_rights.specs.RightSet.{RightSet}
 use Rattle.tg_model.specs.declared.value.Value.{Value}
 use Rattle.std.specs.Prelude.{Option}
 use Rattle.tg_model.specs.declared.command.Command.{Command}
-use Rattle.tg_model.specs.declared.command.Command.TheVariants.{Take, Grant, Remove, Read, Write, Append, Inspect, List as Listing, Retire}
+use Rattle.tg_model.specs.declared.command.Command.TheVariants.{Take}
 use Rattle.tg_model.specs.declared.command.Deed.TheVariants.{Plain}
 use Rattle.tg_model.specs.declared.reply.Reply.{Reply}
 use Rattle.tg_model.specs.declared.reply.Reply.TheVariants.{Done, Denied}
@@ -18,22 +18,21 @@ use Rattle.tg_graph.specs.Standing.{IsContentOf}
 use Rattle.tg_graph.proofs.StandingLaws.{answer_of-stands, denial_of-stands, StandsFor-denied, IsSameContent-self}
 use Rattle.tg_model.proofs.AllowedLaws.{permits-no_denial, step-allowed, step-denied}
 use Rattle.tg_model.proofs.NameLaws.{each_reply}
-use Rattle.tg_rules.specs.Effect.{IsReplyOn, OnlyLooks}
+use Rattle.tg_rules.specs.Effect.{IsReplyOn, OnlyLooks, ShowsSomething}
 use Rattle.tg_store.specs.Counts.{refusal_told}
 use Rattle.tg_store.specs.declared.census.Refusal.{Refusal}
 use Rattle.tg_store.specs.declared.census.Refusal.TheVariants.{Denied as DeniedAlone}
 
+-- whether something is shown rests on the command alone
+shows_alike : (label : ℕ → ℕ → RightSet) (value : ℕ → Option Value) (n x : ℕ) (command : Command) → ShowsSomething (reply_of label value n x command) → OnlyLooks command
+shows_alike label value n x (Take rights y z) shows = shows
+shows_alike label value n x command shows = shows
+
 -- a command that changes something is answered that it is done
 pub reply_of-done : (label : ℕ → ℕ → RightSet) (value : ℕ → Option Value) (n x : ℕ) (command : Command) → (OnlyLooks command → ⊥) → reply_of label value n x command ≡ Done
-reply_of-done label value n x (Take rights y z) changes = refl
-reply_of-done label value n x (Grant rights y z) changes = refl
-reply_of-done label value n x (Remove rights y) changes = refl
-reply_of-done label value n x (Read y) changes = absurd (changes tt)
-reply_of-done label value n x (Write y v) changes = refl
-reply_of-done label value n x (Append y v) changes = refl
-reply_of-done label value n x (Inspect y) changes = absurd (changes tt)
-reply_of-done label value n x Listing changes = absurd (changes tt)
-reply_of-done label value n x Retire changes = refl
+reply_of-done label value n x command changes =
+    each_reply (λ r. (ShowsSomething r → ⊥) → r ≡ Done) (λ none. refl) (λ values none. absurd (none tt)) (λ edges none. absurd (none tt)) label value n x command
+    (λ shows. changes (shows_alike label value n x command shows))
 
 module _ (c : Content) (g : ProtectionGraph) (stands : IsContentOf c g) (x : ℕ) (command : Command) (subject : IsSubject g x) (none : denial_of c.label c.value x command ≡ None) where
   -- all names are below the number of vertices ever made

@@ -1,7 +1,7 @@
 //! What stands out at a step.
 
 use crate::run::changed_by;
-use tg_model::{Cause, Command, Reply};
+use tg_model::{Arguments, Cause, Command, Reply};
 use tg_rights::Rights;
 use tg_text::{Answer, Line};
 
@@ -118,15 +118,11 @@ fn named(line: &Line) -> [Option<u64>; 3] {
 }
 
 fn named_by(worker: u64, command: Command) -> [Option<u64>; 3] {
-    match command {
-        Command::Take { via, target, .. } | Command::Grant { via, target, .. } => {
-            [Some(worker), Some(via), Some(target)]
-        }
-        Command::Remove { target, .. }
-        | Command::Read { target }
-        | Command::Write { target, .. }
-        | Command::Append { target, .. }
-        | Command::Inspect { target } => [Some(worker), Some(target), None],
-        Command::List | Command::Retire => [Some(worker), None, None],
+    match command.parts().1 {
+        Arguments::Bare => [Some(worker), None, None],
+        Arguments::Target { target }
+        | Arguments::Value { target, .. }
+        | Arguments::Rights { target, .. } => [Some(worker), Some(target), None],
+        Arguments::Move { via, target, .. } => [Some(worker), Some(via), Some(target)],
     }
 }
