@@ -5,43 +5,61 @@
 //! command line and the two answers.
 #![tactic(auto)]
 
-mod fault;
 mod words;
 
-use clap::ArgMatches;
-use fault::AuditEnd;
-use std::io::BufReader;
+use std::env;
+use std::io::{self, BufReader};
 use std::process::ExitCode;
-use tg_entries::audit_text;
-use tg_plain::{Program, obey};
-use words::COMMAND_LINE;
+use tg_entries::{TextFault, audit_text};
+use words::{HELP, MORE};
 
 // How many bytes are read at once.
 const BLOCK: usize = 65536;
 
 fn main(rt: HostRuntime) -> ExitCode {
-    ExitCode::from(obey(&rt, &COMMAND_LINE, &Auditing))
-}
-
-// The program.
-#[derive(Clone, Copy)]
-struct Auditing;
-
-impl Program<HostRuntime> for Auditing {
-    fn run(&self, rt: &HostRuntime, _matches: &ArgMatches) -> u8 {
-        match audit(rt) {
-            Ok(()) => 0,
-            Err(end) => {
-                let _ = eprintln!(rt; "tgaudit: {end}");
-                1
-            }
+    match obey(&rt) {
+        Ok(status) => ExitCode::from(status),
+        Err(fault) => {
+            let _ = eprintln!(rt; "tgaudit: {fault}");
+            ExitCode::from(1)
         }
     }
 }
 
-// Audits the text on standard input, and says how many entries it has.
-fn audit(rt: &HostRuntime) -> Result<(), AuditEnd> {
+// Does what the words of the command line ask for. The exit status.
+fn obey(rt: &HostRuntime) -> Result<u8, TextFault> {
+    match answer_words(rt)? {
+        Some(status) => Ok(status),
+        None => audit(rt),
+    }
+}
+
+// Answers the words of the command line, where there are any. The exit status.
+fn answer_words(rt: &HostRuntime) -> io::Result<Option<u8>> {
+    let Ok(mut words) = env::args(rt) else {
+        eprintln!(rt; "tgaudit: bad words")?;
+        return Ok(Some(2));
+    };
+    match words.nth(1) {
+        Some(word) => Ok(Some(answer(rt, word.as_str())?)),
+        None => Ok(None),
+    }
+}
+
+// Prints the help where the word asks for it, else that no other word is known. The exit status.
+fn answer(rt: &HostRuntime, word: &str) -> io::Result<u8> {
+    if word == "--help" || word == "-h" {
+        print!(rt; "{HELP}")?;
+        return Ok(0);
+    }
+    eprintln!(rt; "error: unexpected argument '{word}' found\n\nUsage: tgaudit\n\n{MORE}")?;
+    Ok(2)
+}
+
+// Audits the text on standard input, and says how many entries it has. The exit status.
+fn audit(rt: &HostRuntime) -> Result<u8, TextFault> {
     let mut reader = BufReader::with_capacity(rt.alloc(), BLOCK, rt.stdin())?;
     let count = audit_text(rt.alloc(), &mut reader)?;
-    Ok(println!(rt; "audit ok, {count} entries")?)
+    println!(rt; "audit ok, {count} entries")?;
+    Ok(0)
 }

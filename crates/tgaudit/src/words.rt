@@ -1,17 +1,21 @@
 //! The words of the command line.
 
-use tg_plain::CommandLine;
-
-const ABOUT: &str =
+/// The help. No other word is known.
+pub const HELP: &str =
     "Audits the text of a history: its opening, and a line for each entry with its reply
 
 Reads from standard input which form the text has, an opening, a line for each entry, and how many these are. Replays
 the entries on the plain graph of the opening, and compares each reply. Writes 'audit ok, N entries' where all is as the
 rules have it. Else standard error names the first line at fault, counted from 1; an entry by its place, from 0.
 
-It takes memory by the longest line, and by what the subjects reach, and not by the entries.";
+It takes memory by the longest line, and by what the subjects reach, and not by the entries.
 
-const FORM: &str = "The form:
+Usage: tgaudit
+
+Options:
+  -h, --help  Print help
+
+The form:
   kovshenul entries 1         the first line
   opening WORKERS VERTICES    workers at first, from 1 to 64, and vertices that may ever be made, up to 2^48
   worker c0                   for each worker: what it stores
@@ -34,12 +38,8 @@ Exit status:
 
 Example:
   printf 'kovshenul entries 1\\nopening 1 9\\nworker c0\\n0 create r c5 = ok 1\\n0 read 1 = ok 5\\nentries 2\\n' | tgaudit
-  writes 'audit ok, 2 entries'.";
+  writes 'audit ok, 2 entries'.
+";
 
-/// The command line: there are no options but for the help.
-pub const COMMAND_LINE: CommandLine = CommandLine {
-    name: "tgaudit",
-    about: ABOUT,
-    manual: FORM,
-    choices: &[],
-};
+/// What stands behind a fault of the words.
+pub const MORE: &str = "For more information, try '--help'.";
