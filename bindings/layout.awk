@@ -2,7 +2,8 @@
 # fields at the same offsets, each export the same parameters, each constant the number that the contracts give it.
 #
 # It reads crates/tg_c/src/forms.rt, records.rt, handle.rt, place.rt, answer.rt, exports.rt, could.rt, those of its auditor and its view,
-# crates/tg_c/specs/Forms.antt, Records.antt, Could.antt and View.antt, and crates/tg_rights/specs/RightSet.antt.
+# crates/tg_c/specs/Forms.antt, Records.antt, Could.antt and View.antt, behind them crates/tg_model/specs/Commands.antt, and
+# crates/tg_rights/specs/RightSet.antt.
 
 function same(is, wanted) {
     printf "SAME(%s, %s);\n", is, wanted
@@ -158,10 +159,19 @@ sum {
     }
 }
 
-/^rule_number rule\.[A-Z]/ {
+# of an entry's deed that is a command, and of a rule, which has the number of its command
+/^verb_number verb\.[A-Z]/ {
+    name = $2
+    sub(/^verb\./, "", name)
+    verb[name] = $4
+    same("TG_DEED_" capitals(name), $4)
+}
+
+/^verb_of rule\.[A-Z]/ {
     name = $2
     sub(/^rule\./, "", name)
-    same("TG_RULE_" toupper(name), $4)
+    sub(/^verb\./, "", $4)
+    same("TG_RULE_" capitals(name), verb[$4])
 }
 
 # of the causes, each by its own name in capitals
@@ -174,14 +184,7 @@ sum {
     same("TG_" capitals(name), number)
 }
 
-# of an entry's deed, those of a create and of a spawn by their own clauses
-/^command_out \(?command\.[A-Z]/ {
-    name = $0
-    sub(/^.*command\./, "", name)
-    sub(/[^A-Za-z].*$/, "", name)
-    same("TG_DEED_" capitals(name), number_after("= asked ", $0))
-}
-
+# of an entry's deed that makes a vertex
 /^deed_out \((Create|Spawn) / {
     name = $2
     sub(/^\(/, "", name)

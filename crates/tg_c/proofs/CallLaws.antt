@@ -1,21 +1,21 @@
 -- Calls on a place: what the store was found to answer, and what C is told of that.
 use Rattle.std.proofs.Common.{◌≡◌, ℕ, refl, true, false, sym, subst, ap, ◌∙◌, Result, Ok, Err, List, Option, Some, None}
 use Rattle.tg_rights.specs.RightSet.{RightSet}
-use Rattle.tg_model.specs.Graph.{ProtectionGraph, listing_of}
-use Rattle.tg_model.specs.Rules.{answer_of, denial_of, denied_or, state_of}
+use Rattle.tg_model.specs.Graph.{ProtectionGraph}
+use Rattle.tg_model.specs.Rules.{answer_of, denial_of, denied_or, reply_of}
 use Rattle.tg_model.specs.declared.command.Command.{Command}
 use Rattle.tg_model.specs.declared.command.Command.TheVariants as command
 use Rattle.tg_model.specs.declared.command.Deed.TheVariants.{Plain}
 use Rattle.tg_model.specs.declared.reply.Denial.{Denial}
 use Rattle.tg_model.specs.declared.reply.Reply.{Reply}
-use Rattle.tg_model.specs.declared.reply.Reply.TheVariants.{Denied, Done, Edges, Values}
+use Rattle.tg_model.specs.declared.reply.Reply.TheVariants.{Denied}
 use Rattle.tg_store.specs.Store.{StoreState}
 use Rattle.tg_c.specs.declared.place.StorePlace.{StorePlace}
 use Rattle.tg_store.specs.declared.making.Making.{Making}
 use Rattle.tg_c.specs.declared.forms.ValueIn.{ValueIn}
 use Rattle.tg_c.specs.declared.refusal.CallRefusal.{CallRefusal}
 use Rattle.tg_c.specs.declared.refusal.CallRefusal.TheVariants.{NotOpen}
-use Rattle.tg_c.specs.Calls.{Applies, Asks, AsksWithRights, IsCall, IsDoneOrDenied, IsListedOrDenied, IsReadOrDenied, IsReplyTo, IsShown, Makes, MakesOfForms, state_in}
+use Rattle.tg_c.specs.Calls.{Applies, Asks, AsksWithRights, IsCall, IsReplyTo, IsShown, Makes, MakesOfForms, state_in}
 use Rattle.tg_c.specs.Forms.{label_at}
 use Rattle.tg_c.specs.Statuses.{TellsNames, TellsNumber, of_apply, of_create, refused_as}
 
@@ -78,15 +78,9 @@ denied_or_told P (Some denial) r may is = may denial
 
 -- the graph's answer to a command is one that the command can have
 pub reply_fits : (asked : Command) (g : ProtectionGraph) (x : ℕ) → IsReplyTo asked (answer_of g x (Plain asked))
-reply_fits (command.Take rights via target) g x = denied_or_told (λ r. IsDoneOrDenied r) (denial_of g.label g.value x (command.Take rights via target)) Done (λ why. tt) tt
-reply_fits (command.Grant rights via target) g x = denied_or_told (λ r. IsDoneOrDenied r) (denial_of g.label g.value x (command.Grant rights via target)) Done (λ why. tt) tt
-reply_fits (command.Remove rights target) g x = denied_or_told (λ r. IsDoneOrDenied r) (denial_of g.label g.value x (command.Remove rights target)) Done (λ why. tt) tt
-reply_fits (command.Read target) g x = denied_or_told (λ r. IsReadOrDenied r) (denial_of g.label g.value x (command.Read target)) (Values (state_of (g.value target))) (λ why. tt) tt
-reply_fits (command.Write target value) g x = denied_or_told (λ r. IsDoneOrDenied r) (denial_of g.label g.value x (command.Write target value)) Done (λ why. tt) tt
-reply_fits (command.Append target value) g x = denied_or_told (λ r. IsDoneOrDenied r) (denial_of g.label g.value x (command.Append target value)) Done (λ why. tt) tt
-reply_fits (command.Inspect target) g x = denied_or_told (λ r. IsListedOrDenied r) (denial_of g.label g.value x (command.Inspect target)) (Edges (listing_of g.label g.made target)) (λ why. tt) tt
 reply_fits command.List g x = tt
 reply_fits command.Retire g x = tt
+reply_fits asked g x = denied_or_told (λ r. IsReplyTo asked r) (denial_of g.label g.value x asked) (reply_of g.label g.value g.made x asked) (λ why. tt) tt
 
 or_else : {X : Type 0} → X → Option X → X
 or_else other None = other

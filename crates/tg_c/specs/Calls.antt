@@ -2,9 +2,9 @@
 -- as that, and on an open one the store's answer is told, of which the clauses of the store's own call hold.
 use Rattle.std.specs.Prelude.{◌≡◌, ◌≢◌, ◌↔◌, ◌⊎◌, ◌≤◌, ◌<◌, ◌-◌, ◌==◌, ℕ, true, false, List, [], ◌∷◌, Some, None, Result, Ok, Err, IfOk, IfErr, OnOk, OnErr, length, map}
 use Rattle.std.specs.List.{IsDistinct}
-use Rattle.tg_rights.specs.RightSet.{RightSet, bits_of}
+use Rattle.tg_rights.specs.RightSet.{RightSet, bits_of, no_rights}
 use Rattle.tg_model.specs.Graph.{ProtectionGraph, IsSubject}
-use Rattle.tg_model.specs.Rules.{IsAllowed, step, answer_of}
+use Rattle.tg_model.specs.Rules.{IsAllowed, step, answer_of, reply_of}
 use Rattle.tg_model.specs.Opened.{HasLimitsTo, HasWorkers, start_of}
 use Rattle.tg_model.specs.declared.opening.TheConstants.{MAX_LASTING_VERTICES}
 use Rattle.tg_model.specs.declared.command.Command.{Command}
@@ -145,16 +145,17 @@ IsDone (reply.Edges edges) = ⊥
 IsDone reply.VerticesFull = ⊥
 IsDone reply.WorkersFull = ⊥
 
+-- a reply that shows as much as this one, or a denial
+abbrev pub IsAlikeOrDenied : Reply → Reply → Type 0
+IsAlikeOrDenied (reply.Values values) r = IsReadOrDenied r
+IsAlikeOrDenied (reply.Edges edges) r = IsListedOrDenied r
+IsAlikeOrDenied one r = IsDoneOrDenied r
+
+-- A list and a retire are never denied. What any other shows where it is served it shows on whatever graph, so on one without edges.
 abbrev pub IsReplyTo : Command → Reply → Type 0
-IsReplyTo (command.Take rights via target) r = IsDoneOrDenied r
-IsReplyTo (command.Grant rights via target) r = IsDoneOrDenied r
-IsReplyTo (command.Remove rights target) r = IsDoneOrDenied r
-IsReplyTo (command.Write target value) r = IsDoneOrDenied r
-IsReplyTo (command.Append target value) r = IsDoneOrDenied r
-IsReplyTo (command.Read target) r = IsReadOrDenied r
-IsReplyTo (command.Inspect target) r = IsListedOrDenied r
 IsReplyTo command.List r = IsListed r
 IsReplyTo command.Retire r = IsDone r
+IsReplyTo asked r = IsAlikeOrDenied (reply_of (λ x y. no_rights) (λ x. None) 0 0 asked) r
 
 -- ---- creates and spawns
 

@@ -5,10 +5,12 @@ use Rattle.std.specs.List.{All}
 use Rattle.tg_rights.specs.RightSet.{RightSet, no_rights, set_of_bits, label_of, bits_of}
 use Rattle.tg_model.specs.declared.reply.Denial.{Denial}
 use Rattle.tg_model.specs.declared.reply.Rule.{Rule}
-use Rattle.tg_model.specs.declared.reply.Rule.TheVariants as rule
 use Rattle.tg_model.specs.declared.reply.Cause.{Cause}
 use Rattle.tg_model.specs.declared.reply.Cause.TheVariants.{NotDistinct, Missing, NotLog}
 use Rattle.tg_model.specs.declared.edge.Edge.{Edge}
+use Rattle.tg_model.specs.Commands.{verb_of}
+use Rattle.tg_model.specs.declared.verb.Verb.{Verb}
+use Rattle.tg_model.specs.declared.verb.Verb.TheVariants as verb
 use Rattle.tg_model.specs.declared.value.Value.{Value}
 use Rattle.tg_model.specs.declared.law.Law.TheVariants as law
 use Rattle.tg_model.specs.Opened.{Plan, JoinsWorkers}
@@ -77,14 +79,21 @@ plan_of workers edges max_vertices =
 
 -- ---- out
 
+-- each command has its number
+abbrev pub verb_number : Verb → ℕ
+verb_number verb.Take = 0
+verb_number verb.Grant = 1
+verb_number verb.Remove = 2
+verb_number verb.Read = 3
+verb_number verb.Write = 4
+verb_number verb.Append = 5
+verb_number verb.Inspect = 6
+verb_number verb.List = 8
+verb_number verb.Retire = 9
+
+-- and a rule that of the command that it is of
 abbrev pub rule_number : Rule → ℕ
-rule_number rule.Take = 0
-rule_number rule.Grant = 1
-rule_number rule.Remove = 2
-rule_number rule.Read = 3
-rule_number rule.Write = 4
-rule_number rule.Append = 5
-rule_number rule.Inspect = 6
+rule_number rule = verb_number (verb_of rule)
 
 abbrev pub denial_at : ℕ → Cause → DenialOut
 denial_at rule NotDistinct = record { rule = rule; cause = 0; from = 0; to = 0; rights = 0 }

@@ -2,9 +2,11 @@
 use Rattle.std.specs.Prelude.{ℕ, List, [], Result, Err, length, slice_get, ok_or, nat_le, if◌then◌else◌}
 use Rattle.tg_rights.specs.RightSet.{RightSet, bits_of}
 use Rattle.tg_model.specs.declared.command.Command.{Command}
-use Rattle.tg_model.specs.declared.command.Command.TheVariants as command
 use Rattle.tg_model.specs.declared.command.Deed.{Deed}
 use Rattle.tg_model.specs.declared.command.Deed.TheVariants.{Plain, Create, Spawn}
+use Rattle.tg_model.specs.declared.verb.Arguments.{Arguments}
+use Rattle.tg_model.specs.declared.verb.Arguments.TheVariants as behind
+use Rattle.tg_model.specs.Commands.{parts_of}
 use Rattle.tg_model.specs.declared.law.Law.{Law}
 use Rattle.tg_model.specs.declared.law.Law.TheVariants as law
 use Rattle.tg_model.specs.declared.reply.Reply.{Reply}
@@ -16,7 +18,7 @@ use Rattle.tg_c.specs.declared.records.RecordOut.{RecordOut}
 use Rattle.tg_c.specs.declared.records.ReplyOut.{ReplyOut}
 use Rattle.tg_c.specs.declared.refusal.CallRefusal.{CallRefusal}
 use Rattle.tg_c.specs.declared.refusal.CallRefusal.TheVariants as refusal
-use Rattle.tg_c.specs.Forms.{denial_out}
+use Rattle.tg_c.specs.Forms.{denial_out, verb_number}
 
 -- ---- the deed
 
@@ -31,17 +33,16 @@ abbrev pub asked : ℕ → ℕ → ℕ → ℕ → ℕ → DeedOut
 asked kind via target rights value =
     record { kind = kind; law = 0; most = 0; via = via; target = target; rights = rights; value = value }
 
--- each command has its number, and what it is about: via, target, rights and value
+-- what stands behind the word of a command with this number: via, target, rights and value
+abbrev pub arguments_out : ℕ → Arguments → DeedOut
+arguments_out kind behind.Bare = asked kind 0 0 0 0
+arguments_out kind (behind.Target target) = asked kind 0 target 0 0
+arguments_out kind (behind.Value target value) = asked kind 0 target 0 value
+arguments_out kind (behind.Rights target rights) = asked kind 0 target (bits_of rights) 0
+arguments_out kind (behind.Move via target rights) = asked kind via target (bits_of rights) 0
+
 abbrev pub command_out : Command → DeedOut
-command_out (command.Take rights via target) = asked 0 via target (bits_of rights) 0
-command_out (command.Grant rights via target) = asked 1 via target (bits_of rights) 0
-command_out (command.Remove rights target) = asked 2 0 target (bits_of rights) 0
-command_out (command.Read target) = asked 3 0 target 0 0
-command_out (command.Write target value) = asked 4 0 target 0 value
-command_out (command.Append target value) = asked 5 0 target 0 value
-command_out (command.Inspect target) = asked 6 0 target 0 0
-command_out command.List = asked 8 0 0 0 0
-command_out command.Retire = asked 9 0 0 0 0
+command_out command = arguments_out (verb_number (parts_of command).0) (parts_of command).1
 
 -- the making of a vertex, an object or a subject
 abbrev pub making_out : ℕ → RightSet → Law → DeedOut

@@ -5,9 +5,9 @@ ghost use Rattle.tg_model.specs.declared.reply.Reply.TheVariants.{Done};
 ghost use Rattle.tg_c.specs.Records.{numbers_in};
 ghost use Rattle.tg_c.specs.Could.{turn_out as turn_told};
 
-use crate::forms::{DenialOut, denial_out, rights_out};
+use crate::forms::{DenialOut, denial_out, rights_out, verb_number};
 use tg_journal::Entry;
-use tg_model::{Command, Deed, Law, Reply};
+use tg_model::{Arguments, Command, Deed, Law, Reply};
 use tg_rights::Label;
 
 /// An entry of the journal. What its deed or its reply hasn't is 0. 112 bytes.
@@ -16,8 +16,7 @@ use tg_rights::Label;
 pub struct RecordOut {
     /// The worker that asked.
     pub worker: u64,
-    /// What it asked for: 0 take, 1 grant, 2 remove, 3 read, 4 write, 5 append, 6 inspect, 8 list, 9 retire, 16 create,
-    /// 17 spawn.
+    /// What it asked for: the number of a command (`verb_number`), or 16 create, 17 spawn.
     pub deed: u32,
     /// What was answered: 0 done, 1 denied, 2 a name, 3 values, 4 edges, 16 that no more vertices may be made, 17 that
     /// no more subjects may be active.
@@ -141,24 +140,20 @@ fn made(kind: u32, label: Label, law: Law) -> DeedOut
 fn command_out(command: Command) -> DeedOut
     ensures { result ≡ command_told command }
 {
-    match command {
-        Command::Take {
-            rights,
+    let (verb, arguments) = command.parts();
+    let kind = verb_number(verb);
+    match arguments {
+        Arguments::Bare => asked(kind, 0, 0, 0, 0),
+        Arguments::Target { target } => asked(kind, 0, target, 0, 0),
+        Arguments::Value { target, value } => asked(kind, 0, target, 0, value),
+        Arguments::Rights { target, rights } => {
+            asked(kind, 0, target, rights_out(Some(rights)), 0)
+        }
+        Arguments::Move {
             via,
             target,
-        } => asked(0, via, target, rights_out(Some(rights)), 0),
-        Command::Grant {
             rights,
-            via,
-            target,
-        } => asked(1, via, target, rights_out(Some(rights)), 0),
-        Command::Remove { rights, target } => asked(2, 0, target, rights_out(Some(rights)), 0),
-        Command::Read { target } => asked(3, 0, target, 0, 0),
-        Command::Write { target, value } => asked(4, 0, target, 0, value),
-        Command::Append { target, value } => asked(5, 0, target, 0, value),
-        Command::Inspect { target } => asked(6, 0, target, 0, 0),
-        Command::List => asked(8, 0, 0, 0, 0),
-        Command::Retire => asked(9, 0, 0, 0, 0),
+        } => asked(kind, via, target, rights_out(Some(rights)), 0),
     }
 }
 

@@ -121,17 +121,5 @@ not_retire workers x y true low is by =
 
 -- a line that another runs is no retire of a worker's
 pub others_retire : (workers x : ℕ) (l : Line) → x < workers → is_run_by workers x l ≡ false → is_retire_of x l ≡ false
-others_retire workers x (line.Edge edge) low by = refl
-others_retire workers x (line.Create y label) low by = refl
-others_retire workers x (line.Spawn y label) low by = refl
-others_retire workers x (line.Plain y (command.Take rights via target)) low by = refl
-others_retire workers x (line.Plain y (command.Grant rights via target)) low by = refl
-others_retire workers x (line.Plain y (command.Remove rights target)) low by = refl
-others_retire workers x (line.Plain y (command.Read target)) low by = refl
-others_retire workers x (line.Plain y (command.Write target value)) low by = refl
-others_retire workers x (line.Plain y (command.Append target value)) low by = refl
-others_retire workers x (line.Plain y (command.Inspect target)) low by = refl
-others_retire workers x (line.Plain y command.List) low by = refl
 others_retire workers x (line.Plain y command.Retire) low by = not_retire workers x y (y == x) low refl by
-others_retire workers x line.Full low by = refl
-others_retire workers x line.Minor low by = refl
+others_retire workers x l low by = refl
