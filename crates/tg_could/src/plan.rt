@@ -1,7 +1,7 @@
 //! Turns that are to lead to a right, tried on the graph of a picture. Nothing has to be believed of them: they are
 //! replayed.
 use crate::chains::Chains;
-use crate::growth::push;
+use crate::growth::{note, push};
 use crate::search::{Found, Step};
 use crate::separation::{comes_later, has, single};
 use crate::trial::Trial;
@@ -417,7 +417,7 @@ fn giver_to(picture: &Picture, found: &Found, x: u64) -> Option<Step> {
 }
 
 /// Turns after which x is to hold the right over y, by what the search has found; `rows` are the edges from x and from
-/// whom it found. Fails only when out of memory.
+/// whom it found, and note whether memory was wanting. Fails only when out of memory.
 pub(crate) fn turns_to<'a>(
     alloc: Global,
     picture: &'a Picture,
@@ -442,8 +442,9 @@ pub(crate) fn turns_to<'a>(
         taken: Ok(()),
     };
     plan.try_lead(alloc, x);
-    plan.taken?;
     plan.trial.forget_added();
+    let taken = plan.taken;
+    note(&mut plan.trial.rows.grown, taken);
     Ok(Planned {
         turns: plan.turns,
         made: plan.trial.made,
