@@ -56,10 +56,6 @@ pub record Separates (silent : ℕ → Type 0) (s : Sides) (x : ℕ) (right : Ri
 
 -- ---- as marks
 
--- a number whose bit is set
-unfoldable pub is_marked : List ℕ → ℕ → Bool
-is_marked words number = bit_and (slice_index_or words (number / 64) 0 / 2 ^ (number % 64)) 1 == 1
-
 -- the two bits of a number, with those of the numbers behind it above them
 unfoldable pub pair_in : List ℕ → ℕ → ℕ
 pair_in words number = slice_index_or words (number / 32) 0 / 2 ^ (number % 32 * 2)

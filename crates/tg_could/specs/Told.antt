@@ -5,14 +5,13 @@ use Rattle.tg_rights.specs.declared.Right.{Right}
 use Rattle.tg_rights.specs.declared.Right.TheVariants.{G}
 use Rattle.tg_model.specs.declared.edge.Edge.{Edge}
 use Rattle.tg_model.specs.Picture.{Shown}
-use Rattle.tg_could.specs.Names.{number_in}
-use Rattle.tg_could.specs.Separation.{Sides, Walks, ComesLater, is_marked}
+use Rattle.tg_could.specs.Separation.{Sides, Walks, ComesLater, sides_of}
 use Rattle.tg_could.specs.declared.who.Who.{Who}
 use Rattle.tg_could.specs.declared.who.Told.{Told}
 
 -- a name is told
 abbrev pub is_told : Told → ℕ → Bool
-is_told told x = is_marked told.marks.words.items (number_in told.names x)
+is_told told x = (sides_of told.marks).back x
 
 abbrev pub IsTold : Told → ℕ → Type 0
 IsTold told x = is_told told x ≡ true

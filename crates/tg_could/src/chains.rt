@@ -1,6 +1,6 @@
 //! The edges from each vertex, as chains through a list of edges and those that came since. Nothing is believed of
 //! them: who follows one looks at the edge.
-use crate::growth::push;
+use crate::growth::{push, table};
 use crate::names::Names;
 use std::alloc::{AllocError, Global};
 use tg_model::{Edge, Picture};
@@ -50,30 +50,34 @@ pub(crate) struct Chains {
 }
 
 impl Chains {
-    /// All edges of a picture. Fails only when out of memory, or notes it.
-    pub(crate) fn of(alloc: Global, picture: &Picture) -> Result<Chains, AllocError> {
-        let mut chains = Chains::none(alloc, Names::of(alloc, picture)?, picture)?;
+    /// All edges of a picture.
+    pub(crate) fn of(alloc: Global, picture: &Picture) -> Chains {
+        let mut grown = Ok(());
+        let names = Names::of(alloc, picture, &mut grown);
+        let mut chains = Chains::none(alloc, names, picture, grown);
         for (at, edge) in picture.edges().iter().enumerate() {
             let number = chains.names.number(edge.from);
             chains.put(place(at), number);
         }
-        Ok(chains)
+        chains
     }
 
-    /// No chain has an edge of a picture. Fails only when out of memory.
+    /// No chain has an edge of a picture; `grown` tells whether memory was wanting for the names.
     pub(crate) fn none(
         alloc: Global,
         names: Names,
         picture: &Picture,
-    ) -> Result<Chains, AllocError> {
-        Ok(Chains {
-            first: vec![in alloc; NONE; names.len()]?,
+        mut grown: Result<(), AllocError>,
+    ) -> Chains {
+        let first = table(alloc, NONE, names.len(), &mut grown);
+        Chains {
             names,
             made: picture.made(),
+            first,
             links: Vec::new(alloc),
             edges: picture.edges().len(),
-            grown: Ok(()),
-        })
+            grown,
+        }
     }
 
     /// Puts an edge in front of the others from the vertex with a number.
@@ -114,7 +118,12 @@ impl Chains {
 
     /// The link at a place.
     pub(crate) fn at(&self, place: u32) -> Option<Chained> {
-        self.links.get(place as usize).copied()
+        let at = place as usize;
+        if at < self.links.len() {
+            Some(self.links[at])
+        } else {
+            None
+        }
     }
 
     // The number of a vertex of the picture, or of one that came since.

@@ -1,7 +1,7 @@
 //! What is told of a question when no turns are.
 
 /// Whether someone could ever come to hold a right.
-#[derive(Clone, Copy, Debug, PartialEq, Eq, Drop)]
+#[derive(Clone, Copy, PartialEq, Eq, Drop)]
 pub enum Chance {
     /// Never, after no list of turns of those who act.
     Never,

@@ -1,6 +1,6 @@
 //! Growth whose want of memory is noted, and told at the end: so each step of a search is a line, and a proof looks at
 //! no exit behind it.
-use std::alloc::AllocError;
+use std::alloc::{AllocError, Global};
 
 /// Pushes an item, unless memory was wanting before; notes whether it was now.
 #[inline]
@@ -14,6 +14,37 @@ pub(crate) fn push<T: Drop>(list: &mut Vec<T>, item: T, grown: &mut Result<(), A
 pub(crate) fn note(grown: &mut Result<(), AllocError>, elsewhere: Result<(), AllocError>) {
     if grown.is_ok() {
         *grown = elsewhere;
+    }
+}
+
+/// A list of so many times an item; an empty one where memory is wanting, which is noted.
+pub(crate) fn table<T: Copy + Drop>(
+    alloc: Global,
+    item: T,
+    count: usize,
+    grown: &mut Result<(), AllocError>,
+) -> Vec<T> {
+    match vec![in alloc; item; count] {
+        Ok(list) => list,
+        Err(error) => {
+            *grown = Err(error);
+            Vec::new(alloc)
+        }
+    }
+}
+
+/// A list of these numbers; an empty one where memory is wanting, which is noted.
+pub(crate) fn copied(
+    alloc: Global,
+    numbers: &[u64],
+    grown: &mut Result<(), AllocError>,
+) -> Vec<u64> {
+    match Vec::from_slice(alloc, numbers) {
+        Ok(list) => list,
+        Err(error) => {
+            *grown = Err(error);
+            Vec::new(alloc)
+        }
     }
 }
 

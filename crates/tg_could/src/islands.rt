@@ -4,6 +4,7 @@ ghost use Rattle.std.specs.List.{All};
 ghost use Rattle.tg_could.specs.View.{JoinsEntry, IsOfOne, word_of as word_in};
 
 use crate::entries::Entry;
+use crate::growth::table;
 use crate::names::Names;
 use crate::separation::{has, leads};
 use crate::walks::{bit_of, walks};
@@ -20,18 +21,22 @@ pub(crate) struct Islands {
 }
 
 impl Islands {
-    /// The islands of those who act, of whom the first 64 count. Fails only when out of memory.
+    /// The islands of those who act, of whom the first 64 count. Notes whether memory was wanting.
     pub(crate) fn of(
         alloc: Global,
         names: &Names,
         entries: &[Entry],
         actors: &[u64],
-    ) -> Result<Islands, AllocError> {
-        let mut reached = walks(alloc, names, entries, actors)?;
-        let joined = joined(alloc, names, entries, actors, reached.as_slice())?;
+        grown: &mut Result<(), AllocError>,
+    ) -> Islands {
+        let mut reached = walks(alloc, names, entries, actors, grown);
+        let mut joined = table(alloc, 0, actors.len(), grown);
+        join_actors(joined.as_mut_slice(), names, actors, reached.as_slice());
+        join_entries(joined.as_mut_slice(), entries, reached.as_slice());
         tell_islands(joined.as_slice(), reached.as_mut_slice());
-        let granted = granted_by(alloc, names.len(), entries, reached.as_slice())?;
-        Ok(Islands { reached, granted })
+        let mut granted = table(alloc, 0, names.len(), grown);
+        add_granted(granted.as_mut_slice(), entries, reached.as_slice());
+        Islands { reached, granted }
     }
 
     /// Whether each of these is of one island.
@@ -113,38 +118,16 @@ fn tell_islands(joined: &[u64], reached: &mut [u64]) {
     }
 }
 
-// For each number the islands of which one has grant over its vertex. Fails only when out of memory.
-fn granted_by(
-    alloc: Global,
-    count: usize,
-    entries: &[Entry],
-    reached: &[u64],
-) -> Result<Vec<u64>, AllocError> {
-    let mut granted = vec![in alloc; 0; count]?;
+// Adds to each number's word the islands of which one has grant over its vertex.
+fn add_granted(granted: &mut [u64], entries: &[Entry], reached: &[u64]) {
     for entry in entries {
-        if !has(entry.label, Right::G) {
-            continue;
-        }
-        let word = word_of(reached, entry.from as u64);
-        if word != 0 {
-            add(granted.as_mut_slice(), entry.to as u64, word);
+        if has(entry.label, Right::G) {
+            let word = word_of(reached, entry.from as u64);
+            if word != 0 {
+                add(granted, entry.to as u64, word);
+            }
         }
     }
-    Ok(granted)
-}
-
-// For each who acts the word of all who are of one island with it. Fails only when out of memory.
-fn joined(
-    alloc: Global,
-    names: &Names,
-    entries: &[Entry],
-    actors: &[u64],
-    reached: &[u64],
-) -> Result<Vec<u64>, AllocError> {
-    let mut joined = vec![in alloc; 0; actors.len()]?;
-    join_actors(joined.as_mut_slice(), names, actors, reached);
-    join_entries(joined.as_mut_slice(), entries, reached);
-    Ok(joined)
 }
 
 // Each who acts is of an island with those who walk to it.

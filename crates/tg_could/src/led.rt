@@ -20,10 +20,19 @@ use tg_model::{Edge, Picture};
 use tg_rights::Right;
 
 /// The names that walks lead to, forward and back.
-#[derive(Drop)]
 pub(crate) struct LedNames {
     forward: IndexSet<u64>,
     back: IndexSet<u64>,
+}
+
+// It is written out, so that who gives them up doesn't prove again how each part is.
+impl Drop for LedNames {
+    fn drop(self) {
+        let Self {
+            forward: _forward,
+            back: _back,
+        } = self;
+    }
 }
 
 /// Whether x could come to hold a right over y, after turns that aren't told; else it never does. Goes over all edges

@@ -1,7 +1,7 @@
 //! Edges at each vertex, as chains of links, each with the vertex at the edge's other end. Nothing has to be believed
 //! of them: what is found by them is checked.
 use crate::chains::{NONE, number_at, place};
-use crate::growth::{note, push};
+use crate::growth::{note, push, table};
 use std::alloc::{AllocError, Global};
 
 // How many vertices are numbered.
@@ -43,15 +43,20 @@ pub(crate) struct Links {
 }
 
 impl Links {
-    /// No vertex has a link; there is room for so many. Fails only when out of memory.
-    pub(crate) fn with_room(alloc: Global, made: usize, room: usize) -> Result<Links, AllocError> {
+    /// No vertex has a link; there is room for so many. Notes whether memory was wanting.
+    pub(crate) fn with_room(
+        alloc: Global,
+        made: usize,
+        room: usize,
+        grown: &mut Result<(), AllocError>,
+    ) -> Links {
         let mut links = Vec::new(alloc);
-        links.try_reserve(room)?;
-        Ok(Links {
-            first: vec![in alloc; NONE; made]?,
+        note(grown, links.try_reserve(room));
+        Links {
+            first: table(alloc, NONE, made, grown),
             links,
             grown: Ok(()),
-        })
+        }
     }
 
     /// Adds a link of a vertex, by which its other end gets into the first set, into the second, or into both.
@@ -68,9 +73,10 @@ impl Links {
     /// Ties the links of each vertex, the last in front; notes whether memory was wanting for one of them.
     pub(crate) fn tie(&mut self, grown: &mut Result<(), AllocError>) {
         for (at, link) in self.links.iter_mut().enumerate() {
-            if let Some(first) = self.first.get_mut(link.next as usize) {
-                link.next = *first;
-                *first = place(at);
+            let vertex = link.next as usize;
+            if vertex < self.first.len() {
+                link.next = self.first[vertex];
+                self.first[vertex] = place(at);
             }
         }
         note(grown, self.grown);
@@ -83,6 +89,11 @@ impl Links {
 
     /// The link at a place.
     pub(crate) fn at(&self, place: u32) -> Option<Link> {
-        self.links.get(place as usize).copied()
+        let at = place as usize;
+        if at < self.links.len() {
+            Some(self.links[at])
+        } else {
+            None
+        }
     }
 }

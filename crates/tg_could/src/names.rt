@@ -4,7 +4,7 @@
 ghost use Rattle.std.specs.Prelude.{◌≡◌, ◌+◌, ◌≤◌, length};
 ghost use Rattle.tg_could.specs.Names.{halved, number_in, place_in};
 
-use crate::growth::push;
+use crate::growth::{copied, push};
 use crate::words::word_of;
 use std::alloc::{AllocError, Global};
 use tg_model::Picture;
@@ -13,7 +13,6 @@ use tg_model::Picture;
 const SPARSE: u64 = 4;
 
 /// A number for each name.
-#[derive(Drop)]
 pub(crate) enum Names {
     /// Each of so many names is its own number: the picture shows a good part of them.
     Each(u64),
@@ -22,25 +21,38 @@ pub(crate) enum Names {
     Few(Vec<u64>, u32),
 }
 
+// It is written out, so that who gives them up doesn't prove again how each part is.
+impl Drop for Names {
+    fn drop(self) {
+        match self {
+            Names::Each(_) => {}
+            Names::Few(_names, _) => {}
+        }
+    }
+}
+
 impl Names {
-    /// Numbers for the names of a picture. Fails only when out of memory.
-    pub(crate) fn of(alloc: Global, picture: &Picture) -> Result<Names, AllocError> {
+    /// Numbers for the names of a picture. Notes whether memory was wanting.
+    pub(crate) fn of(
+        alloc: Global,
+        picture: &Picture,
+        grown: &mut Result<(), AllocError>,
+    ) -> Names {
         let shown = (picture.edges().len() as u64).saturating_add(picture.subjects().len() as u64);
         if picture.made() / SPARSE <= shown {
-            return Ok(Names::Each(picture.made()));
+            return Names::Each(picture.made());
         }
-        let names = names_shown(alloc, picture)?;
+        let names = names_shown(alloc, picture, grown);
         let steps = 64_u32.saturating_sub((names.len() as u64).leading_zeros());
-        Ok(Names::Few(names, steps))
+        Names::Few(names, steps)
     }
 
-    /// The same numbers in memory of their own. Fails only when out of memory.
-    pub(crate) fn copy(&self, alloc: Global) -> Result<Names, AllocError> {
+    /// The same numbers in memory of their own. Notes whether memory was wanting.
+    pub(crate) fn copy(&self, alloc: Global, grown: &mut Result<(), AllocError>) -> Names {
         match self {
-            Names::Each(made) => Ok(Names::Each(*made)),
+            Names::Each(made) => Names::Each(*made),
             Names::Few(names, steps) => {
-                let copied = Vec::from_slice(alloc, names.as_slice())?;
-                Ok(Names::Few(copied, *steps))
+                Names::Few(copied(alloc, names.as_slice(), grown), *steps)
             }
         }
     }
@@ -72,23 +84,21 @@ impl Names {
     }
 }
 
-// The names of the subjects of a picture, and of both ends of its edges, each once, rising. Fails only when out of
-// memory.
-fn names_shown(alloc: Global, picture: &Picture) -> Result<Vec<u64>, AllocError> {
-    let mut names = Vec::from_slice(alloc, picture.subjects())?;
-    let mut grown = Ok(());
-    let mut last = None;
+// The names of the subjects of a picture, and of both ends of its edges, each once, rising. No vertex has the last
+// number. Notes whether memory was wanting.
+fn names_shown(alloc: Global, picture: &Picture, grown: &mut Result<(), AllocError>) -> Vec<u64> {
+    let mut names = copied(alloc, picture.subjects(), grown);
+    let mut last = u64::MAX;
     for edge in picture.edges() {
-        if last != Some(edge.from) {
-            push(&mut names, edge.from, &mut grown);
-            last = Some(edge.from);
+        if last != edge.from {
+            push(&mut names, edge.from, grown);
+            last = edge.from;
         }
-        push(&mut names, edge.to, &mut grown);
+        push(&mut names, edge.to, grown);
     }
-    grown?;
     names.sort_unstable();
     names.dedup();
-    Vec::from_slice(alloc, names.as_slice())
+    copied(alloc, names.as_slice(), grown)
 }
 
 // The half of a part of a list in which a name is looked for: where it begins, and how long it is.

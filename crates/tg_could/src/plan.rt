@@ -1,18 +1,13 @@
 //! Turns that are to lead to a right, tried on the graph of a picture. Nothing has to be believed of them: they are
 //! replayed.
 use crate::chains::Chains;
-use crate::growth::push;
+use crate::growth::{note, push};
 use crate::search::{Found, Step};
-use crate::separation::{comes_later, has};
+use crate::separation::{comes_later, has, single};
 use crate::trial::Trial;
 use std::alloc::{AllocError, Global};
 use tg_model::{Command, Deed, Law, MAX_WORKERS, Numbers, Picture};
 use tg_rights::{Label, Right, Rights};
-
-// The label of one right.
-fn single(right: Right) -> Label {
-    Label::new(Rights::of(right)).unwrap()
-}
 
 // The label of take and grant.
 fn both() -> Label {
@@ -64,18 +59,14 @@ struct Plan<'a> {
 impl<'a> Plan<'a> {
     // Takes a turn, whatever comes of it.
     fn turn(&mut self, worker: u64, deed: Deed) {
-        push(&mut self.turns, (worker, deed), &mut self.taken);
+        let turn = (worker, deed);
         if self.taken.is_ok() {
-            self.taken = self.take_last();
+            let taken = self.trial.take_turn(self.picture.edges(), &[], 0, &turn);
+            if let Err(error) = taken {
+                self.taken = Err(error);
+            }
         }
-    }
-
-    // Takes the last turn. Fails only when out of memory.
-    fn take_last(&mut self) -> Result<(), AllocError> {
-        if let Some(turn) = self.turns.last() {
-            self.trial.take_turn(self.picture.edges(), &[], 0, turn)?;
-        }
-        Ok(())
+        push(&mut self.turns, turn, &mut self.taken);
     }
 
     // Whether a vertex has all of these rights over another.
@@ -318,15 +309,12 @@ impl<'a> Plan<'a> {
         spawned
     }
 
-    // Leads the right to x, where the search did. Fails only when out of memory.
-    fn try_lead(&mut self, alloc: Global, x: u64) -> Result<(), AllocError> {
-        let Some(end) = end_of(self.picture, self.found, x) else {
-            return Ok(());
-        };
-        self.trial.rows.grown?;
-        let path = self.found.path(alloc, end)?;
-        self.lead(path.as_slice(), x);
-        self.taken
+    // Leads the right to x, where the search did.
+    fn try_lead(&mut self, alloc: Global, x: u64) {
+        if let Some(end) = end_of(self.picture, self.found, x) {
+            let path = self.found.path(alloc, end, &mut self.taken);
+            self.lead(path.as_slice(), x);
+        }
     }
 
     // Leads the right to x along a path, unless x holds it.
@@ -338,11 +326,6 @@ impl<'a> Plan<'a> {
         let source = vertex_of(path.first(), x);
         self.goal.source = source;
         self.make_names(x, vertex_of(path.last(), x), source);
-        self.follow(path, x);
-    }
-
-    // Goes a path to its end.
-    fn follow(&mut self, path: &[Step], x: u64) {
         let mut way = Way {
             place: 0,
             before: None,
@@ -415,22 +398,9 @@ fn end_of(picture: &Picture, found: &Found, x: u64) -> Option<Step> {
         });
     }
     if comes_later(picture, x) {
-        return maker_in(picture, found);
+        return found.first_actor(picture, false);
     }
     giver_to(picture, found, x)
-}
-
-// The first who acts and may come to hold the right.
-fn maker_in(picture: &Picture, found: &Found) -> Option<Step> {
-    for subject in picture.subjects() {
-        if found.acts(*subject) && found.sides.is_back(*subject) {
-            return Some(Step {
-                vertex: *subject,
-                forward: false,
-            });
-        }
-    }
-    None
 }
 
 // The first who has grant over x, and may be handed the right.
@@ -447,7 +417,7 @@ fn giver_to(picture: &Picture, found: &Found, x: u64) -> Option<Step> {
 }
 
 /// Turns after which x is to hold the right over y, by what the search has found; `rows` are the edges from x and from
-/// whom it found. Fails only when out of memory.
+/// whom it found, and note whether memory was wanting. Fails only when out of memory.
 pub(crate) fn turns_to<'a>(
     alloc: Global,
     picture: &'a Picture,
@@ -471,8 +441,10 @@ pub(crate) fn turns_to<'a>(
         turns: Vec::new(alloc),
         taken: Ok(()),
     };
-    plan.try_lead(alloc, x)?;
+    plan.try_lead(alloc, x);
     plan.trial.forget_added();
+    let taken = plan.taken;
+    note(&mut plan.trial.rows.grown, taken);
     Ok(Planned {
         turns: plan.turns,
         made: plan.trial.made,

@@ -4,7 +4,7 @@
 use crate::chains::{Chains, NONE, place};
 use crate::growth::push;
 use crate::links::{Links, number_of};
-use crate::marks::Marks;
+use crate::marks::{Pairs, is_in_second};
 use crate::names::Names;
 use crate::separation::{Separation, comes_later, has, is_silent};
 use std::alloc::{AllocError, Global};
@@ -26,13 +26,13 @@ struct Kept {
     before: u32,
 }
 
-/// What the search has found: the sets, its steps in order, and who acts. Where memory was wanting once, the end tells
-/// it.
+/// What the search has found: the sets, its steps in order, and who acts, in the second of two sets. Where memory was
+/// wanting once, the end tells it.
 #[derive(Drop)]
 pub(crate) struct Found {
     pub(crate) sides: Separation,
     steps: Vec<Kept>,
-    acting: Marks,
+    acting: Pairs,
     grown: Result<(), AllocError>,
 }
 
@@ -92,49 +92,50 @@ pub(crate) fn search(
     over: u64,
     back: bool,
 ) -> Result<Found, AllocError> {
-    let mut found = Found::start(alloc, picture, silent)?;
+    let mut found = Found::start(alloc, picture, silent);
     if comes_later(picture, over) {
         found.put_actors(picture, back);
     }
     if back && found.acts(over) {
         found.put_name(over, true);
     }
-    found.search(alloc, picture.edges(), right, over)?;
+    found.search(alloc, picture.edges(), right, over);
+    found.grown?;
     Ok(found)
 }
 
 impl Found {
     // No vertex is in a set.
-    fn start(alloc: Global, picture: &Picture, silent: &[u64]) -> Result<Found, AllocError> {
-        let names = Names::of(alloc, picture)?;
-        let mut acting = Marks::none(alloc, names.len())?;
+    fn start(alloc: Global, picture: &Picture, silent: &[u64]) -> Found {
+        let mut grown = Ok(());
+        let names = Names::of(alloc, picture, &mut grown);
+        let mut acting = Pairs::none(alloc, names.len(), &mut grown);
         for subject in picture.subjects() {
             if !is_silent(silent, picture.made(), *subject) {
-                acting.put(names.number(*subject));
+                acting.put(names.number(*subject), false);
             }
         }
-        Ok(Found {
-            sides: Separation::none(alloc, names)?,
+        let sides = Separation::none(alloc, names, &mut grown);
+        Found {
+            sides,
             steps: Vec::new(alloc),
             acting,
-            grown: Ok(()),
-        })
+            grown,
+        }
     }
 
-    // Searches from those who have a right over a vertex too.
-    fn search(
-        &mut self,
-        alloc: Global,
-        edges: &[Edge],
-        right: Right,
-        over: u64,
-    ) -> Result<(), AllocError> {
-        let mut takers = Links::with_room(alloc, self.sides.names.len(), edges.len())?;
+    // Searches from those who have a right over a vertex too, until nothing is new.
+    fn search(&mut self, alloc: Global, edges: &[Edge], right: Right, over: u64) {
+        let count = self.sides.names.len();
+        let mut takers = Links::with_room(alloc, count, edges.len(), &mut self.grown);
         for edge in edges {
             self.begin_at(&mut takers, edge, right, over);
         }
         takers.tie(&mut self.grown);
-        self.finish(alloc, edges, &takers)
+        if !self.go_back(&takers) {
+            let ways = self.ways(alloc, edges);
+            self.spread(&takers, &ways);
+        }
     }
 
     // Puts the holder of an edge into the second set, where it has the right over the vertex; and links the target of
@@ -159,22 +160,14 @@ impl Found {
         }
     }
 
-    // Goes on from all steps, until nothing is new. Fails only when memory was wanting.
-    fn finish(&mut self, alloc: Global, edges: &[Edge], takers: &Links) -> Result<(), AllocError> {
-        if !self.go_back(takers) {
-            let ways = self.ways(alloc, edges)?;
-            self.spread(takers, &ways);
-        }
-        self.grown
-    }
-
     // Goes back along take edges from each step. Whether these are all: none leads to one who acts.
     fn go_back(&mut self, takers: &Links) -> bool {
         for at in 0..NONE {
-            let Some(&kept) = self.steps.get(at as usize) else {
+            if at as usize >= self.steps.len() {
                 break;
-            };
-            if kept.is_forward() || self.acting.has(kept.number() as u64) {
+            }
+            let kept = self.steps[at as usize];
+            if kept.is_forward() || self.has_acting(kept.number() as u64) {
                 return false;
             }
             self.spread_along(takers, at, kept.number());
@@ -182,29 +175,30 @@ impl Found {
         true
     }
 
-    // The edges with grant to each vertex, and those with take or grant from each. Fails only when out of memory.
-    fn ways(&mut self, alloc: Global, edges: &[Edge]) -> Result<Ways, AllocError> {
+    // The edges with grant to each vertex, and those with take or grant from each.
+    fn ways(&mut self, alloc: Global, edges: &[Edge]) -> Ways {
         let count = self.sides.names.len();
         let mut ways = Ways {
-            granters: Links::with_room(alloc, count, edges.len())?,
-            targets: Links::with_room(alloc, count, edges.len())?,
+            granters: Links::with_room(alloc, count, edges.len(), &mut self.grown),
+            targets: Links::with_room(alloc, count, edges.len(), &mut self.grown),
         };
         for edge in edges {
             ways.add(&self.sides.names, edge);
         }
         ways.targets.tie(&mut self.grown);
         ways.granters.tie(&mut self.grown);
-        Ok(ways)
+        ways
     }
 
     // Goes on from each step to what its vertex leads to, until nothing is new.
     fn spread(&mut self, takers: &Links, ways: &Ways) {
         for at in 0..NONE {
-            let Some(&kept) = self.steps.get(at as usize) else {
+            if at as usize >= self.steps.len() {
                 break;
-            };
+            }
+            let kept = self.steps[at as usize];
             let number = kept.number() as u64;
-            if self.acting.has(number) {
+            if self.has_acting(number) {
                 self.put(number, !kept.is_forward(), at);
             }
             if kept.is_forward() {
@@ -249,53 +243,70 @@ impl Found {
         }
     }
 
-    /// Whether a vertex is one who acts.
-    pub(crate) fn acts(&self, name: u64) -> bool {
-        self.acting.has(self.sides.names.number(name))
+    // Whether the vertex with a number is one who acts.
+    fn has_acting(&self, number: u64) -> bool {
+        is_in_second(self.acting.pair(number))
     }
 
-    /// The edges from x and from all vertices in a set. Fails only when out of memory, or notes it.
-    pub(crate) fn rows(
-        &self,
-        alloc: Global,
-        picture: &Picture,
-        x: u64,
-    ) -> Result<Chains, AllocError> {
+    /// Whether a vertex is one who acts.
+    pub(crate) fn acts(&self, name: u64) -> bool {
+        self.has_acting(self.sides.names.number(name))
+    }
+
+    /// The first who acts and is in the first set, or in the second.
+    pub(crate) fn first_actor(&self, picture: &Picture, forward: bool) -> Option<Step> {
+        for subject in picture.subjects() {
+            let place = self.sides.place(*subject);
+            let is_in = if forward { place.forward } else { place.back };
+            if is_in && self.acts(*subject) {
+                return Some(Step {
+                    vertex: *subject,
+                    forward,
+                });
+            }
+        }
+        None
+    }
+
+    /// The edges from x and from all vertices in a set.
+    pub(crate) fn rows(&self, alloc: Global, picture: &Picture, x: u64) -> Chains {
         let names = &self.sides.names;
-        let mut rows = Chains::none(alloc, names.copy(alloc)?, picture)?;
+        let mut grown = Ok(());
+        let copy = names.copy(alloc, &mut grown);
+        let mut rows = Chains::none(alloc, copy, picture, grown);
         for (at, edge) in picture.edges().iter().enumerate() {
             let number = names.number(edge.from);
-            if edge.from == x || self.sides.has_number(number) {
+            if edge.from == x || self.sides.pairs.pair(number) & 3 != 0 {
                 rows.put(place(at), number);
             }
         }
-        Ok(rows)
+        rows
     }
 
-    /// The steps that led to a vertex in a set, the first one first; none where it isn't in it. Fails only when out of
-    /// memory.
-    pub(crate) fn path(&self, alloc: Global, last: Step) -> Result<Vec<Step>, AllocError> {
+    /// The steps that led to a vertex in a set, the first one first; none where it isn't in it. Notes whether memory
+    /// was wanting.
+    pub(crate) fn path(
+        &self,
+        alloc: Global,
+        last: Step,
+        grown: &mut Result<(), AllocError>,
+    ) -> Vec<Step> {
         let mut path = Vec::new(alloc);
-        let mut grown = Ok(());
         let mut next = self.place(last);
         for _ in 0..self.steps.len() {
-            let Some(&kept) = self.steps.get(next as usize) else {
+            if next as usize >= self.steps.len() {
                 break;
+            }
+            let kept = self.steps[next as usize];
+            let step = Step {
+                vertex: self.sides.names.name(kept.number() as u64),
+                forward: kept.is_forward(),
             };
-            push(&mut path, self.step(kept), &mut grown);
+            push(&mut path, step, grown);
             next = kept.before;
         }
         path.reverse();
-        grown?;
-        Ok(path)
-    }
-
-    // A step by the name of its vertex.
-    fn step(&self, kept: Kept) -> Step {
-        Step {
-            vertex: self.sides.names.name(kept.number() as u64),
-            forward: kept.is_forward(),
-        }
+        path
     }
 
     // The place of a step, `NONE` where it wasn't made.

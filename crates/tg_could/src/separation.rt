@@ -17,10 +17,19 @@ use tg_model::{Edge, MAX_WORKERS, Picture};
 use tg_rights::{Label, Right, Rights};
 
 /// Why x never holds a right: two sets of names, two bits for each name that the picture shows.
-#[derive(Drop)]
 pub struct Separation {
     pub(crate) names: Names,
     pub(crate) pairs: Pairs,
+}
+
+// It is written out, so that who gives one up doesn't prove again how each part is.
+impl Drop for Separation {
+    fn drop(self) {
+        let Self {
+            names: _names,
+            pairs: _pairs,
+        } = self;
+    }
 }
 
 /// Where a vertex is: in the first set, and in the second.
@@ -35,6 +44,11 @@ pub(crate) fn has(label: Label, right: Right) -> bool
     ensures { result ≡ has_right label right }
 {
     label.rights().contains(Rights::of(right))
+}
+
+/// The label of one right.
+pub(crate) fn single(right: Right) -> Label {
+    Label::new(Rights::of(right)).unwrap()
 }
 
 /// Whether a third thing holds where two others do.
@@ -143,10 +157,19 @@ fn are_fit(edge: &Edge, from: Place, to: Place, x: u64, right: Right, y: u64) ->
 }
 
 impl Separation {
-    /// Sets of these names, which none is in. Fails only when out of memory.
-    pub(crate) fn none(alloc: Global, names: Names) -> Result<Separation, AllocError> {
-        let pairs = Pairs::none(alloc, names.len())?;
-        Ok(Separation { names, pairs })
+    /// Sets of these names, which none is in. Notes whether memory was wanting.
+    pub(crate) fn none(
+        alloc: Global,
+        names: Names,
+        grown: &mut Result<(), AllocError>,
+    ) -> Separation {
+        let pairs = Pairs::none(alloc, names.len(), grown);
+        Separation { names, pairs }
+    }
+
+    /// Puts a name into the second set.
+    pub(crate) fn put(&mut self, name: u64) {
+        self.pairs.put(self.names.number(name), false);
     }
 
     /// Whether a name is in the first set.
@@ -183,12 +206,6 @@ impl Separation {
             forward: !is_in_second(pair),
             back: !is_in_first(pair),
         }
-    }
-
-    /// Whether the name with a number is in one of the sets.
-    pub(crate) fn has_number(&self, number: u64) -> bool {
-        let pair = self.pairs.pair(number);
-        is_in_first(pair) || is_in_second(pair)
     }
 
     // Whether an edge leads out of neither set, and x is neither its holder nor its gift.

@@ -11,6 +11,7 @@ ghost use Rattle.tg_could.specs.View.{AreGathered, IsViewOf, IsCheckedOn, IsPlac
 
 use crate::chance::Chance;
 use crate::entries::{Entries, Entry};
+use crate::growth::{push, table};
 use crate::incoming::Incoming;
 use crate::islands::Islands;
 use crate::names::Names;
@@ -29,7 +30,6 @@ pub struct View {
 
 /// What was found of a picture: who acts, the islands, the edges by their targets, and whether as many subjects as may
 /// be are active.
-#[derive(Drop)]
 struct Facts {
     names: Names,
     actors: Vec<u64>,
@@ -40,6 +40,21 @@ struct Facts {
     limit: u64,
 }
 
+// It is written out, so that who gives them up doesn't prove again how each part is.
+impl Drop for Facts {
+    fn drop(self) {
+        let Self {
+            names: _names,
+            actors: _actors,
+            islands: _islands,
+            incoming: _incoming,
+            is_full: _,
+            made: _,
+            limit: _,
+        } = self;
+    }
+}
+
 impl View {
     /// Makes ready for all questions of a picture, where the silent ones take no turns: for each vertex two words of 64
     /// bits, and the edges by their targets. Time and memory are in proportion to the picture. Vertices and edges count
@@ -47,11 +62,21 @@ impl View {
     pub fn open(alloc: Global, picture: &Picture, silent: &[u64]) -> Result<View, AllocError>
         ensures { IfOk result (λ view. IsViewOf silent.now picture.now view) }
     {
-        let names = Names::of(alloc, picture)?;
-        let entries = Entries::of(alloc, &names, picture.edges())?;
+        let mut grown = Ok(());
+        let names = Names::of(alloc, picture, &mut grown);
+        let entries = Entries::of(alloc, &names, picture.edges(), &mut grown);
         let list = entries.list.as_slice();
-        let mut places = vec![in alloc; 0; list.len()]?;
-        let facts = Facts::of(alloc, picture, silent, names, list, &mut places)?;
+        let mut places = table(alloc, 0, list.len(), &mut grown);
+        let facts = Facts::of(
+            alloc,
+            picture,
+            silent,
+            names,
+            list,
+            places.as_mut_slice(),
+            &mut grown,
+        );
+        grown?;
         let is_shown = facts.is_checked(picture, silent, &entries, places.as_slice());
         Ok(View { facts, is_shown })
     }
@@ -71,21 +96,21 @@ impl View {
 }
 
 impl Facts {
-    // The facts of a picture, by its entries, of which each is told its place. Nothing is believed of them. Fails only
-    // when out of memory.
+    // The facts of a picture, by its entries, of which each is told its place. Nothing is believed of them. Notes
+    // whether memory was wanting.
     fn of(
         alloc: Global,
         picture: &Picture,
         silent: &[u64],
         names: Names,
         entries: &[Entry],
-        places: &mut Vec<u32>,
-    ) -> Result<Facts, AllocError> {
-        let count = names.len();
-        let actors = actors_of(alloc, picture, silent)?;
-        let islands = Islands::of(alloc, &names, entries, actors.as_slice())?;
-        let incoming = Incoming::of(alloc, count, entries, places)?;
-        Ok(Facts {
+        places: &mut [u32],
+        grown: &mut Result<(), AllocError>,
+    ) -> Facts {
+        let actors = actors_of(alloc, picture, silent, grown);
+        let islands = Islands::of(alloc, &names, entries, actors.as_slice(), grown);
+        let incoming = Incoming::of(alloc, names.len(), entries, places, grown);
+        Facts {
             names,
             actors,
             islands,
@@ -93,7 +118,7 @@ impl Facts {
             is_full: is_full(picture),
             made: picture.made(),
             limit: picture.limit(),
-        })
+        }
     }
 
     // What a view tells, of facts that were checked.
@@ -224,15 +249,20 @@ impl Facts {
     }
 }
 
-// Who acts. Fails only when out of memory.
-fn actors_of(alloc: Global, picture: &Picture, silent: &[u64]) -> Result<Vec<u64>, AllocError> {
+// Who acts. Notes whether memory was wanting.
+fn actors_of(
+    alloc: Global,
+    picture: &Picture,
+    silent: &[u64],
+    grown: &mut Result<(), AllocError>,
+) -> Vec<u64> {
     let mut actors = Vec::new(alloc);
     for subject in picture.subjects() {
         if !is_silent(silent, picture.made(), *subject) {
-            actors.push(*subject)?;
+            push(&mut actors, *subject, grown);
         }
     }
-    Ok(actors)
+    actors
 }
 
 // Whether as many subjects as may be are active.

@@ -4,7 +4,7 @@
 //! believed of it: what it finds is checked.
 use crate::chains::{NONE, number_at, put_number};
 use crate::entries::Entry;
-use crate::growth::push;
+use crate::growth::{note, push, table};
 use crate::links::{Link, Links, number_of};
 use crate::names::Names;
 use crate::separation::has;
@@ -12,38 +12,24 @@ use crate::words::{add, word_of};
 use std::alloc::{AllocError, Global};
 use tg_rights::Right;
 
-/// For each number a word of those of `actors` who walk to its vertex, of whom the first 64 count. Fails only when out
-/// of memory.
+/// For each number a word of those of `actors` who walk to its vertex, of whom the first 64 count. Notes whether memory
+/// was wanting.
 pub(crate) fn walks(
     alloc: Global,
     names: &Names,
     entries: &[Entry],
     actors: &[u64],
-) -> Result<Vec<u64>, AllocError> {
+    grown: &mut Result<(), AllocError>,
+) -> Vec<u64> {
     let count = names.len();
-    let mut takes = takes_of(alloc, count, entries)?;
-    let mut words = vec![in alloc; 0; count]?;
-    walk_all(alloc, names, &mut takes, actors, words.as_mut_slice())?;
-    Ok(words)
-}
-
-// The same, with a word for each number. Fails only when out of memory.
-fn walk_all(
-    alloc: Global,
-    names: &Names,
-    takes: &mut Links,
-    actors: &[u64],
-    words: &mut [u64],
-) -> Result<(), AllocError> {
-    let mut walk = Walk::new(alloc, words.len())?;
-    takes.tie(&mut walk.grown);
-    for (at, actor) in actors.iter().enumerate() {
-        let number = names.number(*actor);
-        add(words, number, bit_of(at));
-        walk.begin(takes, number);
-    }
-    walk.hand_on(takes, words);
-    walk.grown
+    let mut takes = Links::with_room(alloc, count, entries.len(), grown);
+    add_takes(&mut takes, entries);
+    takes.tie(grown);
+    let mut words = table(alloc, 0, count, grown);
+    let mut walk = Walk::new(alloc, count, grown);
+    walk.walk_all(names, &takes, actors, words.as_mut_slice());
+    note(grown, walk.grown);
+    words
 }
 
 /// The bit of a number, none past 63.
@@ -54,15 +40,13 @@ pub(crate) fn bit_of(at: usize) -> u64 {
     }
 }
 
-// The take edges from each vertex, not tied yet. Fails only when out of memory.
-fn takes_of(alloc: Global, count: usize, entries: &[Entry]) -> Result<Links, AllocError> {
-    let mut takes = Links::with_room(alloc, count, entries.len())?;
+// Adds the take edges from each vertex, not tied yet.
+fn add_takes(takes: &mut Links, entries: &[Entry]) {
     for entry in entries {
         if has(entry.label, Right::T) {
             takes.add(entry.from as u64, entry.to as u64, true, false);
         }
     }
-    Ok(takes)
 }
 
 // A vertex on the path, the number that it got, and the place of the next take edge from it.
@@ -89,17 +73,27 @@ struct Walk {
 }
 
 impl Walk {
-    // Nobody was come to. Fails only when out of memory.
-    fn new(alloc: Global, count: usize) -> Result<Walk, AllocError> {
-        Ok(Walk {
-            numbers: vec![in alloc; 0; count]?,
+    // Nobody was come to. Notes whether memory was wanting.
+    fn new(alloc: Global, count: usize, grown: &mut Result<(), AllocError>) -> Walk {
+        Walk {
+            numbers: table(alloc, 0, count, grown),
             count: 0,
             path: Vec::new(alloc),
             open: Vec::new(alloc),
             left: Vec::new(alloc),
             starts: Vec::new(alloc),
             grown: Ok(()),
-        })
+        }
+    }
+
+    // Goes from each of `actors`, and adds its bit to the word of each vertex that it walks to.
+    fn walk_all(&mut self, names: &Names, takes: &Links, actors: &[u64], words: &mut [u64]) {
+        for (at, actor) in actors.iter().enumerate() {
+            let number = names.number(*actor);
+            add(words, number, bit_of(at));
+            self.begin(takes, number);
+        }
+        self.hand_on(takes, words);
     }
 
     // Goes from the vertex with a number to all that it walks to, but for those that were come to.

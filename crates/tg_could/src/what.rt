@@ -11,6 +11,7 @@ ghost use Rattle.tg_could.specs.Separation.{sides_against};
 ghost use Rattle.tg_could.specs.Listed.{IsUnlisted, IsLeftOut, ListsEdge, ListsActor, rights_over};
 
 use crate::chance::Chance;
+use crate::growth::table;
 use crate::names::Names;
 use crate::search::{Found, search};
 use crate::separation::{Separation, are_not_all, comes_later, has, is_silent, leads, stays};
@@ -64,7 +65,9 @@ pub fn what_could(
     ensures { IfOk result (λ what. (g : ProtectionGraph) → IsPictureOf picture.now g → (right : TheRight) (y : ℕ) → IsLeftOut what right y → NeverHolds silent.now g x right y) }
 {
     let found = search(alloc, picture, silent, Right::G, x, true)?;
-    let listed = Listed::of(alloc, picture, &found, x)?;
+    let mut grown = Ok(());
+    let listed = Listed::of(alloc, picture, &found, x, &mut grown);
+    grown?;
     let is_shown = listed.leaves_out(&found.sides, picture, silent, x);
     Ok(What {
         listed,
@@ -76,18 +79,24 @@ pub fn what_could(
 }
 
 impl Listed {
-    // What x holds, and what is held by those whose rights it may get. Fails only when out of memory.
-    fn of(alloc: Global, picture: &Picture, found: &Found, x: u64) -> Result<Listed, AllocError> {
-        let names = found.sides.names.copy(alloc)?;
+    // What x holds, and what is held by those whose rights it may get. Notes whether memory was wanting.
+    fn of(
+        alloc: Global,
+        picture: &Picture,
+        found: &Found,
+        x: u64,
+        grown: &mut Result<(), AllocError>,
+    ) -> Listed {
+        let names = found.sides.names.copy(alloc, grown);
         let mut listed = Listed {
-            rights: vec![in alloc; Rights::empty(); names.len()]?,
+            rights: table(alloc, Rights::empty(), names.len(), grown),
             names,
-            later: goes_on(picture, found),
+            later: found.first_actor(picture, true).is_some(),
         };
         for edge in picture.edges() {
             listed.add(found, edge, x);
         }
-        Ok(listed)
+        listed
     }
 
     // Lists the rights of an edge, where it is one from x, or from somebody else whose rights x may get.
@@ -95,9 +104,9 @@ impl Listed {
         if edge.from != x && (edge.to == x || !found.sides.is_forward(edge.from)) {
             return;
         }
-        let number = self.names.number(edge.to);
-        if let Some(over) = self.rights.get_mut(number as usize) {
-            *over = over.union(edge.label.rights());
+        let at = self.names.number(edge.to) as usize;
+        if at < self.rights.len() {
+            self.rights[at] = self.rights[at].union(edge.label.rights());
         }
     }
 
@@ -196,14 +205,4 @@ impl Listed {
         }
         self.later
     }
-}
-
-// Whether the search led to one who acts.
-fn goes_on(picture: &Picture, found: &Found) -> bool {
-    for subject in picture.subjects() {
-        if found.acts(*subject) && found.sides.is_forward(*subject) {
-            return true;
-        }
-    }
-    false
 }

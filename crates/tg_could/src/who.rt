@@ -9,8 +9,6 @@ ghost use Rattle.tg_could.specs.Separation.{sides_of};
 ghost use Rattle.tg_could.specs.Told.{IsLeftOut, IsUntold, TellsHolder, TellsOf, TellsActor, is_told};
 
 use crate::chance::Chance;
-use crate::marks::Marks;
-use crate::names::Names;
 use crate::search::{Found, search};
 use crate::separation::{Separation, comes_later, has, is_alone, is_silent, leads, stays};
 use std::alloc::{AllocError, Global};
@@ -27,11 +25,10 @@ pub struct Who {
     limit: u64,
 }
 
-/// Who is told, and whether those are who aren't made yet.
+/// Who is told, in the second of two sets, and whether those are who aren't made yet.
 #[derive(Drop)]
 struct Told {
-    names: Names,
-    marks: Marks,
+    marks: Separation,
     later: bool,
 }
 
@@ -64,7 +61,9 @@ pub fn who_could(
     ensures { IfOk result (λ who. (g : ProtectionGraph) → IsPictureOf picture.now g → (x : ℕ) → IsLeftOut who x → NeverHolds silent.now g x right y) }
 {
     let found = search(alloc, picture, silent, right, y, false)?;
-    let told = Told::of(alloc, picture, silent, &found, right, y)?;
+    let mut grown = Ok(());
+    let told = Told::of(alloc, picture, silent, &found, right, y, &mut grown);
+    grown?;
     let is_shown = told.leaves_out(&found.sides, picture, silent, right, y);
     Ok(Who {
         told,
@@ -76,8 +75,8 @@ pub fn who_could(
 }
 
 impl Told {
-    // Who holds the right, who acts and may come to hold it, and to whom one who may can grant. Fails only when out of
-    // memory.
+    // Who holds the right, who acts and may come to hold it, and to whom one who may can grant. Notes whether memory
+    // was wanting.
     fn of(
         alloc: Global,
         picture: &Picture,
@@ -85,36 +84,30 @@ impl Told {
         found: &Found,
         right: Right,
         y: u64,
-    ) -> Result<Told, AllocError> {
-        let names = found.sides.names.copy(alloc)?;
-        let marks = Marks::none(alloc, names.len())?;
+        grown: &mut Result<(), AllocError>,
+    ) -> Told {
+        let names = found.sides.names.copy(alloc, grown);
         let mut told = Told {
-            names,
-            marks,
+            marks: Separation::none(alloc, names, grown),
             later: false,
         };
-        told.add_holders(picture, right, y);
-        if !is_alone(picture, silent, y) {
-            told.add_given(picture, found, y);
+        let alone = is_alone(picture, silent, y);
+        told.add_edges(picture.edges(), found, right, y, alone);
+        if !alone {
             told.add_actors(picture, found, y);
         }
-        Ok(told)
+        told
     }
 
-    // Each who holds the right.
-    fn add_holders(&mut self, picture: &Picture, right: Right, y: u64) {
-        for edge in picture.edges() {
-            if edge.to == y && has(edge.label, right) {
-                self.put(edge.from);
-            }
-        }
-    }
-
-    // Each to whom one who may hold the right can grant.
-    fn add_given(&mut self, picture: &Picture, found: &Found, y: u64) {
-        for edge in picture.edges() {
-            if edge.to != y && has(edge.label, Right::G) && found.sides.is_forward(edge.from) {
-                self.put(edge.to);
+    // Each who holds the right, and each to whom one who may hold it can grant, unless y is alone.
+    fn add_edges(&mut self, edges: &[Edge], found: &Found, right: Right, y: u64, alone: bool) {
+        for edge in edges {
+            if edge.to == y {
+                if has(edge.label, right) {
+                    self.marks.put(edge.from);
+                }
+            } else if !alone && has(edge.label, Right::G) && found.sides.is_forward(edge.from) {
+                self.marks.put(edge.to);
             }
         }
     }
@@ -123,12 +116,7 @@ impl Told {
     fn has(&self, name: u64) -> bool
         ensures { result ≡ is_told self.now name }
     {
-        self.marks.has(self.names.number(name))
-    }
-
-    // Tells a name.
-    fn put(&mut self, name: u64) {
-        self.marks.put(self.names.number(name));
+        self.marks.is_back(name)
     }
 
     // Each who acts and may come to hold the right.
@@ -139,7 +127,7 @@ impl Told {
             }
             self.later = true;
             if *subject != y {
-                self.put(*subject);
+                self.marks.put(*subject);
             }
         }
     }

@@ -26,7 +26,7 @@ pub fn lead_there(
     ensures { IfOk result (λ lead. IsTrue lead → (g : ProtectionGraph) → IsPictureOf picture.now g →
         LeadThere silent.now (with_names g names) turns.now x right y) }
 {
-    let rows = Chains::of(alloc, picture)?;
+    let rows = Chains::of(alloc, picture);
     replay(alloc, picture, rows, silent, names, turns, x, right, y)
 }
 

@@ -36,10 +36,8 @@ pub(crate) fn are_bridged(word: u64, other: u64) -> bool
 pub(crate) fn word_of(words: &[u64], name: u64) -> u64
     ensures { result ≡ word_in words.now name }
 {
-    match words.get(name as usize) {
-        Some(word) => *word,
-        None => 0,
-    }
+    let at = name as usize;
+    if at < words.len() { words[at] } else { 0 }
 }
 
 /// Adds bits to a name's word.

@@ -1,6 +1,7 @@
 use Rattle.std.proofs.Common.{ℕ, subst, arith}
 use Rattle.std.proofs.lemmas.List.Elements.{AllWithin-more}
 use Rattle.std.proofs.lemmas.List.{get_or_default}
+use Rattle.std.proofs.lemmas.Bool.{false≢true}
 use Rattle.tg_could.specs.View.{IsOfOne}
 use Rattle.tg_could.proofs.islands.Islands.are_single.Goals as goal
 
@@ -12,3 +13,6 @@ loop-actor-preserved c =
 
 pub returns : goal.returns
 returns c t k d below = c.loop-actor.invariant k d (omega (arith)) (omega (arith, below, c.loop-actor-test.false))
+
+pub returns-then-not-is_of_one : goal.returns-then-not-is_of_one
+returns-then-not-is_of_one c t = absurd (false≢true t)

@@ -23,3 +23,6 @@ returns c t =
           (subst (λ (n : ℕ). IsBridged n c.word-to.result) c.word-from.ensures
           (c.are_bridged.ensures (c.leads-3.ensures t (c.has-grant.ensures ∙ h) refl)));
     }
+
+pub returns-then-not-leads : goal.returns-then-not-leads
+returns-then-not-leads c t = absurd (false≢true t)

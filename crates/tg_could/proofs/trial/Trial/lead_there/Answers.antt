@@ -1,5 +1,6 @@
 use Rattle.std.proofs.Common.{◌≡◌, ◌+◌, ◌<◌, ◌∙◌, ℕ, List, sym, ap, subst}
 use Rattle.std.specs.List.{Contains}
+use Rattle.std.proofs.lemmas.Bool.{false≢true}
 use Rattle.tg_rights.specs.RightSet.{RightSet, only}
 use Rattle.tg_rights.specs.RightLaws.{holds_all-only}
 use Rattle.tg_model.specs.declared.edge.Edge.{Edge}
@@ -31,3 +32,9 @@ returns c t g picture stands =
     subst (λ (s : RightSet). HoldsOver label x y s) c.of.ensures (c.has_all.ensures t label done.1.first done.1.later) in
     let held : Holds label x c.args.right y = sym (holds_all-only (label x y) c.args.right) ∙ over in
     (subst (λ (n : ℕ). AreTurns (λ (p : ℕ). Contains c.args.silent.now p × (p < n)) h turns) first done.0, held)
+
+pub returns-in_default : goal.returns-in_default
+returns-in_default c t = absurd (false≢true t)
+
+pub returns-then-not-taken : goal.returns-then-not-taken
+returns-then-not-taken c t = absurd (false≢true t)

@@ -1,6 +1,7 @@
 use Rattle.std.proofs.Common.{◌<◌, ℕ, List, [], ◌∷◌, ◌++◌, take, sym, ap, ◌∙◌, subst}
 use Rattle.std.specs.List.{Contains}
 use Rattle.std.proofs.lemmas.List.{take_more, take_all}
+use Rattle.std.proofs.lemmas.Bool.{false≢true}
 use Rattle.tg_could.specs.Turns.{Turn, AreTurns, after}
 use Rattle.tg_could.specs.Inner.Trial.{Stands}
 use Rattle.tg_could.proofs.TurnLaws.{AreTurns-push, after-push}
@@ -32,3 +33,6 @@ returns c t g stands =
       subst (AreTurns silent g) all kept.0,
       subst (λ (l : List Turn). Stands c.args.edges.now c.loop-turn.self (after g l)) all kept.1,
     )
+
+pub returns-then-not-taken : goal.returns-then-not-taken
+returns-then-not-taken c t = absurd (false≢true t)

@@ -1,5 +1,6 @@
 use Rattle.std.proofs.Common.{◌∙◌, ◌<◌, subst, ℕ, List}
 use Rattle.std.specs.List.{All, Contains}
+use Rattle.std.proofs.lemmas.Bool.{false≢true}
 use Rattle.tg_model.specs.declared.edge.Edge.{Edge}
 use Rattle.tg_could.specs.View.{IsListed, IsOfOne, Stands}
 use Rattle.tg_could.proofs.view.Facts.is_checked.Goals as goal
@@ -21,3 +22,15 @@ returns c t =
       made = same.0 ∙ c.made.ensures;
       limit = same.1 ∙ c.limit.ensures;
     }
+
+pub returns-then-not-are_same : goal.returns-then-not-are_same
+returns-then-not-are_same c t = absurd (false≢true t)
+
+pub returns-then-not-is_full_as : goal.returns-then-not-is_full_as
+returns-then-not-is_full_as c t = absurd (false≢true t)
+
+pub returns-then-not-are_listed : goal.returns-then-not-are_listed
+returns-then-not-are_listed c t = absurd (false≢true t)
+
+pub returns-then-not-are_single : goal.returns-then-not-are_single
+returns-then-not-are_single c t = absurd (false≢true t)
