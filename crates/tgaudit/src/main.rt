@@ -13,7 +13,7 @@ use fault::AuditEnd;
 use std::io::BufReader;
 use std::process::ExitCode;
 use tg_entries::audit_text;
-use tg_plain::{Program, obey};
+use tg_plain::{PlainFault, Program, obey};
 use words::COMMAND_LINE;
 
 // How many bytes are read at once.
@@ -28,12 +28,12 @@ fn main(rt: HostRuntime) -> ExitCode {
 struct Auditing;
 
 impl Program<HostRuntime> for Auditing {
-    fn run(&self, rt: &HostRuntime, _matches: &ArgMatches) -> u8 {
+    fn run(&self, rt: &HostRuntime, _matches: &ArgMatches) -> Result<u8, PlainFault> {
         match audit(rt) {
-            Ok(()) => 0,
+            Ok(()) => Ok(0),
             Err(end) => {
                 let _ = eprintln!(rt; "tgaudit: {end}");
-                1
+                Ok(1)
             }
         }
     }
