@@ -55,8 +55,8 @@ PLACES = {
     ),
     ("tgdot/src/draft.rt", "print"): (["if self.is_short"] * 2, "a growth was refused before, and noted"),
     ("tg_plain/src/script.rt", "read"): (["if self.is_short"] * 2, "a growth was refused before, and noted"),
-    ("tgcould/src/main.rt", "check_values"): (
-        ["match options.bad_value Some(bad) None if options.is_short"] * 2,
+    ("tgcould/src/answers.rt", "print"): (
+        ["if self.text.is_short||self.notes.is_short"] * 2,
         "a growth was refused before, and noted",
     ),
     **{

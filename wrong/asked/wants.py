@@ -14,7 +14,7 @@ TEXTS = {"out of memory": "OutOfMemory", "no thread": "NoThread"}
 
 # The calls of the kit that fail for want of memory alone.
 GROWTHS = {"Vec::with_capacity", "BufReader::with_capacity", "BufWriter::with_capacity"}
-GROWTHS |= {".push", ".insert", ".reserve", ".extend_from_slice", ".split_off", ".collect"}
+GROWTHS |= {".push", ".push_str", ".insert", ".reserve", ".extend_from_slice", ".split_off", ".collect"}
 
 
 def names_want(source: Source, at: int) -> bool:

@@ -5,9 +5,11 @@ use Rattle.tg_model.specs.declared.command.Deed.TheVariants as deed
 use Rattle.tg_model.specs.declared.value.Value.{Value}
 use Rattle.tg_model.specs.Graph.{ProtectionGraph, IsSubject}
 use Rattle.tg_model.specs.Rules.{step}
+use Rattle.tg_model.specs.Picture.{IsPictureOf}
 use Rattle.tg_model.specs.Plain.{graph_of}
 use Rattle.tg_model.specs.Opened.{start_of}
 use Rattle.tg_plain.specs.Boxes.{value_of_box, making_of}
+use Rattle.tg_plain.specs.declared.outcome.Outcome.{Outcome}
 use Rattle.tg_plain.specs.declared.run.PlainRun.{PlainRun}
 use Rattle.tg_plain.specs.declared.script.Script.{Script}
 use Rattle.tg_text.specs.declared.line.Line.{Line}
@@ -69,3 +71,7 @@ lines_of s = map (λ l. l.line) s.lines.items
 -- the run is that of all of the script's lines
 abbrev pub RunsScript : Script → PlainRun → Type 0
 RunsScript s run = Runs s.stock.items (start_of_script s) (lines_of s) (stage_of run)
+
+-- its picture is that of the graph which all of the script's lines leave
+abbrev pub IsOutcome : Script → Outcome → Type 0
+IsOutcome s outcome = (run : PlainRun) × RunsScript s run × IsPictureOf outcome.picture (graph_of run.graph)

@@ -8,8 +8,8 @@ use std::{env, io};
 
 /// What a program does with the options that were found in its words.
 pub trait Program<R> {
-    /// Does what they ask for. The exit status.
-    fn run(&self, rt: &R, matches: &ArgMatches) -> u8;
+    /// Does what they ask for. The exit status, or why it ended early, which [`obey`] says then.
+    fn run(&self, rt: &R, matches: &ArgMatches) -> Result<u8, PlainFault>;
 }
 
 /// Has the program do what the words of its command line ask for, or prints its help, or what is wrong with the words.
@@ -28,7 +28,7 @@ where
     }
 }
 
-// The same, or why the words can't be had, or the text of an error wasn't printed.
+// The same, or why the words can't be had, the program ended early, or the text of an error wasn't printed.
 fn obey_words<R, P>(rt: &R, line: &CommandLine, program: &P) -> Result<u8, PlainFault>
 where
     R: AllocGlobal + Env + Print + Eprint,
@@ -36,7 +36,7 @@ where
 {
     let words = words_of(rt)?;
     match read_words(rt.alloc(), line, words.as_slice()) {
-        Ok(matches) => Ok(program.run(rt, &matches)),
+        Ok(matches) => program.run(rt, &matches),
         Err(error) => Ok(print_error(rt, &error)?),
     }
 }

@@ -1,5 +1,5 @@
 -- What is told of a question.
-use Rattle.std.specs.Prelude.{◌≡◌, ℕ, ◌≤◌, List, ◌++◌}
+use Rattle.std.specs.Prelude.{◌≡◌, ℕ, false, ◌≤◌, List}
 use Rattle.std.specs.List.{Contains}
 use Rattle.tg_rights.specs.declared.Right.{Right}
 use Rattle.tg_model.specs.Graph.{ProtectionGraph}
@@ -9,6 +9,8 @@ use Rattle.tg_could.specs.Answered.{IsAnswer}
 use Rattle.tg_could.specs.Turns.{NeverHolds}
 use Rattle.tg_could.specs.Told.{IsLeftOut}
 use Rattle.tg_could.specs.declared.who.Who.{Who}
+use Rattle.tgcould.specs.declared.text.AnswerText.{AnswerText}
+use Rattle.tgcould.specs.Grown.{Adds}
 use Rattle.tgcould.specs.declared.question.Vertex.{Vertex}
 use Rattle.tgcould.specs.declared.question.Vertex.TheVariants.{Named, New}
 use Rattle.tgcould.specs.Texts.{answer_text}
@@ -22,9 +24,10 @@ named_in p New = p.made
 abbrev pub Answers : Shown → List ℕ → ℕ → Right → ℕ → Answer → Type 0
 Answers p silent x right y answer = (g : ProtectionGraph) → IsPictureOf p g → IsAnswer silent g x right y answer
 
--- the text of an answer to the question stands behind what was there
-abbrev pub TellsHold : Shown → List ℕ → ℕ → Right → ℕ → List ℕ → List ℕ → Type 0
-TellsHold p silent x right y before after = (answer : Answer) × Answers p silent x right y answer × (after ≡ before ++ answer_text answer)
+-- where memory wasn't wanting, the text of an answer to the question stands behind what was there
+abbrev pub TellsHold : Shown → List ℕ → ℕ → Right → ℕ → AnswerText → AnswerText → Type 0
+TellsHold p silent x right y old new =
+    new.is_short ≡ false → (answer : Answer) × Answers p silent x right y answer × Adds old (answer_text answer) new
 
 -- on each graph of which this is the picture x never holds the right over y
 abbrev pub IsNever : Shown → List ℕ → ℕ → Right → ℕ → Type 0

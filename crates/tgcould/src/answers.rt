@@ -1,70 +1,61 @@
 //! The answers to all questions.
 
 use crate::ask::{Scene, Told, tell};
-use crate::options::Asked;
-use crate::text::put;
+use crate::notes::Notes;
+use crate::question::{Question, read_question};
+use crate::text::AnswerText;
+use clap::ArgMatches;
 use std::alloc::{AllocError, Global};
-
-/// A question that was answered.
-#[derive(Clone, Copy)]
-pub struct Answered<'a> {
-    /// The question.
-    pub asked: Asked<'a>,
-    /// What was told of it.
-    pub told: Told,
-}
-
-impl<'a> Answered<'a> {
-    /// Whether it must never come about, and isn't told never to.
-    pub fn is_breach(&self) -> bool {
-        self.asked.must_never && !self.told.is_never
-    }
-}
+use tg_plain::PlainFault;
 
 /// The answers to questions.
 #[derive(Drop)]
-pub struct Answers<'a> {
-    /// Their text.
-    pub text: Vec<u8>,
-    /// The questions that were answered.
-    pub all: Vec<Answered<'a>>,
+pub struct Answers {
+    text: AnswerText,
+    notes: Notes,
+    // Whether each stands behind its question, and an empty line behind it.
+    are_headed: bool,
 }
 
-impl<'a> Answers<'a> {
-    /// No answer.
-    pub fn new(alloc: Global) -> Answers<'a> {
+impl Answers {
+    /// No answer. So many boxes are left in the stock, and so many questions are asked.
+    pub fn new(alloc: Global, boxes: u64, questions: usize) -> Answers {
         Answers {
-            text: Vec::new(alloc),
-            all: Vec::new(alloc),
+            text: AnswerText::new(alloc),
+            notes: Notes::new(alloc, boxes),
+            are_headed: questions > 1,
         }
     }
 
-    /// Adds the answers to the questions. Where there are several, each stands behind its question, and an empty line
-    /// behind it. Fails only when out of memory.
-    pub fn add_all(&mut self, scene: &Scene, questions: &[Asked<'a>]) -> Result<(), AllocError> {
-        let are_several = questions.len() > 1;
-        for asked in questions {
-            if are_several {
-                self.head(asked.text)?;
-            }
-            self.add(scene, *asked)?;
-            if are_several {
-                put(&mut self.text, b"\n")?;
+    /// Adds the answers to the questions of an option.
+    pub fn add_all(&mut self, scene: &Scene, matches: &ArgMatches, option: &str, must_never: bool) {
+        for text in matches.get_strs(option).unwrap_or(&[]) {
+            if let Ok(question) = read_question(text) {
+                let told = self.add(scene, text, question);
+                self.notes.add(text, told, must_never);
             }
         }
-        Ok(())
     }
 
-    // Adds a question, in front of its answer.
-    fn head(&mut self, text: &str) -> Result<(), AllocError> {
-        put(&mut self.text, text.as_bytes())?;
-        put(&mut self.text, b": ")
+    // Adds the answer to a question, whose text this is.
+    fn add(&mut self, scene: &Scene, text: &str, question: Question) -> Told {
+        if !self.are_headed {
+            return tell(&mut self.text, scene, question);
+        }
+        self.text.add(text.as_bytes());
+        self.text.add(b": ");
+        let told = tell(&mut self.text, scene, question);
+        self.text.add(b"\n");
+        told
     }
 
-    // Adds the answer to a question.
-    fn add(&mut self, scene: &Scene, asked: Asked<'a>) -> Result<(), AllocError> {
-        let told = tell(&mut self.text, scene, asked.question)?;
-        self.all.push(Answered { asked, told })?;
-        Ok(())
+    /// Prints the answers, and the notes on standard error. The exit status.
+    pub fn print<R: Print + Eprint>(&self, rt: &R) -> Result<u8, PlainFault> {
+        if self.text.is_short || self.notes.is_short {
+            return Err(PlainFault::OutOfMemory(AllocError));
+        }
+        rt.write_all(self.text.bytes.as_slice())?;
+        rt.eprint(self.notes.text.as_str())?;
+        Ok(self.notes.status)
     }
 }

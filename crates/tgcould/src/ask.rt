@@ -2,17 +2,19 @@
 ghost use Rattle.std.specs.Prelude.{◌≡◌, ℕ, IfOk, OnOk, IsTrue};
 ghost use Rattle.std.specs.List.{Contains};
 ghost use Rattle.tg_could.specs.Told.{IsLeftOut};
+ghost use Rattle.tgcould.specs.Grown.{Adds};
+ghost use Rattle.tgcould.specs.Texts.{answer_text};
 ghost use Rattle.tgcould.specs.Told.{Answers, IsNever, LeavesOut, ListsWho, TellsHold, named_in};
 
 use crate::question::{Question, Vertex};
-use crate::text::{add_answer, add_rights, add_vertex, put};
+use crate::text::AnswerText;
 use std::alloc::{AllocError, Global};
 use tg_could::{Answer, Chance, What, Who, could_hold, what_could, who_could};
 use tg_model::{Deed, Picture};
 use tg_rights::{Right, Rights};
 
 // All rights, in the order of their letters.
-const RIGHTS: [Right; 8] = [
+const RIGHTS: &[Right] = &[
     Right::R,
     Right::W,
     Right::T,
@@ -45,12 +47,12 @@ pub struct Told {
     pub made: u64,
 }
 
-/// Adds the answer to a question. Fails only when out of memory.
-pub fn tell(text: &mut Vec<u8>, scene: &Scene, question: Question) -> Result<Told, AllocError> {
+/// Adds the answer to a question.
+pub fn tell(text: &mut AnswerText, scene: &Scene, question: Question) -> Told {
     match question {
         Question::Hold { x, right, y } => tell_hold(text, scene, x, right, y),
-        Question::Who { right, y } => tell_who(text, scene, right, y),
-        Question::What { x } => tell_what(text, scene, x),
+        Question::Who { right, y } => tell_who(text, scene, right, name_of(scene, y)),
+        Question::What { x } => tell_what(text, scene, name_of(scene, x)),
     }
 }
 
@@ -72,30 +74,36 @@ fn ask(scene: &Scene, x: u64, right: Right, y: u64) -> Result<Answer, AllocError
 }
 
 // Adds whether x could come to hold the right over y.
-fn tell_hold(
-    text: &mut Vec<u8>,
-    scene: &Scene,
-    x: Vertex,
-    right: Right,
-    y: Vertex,
-) -> Result<Told, AllocError>
-    ensures { OnOk result (TellsHold scene.now.picture.now scene.now.silent.now
-        (named_in scene.now.picture.now x) right (named_in scene.now.picture.now y) text.old.items text.new.items) }
+fn tell_hold(text: &mut AnswerText, scene: &Scene, x: Vertex, right: Right, y: Vertex) -> Told
+    ensures { TellsHold scene.now.picture.now scene.now.silent.now
+        (named_in scene.now.picture.now x) right (named_in scene.now.picture.now y) text.old text.new }
 {
-    let answer = ask(scene, name_of(scene, x), right, name_of(scene, y))?;
-    add_answer(text, &answer)?;
-    Ok(told_of(&answer))
+    match ask(scene, name_of(scene, x), right, name_of(scene, y)) {
+        Ok(answer) => tell_answer(text, &answer),
+        Err(_) => {
+            text.is_short = true;
+            listed(false)
+        }
+    }
 }
 
-// What was told by an answer.
-fn told_of(answer: &Answer) -> Told {
+// Adds the text of an answer.
+fn tell_answer(text: &mut AnswerText, answer: &Answer) -> Told
+    ensures { Adds text.old (answer_text answer.now) text.new }
+{
+    text.add_answer(answer);
     Told {
         is_never: matches!(answer, Answer::Never(_)),
         is_open: matches!(answer, Answer::Open),
-        made: match answer {
-            Answer::Could(turns) | Answer::WantsNames { turns, .. } => { makings(turns.as_slice()) }
-            _ => 0,
-        },
+        made: makings(turns_of(answer)),
+    }
+}
+
+// The turns that an answer tells.
+fn turns_of(answer: &Answer) -> &[(u64, Deed)] {
+    match answer {
+        Answer::Could(turns) | Answer::WantsNames { turns, .. } => turns.as_slice(),
+        _ => &[],
     }
 }
 
@@ -110,27 +118,6 @@ fn makings(turns: &[(u64, Deed)]) -> u64 {
     made
 }
 
-// Adds who could come to hold the right over y.
-fn tell_who(
-    text: &mut Vec<u8>,
-    scene: &Scene,
-    right: Right,
-    y: Vertex,
-) -> Result<Told, AllocError> {
-    let names = who(scene, right, name_of(scene, y))?;
-    add_who(text, scene.picture.made(), names.as_slice())
-}
-
-// Adds these names, or that there are none.
-fn add_who(text: &mut Vec<u8>, made: u64, names: &[u64]) -> Result<Told, AllocError> {
-    if names.is_empty() {
-        put(text, b"nobody\n")?;
-    } else {
-        add_names(text, made, names)?;
-    }
-    Ok(listed(names.is_empty()))
-}
-
 // What was told by a list.
 fn listed(is_never: bool) -> Told {
     Told {
@@ -140,35 +127,47 @@ fn listed(is_never: bool) -> Told {
     }
 }
 
-// Adds names, with a space between two.
-fn add_names(text: &mut Vec<u8>, made: u64, names: &[u64]) -> Result<(), AllocError> {
-    let first = text.len();
-    for name in names {
-        add_space(text, first)?;
-        add_vertex(text, made, *name)?;
+// Adds who could come to hold the right over y.
+fn tell_who(text: &mut AnswerText, scene: &Scene, right: Right, y: u64) -> Told {
+    match who(scene, right, y) {
+        Ok(names) => add_who(text, scene.picture.made(), names.as_slice()),
+        Err(_) => {
+            text.is_short = true;
+            listed(false)
+        }
     }
-    put(text, b"\n")
 }
 
-// Adds a space, unless the list that begins here is empty.
-fn add_space(text: &mut Vec<u8>, first: usize) -> Result<(), AllocError> {
-    if text.len() == first {
-        return Ok(());
+// Adds these names, with a space between two, or that there are none.
+fn add_who(text: &mut AnswerText, made: u64, names: &[u64]) -> Told {
+    let first = text.len();
+    for name in names {
+        text.add_space(first);
+        text.add_vertex(made, *name);
     }
-    put(text, b" ")
+    text.add(if names.is_empty() { b"nobody\n" } else { b"\n" });
+    listed(names.is_empty())
 }
 
 // Of all vertices and the next, those of whom it isn't shown that they never hold the right over y.
 fn who(scene: &Scene, right: Right, y: u64) -> Result<Vec<u64>, AllocError>
     ensures { IfOk result (λ names. ListsWho scene.now.picture.now scene.now.silent.now right y names.items) }
 {
+    let who = who_could(scene.alloc, scene.picture, scene.silent, right, y)?;
+    names_told(scene, &who, right, y)
+}
+
+// The same, once one search has told of all at once.
+fn names_told(scene: &Scene, who: &Who, right: Right, y: u64) -> Result<Vec<u64>, AllocError>
+    requires { LeavesOut scene.now.picture.now scene.now.silent.now right y who.now }
+    ensures { IfOk result (λ names. ListsWho scene.now.picture.now scene.now.silent.now right y names.items) }
+{
     let mut names = Vec::new(scene.alloc);
     let made = scene.picture.made();
-    let who = who_could(scene.alloc, scene.picture, scene.silent, right, y)?;
     for x in 0..made {
-        add_unless_never(&mut names, scene, &who, x, right, y)?;
+        add_unless_never(&mut names, scene, who, x, right, y)?;
     }
-    add_unless_never(&mut names, scene, &who, made, right, y)?;
+    add_unless_never(&mut names, scene, who, made, right, y)?;
     Ok(names)
 }
 
@@ -186,10 +185,7 @@ fn add_unless_never(
     ensures shown { OnOk result (LeavesOut scene.now.picture.now scene.now.silent.now right y who.now →
         (¬ Contains names.new.items x) → IsNever scene.now.picture.now scene.now.silent.now x right y) }
 {
-    if is_left_out(who, x) {
-        return Ok(());
-    }
-    if is_never(scene, x, right, y)? {
+    if is_left_out(who, x) || is_never(scene, x, right, y)? {
         return Ok(());
     }
     names.push(x)?;
@@ -200,11 +196,8 @@ fn add_unless_never(
 fn is_never(scene: &Scene, x: u64, right: Right, y: u64) -> Result<bool, AllocError>
     ensures { IfOk result (λ never. IsTrue never → IsNever scene.now.picture.now scene.now.silent.now x right y) }
 {
-    match ask(scene, x, right, y) {
-        Ok(Answer::Never(_)) => Ok(true),
-        Ok(_) => Ok(false),
-        Err(error) => Err(error),
-    }
+    let answer = ask(scene, x, right, y)?;
+    Ok(matches!(answer, Answer::Never(_)))
 }
 
 // Whether x was left out where all were told of at once.
@@ -218,39 +211,37 @@ fn is_left_out(who: &Who, x: u64) -> bool
 }
 
 // Adds which rights x could come to hold, and over whom.
-fn tell_what(text: &mut Vec<u8>, scene: &Scene, x: Vertex) -> Result<Told, AllocError> {
-    let first = text.len();
-    add_what(text, scene, name_of(scene, x))?;
-    let is_never = text.len() == first;
-    put(text, if is_never { b"nothing\n" } else { b"\n" })?;
-    Ok(listed(is_never))
+fn tell_what(text: &mut AnswerText, scene: &Scene, x: u64) -> Told {
+    match what_could(scene.alloc, scene.picture, scene.silent, x) {
+        Ok(told) => add_what(text, scene, &told, x),
+        Err(_) => {
+            text.is_short = true;
+            listed(false)
+        }
+    }
 }
 
 // Adds each vertex over which x could come to hold a right, with these rights, and a space between two.
-fn add_what(text: &mut Vec<u8>, scene: &Scene, x: u64) -> Result<(), AllocError> {
+fn add_what(text: &mut AnswerText, scene: &Scene, told: &What, x: u64) -> Told {
     let first = text.len();
-    let told = what_could(scene.alloc, scene.picture, scene.silent, x)?;
     for y in 0..=scene.picture.made() {
-        let rights = what(scene, &told, x, y)?;
-        add_held(text, first, scene.picture.made(), y, rights)?;
+        match what(scene, told, x, y) {
+            Ok(rights) => add_held(text, first, scene.picture.made(), y, rights),
+            Err(_) => text.is_short = true,
+        }
     }
-    Ok(())
+    let is_never = text.len() == first;
+    text.add(if is_never { b"nothing\n" } else { b"\n" });
+    listed(is_never)
 }
 
 // Adds a vertex and the rights over it, unless there are none, to the list that begins here.
-fn add_held(
-    text: &mut Vec<u8>,
-    first: usize,
-    made: u64,
-    y: u64,
-    rights: Rights,
-) -> Result<(), AllocError> {
-    if rights.is_empty() {
-        return Ok(());
+fn add_held(text: &mut AnswerText, first: usize, made: u64, y: u64, rights: Rights) {
+    if !rights.is_empty() {
+        text.add_space(first);
+        text.add_vertex(made, y);
+        text.add_rights(rights);
     }
-    add_space(text, first)?;
-    add_vertex(text, made, y)?;
-    add_rights(text, rights)
 }
 
 // The rights of which it isn't shown that x never holds them over y: by the search that told of all at once, else by
@@ -258,13 +249,17 @@ fn add_held(
 fn what(scene: &Scene, told: &What, x: u64, y: u64) -> Result<Rights, AllocError> {
     let mut rights = Rights::empty();
     for right in RIGHTS {
-        let could = match told.of(right, y) {
-            Chance::Never => false,
-            Chance::Perhaps => !is_never(scene, x, right, y)?,
-        };
-        if could {
-            rights = rights.union(Rights::of(right));
+        if could(scene, told, x, *right, y)? {
+            rights = rights.union(Rights::of(*right));
         }
     }
     Ok(rights)
+}
+
+// Whether it isn't shown that x never holds the right over y.
+fn could(scene: &Scene, told: &What, x: u64, right: Right, y: u64) -> Result<bool, AllocError> {
+    match told.of(right, y) {
+        Chance::Never => Ok(false),
+        Chance::Perhaps => Ok(!is_never(scene, x, right, y)?),
+    }
 }

@@ -35,7 +35,7 @@ use options::{COMMAND_LINE, DotOptions, LineRange, options_of};
 use std::alloc::Global;
 use std::process::ExitCode;
 use steps::write_steps;
-use tg_plain::{Program, Script, obey};
+use tg_plain::{PlainFault, Program, Script, obey};
 
 fn main(rt: HostRuntime) -> ExitCode {
     ExitCode::from(obey(&rt, &COMMAND_LINE, &Plotting))
@@ -46,12 +46,12 @@ fn main(rt: HostRuntime) -> ExitCode {
 struct Plotting;
 
 impl<R: AllocGlobal + Print + Eprint + Input> Program<R> for Plotting {
-    fn run(&self, rt: &R, matches: &ArgMatches) -> u8 {
+    fn run(&self, rt: &R, matches: &ArgMatches) -> Result<u8, PlainFault> {
         match draw_script(rt, rt.alloc(), options_of(matches)) {
-            Ok(()) => 0,
+            Ok(()) => Ok(0),
             Err(fault) => {
                 let _ = eprintln!(rt; "tgdot: {fault}");
-                fault.status()
+                Ok(fault.status())
             }
         }
     }

@@ -1,7 +1,0 @@
-use Rattle.std.proofs.Common.{◌≡◌, ◌++◌, take}
-use Rattle.std.specs.List.{flat_map}
-use Rattle.tgcould.specs.Texts.{turn_text}
-use Rattle.tgcould.proofs.text.add_turns.Given as goal
-
-abbrev pub invariant-loop-turn : goal.invariant-loop-turn
-invariant-loop-turn l = l.text.items ≡ l.fn.text.items ++ flat_map turn_text (take l.turn-index l.turns)

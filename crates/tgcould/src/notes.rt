@@ -1,0 +1,69 @@
+//! What standard error says of answers.
+
+use crate::ask::Told;
+use itoa::Buffer;
+use std::alloc::Global;
+
+/// What standard error says of answers, and the exit status.
+#[derive(Drop)]
+pub struct Notes {
+    /// The lines, where memory was never wanting.
+    pub text: String,
+    /// Whether memory was wanting for a part of them.
+    pub is_short: bool,
+    /// The exit status: 1 where what must never come about could.
+    pub status: u8,
+    // How many boxes are left in the stock.
+    boxes: u64,
+}
+
+impl Notes {
+    /// No note. So many boxes are left in the stock.
+    pub fn new(alloc: Global, boxes: u64) -> Notes {
+        Notes {
+            text: String::new(alloc),
+            is_short: false,
+            status: 0,
+            boxes,
+        }
+    }
+
+    /// Adds how many boxes the lines of an answer want beside those that are left, and whether what must never come
+    /// about could.
+    pub fn add(&mut self, question: &str, told: Told, must_never: bool) {
+        let more = told.made.saturating_sub(self.boxes);
+        if more > 0 {
+            self.add_stock(question, more);
+        }
+        if must_never && !told.is_never {
+            self.add_breach(question, told.is_open);
+        }
+    }
+
+    // Adds that an answer's lines want so many boxes more.
+    fn add_stock(&mut self, question: &str, more: u64) {
+        let mut buffer = Buffer::new();
+        self.put("tgcould: ");
+        self.put(question);
+        self.put(": --stock must be longer by ");
+        self.put(buffer.format(more));
+        self.put("\n");
+    }
+
+    // Adds that what must never come about could, or that it isn't shown that it never does.
+    fn add_breach(&mut self, question: &str, is_open: bool) {
+        self.status = 1;
+        self.put("tgcould: --never '");
+        self.put(question);
+        self.put(if is_open {
+            "': it isn't shown that it never comes about\n"
+        } else {
+            "': it could come about\n"
+        });
+    }
+
+    // Adds a text.
+    fn put(&mut self, text: &str) {
+        self.is_short |= self.text.push_str(text).is_err();
+    }
+}
