@@ -57,7 +57,7 @@ pub fn could_hold(
 ) -> Result<Answer, AllocError>
     ensures { IfOk result (λ answer. (g : ProtectionGraph) → IsPictureOf picture.now g → IsAnswer silent.now g x right y answer) }
 {
-    let found = search(alloc, picture, silent, right, y, false)?;
+    let found = search(alloc, picture, silent, right, y, false);
     match settle(alloc, picture, silent, &found, x, right, y) {
         Ok(Some(answer)) => Ok(answer),
         Ok(None) => Ok(Answer::Never(found.sides)),
@@ -78,6 +78,7 @@ fn settle(
     ensures told { IfOk result (λ told. (g : ProtectionGraph) → IsPictureOf picture.now g → IfSome told (IsAnswer silent.now g x right y)) }
     ensures never { IfOk result (λ told. (g : ProtectionGraph) → IsPictureOf picture.now g → IfNone told (NeverHolds silent.now g x right y)) }
 {
+    found.grown?;
     if found.sides.parts(picture, silent, x, right, y) {
         return Ok(None);
     }

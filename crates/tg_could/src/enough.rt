@@ -51,7 +51,8 @@ fn is_enough(
 {
     let mut others = Vec::from_slice(alloc, silent)?;
     leave_out(&mut others, host);
-    let found = search(alloc, picture, others.as_slice(), right, y, false)?;
+    let found = search(alloc, picture, others.as_slice(), right, y, false);
+    found.grown?;
     let parts = found.sides.parts(picture, others.as_slice(), x, right, y);
     Ok(!parts)
 }

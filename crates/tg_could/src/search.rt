@@ -27,13 +27,13 @@ struct Kept {
 }
 
 /// What the search has found: the sets, its steps in order, and who acts, in the second of two sets. Where memory was
-/// wanting once, the end tells it.
+/// wanting once, nothing of it may be told but that.
 #[derive(Drop)]
 pub(crate) struct Found {
     pub(crate) sides: Separation,
     steps: Vec<Kept>,
     acting: Pairs,
-    grown: Result<(), AllocError>,
+    pub(crate) grown: Result<(), AllocError>,
 }
 
 // The edges with take or grant at each vertex: from those that have grant over it, and to those over which it has one
@@ -83,7 +83,7 @@ impl Kept {
 /// The least sets that hold those who have the right over a vertex and that no edge and nobody who acts leads out of.
 /// Where the vertex may yet be made, who acts is taken for one who has the right. Where `back`, the same walks go back
 /// from the vertex: the first set has those whose rights it may get, the second those who may hand it what they get,
-/// and where it may yet be made, who acts is taken for it. Fails only when out of memory.
+/// and where it may yet be made, who acts is taken for it. Tells whether memory was wanting.
 pub(crate) fn search(
     alloc: Global,
     picture: &Picture,
@@ -91,7 +91,7 @@ pub(crate) fn search(
     right: Right,
     over: u64,
     back: bool,
-) -> Result<Found, AllocError> {
+) -> Found {
     let mut found = Found::start(alloc, picture, silent);
     if comes_later(picture, over) {
         found.put_actors(picture, back);
@@ -100,8 +100,7 @@ pub(crate) fn search(
         found.put_name(over, true);
     }
     found.search(alloc, picture.edges(), right, over);
-    found.grown?;
-    Ok(found)
+    found
 }
 
 impl Found {

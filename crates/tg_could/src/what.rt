@@ -64,8 +64,8 @@ pub fn what_could(
 ) -> Result<What, AllocError>
     ensures { IfOk result (λ what. (g : ProtectionGraph) → IsPictureOf picture.now g → (right : TheRight) (y : ℕ) → IsLeftOut what right y → NeverHolds silent.now g x right y) }
 {
-    let found = search(alloc, picture, silent, Right::G, x, true)?;
-    let mut grown = Ok(());
+    let found = search(alloc, picture, silent, Right::G, x, true);
+    let mut grown = found.grown;
     let listed = Listed::of(alloc, picture, &found, x, &mut grown);
     grown?;
     let is_shown = listed.leaves_out(&found.sides, picture, silent, x);

@@ -60,8 +60,8 @@ pub fn who_could(
 ) -> Result<Who, AllocError>
     ensures { IfOk result (λ who. (g : ProtectionGraph) → IsPictureOf picture.now g → (x : ℕ) → IsLeftOut who x → NeverHolds silent.now g x right y) }
 {
-    let found = search(alloc, picture, silent, right, y, false)?;
-    let mut grown = Ok(());
+    let found = search(alloc, picture, silent, right, y, false);
+    let mut grown = found.grown;
     let told = Told::of(alloc, picture, silent, &found, right, y, &mut grown);
     grown?;
     let is_shown = told.leaves_out(&found.sides, picture, silent, right, y);

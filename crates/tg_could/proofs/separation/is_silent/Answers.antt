@@ -1,0 +1,9 @@
+use Rattle.std.proofs.Common.{sym, ◌∙◌}
+use Rattle.std.proofs.lemmas.Bool.{false≢true}
+use Rattle.tg_could.proofs.separation.is_silent.Goals as goal
+
+pub returns-else-is_among : goal.returns-else-is_among
+returns-else-is_among c = (
+  λ t. absurd (false≢true (sym c.if-is_among.false ∙ t)),
+  λ is. c.is_among.ensures.1 is.0,
+)
