@@ -1,7 +1,8 @@
 -- The reply to a served command, computed on the content of a heap, is that of the graph that it stands for.
-use Rattle.std.proofs.Common.{◌≡◌, ℕ, ◌<◌, None, Some, refl, sym, ap, ◌∙◌, get_or}
+use Rattle.std.proofs.Common.{◌≡◌, ℕ, ◌<◌, ◌+◌, None, Some, refl, sym, ap, ◌∙◌, get_or, arith}
 use Rattle.std.proofs.lemmas.List.{get_or_default}
-use Rattle.std.specs.List.{All}
+use Rattle.std.proofs.lemmas.List.Sums.{get_or-le-sum_by}
+use Rattle.std.specs.List.{All, sum_by}
 use Rattle.tg_rights.specs.RightSet.{RightSet}
 use Rattle.tg_model.specs.declared.value.Value.{Value}
 use Rattle.std.specs.Prelude.{Option}
@@ -20,8 +21,6 @@ use Rattle.tg_model.proofs.AllowedLaws.{permits-no_denial, step-allowed, step-de
 use Rattle.tg_model.proofs.NameLaws.{each_reply}
 use Rattle.tg_rules.specs.Effect.{IsReplyOn, OnlyLooks, ShowsSomething}
 use Rattle.tg_store.specs.Counts.{refusal_told}
-use Rattle.tg_store.specs.declared.census.Refusal.{Refusal}
-use Rattle.tg_store.specs.declared.census.Refusal.TheVariants.{Denied as DeniedAlone}
 
 -- whether something is shown rests on the command alone
 shows_alike : (label : ℕ → ℕ → RightSet) (value : ℕ → Option Value) (n x : ℕ) (command : Command) → ShowsSomething (reply_of label value n x command) → OnlyLooks command
@@ -80,15 +79,12 @@ denial-answered c g x command denial stands subject e =
     denial_of-stands c g stands x command subject
     ∙ from_denied (denial_of g.label g.value x command) (reply_of g.label g.value g.made x command) denial (not_denied g.label g.value g.made x command denial) e
 
--- of all refusals that have an entry a command meets denials alone
-told_alone : (o : Option Denial) (reply : Reply) → refusal_told reply ≡ None → (refusal : Refusal) → refusal_told (denied_or o reply) ≡ Some refusal → refusal ≡ DeniedAlone
-told_alone None reply none refusal told = let f : ⊥ = cc (none, told) in absurd f
-told_alone (Some denial) reply none refusal told = cc told
-
-pub denial_alone : (g : ProtectionGraph) (x : ℕ) (command : Command) (reply : Reply) → reply ≡ answer_of g x (Plain command) → (refusal : Refusal) → refusal_told reply ≡ Some refusal → refusal ≡ DeniedAlone
-denial_alone g x command reply is refusal told =
-    told_alone (denial_of g.label g.value x command) (reply_of g.label g.value g.made x command)
-    (each_reply (λ r. refusal_told r ≡ None) refl (λ values. refl) (λ edges. refl) g.label g.value g.made x command) refusal (sym (ap refusal_told is) ∙ told)
+-- a reply that says what the heap has tells of no refusal
+pub looked-none : (c : Content) (x : ℕ) (command : Command) (reply : Reply) → IsReplyOn c x command reply → refusal_told reply ≡ None
+looked-none c x command reply is =
+    let above : ℕ = sum_by (λ (n : ℕ). n) c.names + 1 in
+    let below : All (λ name. name < above) c.names = λ k d low. let at_most = get_or-le-sum_by (λ (n : ℕ). n) c.names k d low in omega (arith, at_most) in
+    ap refusal_told (is above below) ∙ each_reply (λ r. refusal_told r ≡ None) refl (λ values. refl) (λ edges. refl) c.label c.value above x command
 
 made_either : (o : Option Denial) (g : ProtectionGraph) (x : ℕ) (command : Command) → (unless_denied o g (effect g x command)).made ≡ g.made
 made_either None g x command = refl

@@ -8,7 +8,7 @@ mod holders;
 mod leave;
 mod picture;
 
-use crate::answer::{Replies, answer_command};
+use crate::answer::answer_command;
 use crate::census::{Census, Collections};
 use crate::fault::{ApplyFault, CreateFault, CreateRefused, OpenFault, OpenRefused};
 use crate::making::{Limit, Making, add_vertex, deed_to_enter};
@@ -237,17 +237,13 @@ impl<P: Payload> Store<P> {
             return Err(ApplyFault::NoSuchWorker);
         };
         self.journal.reserve()?;
-        let Replies { reply, copy } = answer_command(
+        let reply = answer_command(
             self.alloc,
             &mut self.heap,
+            &mut self.journal,
             subject,
             &command,
         )?;
-        self.journal.push_answer(Entry {
-            worker,
-            deed: Deed::Plain(command),
-            reply: copy,
-        });
         Ok(reply)
     }
 

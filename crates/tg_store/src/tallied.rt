@@ -1,13 +1,11 @@
 //! A journal that counts the refusals that are entered.
 ghost use Rattle.std.specs.Prelude.{◌≡◌, ◌+◌, ◌<◌, ◌≤◌, [], ◌∷◌, ◌++◌, length, None, Some, OnErr, OnOk};
 ghost use Rattle.tg_store.specs.Counts.{refusal_told, refusals_in};
-ghost use Rattle.tg_store.specs.declared.census.Refusal.{Refusal as Refused};
 
 use crate::census::{Refusal, Refusals};
 use std::alloc::{AllocError, Global};
 use std::marker::Model;
 use tg_journal::{Entry, Journal};
-use tg_model::Reply;
 
 /// A journal, and how many of all entries that were made tell of each refusal. Contracts see the journal alone.
 #[derive(Drop)]
@@ -105,21 +103,6 @@ impl TalliedJournal {
         // It tells that the entries have a number, and so their refusals have.
         let _ = self.journal.len();
         self.refusals.add(refusal);
-    }
-
-    /// Adds the entry of a command that was served or denied, for which there has to be room. Takes no memory.
-    #[inline(always)]
-    pub(crate) fn push_answer(&mut self, entry: Entry)
-        requires room { 0 < self.old.spare }
-        requires told { (refusal : Refused) → refusal_told entry.reply ≡ Some refusal → refusal ≡ Refusal.Denied }
-        ensures entries { self.new.entries ≡ self.old.entries ++ entry ∷ [] }
-        ensures start { self.new.start ≡ self.old.start }
-        ensures spare { self.new.spare + 1 ≡ self.old.spare }
-    {
-        match entry.reply {
-            Reply::Denied(_) => self.push_refusal(entry, Refusal::Denied),
-            _ => self.push(entry),
-        }
     }
 
     /// Hands out what it holds, as [`Journal::take`] does. Takes no memory.

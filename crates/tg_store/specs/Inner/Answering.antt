@@ -1,16 +1,18 @@
--- What comes of a command on the heap, before anything is entered in the journal.
-use Rattle.std.specs.Prelude.{◌≡◌, ◌≢◌, Result, None, Err, IfOk, OnErr}
+-- What comes of a command on the heap, and what is entered of it.
+use Rattle.std.specs.Prelude.{◌≡◌, ◌≢◌, ◌++◌, ◌∷◌, [], Result, None, Err, IfOk, OnErr}
 use Rattle.tg_model.specs.declared.command.Command.{Command}
 use Rattle.tg_model.specs.declared.command.Deed.TheVariants.{Plain}
+use Rattle.tg_model.specs.declared.reply.Reply.{Reply}
 use Rattle.tg_model.specs.Graph.{ProtectionGraph, IsSubject}
 use Rattle.tg_model.specs.Rules.{answer_of, denial_of, step}
+use Rattle.tg_journal.specs.declared.entry.Entry.{Entry}
+use Rattle.tg_journal.specs.Journal.{Entries}
 use Rattle.tg_subjects.specs.declared.subject.Subject.{Subject}
 use Rattle.tg_graph.specs.Heap.{HeapState, IsUnchangedHeap, content_of, subject_names}
 use Rattle.tg_graph.specs.Standing.{IsContentOf}
 use Rattle.tg_rules.specs.Parties.{AreParties}
 use Rattle.tg_rules.specs.Verdict.{HasSubject}
 use Rattle.tg_rules.specs.declared.vertex.Parties.{Parties}
-use Rattle.tg_store.specs.declared.answer.Replies.{Replies}
 use Rattle.tg_store.specs.declared.fault.ApplyFault.{ApplyFault}
 use Rattle.tg_store.specs.declared.fault.ApplyFault.TheVariants.{NoSuchWorker}
 
@@ -22,9 +24,8 @@ pub record IsToServe (asker : Subject) (command : Command) (between : Parties) (
 
 -- A command of a subject was served or denied. For each graph that the heap stood for the reply is that graph's, and the heap stands
 -- for the next one.
-pub record IsReplied (subject : Subject) (command : Command) (old new : HeapState) (answer : Replies) : Type 0 where
-  pub copy : answer.copy ≡ answer.reply
-  pub reply : (g : ProtectionGraph) → IsContentOf (content_of old) g → IsSubject g subject.name → answer.reply ≡ answer_of g subject.name (Plain command)
+pub record IsReplied (subject : Subject) (command : Command) (old new : HeapState) (reply : Reply) : Type 0 where
+  pub answered : (g : ProtectionGraph) → IsContentOf (content_of old) g → IsSubject g subject.name → reply ≡ answer_of g subject.name (Plain command)
   pub subjects : (g : ProtectionGraph) → IsContentOf (content_of old) g → IsSubject g subject.name → subject_names old ≡ g.subjects →
       subject_names new ≡ (step g subject.name (Plain command)).subjects
   pub step : (g : ProtectionGraph) → IsContentOf (content_of old) g → IsSubject g subject.name → IsContentOf (content_of new) (step g subject.name (Plain command))
@@ -36,6 +37,16 @@ pub record KeepsHeap {T : Type 0} (old new : HeapState) (result : Result T Apply
   pub worker : result ≢ Err NoSuchWorker
 
 -- A command of a subject was answered: served or denied, or refused; and the heap stays as far as it has to.
-pub record AnswersCommand (asker : Subject) (command : Command) (old new : HeapState) (result : Result Replies ApplyFault) : Type 0 where
+pub record AnswersCommand (asker : Subject) (command : Command) (old new : HeapState) (result : Result Reply ApplyFault) : Type 0 where
   pub replied : IfOk result (IsReplied asker command old new)
   pub kept : KeepsHeap old new result
+
+-- the entry of a command of a subject with its reply
+abbrev pub entry_answered : Subject → Command → Reply → Entry
+entry_answered asker command reply = record { worker = asker.name; deed = Plain command; reply = reply }
+
+-- Exactly the entry of a command that was served or denied was added to the journal, and none of one that was refused.
+pub record EntersAnswer (asker : Subject) (command : Command) (old new : Entries) (result : Result Reply ApplyFault) : Type 0 where
+  pub entry : IfOk result (λ reply. new.entries ≡ old.entries ++ entry_answered asker command reply ∷ [])
+  pub start : new.start ≡ old.start
+  pub refused : OnErr result (new.entries ≡ old.entries)

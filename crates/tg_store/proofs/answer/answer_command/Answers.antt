@@ -8,9 +8,8 @@ pub returns-in-Err-clause-answered : goal.returns-in-Err-clause-answered
 returns-in-Err-clause-answered g c =
     record {
       replied = record {
-        copy = c.denied.ensures.copy ∙ sym c.denied.ensures.reply;
-        reply = (λ graph stands subject.
-            c.denied.ensures.reply ∙ reply-denied (content_of c.args.heap.now) graph stands c.args.subject.name c.args.command.now subject c.in-Err.denial (sym c.in-Err.ensures.denial));
+        answered = (λ graph stands subject.
+            c.deny.ensures.reply ∙ reply-denied (content_of c.args.heap.now) graph stands c.args.subject.name c.args.command.now subject c.in-Err.denial (sym c.in-Err.ensures.denial));
         step = (λ graph stands subject.
             step-denied_stands (content_of c.args.heap.now) graph stands c.args.subject.name c.args.command.now subject c.in-Err.denial (sym c.in-Err.ensures.denial));
         subjects = (λ graph stands subject names.

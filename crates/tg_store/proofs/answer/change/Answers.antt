@@ -1,5 +1,5 @@
 -- The graph answers that it is done, and the heap stands for the next one.
-use Rattle.std.proofs.Common.{ℕ, List, ap, sym, ◌∙◌, refl}
+use Rattle.std.proofs.Common.{ℕ, List, ap, sym, ◌∙◌}
 use Rattle.tg_model.specs.Rules.{subjects_after}
 use Rattle.tg_graph.specs.Heap.{content_of}
 use Rattle.tg_graph.proofs.StandingLaws.{StandsFor-served}
@@ -10,8 +10,7 @@ pub returns-clause-answered : goal.returns-clause-answered
 returns-clause-answered g c =
     record {
       replied = record {
-        copy = refl;
-        reply = (λ graph stands subject.
+        answered = (λ graph stands subject.
             done-served (content_of c.args.heap.now) graph stands c.args.subject.name c.args.command.now subject c.requires.to_serve.served c.requires.changes);
         step = (λ graph stands subject.
             StandsFor-served (content_of c.args.heap.now) (content_of c.change_between.new.heap) graph stands c.args.subject.name subject c.args.command.now c.requires.to_serve.served c.in_ok-_done.ensures.content);

@@ -10,7 +10,7 @@ use Rattle.tg_graph.specs.Standing.{IsContentOf}
 use Rattle.tg_graph.specs.Heap.{IsActive, content_of, nursery_of, subject_names}
 use Rattle.tg_rules.specs.Effect.{LacksCellsToServe}
 use Rattle.tg_store.specs.Store.{StoreState, Enters, IsUnchanged, OnlyEnters, StandsFor, graph_of_store}
-use Rattle.tg_store.proofs.AnswerLaws.{denial-answered, denial_alone, made-plain, permitted}
+use Rattle.tg_store.proofs.AnswerLaws.{denial-answered, made-plain, permitted}
 use Rattle.tg_store.proofs.StandLaws.{IsStore-unchanged, IsStore-entered, StandsFor-entered, subject_here, subject_named, active_here}
 use Rattle.tg_store.proofs.store.Store.apply.Goals as goal
 
@@ -35,8 +35,8 @@ returns-in_err-reserve-clause-no_such_worker g c =
 pub invariant_of-self-in_err-reply : goal.invariant_of-self-in_err-reply
 invariant_of-self-in_err-reply g c =
     let old : StoreState = record { opening = c.self.inside.opening; entries = c.self.inside.journal.entries; handed = c.self.inside.journal.start; heap = c.self.inside.heap; collections = c.self.inside.collections } in
-    let new : StoreState = record { opening = c.self.inside.opening; entries = c.reserve.new.self.entries; handed = c.reserve.new.self.start; heap = c.answer_command.new.heap; collections = c.self.inside.collections } in
-    let unchanged : IsUnchanged old new = record { opening = refl; entries = c.reserve.ensures.entries; handed = c.reserve.ensures.start; heap = c.in_err-reply.ensures.answered.kept.refused; collections = refl } in
+    let new : StoreState = record { opening = c.self.inside.opening; entries = c.answer_command.new.journal.entries; handed = c.answer_command.new.journal.start; heap = c.answer_command.new.heap; collections = c.self.inside.collections } in
+    let unchanged : IsUnchanged old new = record { opening = refl; entries = c.in_err-reply.ensures.entered.refused ∙ c.reserve.ensures.entries; handed = c.answer_command.ensures.entered.start ∙ c.reserve.ensures.start; heap = c.in_err-reply.ensures.answered.kept.refused; collections = refl } in
     IsStore-unchanged old new c.self.inside.made c.self.invariant unchanged
 
 pub returns-in_err-reply-clause-no_such_worker : goal.returns-in_err-reply-clause-no_such_worker
@@ -69,28 +69,21 @@ returns-in_err-reply-clause-full g c =
       subst (λ (s : StoreState). LacksCellsToServe s.heap.table (nursery_of s.heap c.args.worker) c.args.worker c.args.command) c.self.view_is lacks,
     )
 
-pub push_answer-requires-clause-told : goal.push_answer-requires-clause-told
-push_answer-requires-clause-told g c =
-    let old : StoreState = record { opening = c.self.inside.opening; entries = c.self.inside.journal.entries; handed = c.self.inside.journal.start; heap = c.self.inside.heap; collections = c.self.inside.collections } in
-    let graph : ProtectionGraph = graph_of_store old in
-    let own : IsSubject graph c.in-Some.subject.name = subject_named old c.self.invariant.faithful c.args.worker c.in-Some.subject.name c.in-Some.ensures.there.named (c.in-Some.ensures.active.0 refl) in
-    denial_alone graph c.in-Some.subject.name c.args.command c.in_ok-reply.field-0.copy
-    (c.in_ok-reply.ensures.answered.replied.copy ∙ c.in_ok-reply.ensures.answered.replied.reply graph c.self.invariant.faithful.stands own)
-
 pub invariant_of-self-2 : goal.invariant_of-self-2
 invariant_of-self-2 g c =
     let old : StoreState = record { opening = c.self.inside.opening; entries = c.self.inside.journal.entries; handed = c.self.inside.journal.start; heap = c.self.inside.heap; collections = c.self.inside.collections } in
-    let new : StoreState = record { opening = c.self.inside.opening; entries = c.push_answer.new.self.entries; handed = c.push_answer.new.self.start; heap = c.answer_command.new.heap; collections = c.self.inside.collections } in
+    let new : StoreState = record { opening = c.self.inside.opening; entries = c.answer_command.new.journal.entries; handed = c.answer_command.new.journal.start; heap = c.answer_command.new.heap; collections = c.self.inside.collections } in
     let graph : ProtectionGraph = graph_of_store old in
     let active : IsActive old.heap c.args.worker = c.in-Some.ensures.active.0 refl in
     let named : c.in-Some.subject.name ≡ c.args.worker = c.in-Some.ensures.there.named in
     let subject : IsSubject graph c.args.worker = subject_here old c.self.invariant.faithful graph c.args.worker refl active in
     let stands = c.self.invariant.faithful.stands in
-    let copy : Reply = c.in_ok-reply.field-0.copy in
+    let copy : Reply = c.in_ok-reply.reply in
     let entry : Enters old new c.args.worker (Plain c.args.command) copy =
-    c.push_answer.ensures.entries ∙ ap (λ es. es ++ (record { worker = c.args.worker; deed = Plain c.args.command; reply = copy }) ∷ []) c.reserve.ensures.entries in
+    c.in_ok-reply.ensures.entered.entry ∙ ap (λ (x : ℕ). c.reserve.new.self.entries ++ (record { worker = x; deed = Plain c.args.command; reply = c.in_ok-reply.reply }) ∷ []) c.in-Some.ensures.there.named
+    ∙ ap (λ es. es ++ (record { worker = c.args.worker; deed = Plain c.args.command; reply = copy }) ∷ []) c.reserve.ensures.entries in
     IsStore-entered old new c.args.worker (Plain c.args.command) copy refl entry c.self.inside.made c.self.invariant.faithful subject tt
-    (c.in_ok-reply.ensures.answered.replied.copy ∙ c.in_ok-reply.ensures.answered.replied.reply graph stands (subst (λ (x : ℕ). IsSubject graph x) (sym named) subject) ∙ ap (λ (x : ℕ). answer_of graph x (Plain c.args.command)) named)
+    (c.in_ok-reply.ensures.answered.replied.answered graph stands (subst (λ (x : ℕ). IsSubject graph x) (sym named) subject) ∙ ap (λ (x : ℕ). answer_of graph x (Plain c.args.command)) named)
     (subst (λ (x : ℕ). IsContentOf (content_of new.heap) (step graph x (Plain c.args.command))) named (c.in_ok-reply.ensures.answered.replied.step graph stands (subst (λ (x : ℕ). IsSubject graph x) (sym named) subject)))
     (subst (λ (x : ℕ). subject_names new.heap ≡ (step graph x (Plain c.args.command)).subjects) named
     (c.in_ok-reply.ensures.answered.replied.subjects graph stands (subst (λ (x : ℕ). IsSubject graph x) (sym named) subject) c.self.invariant.faithful.subjects))
@@ -103,16 +96,17 @@ returns-clause-reply g c =
     let own : IsSubject graph c.in-Some.subject.name = subject_named old c.self.invariant.faithful c.args.worker c.in-Some.subject.name c.in-Some.ensures.there.named (c.in-Some.ensures.active.0 refl) in
     λ other stands.
     let here : StandsFor old other = ap graph_of_store c.self.view_is ∙ stands in
-    c.in_ok-reply.ensures.answered.replied.reply graph c.self.invariant.faithful.stands own
+    c.in_ok-reply.ensures.answered.replied.answered graph c.self.invariant.faithful.stands own
     ∙ ap (λ (x : ℕ). answer_of graph x (Plain c.args.command)) c.in-Some.ensures.there.named ∙ ap (λ h. answer_of h c.args.worker (Plain c.args.command)) here
 
 pub returns-clause-step : goal.returns-clause-step
 returns-clause-step g c =
     let old : StoreState = record { opening = c.self.inside.opening; entries = c.self.inside.journal.entries; handed = c.self.inside.journal.start; heap = c.self.inside.heap; collections = c.self.inside.collections } in
-    let new : StoreState = record { opening = c.self.inside.opening; entries = c.push_answer.new.self.entries; handed = c.push_answer.new.self.start; heap = c.answer_command.new.heap; collections = c.self.inside.collections } in
-    let copy : Reply = c.in_ok-reply.field-0.copy in
+    let new : StoreState = record { opening = c.self.inside.opening; entries = c.answer_command.new.journal.entries; handed = c.answer_command.new.journal.start; heap = c.answer_command.new.heap; collections = c.self.inside.collections } in
+    let copy : Reply = c.in_ok-reply.reply in
     let entry : Enters old new c.args.worker (Plain c.args.command) copy =
-    c.push_answer.ensures.entries ∙ ap (λ es. es ++ (record { worker = c.args.worker; deed = Plain c.args.command; reply = copy }) ∷ []) c.reserve.ensures.entries in
+    c.in_ok-reply.ensures.entered.entry ∙ ap (λ (x : ℕ). c.reserve.new.self.entries ++ (record { worker = x; deed = Plain c.args.command; reply = c.in_ok-reply.reply }) ∷ []) c.in-Some.ensures.there.named
+    ∙ ap (λ es. es ++ (record { worker = c.args.worker; deed = Plain c.args.command; reply = copy }) ∷ []) c.reserve.ensures.entries in
     λ other stands.
     let here : StandsFor old other = ap graph_of_store c.self.view_is ∙ stands in
     StandsFor-entered old new c.args.worker (Plain c.args.command) copy refl entry other here
@@ -125,14 +119,15 @@ returns-clause-denied g c =
     let subject : IsSubject graph c.args.worker = subject_here old c.self.invariant.faithful graph c.args.worker refl (c.in-Some.ensures.active.0 refl) in
     let stands = c.self.invariant.faithful.stands in
     λ denial same.
-    let new : StoreState = record { opening = c.self.inside.opening; entries = c.push_answer.new.self.entries; handed = c.push_answer.new.self.start; heap = c.answer_command.new.heap; collections = c.self.inside.collections } in
-    let is : c.in_ok-reply.field-0.reply ≡ Denied denial = cc same in
-    let denied = denial-answered (content_of old.heap) graph c.args.worker c.args.command denial stands subject (sym is ∙ c.in_ok-reply.ensures.answered.replied.reply graph stands (subst (λ (x : ℕ). IsSubject graph x) (sym named) subject) ∙ ap (λ (x : ℕ). answer_of graph x (Plain c.args.command)) named) in
-    let copy : c.in_ok-reply.field-0.copy ≡ Denied denial = c.in_ok-reply.ensures.answered.replied.copy ∙ is in
+    let new : StoreState = record { opening = c.self.inside.opening; entries = c.answer_command.new.journal.entries; handed = c.answer_command.new.journal.start; heap = c.answer_command.new.heap; collections = c.self.inside.collections } in
+    let is : c.in_ok-reply.reply ≡ Denied denial = cc same in
+    let denied = denial-answered (content_of old.heap) graph c.args.worker c.args.command denial stands subject (sym is ∙ c.in_ok-reply.ensures.answered.replied.answered graph stands (subst (λ (x : ℕ). IsSubject graph x) (sym named) subject) ∙ ap (λ (x : ℕ). answer_of graph x (Plain c.args.command)) named) in
+    let copy : c.in_ok-reply.reply ≡ Denied denial = is in
     let entry : Enters old new c.args.worker (Plain c.args.command) (Denied denial) =
-    c.push_answer.ensures.entries ∙ ap (λ es. es ++ (record { worker = c.args.worker; deed = Plain c.args.command; reply = c.in_ok-reply.field-0.copy }) ∷ []) c.reserve.ensures.entries
+    c.in_ok-reply.ensures.entered.entry ∙ ap (λ (x : ℕ). c.reserve.new.self.entries ++ (record { worker = x; deed = Plain c.args.command; reply = c.in_ok-reply.reply }) ∷ []) c.in-Some.ensures.there.named
+    ∙ ap (λ es. es ++ (record { worker = c.args.worker; deed = Plain c.args.command; reply = c.in_ok-reply.reply }) ∷ []) c.reserve.ensures.entries
     ∙ ap (λ (r : Reply). old.entries ++ (record { worker = c.args.worker; deed = Plain c.args.command; reply = r }) ∷ []) copy in
-    let only : OnlyEnters old new c.args.worker (Plain c.args.command) (Denied denial) = record { entry = entry; opening = refl; handed = c.push_answer.ensures.start ∙ c.reserve.ensures.start; heap = c.answer_command.ensures.denied denial (subst (λ (x : ℕ). denial_of (content_of old.heap).label (content_of old.heap).value x c.args.command ≡ Some denial) (sym named) denied); collections = refl } in
+    let only : OnlyEnters old new c.args.worker (Plain c.args.command) (Denied denial) = record { entry = entry; opening = refl; handed = c.answer_command.ensures.entered.start ∙ c.reserve.ensures.start; heap = c.answer_command.ensures.denied denial (subst (λ (x : ℕ). denial_of (content_of old.heap).label (content_of old.heap).value x c.args.command ≡ Some denial) (sym named) denied); collections = refl } in
     subst (λ (s : StoreState). OnlyEnters s new c.args.worker (Plain c.args.command) (Denied denial)) c.self.view_is only
 
 pub returns-clause-no_such_worker : goal.returns-clause-no_such_worker
@@ -208,7 +203,7 @@ pub returns-in_err-reply-clause-opening : goal.returns-in_err-reply-clause-openi
 returns-in_err-reply-clause-opening g c = ap (λ (s : StoreState). s.opening) c.self.view_is
 
 pub returns-in_err-reply-clause-handed : goal.returns-in_err-reply-clause-handed
-returns-in_err-reply-clause-handed g c = c.reserve.ensures.start ∙ ap (λ (s : StoreState). s.handed) c.self.view_is
+returns-in_err-reply-clause-handed g c = c.answer_command.ensures.entered.start ∙ c.reserve.ensures.start ∙ ap (λ (s : StoreState). s.handed) c.self.view_is
 
 pub returns-in_err-reply-clause-limits : goal.returns-in_err-reply-clause-limits
 returns-in_err-reply-clause-limits g c = c.answer_command.ensures.answered.kept.limits ∙ ap (λ (s : StoreState). s.heap.table.limits) c.self.view_is
@@ -223,7 +218,7 @@ pub returns-clause-opening : goal.returns-clause-opening
 returns-clause-opening g c = ap (λ (s : StoreState). s.opening) c.self.view_is
 
 pub returns-clause-handed : goal.returns-clause-handed
-returns-clause-handed g c = c.push_answer.ensures.start ∙ c.reserve.ensures.start ∙ ap (λ (s : StoreState). s.handed) c.self.view_is
+returns-clause-handed g c = c.answer_command.ensures.entered.start ∙ c.reserve.ensures.start ∙ ap (λ (s : StoreState). s.handed) c.self.view_is
 
 pub returns-clause-limits : goal.returns-clause-limits
 returns-clause-limits g c = c.answer_command.ensures.answered.kept.limits ∙ ap (λ (s : StoreState). s.heap.table.limits) c.self.view_is
