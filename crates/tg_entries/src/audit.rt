@@ -5,7 +5,7 @@ ghost use Rattle.tg_model.specs.Graph.{ProtectionGraph};
 ghost use Rattle.tg_journal.specs.Auditing.{HasComeTo};
 ghost use Rattle.tg_journal.specs.Live.{graph_kept};
 ghost use Rattle.tg_entries.specs.Read.{HasEntered, HasHead, HasRead, IsNext};
-ghost use Rattle.tg_entries.specs.Texts.{IsAudited, deed_text, worker_text};
+ghost use Rattle.tg_entries.specs.Texts.{IsAudited, deed_text, edge_text, worker_text};
 
 use crate::fault::LineFault;
 use crate::part::{Part, check_part, is_reply};
@@ -223,22 +223,7 @@ fn edge_line<L: Ledger>(
 ) -> Result<(), LineFault>
     ensures { (text : List ℕ) → HasHead text head.old → OnOk result (HasHead (text ++ line.now) head.new) }
 {
-    match next_edge(head, line) {
-        Some(edge) => add_edge(again, head, edge, line),
-        None => Err(LineFault::BadLine),
-    }
-}
-
-// The edge of an opening, which the line has to tell.
-fn add_edge<L: Ledger>(
-    again: &mut Written<L>,
-    head: &mut Head,
-    edge: Edge,
-    line: &[u8],
-) -> Result<(), LineFault>
-    ensures { (text : List ℕ) → HasHead text head.old → OnOk result (HasHead (text ++ line.now) head.new) }
-{
-    check_part(again, &Part::Edge(edge), line)?;
+    let edge = next_edge(again, head, line)?;
     match head.edges.push(edge) {
         Ok(()) => Ok(()),
         Err(_) => Err(LineFault::OutOfMemory),
@@ -246,10 +231,22 @@ fn add_edge<L: Ledger>(
 }
 
 // The edge that the line tells, where all values came.
-fn next_edge(head: &Head, line: &[u8]) -> Option<Edge> {
-    let edge = read_edge(line)?;
-    let may_come = head.values.len() as u64 == head.workers && edge.joins_workers(head.workers);
-    may_come.then_some(edge)
+fn next_edge<L: Ledger>(again: &mut Written<L>, head: &Head, line: &[u8]) -> Result<Edge, LineFault>
+    ensures { IfOk result (λ edge. line.now ≡ edge_text edge) }
+{
+    let Some(edge) = read_edge(line) else {
+        return Err(LineFault::BadLine);
+    };
+    if !may_have_edge(head, edge) {
+        return Err(LineFault::BadLine);
+    }
+    check_part(again, &Part::Edge(&edge), line)?;
+    Ok(edge)
+}
+
+// Whether the edge may come: behind all values, between two workers.
+fn may_have_edge(head: &Head, edge: Edge) -> bool {
+    head.values.len() as u64 == head.workers && edge.joins_workers(head.workers)
 }
 
 // The audit of a history of the opening, where all of it came.

@@ -6,7 +6,7 @@ use std::io;
 use thiserror::Error;
 
 /// Why a line doesn't go on with the lines before it.
-#[derive(Clone, Copy, Debug, Error)]
+#[derive(Clone, Copy, PartialEq, Eq, Debug, Error)]
 pub enum LineFault {
     /// There was no memory for it, which says nothing of the line.
     #[error("out of memory")]

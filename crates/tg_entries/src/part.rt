@@ -17,7 +17,7 @@ use tg_text::{Sink, WriteFailed, Written};
 pub enum Part<'a> {
     Limits { workers: u64, max_vertices: u64 },
     Worker(&'a Value),
-    Edge(Edge),
+    Edge(&'a Edge),
     Deed { worker: u64, deed: &'a Deed },
     End(u64),
 }
@@ -69,7 +69,7 @@ fn write_part<K: Sink>(sink: &mut K, part: &Part) -> Result<(), WriteFailed>
             max_vertices,
         } => write_limits(sink, *workers, *max_vertices),
         Part::Worker(value) => write_worker(sink, value),
-        Part::Edge(edge) => write_edge(sink, *edge),
+        Part::Edge(edge) => write_edge(sink, **edge),
         Part::Deed { worker, deed } => write_deed(sink, *worker, deed),
         Part::End(count) => write_end(sink, *count),
     }
