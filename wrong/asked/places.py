@@ -60,17 +60,13 @@ PLACES = {
         "a growth was refused before, and noted",
     ),
     **{
-        ("tg_entries/src/same.rt", name): (
+        ("tg_entries/src/part.rt", name): (
             [f"match {writer} Ok(()) Err(_)"],
             "what was read is written to memory, which fails for want of it alone",
         )
         for name, writer in (
-            ("is_entry", "write_entry"),
-            ("is_deed", "write_deed"),
-            ("are_limits", "write_limits"),
-            ("is_worker", "write_worker"),
-            ("is_edge", "write_edge"),
-            ("is_end", "write_end"),
+            ("check_part", "write_part"),
+            ("is_reply", "write_answered"),
         )
     },
 }

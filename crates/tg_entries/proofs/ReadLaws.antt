@@ -3,6 +3,9 @@ use Rattle.std.proofs.Common.{◌≡◌, ◌∙◌, ℕ, ◌+◌, List, [], ◌�
 use Rattle.std.proofs.lemmas.List.{flat_map_more}
 use Rattle.std.specs.Io.KnownBytes.{Consumes, IsAtEnd}
 use Rattle.std.specs.List.{flat_map}
+use Rattle.std.specs.Prelude.{codes, IfOk, Result, Ok, Err}
+use Rattle.tg_model.specs.declared.command.Deed.{Deed}
+use Rattle.tg_model.specs.declared.reply.Reply.{Reply}
 use Rattle.tg_model.specs.declared.edge.Edge.{Edge}
 use Rattle.tg_model.specs.declared.value.Value.{Value}
 use Rattle.tg_model.specs.Graph.{ProtectionGraph}
@@ -12,10 +15,12 @@ use Rattle.tg_journal.specs.Auditing.{HasComeTo, Passes}
 use Rattle.tg_journal.specs.History.{graph_after}
 use Rattle.tg_journal.specs.Live.{graph_kept}
 use Rattle.tg_journal.proofs.HistoryLaws.{IsLegal-push, graph_after-push}
+use Rattle.tg_text.specs.declared.answer.Answer.TheVariants as answer
+use Rattle.tg_text.specs.Texts.{answer_text}
 use Rattle.tg_entries.specs.declared.stage.Entered.{Entered}
 use Rattle.tg_entries.specs.declared.stage.Stage.{Stage}
-use Rattle.tg_entries.specs.Read.{HasEntered, HasRead}
-use Rattle.tg_entries.specs.Texts.{IsAudited, edge_text, end_text, entry_text, head_text, limits_text, opening_text, version_text, worker_text}
+use Rattle.tg_entries.specs.Read.{HasEntered, HasRead, IsNext}
+use Rattle.tg_entries.specs.Texts.{IsAudited, deed_text, edge_text, end_text, entry_text, head_text, limits_text, opening_text, version_text, worker_text}
 
 -- the limits, behind the first line
 pub limits_read : (text line : List ℕ) (workers limit : ℕ) (values : List Value) (edges : List Edge) → values ≡ [] → edges ≡ [] → text ≡ version_text → line ≡ limits_text workers limit →
@@ -62,38 +67,48 @@ opening_read text plan entered is opening come none = record {
   text_is = is ∙ sym (append-nil (head_text plan));
 }
 
+-- the entry of a deed that was written again
+pub next_read : (g kept : ProtectionGraph) (x : ℕ) (deed : Deed) (reply : Reply) (written line : List ℕ) → written ≡ deed_text x deed →
+    line ≡ written ++ (codes " = " ++ answer_text (answer.Reply reply)) → Passes g (record { worker = x; deed = deed; reply = reply } ∷ []) kept → IsNext g line kept
+next_read g kept x deed reply written line same is passes = record {
+  entry = record { worker = x; deed = deed; reply = reply };
+  line_is = is ∙ ap (λ (t : List ℕ). t ++ (codes " = " ++ answer_text (answer.Reply reply))) same;
+  passes = passes;
+}
+
 -- an entry
-pub entry_read : (text line : List ℕ) (entered next : Entered) (e : Entry) → HasEntered text entered → line ≡ entry_text e →
-    ((g : ProtectionGraph) → HasComeTo g (graph_kept entered.auditor) → Passes g (e ∷ []) (graph_kept next.auditor)) →
+pub entry_read : (text line : List ℕ) (entered next : Entered) → HasEntered text entered →
+    ((g : ProtectionGraph) → HasComeTo g (graph_kept entered.auditor) → IsNext g line (graph_kept next.auditor)) →
     next.count ≡ entered.count + 1 → HasEntered (text ++ line) next
-entry_read text line entered next e was is passes more =
+entry_read text line entered next was is_next more =
     let g = start_of was.plan in
     let front = head_text was.plan ++ flat_map entry_text was.entries in
-    let p : Passes (graph_after g was.entries) (e ∷ []) (graph_kept next.auditor) = passes (graph_after g was.entries) was.passes.next in record {
+    let this : IsNext (graph_after g was.entries) line (graph_kept next.auditor) = is_next (graph_after g was.entries) was.passes.next in
+    let e : Entry = this.entry in record {
       plan = was.plan;
       entries = was.entries ++ e ∷ [];
       opening = was.opening;
       passes = record {
-        legal = IsLegal-push g was.entries e was.passes.legal p.legal.0;
-        next = subst (λ (h : ProtectionGraph). HasComeTo h (graph_kept next.auditor)) (sym (graph_after-push g was.entries e)) p.next;
+        legal = IsLegal-push g was.entries e was.passes.legal this.passes.legal.0;
+        next = subst (λ (h : ProtectionGraph). HasComeTo h (graph_kept next.auditor)) (sym (graph_after-push g was.entries e)) this.passes.next;
       };
       number = omega (arith, more, was.number, length-append was.entries (e ∷ []));
       text_is =
-          ap (λ (x : List ℕ). x ++ line) was.text_is ∙ ap (λ (x : List ℕ). front ++ x) is
+          ap (λ (x : List ℕ). x ++ line) was.text_is ∙ ap (λ (x : List ℕ). front ++ x) this.line_is
           ∙ flat_map_more entry_text (head_text was.plan) was.entries e;
     }
 
 -- the end
-pub end_read : (text line : List ℕ) (entered : Entered) (count : ℕ) → HasEntered text entered → line ≡ end_text count → count ≡ entered.count → IsAudited (text ++ line) count
-end_read text line entered count was is same =
+pub end_read : (text line : List ℕ) (entered : Entered) → HasEntered text entered → line ≡ end_text entered.count → IsAudited (text ++ line) entered.count
+end_read text line entered was is =
     let front = head_text was.plan ++ flat_map entry_text was.entries in record {
       plan = was.plan;
       entries = was.entries;
       opening = was.opening;
       legal = was.passes.legal;
-      number = same ∙ was.number;
+      number = was.number;
       whole =
-          ap (λ (x : List ℕ). x ++ line) was.text_is ∙ ap (λ (x : List ℕ). front ++ x) (is ∙ ap end_text (same ∙ was.number));
+          ap (λ (x : List ℕ). x ++ line) was.text_is ∙ ap (λ (x : List ℕ). front ++ x) (is ∙ ap end_text was.number);
     }
 
 -- ---- all lines of a reader
@@ -124,3 +139,9 @@ at_last None now stage count was none ends = tt
 at_last (Some xs) None stage count was none ends = absurd was
 at_last (Some xs) (Some rest) stage count was none ends =
     subst (λ (text : List ℕ). IsAudited text count) (sym (was.1 ∙ ap (λ (x : List ℕ). was.0 ++ x) none ∙ append-nil was.0)) (ends was.0 was.2)
+
+-- none is left, and what is answered
+pub at_end : {E : Type 0} (known now : Option (List ℕ)) (stage : Stage) (r : Result ℕ E) → IsAt known now stage → IsAtEnd now →
+    ((text : List ℕ) → HasRead text stage → IfOk r (IsAudited text)) → IfOk r (λ count. IfSome known (λ text. IsAudited text count))
+at_end known now stage (Ok count) was none ends = at_last known now stage count was none ends
+at_end known now stage (Err e) was none ends = tt

@@ -1,6 +1,7 @@
 -- What an audit of a text has read.
-use Rattle.std.specs.Prelude.{◌≡◌, ℕ, List, [], ◌++◌, length}
+use Rattle.std.specs.Prelude.{◌≡◌, ℕ, List, [], ◌∷◌, ◌++◌, length}
 use Rattle.std.specs.List.{flat_map}
+use Rattle.tg_model.specs.Graph.{ProtectionGraph}
 use Rattle.tg_model.specs.Opened.{Plan, IsPlan, start_of}
 use Rattle.tg_journal.specs.declared.entry.Entry.{Entry}
 use Rattle.tg_journal.specs.Auditing.{Passes}
@@ -19,6 +20,12 @@ pub record HasEntered (text : List ℕ) (entered : Entered) : Type 0 where
   pub passes : Passes (start_of plan) entries (graph_kept entered.auditor)
   pub number : entered.count ≡ length entries
   pub text_is : text ≡ head_text plan ++ flat_map entry_text entries
+
+-- the line is that of an entry which is legal on the first graph, and the audit has come to the one after it
+pub record IsNext (g : ProtectionGraph) (line : List ℕ) (kept : ProtectionGraph) : Type 0 where
+  pub entry : Entry
+  pub line_is : line ≡ entry_text entry
+  pub passes : Passes g (entry ∷ []) kept
 
 -- the text is the front of an opening's
 abbrev pub HasHead : List ℕ → Head → Type 0

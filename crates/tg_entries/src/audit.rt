@@ -1,20 +1,22 @@
 //! An audit of a text that comes line by line.
-ghost use Rattle.std.specs.Prelude.{◌≡◌, ◌+◌, ◌++◌, [], List, ℕ, IfOk, IsTrue, OnOk};
+ghost use Rattle.std.specs.Prelude.{◌≡◌, ◌++◌, [], List, ℕ, IfOk, IsTrue, OnOk};
 ghost use Rattle.tg_entries.specs.declared.stage.Stage.TheVariants as Stage;
-ghost use Rattle.tg_entries.specs.Read.{HasEntered, HasHead, HasRead};
-ghost use Rattle.tg_entries.specs.Texts.{IsAudited, edge_text, entry_text, worker_text};
+ghost use Rattle.tg_model.specs.Graph.{ProtectionGraph};
+ghost use Rattle.tg_journal.specs.Auditing.{HasComeTo};
+ghost use Rattle.tg_journal.specs.Live.{graph_kept};
+ghost use Rattle.tg_entries.specs.Read.{HasEntered, HasHead, HasRead, IsNext};
+ghost use Rattle.tg_entries.specs.Texts.{IsAudited, deed_text, edge_text, worker_text};
 
 use crate::fault::LineFault;
-use crate::read::{read_deed, read_edge, read_end, read_limits, read_value, split_entry};
-use crate::read_reply::read_reply;
-use crate::same::{are_limits, is_deed, is_edge, is_end, is_entry, is_worker};
+use crate::part::{Part, check_part, is_reply};
+use crate::read::{deed_part, read_deed, read_edge, read_limits, read_value, worker_part};
 use crate::stage::{Entered, Head, Stage};
 use crate::write::VERSION;
-use std::alloc::Global;
+use std::alloc::{AllocError, Global};
 use std::marker::Model;
+use std::mem;
 use std::sync::ledger::Ledger;
-use std::{mem, slice, str};
-use tg_journal::{AuditFault, Auditor, Entry};
+use tg_journal::Auditor;
 use tg_model::{Deed, Edge, MAX_LASTING_VERTICES, MAX_WORKERS, Opening, Value};
 use tg_text::{Count, Written};
 
@@ -88,17 +90,6 @@ fn next_stage<L: Ledger>(
     }
 }
 
-// The text of a line, without its line feed.
-fn text_of(line: &[u8]) -> Option<&str> {
-    match line.strip_suffix(b"\n") {
-        Some(bytes) => match str::from_utf8(bytes) {
-            Ok(text) => Some(text),
-            Err(_) => None,
-        },
-        None => None,
-    }
-}
-
 fn version_line(line: &[u8]) -> Result<Stage, LineFault>
     ensures { IfOk result (HasRead line.now) }
 {
@@ -116,15 +107,15 @@ fn limits_line<L: Ledger>(
 ) -> Result<Stage, LineFault>
     ensures { (text : List ℕ) → HasRead text Stage.Limits → IfOk result (HasRead (text ++ line.now)) }
 {
-    let Some(text) = text_of(line) else {
-        return Err(LineFault::BadLine);
-    };
-    let Some((workers, max_vertices)) = read_limits(text) else {
-        return Err(LineFault::BadLine);
-    };
-    if !are_limits(again, workers, max_vertices, line)? || !may_open(workers, max_vertices) {
+    let (workers, max_vertices) = read_limits(alloc, line)?;
+    if !may_open(workers, max_vertices) {
         return Err(LineFault::BadLine);
     }
+    let limits = Part::Limits {
+        workers,
+        max_vertices,
+    };
+    check_part(again, &limits, line)?;
     Ok(Stage::Opening(Head {
         workers,
         max_vertices,
@@ -150,54 +141,70 @@ fn opening_line<L: Ledger>(
 ) -> Result<Stage, LineFault>
     ensures { (text : List ℕ) → HasHead text head → IfOk result (HasRead (text ++ line.now)) }
 {
-    let Some(text) = text_of(line) else {
-        return Err(LineFault::BadLine);
-    };
-    if let Some(word) = text.strip_prefix("worker ") {
-        return worker_line(alloc, again, head, word, line);
+    let mut head = head;
+    if line.starts_with(b"worker ") {
+        worker_line(alloc, again, &mut head, line)?;
+        return Ok(Stage::Opening(head));
     }
-    if text.starts_with("edge ") {
-        return edge_line(again, head, text, line);
+    if line.starts_with(b"edge ") {
+        edge_line(again, &mut head, line)?;
+        return Ok(Stage::Opening(head));
     }
-    let entered = open(alloc, head)?;
-    entries_line(alloc, again, entered, line)
+    first_line(alloc, again, head, line)
 }
 
-// The value of the next worker.
-fn worker_line<L: Ledger>(
+// The first line behind an opening.
+fn first_line<L: Ledger>(
     alloc: Global,
     again: &mut Written<L>,
     head: Head,
-    word: &str,
     line: &[u8],
 ) -> Result<Stage, LineFault>
     ensures { (text : List ℕ) → HasHead text head → IfOk result (HasRead (text ++ line.now)) }
 {
-    let value = next_value(alloc, again, &head, word, line)?;
-    let mut head = head;
-    match head.values.push(value) {
-        Ok(()) => Ok(Stage::Opening(head)),
-        Err(_) => Err(LineFault::OutOfMemory),
-    }
+    let entered = open(alloc, head)?;
+    entries_line(alloc, again, entered, line)
 }
 
-// The value that the line tells, where one more may come.
+// The line of the next worker.
+fn worker_line<L: Ledger>(
+    alloc: Global,
+    again: &mut Written<L>,
+    head: &mut Head,
+    line: &[u8],
+) -> Result<(), LineFault>
+    ensures { (text : List ℕ) → HasHead text head.old → OnOk result (HasHead (text ++ line.now) head.new) }
+{
+    let value = next_value(alloc, again, line)?;
+    add_value(head, value)
+}
+
+// The value that the line tells.
 fn next_value<L: Ledger>(
     alloc: Global,
     again: &mut Written<L>,
-    head: &Head,
-    word: &str,
     line: &[u8],
 ) -> Result<Value, LineFault>
-    ensures { IfOk result (λ value. (head.now.edges.items ≡ []) × (line.now ≡ worker_text value)) }
+    ensures { IfOk result (λ value. line.now ≡ worker_text value) }
 {
-    let Some(value) = read_value(alloc, word)? else {
+    let Some(word) = worker_part(line) else {
         return Err(LineFault::BadLine);
     };
-    if may_have_value(head) && value.fits() && is_worker(again, &value, line)? {
-        Ok(value)
-    } else {
-        Err(LineFault::BadLine)
+    let value = read_value(alloc, word)?;
+    check_part(again, &Part::Worker(&value), line)?;
+    Ok(value)
+}
+
+// The value of the next worker, where one more may come.
+fn add_value(head: &mut Head, value: Value) -> Result<(), LineFault>
+    ensures { (text : List ℕ) → HasHead text head.old → OnOk result (HasHead (text ++ worker_text value) head.new) }
+{
+    if !may_have_value(head) || !value.fits() {
+        return Err(LineFault::BadLine);
+    }
+    match head.values.push(value) {
+        Ok(()) => Ok(()),
+        Err(_) => Err(LineFault::OutOfMemory),
     }
 }
 
@@ -211,38 +218,35 @@ fn may_have_value(head: &Head) -> bool
 // An edge between two workers.
 fn edge_line<L: Ledger>(
     again: &mut Written<L>,
-    head: Head,
-    text: &str,
+    head: &mut Head,
     line: &[u8],
-) -> Result<Stage, LineFault>
-    ensures { (text : List ℕ) → HasHead text head → IfOk result (HasRead (text ++ line.now)) }
+) -> Result<(), LineFault>
+    ensures { (text : List ℕ) → HasHead text head.old → OnOk result (HasHead (text ++ line.now) head.new) }
 {
-    let edge = next_edge(again, &head, text, line)?;
-    let mut head = head;
+    let edge = next_edge(again, head, line)?;
     match head.edges.push(edge) {
-        Ok(()) => Ok(Stage::Opening(head)),
+        Ok(()) => Ok(()),
         Err(_) => Err(LineFault::OutOfMemory),
     }
 }
 
 // The edge that the line tells, where all values came.
-fn next_edge<L: Ledger>(
-    again: &mut Written<L>,
-    head: &Head,
-    text: &str,
-    line: &[u8],
-) -> Result<Edge, LineFault>
+fn next_edge<L: Ledger>(again: &mut Written<L>, head: &Head, line: &[u8]) -> Result<Edge, LineFault>
     ensures { IfOk result (λ edge. line.now ≡ edge_text edge) }
 {
-    let Some(edge) = read_edge(text) else {
+    let Some(edge) = read_edge(line) else {
         return Err(LineFault::BadLine);
     };
-    let may_come = head.values.len() as u64 == head.workers && edge.joins_workers(head.workers);
-    if may_come && is_edge(again, edge, line)? {
-        Ok(edge)
-    } else {
-        Err(LineFault::BadLine)
+    if !may_have_edge(head, edge) {
+        return Err(LineFault::BadLine);
     }
+    check_part(again, &Part::Edge(&edge), line)?;
+    Ok(edge)
+}
+
+// Whether the edge may come: behind all values, between two workers.
+fn may_have_edge(head: &Head, edge: Edge) -> bool {
+    head.values.len() as u64 == head.workers && edge.joins_workers(head.workers)
 }
 
 // The audit of a history of the opening, where all of it came.
@@ -273,119 +277,96 @@ fn entries_line<L: Ledger>(
 ) -> Result<Stage, LineFault>
     ensures { (text : List ℕ) → HasEntered text entered → IfOk result (HasRead (text ++ line.now)) }
 {
-    let Some(text) = text_of(line) else {
-        return Err(LineFault::BadLine);
-    };
-    match read_end(text) {
-        Some(count) => end_line(again, &entered, count, line),
-        None => next_entry(alloc, again, entered, text, line),
+    if line.starts_with(b"entries ") {
+        return end_line(again, &entered, line);
     }
-}
-
-// The entry that a line's text is.
-fn next_entry<L: Ledger>(
-    alloc: Global,
-    again: &mut Written<L>,
-    entered: Entered,
-    text: &str,
-    line: &[u8],
-) -> Result<Stage, LineFault>
-    ensures { (text : List ℕ) → HasEntered text entered → IfOk result (HasRead (text ++ line.now)) }
-{
-    let entry = read_entry(alloc, again, entered.count, text)?;
-    entry_line(again, entered, &entry, line)
+    let mut entered = entered;
+    match entry_line(alloc, again, &mut entered, line) {
+        Ok(()) => Ok(Stage::Entries(entered)),
+        Err(why) => Err(why),
+    }
 }
 
 // The line with the number of entries.
 fn end_line<L: Ledger>(
     again: &mut Written<L>,
     entered: &Entered,
-    count: u64,
     line: &[u8],
 ) -> Result<Stage, LineFault>
     ensures { (text : List ℕ) → HasEntered text entered.now → IfOk result (HasRead (text ++ line.now)) }
 {
-    if count != entered.count || !is_end(again, count, line)? {
-        return Err(LineFault::BadLine);
-    }
-    Ok(Stage::Ended(count))
+    check_part(again, &Part::End(entered.count), line)?;
+    Ok(Stage::Ended(entered.count))
 }
 
-// The entry that a text is, as far as it can be told; a bad one of this place where the reply is none to its deed.
-fn read_entry<L: Ledger>(
-    alloc: Global,
-    again: &mut Written<L>,
-    at: u64,
-    text: &str,
-) -> Result<Entry, LineFault> {
-    let Some((deed_text, reply_text)) = split_entry(text) else {
-        return Err(LineFault::BadLine);
-    };
-    let (worker, deed) = read_same_deed(alloc, again, deed_text)?;
-    match read_reply(alloc, &deed, reply_text)? {
-        Some(reply) => Ok(Entry {
-            worker,
-            deed,
-            reply,
-        }),
-        None => Err(LineFault::BadEntry { at }),
-    }
-}
-
-// Who asks, and for what, where the text is spelled as that is.
-fn read_same_deed<L: Ledger>(
-    alloc: Global,
-    again: &mut Written<L>,
-    text: &str,
-) -> Result<(u64, Deed), LineFault> {
-    let Some((worker, deed)) = read_deed(alloc, text)? else {
-        return Err(LineFault::BadLine);
-    };
-    if is_deed(again, worker, &deed, text.as_bytes())? {
-        Ok((worker, deed))
-    } else {
-        Err(LineFault::BadLine)
-    }
-}
-
-// An entry, which has to be the line's, and legal.
+// The next entry.
 fn entry_line<L: Ledger>(
+    alloc: Global,
     again: &mut Written<L>,
-    entered: Entered,
-    entry: &Entry,
+    entered: &mut Entered,
     line: &[u8],
-) -> Result<Stage, LineFault>
-    ensures { (text : List ℕ) → HasEntered text entered → IfOk result (HasRead (text ++ line.now)) }
+) -> Result<(), LineFault>
+    ensures { (text : List ℕ) → HasEntered text entered.old → OnOk result (HasEntered (text ++ line.now) entered.new) }
 {
-    let next = next_count(again, entered.count, entry, line)?;
-    let Entered { mut auditor, count } = entered;
-    match auditor.feed(slice::from_ref(entry)) {
-        Ok(()) => Ok(Stage::Entries(Entered {
-            auditor,
-            count: next,
-        })),
-        Err(stopped) => Err(match stopped.why {
-            AuditFault::OutOfMemory => LineFault::OutOfMemory,
-            AuditFault::BadEntry { .. } => LineFault::BadEntry { at: count },
-        }),
-    }
+    let (worker, deed) = next_deed(alloc, again, line)?;
+    replay_deed(again, entered, worker, &deed, line)
 }
 
-// How many entries there are with this one behind so many, where the line is its text.
-fn next_count<L: Ledger>(
+// Who asks, and for what, where the line is spelled as that is.
+fn next_deed<L: Ledger>(
+    alloc: Global,
     again: &mut Written<L>,
-    count: u64,
-    entry: &Entry,
     line: &[u8],
-) -> Result<u64, LineFault>
-    ensures { IfOk result (λ next. (next ≡ count + 1) × (line.now ≡ entry_text entry.now)) }
+) -> Result<(u64, Deed), LineFault>
+    ensures { IfOk result (λ told. again.new.bytes.items ≡ deed_text told.0 told.1) }
 {
-    let Some(next) = count.checked_add(1) else {
+    let Some(part) = deed_part(line) else {
         return Err(LineFault::BadLine);
     };
-    if is_entry(again, entry, line)? {
-        Ok(next)
-    } else {
-        Err(LineFault::BadEntry { at: count })
+    let (worker, deed) = read_deed(alloc, part)?;
+    let told = Part::Deed {
+        worker,
+        deed: &deed,
+    };
+    check_part(again, &told, part.as_bytes())?;
+    Ok((worker, deed))
+}
+
+// The next entry, whose deed was written again.
+fn replay_deed<L: Ledger>(
+    again: &mut Written<L>,
+    entered: &mut Entered,
+    worker: u64,
+    deed: &Deed,
+    line: &[u8],
+) -> Result<(), LineFault>
+    requires { again.old.bytes.items ≡ deed_text worker deed.now }
+    ensures { (text : List ℕ) → HasEntered text entered.old → OnOk result (HasEntered (text ++ line.now) entered.new) }
+{
+    let Some(next) = entered.count.checked_add(1) else {
+        return Err(LineFault::BadLine);
+    };
+    if !is_next(again, &mut entered.auditor, worker, deed, line)? {
+        return Err(LineFault::BadEntry { at: entered.count });
+    }
+    entered.count = next;
+    Ok(())
+}
+
+// Whether the line is that of the deed, which was written again, with the reply that the rules give it. Fails only when
+// out of memory.
+fn is_next<L: Ledger>(
+    again: &mut Written<L>,
+    auditor: &mut Auditor,
+    worker: u64,
+    deed: &Deed,
+    line: &[u8],
+) -> Result<bool, AllocError>
+    requires { again.old.bytes.items ≡ deed_text worker deed.now }
+    ensures { (g : ProtectionGraph) → HasComeTo g (graph_kept auditor.old) → IfOk result (λ legal. IsTrue legal → IsNext g line.now (graph_kept auditor.new)) }
+{
+    match auditor.answer(worker, deed)? {
+        Some(reply) => is_reply(again, &reply, line),
+        None => Ok(false),
     }
 }

@@ -17,17 +17,16 @@
 //! [`write_history`] puts all of it into a sink of `tg_text`, and [`write_opening`], [`write_entry`], [`write_entries`]
 //! and [`write_end`] what a host writes as it goes. [`audit_text`] reads all of a reader's, and answers how many
 //! entries there are only where the text is that of a legal history of the opening that it tells ([`TextAudit`] is the
-//! same, fed a line at a time). Nothing that takes a line apart has to be believed: what
-//! was read is written again, and has to be the bytes that came; and `tg_journal`'s [`Auditor`](tg_journal::Auditor)
-//! replays it. So an audit takes memory by the longest line and by what its subjects reach, and not by the entries.
+//! same, fed a line at a time). Nothing that takes a line apart has to be believed, and no reply is read: the deed of a
+//! line is written again, and the answer of `tg_journal`'s [`Auditor`](tg_journal::Auditor) behind it, and that has to
+//! be what came. So an audit takes memory by the longest line and by what its subjects reach, and not by the entries.
 #![tactic(auto)]
 
 mod audit;
 mod fault;
 mod history;
+mod part;
 mod read;
-mod read_reply;
-mod same;
 mod stage;
 mod stream;
 mod write;

@@ -1,128 +1,111 @@
 //! How lines are taken apart. Nothing here has to be believed: what is read is written again and compared.
 
+use crate::fault::LineFault;
 use std::alloc::{AllocError, Global};
+use std::str;
 use tg_model::{Deed, Edge, Law, Numbers, Value};
 use tg_text::{Line, read_line};
 
 /// The most bytes that an entry may have in front of ` = `.
 pub const MOST_DEED_BYTES: usize = 256;
 
-// The laws of one number, by their letters.
-const SINGLE: &[(&str, Law)] = &[("c", Law::Cell), ("s", Law::Sum), ("m", Law::Max)];
+// The text of a line, without its line feed.
+fn text_of(line: &[u8]) -> Option<&str> {
+    str::from_utf8(line.strip_suffix(b"\n")?).ok()
+}
 
-/// The texts in front of ` = ` and behind it, where the first has at most [`MOST_DEED_BYTES`].
-pub(crate) fn split_entry(text: &str) -> Option<(&str, &str)> {
-    let (deed, reply) = text.split_once(" = ")?;
-    if deed.len() > MOST_DEED_BYTES {
-        return None;
-    }
-    Some((deed, reply))
+/// What a line has in front of ` = `, where that is no more than [`MOST_DEED_BYTES`].
+pub(crate) fn deed_part(line: &[u8]) -> Option<&str> {
+    let (part, _) = text_of(line)?.split_once(" = ")?;
+    (part.len() <= MOST_DEED_BYTES).then_some(part)
+}
+
+/// What stands behind the first word of a worker's line.
+pub(crate) fn worker_part(line: &[u8]) -> Option<&str> {
+    text_of(line)?.strip_prefix("worker ")
 }
 
 /// The number of workers and of the vertices that may ever be made.
-pub(crate) fn read_limits(text: &str) -> Option<(u64, u64)> {
-    let (workers, max_vertices) = text.strip_prefix("opening ")?.split_once(' ')?;
-    Some((read_number(workers)?, read_number(max_vertices)?))
-}
-
-/// The number of entries.
-pub(crate) fn read_end(text: &str) -> Option<u64> {
-    read_number(text.strip_prefix("entries ")?)
-}
-
-/// The edge of the opening.
-pub(crate) fn read_edge(text: &str) -> Option<Edge> {
-    match read_line(text.as_bytes()) {
-        Some(Line::Edge(edge)) => Some(edge),
-        Some(_) | None => None,
+pub(crate) fn read_limits(alloc: Global, line: &[u8]) -> Result<(u64, u64), LineFault> {
+    let Some(text) = text_of(line) else {
+        return Err(LineFault::BadLine);
+    };
+    match *numbers_in(alloc, text)?.as_slice() {
+        [workers, max_vertices] => Ok((workers, max_vertices)),
+        _ => Err(LineFault::BadLine),
     }
 }
 
-/// Who asks, and for what. Fails only when out of memory.
-pub(crate) fn read_deed(alloc: Global, text: &str) -> Result<Option<(u64, Deed)>, AllocError> {
-    match read_line(text.as_bytes()) {
-        Some(Line::Plain { worker, command }) => Ok(Some((worker, Deed::Plain(command)))),
-        Some(_) => Ok(None),
-        None => read_making(alloc, text),
+/// The edge of the opening.
+pub(crate) fn read_edge(line: &[u8]) -> Option<Edge> {
+    match read_line(line.strip_suffix(b"\n")?) {
+        Some(Line::Edge(edge)) => Some(edge),
+        _ => None,
+    }
+}
+
+/// Who asks, and for what.
+pub(crate) fn read_deed(alloc: Global, part: &str) -> Result<(u64, Deed), LineFault> {
+    match read_line(part.as_bytes()) {
+        Some(Line::Plain { worker, command }) => Ok((worker, Deed::Plain(command))),
+        Some(_) => Err(LineFault::BadLine),
+        None => read_making(alloc, part),
     }
 }
 
 // The making of a vertex: what it stores stands behind the line of a script.
-fn read_making(alloc: Global, text: &str) -> Result<Option<(u64, Deed)>, AllocError> {
-    let Some((line, word)) = text.rsplit_once(' ') else {
-        return Ok(None);
+fn read_making(alloc: Global, part: &str) -> Result<(u64, Deed), LineFault> {
+    let Some((line, word)) = part.rsplit_once(' ') else {
+        return Err(LineFault::BadLine);
     };
-    let Some(line) = read_line(line.as_bytes()) else {
-        return Ok(None);
-    };
-    let Some(Value { law, state }) = read_value(alloc, word)? else {
-        return Ok(None);
-    };
-    Ok(match line {
-        Line::Create { worker, label } => Some((worker, Deed::Create { label, law, state })),
-        Line::Spawn { worker, label } => Some((worker, Deed::Spawn { label, law, state })),
-        _ => None,
-    })
+    match read_line(line.as_bytes()) {
+        Some(line) => making_of(line, read_value(alloc, word)?),
+        None => Err(LineFault::BadLine),
+    }
 }
 
-/// What a vertex stores. Fails only when out of memory.
-pub(crate) fn read_value(alloc: Global, word: &str) -> Result<Option<Value>, AllocError> {
-    for (letter, law) in SINGLE {
-        if let Some(number) = word.strip_prefix(*letter) {
-            return Ok(read_single(*law, number));
+fn making_of(line: Line, value: Value) -> Result<(u64, Deed), LineFault> {
+    let Value { law, state } = value;
+    match line {
+        Line::Create { worker, label } => Ok((worker, Deed::Create { label, law, state })),
+        Line::Spawn { worker, label } => Ok((worker, Deed::Spawn { label, law, state })),
+        _ => Err(LineFault::BadLine),
+    }
+}
+
+/// What a vertex stores.
+pub(crate) fn read_value(alloc: Global, word: &str) -> Result<Value, LineFault> {
+    let Some(rest) = word.get(1..) else {
+        return Err(LineFault::BadLine);
+    };
+    let numbers = numbers_in(alloc, rest)?;
+    match law_of(word, numbers.as_slice()) {
+        Some((law, state)) => Ok(Value {
+            law,
+            state: Numbers::from_slice(alloc, state)?,
+        }),
+        None => Err(LineFault::BadLine),
+    }
+}
+
+// The law that begins with this letter, and which of the numbers behind it are stored.
+fn law_of<'a>(word: &str, numbers: &'a [u64]) -> Option<(Law, &'a [u64])> {
+    match (word.as_bytes().first(), numbers) {
+        (Some(b'c'), [_]) => Some((Law::Cell, numbers)),
+        (Some(b's'), [_]) => Some((Law::Sum, numbers)),
+        (Some(b'm'), [_]) => Some((Law::Max, numbers)),
+        (Some(b'l'), [most, logged @ ..]) => Some((Law::Log(u32::try_from(*most).ok()?), logged)),
+        _ => None,
+    }
+}
+
+// The numbers below 2^64 among the words of a text, whatever stands between them. Fails only when out of memory.
+fn numbers_in(alloc: Global, text: &str) -> Result<Vec<u64>, AllocError> {
+    let mut numbers = Vec::new(alloc);
+    for word in text.split([' ', ':', ',']) {
+        if let Ok(number) = word.parse::<u64>() {
+            numbers.push(number)?;
         }
     }
-    match word.strip_prefix("l") {
-        Some(rest) => read_log(alloc, rest),
-        None => Ok(None),
-    }
-}
-
-fn read_single(law: Law, number: &str) -> Option<Value> {
-    Some(Value {
-        law,
-        state: Numbers::one(read_number(number)?),
-    })
-}
-
-fn read_log(alloc: Global, text: &str) -> Result<Option<Value>, AllocError> {
-    let (most, logged) = match text.split_once(':') {
-        Some((most, logged)) => (most, Some(logged)),
-        None => (text, None),
-    };
-    let Ok(most) = most.parse::<u32>() else {
-        return Ok(None);
-    };
-    let state = match logged {
-        Some(logged) => read_numbers(alloc, logged, ',')?,
-        None => Some(Numbers::none()),
-    };
-    Ok(match state {
-        Some(state) => Some(Value {
-            law: Law::Log(most),
-            state,
-        }),
-        None => None,
-    })
-}
-
-/// Numbers with this between two. Fails only when out of memory.
-pub(crate) fn read_numbers(
-    alloc: Global,
-    text: &str,
-    between: char,
-) -> Result<Option<Numbers>, AllocError> {
-    let mut numbers = Vec::new(alloc);
-    for word in text.split(between) {
-        let Some(number) = read_number(word) else {
-            return Ok(None);
-        };
-        numbers.push(number)?;
-    }
-    Ok(Some(Numbers::from_slice(alloc, numbers.as_slice())?))
-}
-
-/// A number below 2^64.
-pub(crate) fn read_number(word: &str) -> Option<u64> {
-    word.parse::<u64>().ok()
+    Ok(numbers)
 }

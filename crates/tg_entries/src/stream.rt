@@ -1,5 +1,5 @@
 //! An audit of all lines of a reader.
-ghost use Rattle.std.specs.Prelude.{◌≡◌, ◌<◌, [], IfOk, IfSome};
+ghost use Rattle.std.specs.Prelude.{◌≡◌, ◌<◌, ◌++◌, [], List, ℕ, IfOk, IfSome, OnOk};
 ghost use Rattle.tg_entries.specs.Read.{HasRead};
 ghost use Rattle.tg_entries.specs.Texts.{IsAudited};
 
@@ -48,17 +48,36 @@ fn audit_lines<L: Ledger, R: BufRead + Drop>(
     for number in 1..u64::MAX {
         line.clear();
         if reader.read_until(b'\n', line)? == 0 {
-            return match audit.ended() {
-                Some(count) => Ok(count),
-                None => Err(TextFault::CutOff { line: number }),
-            };
+            return ended(audit, number);
         }
-        if line.as_slice().last() != Some(&b'\n') {
-            return Err(TextFault::CutOff { line: number });
-        }
-        if let Err(why) = audit.line(line.as_slice()) {
-            return Err(TextFault::Line { line: number, why });
-        }
+        audit_line(audit, number, line.as_slice())?;
     }
     Err(TextFault::CutOff { line: u64::MAX })
+}
+
+// How many entries there are, where the text ends in front of the line of this number.
+fn ended<L: Ledger>(audit: &TextAudit<L>, number: u64) -> Result<u64, TextFault>
+    ensures { (text : List ℕ) → HasRead text audit.now → IfOk result (IsAudited text) }
+{
+    match audit.ended() {
+        Some(count) => Ok(count),
+        None => Err(TextFault::CutOff { line: number }),
+    }
+}
+
+// The line of this number, which may have no line feed at the end of a text.
+fn audit_line<L: Ledger>(
+    audit: &mut TextAudit<L>,
+    number: u64,
+    line: &[u8],
+) -> Result<(), TextFault>
+    ensures { (text : List ℕ) → HasRead text audit.old → OnOk result (HasRead (text ++ line.now) audit.new) }
+{
+    if !line.ends_with(b"\n") {
+        return Err(TextFault::CutOff { line: number });
+    }
+    match audit.line(line) {
+        Ok(()) => Ok(()),
+        Err(why) => Err(TextFault::Line { line: number, why }),
+    }
 }

@@ -10,7 +10,7 @@ ghost use Rattle.tg_entries.specs.Texts.{deed_text, edge_text, end_text, entry_t
 
 use itoa::Buffer;
 use tg_journal::Entry;
-use tg_model::{Deed, Edge, Law, Value};
+use tg_model::{Deed, Edge, Law, Reply, Value};
 use tg_text::{
     Line, Sink, WriteFailed, line_of_deed, put_all, put_texts, write_line, write_reply_of,
 };
@@ -24,17 +24,17 @@ pub fn write_entry<K: Sink>(sink: &mut K, entry: &Entry) -> Result<(), WriteFail
         (K.taken sink.new) (K.failures sink.new) }
 {
     write_deed(sink, entry.worker, &entry.deed)?;
-    write_answered(sink, entry)
+    write_answered(sink, &entry.reply)
 }
 
-// Writes what stands behind the deed.
-fn write_answered<K: Sink>(sink: &mut K, entry: &Entry) -> Result<(), WriteFailed>
+/// Writes what stands behind the deed of an entry, or a front of it where the sink fails. Takes no memory.
+pub(crate) fn write_answered<K: Sink>(sink: &mut K, reply: &Reply) -> Result<(), WriteFailed>
     ensures { Writes (K.taken sink.old) (K.failures sink.old)
-        (codes " = " ++ answer_text (Answer.Reply entry.now.reply)) result
+        (codes " = " ++ answer_text (Answer.Reply reply.now)) result
         (K.taken sink.new) (K.failures sink.new) }
 {
     put_all(sink, b" = ")?;
-    write_reply_of(sink, &entry.reply)
+    write_reply_of(sink, reply)
 }
 
 /// Writes the line with the number of workers and of the vertices that may ever be made, or a front of it where the
@@ -170,18 +170,22 @@ fn write_numbers<K: Sink>(sink: &mut K, front: &[u8], numbers: &[u64]) -> Result
     ensures { Writes (K.taken sink.old) (K.failures sink.old) (front.now ++ numbers_text numbers.now) result
         (K.taken sink.new) (K.failures sink.new) }
 {
-    put_all(sink, front)?;
     match numbers {
-        [] => Ok(()),
-        [first, rest @ ..] => write_joined(sink, *first, rest),
+        [] => put_all(sink, front),
+        [first, rest @ ..] => write_joined(sink, front, *first, rest),
     }
 }
 
-fn write_joined<K: Sink>(sink: &mut K, first: u64, rest: &[u64]) -> Result<(), WriteFailed>
-    ensures { Writes (K.taken sink.old) (K.failures sink.old) (numbers_text (first ∷ rest.now)) result
+fn write_joined<K: Sink>(
+    sink: &mut K,
+    front: &[u8],
+    first: u64,
+    rest: &[u64],
+) -> Result<(), WriteFailed>
+    ensures { Writes (K.taken sink.old) (K.failures sink.old) (front.now ++ numbers_text (first ∷ rest.now)) result
         (K.taken sink.new) (K.failures sink.new) }
 {
-    write_number(sink, b"", first)?;
+    write_number(sink, front, first)?;
     write_more(sink, rest)
 }
 

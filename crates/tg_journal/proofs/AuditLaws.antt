@@ -1,13 +1,15 @@
 -- What one entry more comes to for an audit.
 use Rattle.std.proofs.Common.{◌≡◌, ◌∙◌, ◌+◌, ◌<◌, ◌++◌, ◌∷◌, [], ℕ, List, length, take, Some, refl, sym, ap, subst}
 use Rattle.std.specs.Prelude.{slice_get, Result, Ok, Err, OnOk, OnErr}
-use Rattle.tg_model.specs.Graph.{ProtectionGraph}
-use Rattle.tg_model.specs.Rules.{step}
+use Rattle.tg_model.specs.declared.command.Deed.{Deed}
+use Rattle.tg_model.specs.declared.reply.Reply.{Reply}
+use Rattle.tg_model.specs.Graph.{ProtectionGraph, IsSubject}
+use Rattle.tg_model.specs.Rules.{step, answer_of, DeedFits}
 use Rattle.tg_journal.specs.declared.auditor.AuditStopped.{AuditStopped}
 use Rattle.tg_journal.specs.declared.entry.Entry.{Entry}
 use Rattle.tg_journal.specs.declared.replay.AuditFault.{AuditFault}
 use Rattle.tg_journal.specs.declared.replay.AuditFault.TheVariants.{OutOfMemory, BadEntry}
-use Rattle.tg_journal.specs.Auditing.{HasComeTo, Passes, IsStopped}
+use Rattle.tg_journal.specs.Auditing.{HasComeTo, Passes, IsAnswered, IsStopped}
 use Rattle.tg_journal.specs.History.{IsLegal, IsLegalEntry, IsFirstBad, IsAuditFault, graph_after}
 use Rattle.tg_journal.specs.Live.{Kept, IsAsBefore, IsSwept, graph_kept}
 use Rattle.tg_journal.proofs.AlikeLaws.{entry_alike, step_alike, as_before, swept_alike}
@@ -54,6 +56,21 @@ module _ (g kept new : ProtectionGraph) (es : List Entry) (at : ℕ) (x : Entry)
           }),
         );
   }
+
+-- the entry of a deed that is answered as the graph that is kept answers it
+pub answered : (g kept new : ProtectionGraph) (x : ℕ) (deed : Deed) (reply : Reply) → HasComeTo g kept → IsSubject kept x → DeedFits deed →
+    reply ≡ answer_of kept x deed → new ≡ step kept x deed → IsAnswered g x deed new (Some reply)
+answered g kept new x deed reply come subject fits is next =
+    let e : Entry = record { worker = x; deed = deed; reply = reply } in
+    let this = (entry_alike g kept come e).0 (record { subject = subject; fits = fits; reply = is }) in record {
+      legal = (this, tt);
+      next = subst (HasComeTo (step g x deed)) (sym next) (step_alike g kept come x this.subject deed);
+    }
+
+-- whatever the result
+pub on_err : {T E P : Type 0} (r : Result T E) → P → OnErr r P
+on_err (Ok done) p = tt
+on_err (Err error) p = p
 
 -- what is told of the whole where a part stopped
 pub fault_of : (g new : ProtectionGraph) (es : List Entry) (stopped : AuditStopped) → IsStopped g es new stopped → IsAuditFault g es stopped.why

@@ -1,6 +1,9 @@
 -- What an audit says of the entries that it was fed.
-use Rattle.std.specs.Prelude.{◌≡◌, ◌<◌, ◌≤◌, ◌⊎◌, ℕ, List, take, length}
-use Rattle.tg_model.specs.Graph.{ProtectionGraph, IsReachable, IsSound}
+use Rattle.std.specs.Prelude.{◌≡◌, ◌<◌, ◌≤◌, ◌⊎◌, ℕ, List, [], ◌∷◌, take, length, Option, Some, None}
+use Rattle.tg_model.specs.declared.command.Deed.{Deed}
+use Rattle.tg_model.specs.declared.reply.Reply.{Reply}
+use Rattle.tg_model.specs.Graph.{ProtectionGraph, IsReachable, IsSound, IsSubject}
+use Rattle.tg_model.specs.Rules.{DeedFits}
 use Rattle.tg_journal.specs.declared.auditor.AuditStopped.{AuditStopped}
 use Rattle.tg_journal.specs.declared.entry.Entry.{Entry}
 use Rattle.tg_journal.specs.declared.replay.AuditFault.TheVariants.{OutOfMemory, BadEntry}
@@ -28,6 +31,12 @@ pub record HasComeTo (g kept : ProtectionGraph) : Type 0 where
 pub record Passes (g : ProtectionGraph) (es : List Entry) (kept : ProtectionGraph) : Type 0 where
   pub legal : IsLegal g es
   pub next : HasComeTo (graph_after g es) kept
+
+-- the reply with which a deed is a legal entry of the first graph, and the audit has come to the one after it; or there is none, and the
+-- audit has come to the first one
+abbrev pub IsAnswered : ProtectionGraph → ℕ → Deed → ProtectionGraph → Option Reply → Type 0
+IsAnswered g x deed kept (Some reply) = Passes g (record { worker = x; deed = deed; reply = reply } ∷ []) kept
+IsAnswered g x deed kept None = (¬ (IsSubject g x × DeedFits deed)) × HasComeTo g kept
 
 -- An audit stopped at an entry of the part: those before it passed. Where memory was wanting, the audit has come to the graph before
 -- it; else it is the first bad one, and that place is told.

@@ -2,7 +2,7 @@
 ghost use Rattle.std.specs.Prelude.{◌≡◌, IfOk, IfErr, OnOk, OnErr};
 ghost use Rattle.tg_model.specs.Graph.{ProtectionGraph};
 ghost use Rattle.tg_model.specs.Opened.{start_of};
-ghost use Rattle.tg_journal.specs.Auditing.{HasComeTo, Passes, IsStopped};
+ghost use Rattle.tg_journal.specs.Auditing.{HasComeTo, Passes, IsAnswered, IsStopped};
 ghost use Rattle.tg_journal.specs.Live.{IsSwept, graph_kept};
 
 use crate::entry::Entry;
@@ -10,7 +10,7 @@ use crate::live::LiveGraph;
 use crate::replay::{AuditFault, replay};
 use std::alloc::{AllocError, Global};
 use std::marker::Model;
-use tg_model::Opening;
+use tg_model::{Deed, Opening, Reply};
 
 /// An audit that has come to some entry of a history. It keeps no entry, so each part of a history can be given up once
 /// it was fed; and of the graph after the entries that passed it may forget what no subject reaches, for good. So it
@@ -82,6 +82,21 @@ impl Auditor {
             }
         }
         Ok(())
+    }
+
+    /// Replays the next deed, of which it isn't known what it was answered: the reply with which its entry is legal,
+    /// and then the audit has come to the graph after that. `None` where no entry with this deed is: its worker is no
+    /// active subject, or the state of a new vertex doesn't fit its law. Sweeps by itself, as [`Auditor::feed`] does.
+    /// Fails only when out of memory. Then, and behind `None`, the audit stays where it has come.
+    pub fn answer(&mut self, worker: u64, deed: &Deed) -> Result<Option<Reply>, AllocError>
+        ensures answered { (g : ProtectionGraph) → HasComeTo g (graph_kept self.old) → IfOk result (IsAnswered g worker deed.now (graph_kept self.new)) }
+        ensures refused { (g : ProtectionGraph) → HasComeTo g (graph_kept self.old) → OnErr result (HasComeTo g (graph_kept self.new)) }
+    {
+        self.sweep_where_due();
+        if !self.graph.is_subject(worker) || !deed.fits() {
+            return Ok(None);
+        }
+        Ok(Some(self.graph.apply(worker, deed)?))
     }
 
     /// Forgets all vertices that no subject reaches: no later entry can depend on them. The

@@ -1,7 +1,7 @@
-use Rattle.tg_entries.proofs.ReadLaws.{worker_read}
+use Rattle.std.proofs.Common.{ℕ, List, OnOk, ◌++◌, subst, sym}
+use Rattle.tg_entries.specs.Read.{HasHead}
 use Rattle.tg_entries.proofs.audit.worker_line.Goals as goal
 
-pub returns-in-Ok : goal.returns-in-Ok
-returns-in-Ok g c = λ text was.
-    let h = c.args.head in
-    worker_read text c.args.line.now h.workers h.max_vertices h.values.items c.push.new.self.items h.edges.items c.in_ok-value.value c.in_ok-value.ensures.0 c.in-Ok.ensures.items was c.in_ok-value.ensures.1
+pub returns : goal.returns
+returns g c = λ text was.
+    subst (λ (line : List ℕ). OnOk c.add_value.result (HasHead (text ++ line) c.add_value.new.head)) (sym c.in_ok-value.ensures) (c.add_value.ensures text was)

@@ -1,5 +1,7 @@
+use Rattle.std.proofs.Common.{List, ℕ, ◌++◌, append_assoc, subst}
 use Rattle.std.specs.Fmt.{decimal}
 use Rattle.std.specs.List.{flat_map}
+use Rattle.tg_text.specs.Sinks.{Writes}
 use Rattle.tg_text.proofs.SinkLaws.{writes_then, writes_cut_first}
 use Rattle.tg_entries.specs.Texts.{more_text}
 use Rattle.tg_entries.proofs.write.write_joined.Goals as goal
@@ -7,11 +9,19 @@ use Rattle.tg_entries.proofs.write.write_joined.Goals as goal
 pub returns : goal.returns
 returns g c =
     let s = g.K.Sink in
-    writes_then (s.taken c.args.sink.now) (s.taken c.write_number.new.sink) (s.taken c.write_more.new.sink) (s.failures c.args.sink.now) (s.failures c.write_number.new.sink) (s.failures c.write_more.new.sink)
-    (decimal c.args.first) (flat_map more_text c.args.rest.now) c.write_more.result c.in_ok-write_number.ensures c.write_more.ensures
+    let front = c.args.front.now in
+    let more = flat_map more_text c.args.rest.now in
+    subst (λ (text : List ℕ). Writes (s.taken c.args.sink.now) (s.failures c.args.sink.now) text c.write_more.result (s.taken c.write_more.new.sink) (s.failures c.write_more.new.sink))
+    (append_assoc front (decimal c.args.first) more)
+    (writes_then (s.taken c.args.sink.now) (s.taken c.write_number.new.sink) (s.taken c.write_more.new.sink) (s.failures c.args.sink.now) (s.failures c.write_number.new.sink) (s.failures c.write_more.new.sink)
+    (front ++ decimal c.args.first) more c.write_more.result c.in_ok-write_number.ensures c.write_more.ensures)
 
 pub returns-in_err-write_number : goal.returns-in_err-write_number
 returns-in_err-write_number g c =
     let s = g.K.Sink in
-    writes_cut_first (s.taken c.args.sink.now) (s.taken c.write_number.new.sink) (s.failures c.args.sink.now) (s.failures c.write_number.new.sink)
-    (decimal c.args.first) (flat_map more_text c.args.rest.now) c.from_residual.result c.from_residual.ensures.0 c.in_err-write_number.ensures
+    let front = c.args.front.now in
+    let more = flat_map more_text c.args.rest.now in
+    subst (λ (text : List ℕ). Writes (s.taken c.args.sink.now) (s.failures c.args.sink.now) text c.from_residual.result (s.taken c.write_number.new.sink) (s.failures c.write_number.new.sink))
+    (append_assoc front (decimal c.args.first) more)
+    (writes_cut_first (s.taken c.args.sink.now) (s.taken c.write_number.new.sink) (s.failures c.args.sink.now) (s.failures c.write_number.new.sink)
+    (front ++ decimal c.args.first) more c.from_residual.result c.from_residual.ensures.0 c.in_err-write_number.ensures)
