@@ -93,9 +93,9 @@ NOTED_OTHERWISE = {
 
 # What is asked for and isn't of the forms of amounts.py: the file and the function, the words, and why they may stand.
 NAMED = {
-    ("tg_graph/src/indexed_row.rt", "reserve", "self.old_cells"):
+    ("tg_rows/src/indexed_row.rt", "reserve", "self.old_cells"):
         "how many of the row's cells lie in Old: no more than it has",
-    ("tg_graph/src/followed.rt", "follow_row", "old"): "how many of the row's cells lie in Old now",
+    ("tg_rows/src/followed.rt", "follow_row", "old"): "how many of the row's cells lie in Old now",
     ("tg_threads/src/worker.rt", "run_tasks", "spawn_lines(tasks.as_slice())"):
         "how many of the lines may make a subject: a clause",
     ("tg_text/src/stock.rt", "gather_boxes", "count"):
@@ -118,9 +118,9 @@ NAMED = {
     ("tg_plain/src/script.rt", "read", "u64::MAX"): "a line of the input each",
     ("tg_evac/src/copies.rt", "scan", "while next<claimer.len()"): "a cell that was won each",
     ("tg_evac/src/walk.rt", "each", "loop"): "a root each",
-    ("tg_graph/src/followed.rt", "follow_rows", "while i<rows.len()"): "an indexed row each",
-    ("tg_graph/src/rows.rt", "edges_of", "loop"): "a cell of the row each",
-    ("tg_graph/src/rows.rt", "places_of", "loop"): "a cell of the row each",
+    ("tg_rows/src/followed.rt", "follow_rows", "while i<rows.len()"): "an indexed row each",
+    ("tg_rows/src/rows.rt", "edges_of", "loop"): "a cell of the row each",
+    ("tg_rows/src/rows.rt", "places_of", "loop"): "a cell of the row each",
     ("tg_journal/src/live/sweep.rt", "reached", "while next<names.len()"): "a vertex that is reached each",
     ("tg_store/src/store/picture.rt", "edges_reached", "while next<found.vertices.len()"):
         "a vertex that is reached each",

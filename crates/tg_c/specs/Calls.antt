@@ -22,7 +22,7 @@ use Rattle.tg_payload.specs.Table.{count}
 use Rattle.tg_word.specs.Word.{nursery_space}
 use Rattle.tg_graph.specs.Heap.{content_of, nursery_of}
 use Rattle.tg_graph.specs.Shown.{shown_in}
-use Rattle.tg_graph.specs.Spots.{LacksCellsFor}
+use Rattle.tg_rows.specs.Spots.{LacksCellsFor}
 use Rattle.tg_rules.specs.Effect.{AddsEdge, LacksCellsToServe}
 use Rattle.tg_space.specs.declared.room_fault.RoomFault.{RoomFault}
 use Rattle.tg_space.specs.declared.room_fault.RoomFault.TheVariants as no_room

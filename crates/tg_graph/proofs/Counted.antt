@@ -15,10 +15,10 @@ use Rattle.tg_model.specs.declared.value.Value.{Value}
 use Rattle.tg_word.specs.declared.Place.{Place}
 use Rattle.tg_space.specs.SpaceList.{SpaceList, IsSpaceList, cell_at, space_of}
 use Rattle.tg_payload.specs.Table.{Payloads, count, entry}
-use Rattle.tg_graph.specs.Rows.{is_object, key_at, name_at, objects_of, places_in, places_of}
-use Rattle.tg_graph.specs.Heap.{IsGraph}
-use Rattle.tg_graph.proofs.Members.{Contains-cases, Contains-filter, Contains-from_filter, Contains-from_flat_map, Contains-from_map, Contains-here, Contains-map, Contains-more, Contains-none}
-use Rattle.tg_graph.proofs.Lookups.{kind_from_objects, objects_from_kind}
+use Rattle.tg_rows.specs.Rows.{is_object, key_at, name_at, objects_of, places_in, places_of}
+use Rattle.tg_rows.specs.Graph.{IsGraph}
+use Rattle.tg_rows.proofs.Members.{Contains-cases, Contains-filter, Contains-from_filter, Contains-from_flat_map, Contains-from_map, Contains-here, Contains-map, Contains-more, Contains-none}
+use Rattle.tg_rows.proofs.Lookups.{kind_from_objects, objects_from_kind}
 
 -- ---- lists in which each element stands once
 

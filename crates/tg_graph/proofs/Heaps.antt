@@ -1,9 +1,9 @@
 -- What a step makes of a heap.
-use Rattle.std.proofs.Common.{arith, ◌≡◌, ◌<◌, ◌≤◌, ◌==◌, ◌≢◌, ◌↔◌, ◌∙◌, ℕ, false, true, is_some, map, nat_eq, ap, List, [], ◌∷◌, ◌++◌, length, get_or, Option, Some, None, Result, Ok, Err, refl, sym, subst}
+use Rattle.std.proofs.Common.{arith, ◌≡◌, ◌<◌, ◌≤◌, ◌==◌, ◌≢◌, ◌↔◌, ◌∙◌, ℕ, false, true, is_some, map, nat_eq, ap, List, [], ◌∷◌, ◌++◌, length, get_or, Option, Some, None, refl, sym, subst}
 use Rattle.std.specs.List.{All, Contains, filter}
 use Rattle.std.proofs.lemmas.List.{get_or-map, length-map}
 use Rattle.std.proofs.lemmas.List.Elements.{All-contains, All-filter, All-push}
-use Rattle.std.specs.Prelude.{IfSome, OnOk, OnErr, not}
+use Rattle.std.specs.Prelude.{not}
 use Rattle.tg_rights.specs.RightSet.{RightSet}
 use Rattle.tg_model.specs.declared.value.Value.{Value}
 use Rattle.tg_word.specs.Word.{nursery_space}
@@ -16,67 +16,26 @@ use Rattle.tg_space.specs.SpaceList.{SpaceList, IsSpaceList}
 use Rattle.tg_space.specs.SpaceTable.{SpaceTable}
 use Rattle.tg_space.specs.Generations.{AreRemembered}
 use Rattle.tg_payload.specs.Table.{Payloads}
-use Rattle.tg_graph.specs.Content.{IsContent, IsNamed}
-use Rattle.tg_graph.specs.Heap.{HeapState, IsWellFormed, KeepsPlaces, content_in, content_of}
-use Rattle.tg_graph.specs.Index.{AreIndexed, MayIndex, SameIndexed, indexed_in, names_indexed}
-use Rattle.tg_graph.specs.declared.indexed_row.IndexedRow.{IndexedRow}
-use Rattle.tg_graph.specs.Rows.{IsVertexAt, name_at, objects_of}
-use Rattle.tg_graph.specs.Steps.{ChangesTo}
-use Rattle.tg_graph.proofs.Growing.{graph_entries}
-use Rattle.tg_graph.proofs.Lookups.{name_of_vertex}
-use Rattle.tg_graph.proofs.Members.{Contains-filter, Contains-from_filter}
-use Rattle.tg_space.specs.declared.room_fault.RoomFault.TheVariants.{HeapFull, OutOfMemory}
+use Rattle.tg_rows.specs.Content.{IsContent, IsNamed}
+use Rattle.tg_graph.specs.Heap.{HeapState, IsWellFormed, KeepsPlaces, content_of}
+use Rattle.tg_rows.specs.Graph.{content_in}
+use Rattle.tg_rows.specs.Index.{AreIndexed, MayIndex, SameIndexed, indexed_in, names_indexed}
+use Rattle.tg_rows.specs.declared.indexed_row.IndexedRow.{IndexedRow}
+use Rattle.tg_rows.specs.Rows.{IsVertexAt, name_at, objects_of}
+use Rattle.tg_rows.specs.Steps.{ChangesTo}
+use Rattle.tg_rows.proofs.Growing.{graph_entries}
+use Rattle.tg_rows.proofs.Lookups.{name_of_vertex}
+use Rattle.tg_rows.proofs.Members.{Contains-filter, Contains-from_filter}
 use Rattle.tg_space.specs.declared.kind.Kind.TheVariants.{Full, Nursery}
-use Rattle.tg_space.specs.declared.room_fault.RoomFault.{RoomFault}
-
-pub either_way : {T E A B C : Type 0} (r : Result T E) → OnOk r A → OnErr r B → (A → C) → (B → C) → C
-either_way (Ok x) done refused f g = f done
-either_way (Err e) done refused f g = g refused
-
--- a result is one of two
-pub ok_or_err : {T E : Type 0} (x : T) (e : E) → ◌≡◌ {A = Result T E} (Ok x) (Err e) → ⊥
-ok_or_err x e same = cc
-
--- want of memory isn't told as a full heap
-pub memory_or_full : OutOfMemory ≡ HeapFull → ⊥
-memory_or_full same = cc
-
-pub no_full : {T : Type 0} → ◌≡◌ {A = Result T RoomFault} (Err OutOfMemory) (Err HeapFull) → ⊥
-no_full same = let inside : OutOfMemory ≡ HeapFull = cc in memory_or_full inside
 
 -- a full collection isn't one of the nurseries
 pub full_or_nursery : Full ≡ Nursery → ⊥
 full_or_nursery same = cc
 
-pub always_ok : {T E A : Type 0} (r : Result T E) → A → OnOk r A
-always_ok (Ok x) a = a
-always_ok (Err e) a = tt
-
-pub error_gives : {T E A B : Type 0} (r : Result T E) → (A → B) → OnErr r A → OnErr r B
-error_gives (Ok x) gives a = tt
-error_gives (Err e) gives a = gives a
-
-pub success_gives : {T E A B : Type 0} (r : Result T E) → (A → B) → OnOk r A → OnOk r B
-success_gives (Ok x) gives a = gives a
-success_gives (Err e) gives a = tt
-
-pub both_oks : {T E : Type 0} (A B : Type 0) (r : Result T E) → OnOk r A → OnOk r B → OnOk r (A × B)
-both_oks A B (Ok x) one two = (one, two)
-both_oks A B (Err e) one two = tt
-
-pub both_errors : {T E : Type 0} (A B : Type 0) (r : Result T E) → OnErr r A → OnErr r B → OnErr r (A × B)
-both_errors A B (Ok x) one two = tt
-both_errors A B (Err e) one two = (one, two)
-
 -- an active subject is the vertex with its name
 pub subject_vertex : (s : HeapState) → IsWellFormed s → (x : ℕ) (subject : Subject) → IsSubjectNamed s.subjects x subject → IsVertexAt s.table.spaces x subject.place
 subject_vertex s formed x subject is =
     subst (λ (name : ℕ). IsVertexAt s.table.spaces name subject.place) is.named (All-contains (λ (y : Subject). IsVertexAt s.table.spaces y.name y.place) s.subjects subject formed.vertices is.there)
-
--- what follows from what is known of a value, if there is one
-pub if_some : {T : Type 0} (o : Option T) (P Q : T → Type 0) → ((x : T) → P x → Q x) → IfSome o P → IfSome o Q
-if_some (Some x) P Q gives is = gives x is
-if_some None P Q gives is = tt
 
 pub worker_there : (s seen : HeapState) → s ≡ seen → IsWellFormed s → (subject : Subject) → Contains seen.subjects subject → IsVertexAt s.table.spaces subject.name subject.place
 worker_there s seen same formed subject there =

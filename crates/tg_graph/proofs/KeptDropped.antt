@@ -14,12 +14,12 @@ use Rattle.tg_space.specs.declared.kind.Kind.{Kind}
 use Rattle.tg_space.specs.declared.kind.Kind.TheVariants.{Full, Nursery}
 use Rattle.tg_space.proofs.Flat.{before_more, before_mono, flat_inside, get_or-flat_of, same_place}
 use Rattle.tg_payload.specs.Table.{Payloads, Updates, entry}
-use Rattle.tg_graph.specs.Rows.{key_at}
-use Rattle.tg_graph.specs.Heap.{IsGraph}
+use Rattle.tg_rows.specs.Rows.{key_at}
+use Rattle.tg_rows.specs.Graph.{IsGraph}
 use Rattle.tg_graph.specs.Kept.{Drops, HaveKeysApart, IsDeadAt, IsDeadKey, IsKept, KeepsPayloads}
-use Rattle.tg_graph.proofs.Members.{Contains-none}
-use Rattle.tg_graph.proofs.Places.{place_numbered}
-use Rattle.tg_graph.proofs.Layouts.{object_tagged}
+use Rattle.tg_rows.proofs.Members.{Contains-none}
+use Rattle.tg_rows.proofs.Places.{place_numbered}
+use Rattle.tg_rows.proofs.Layouts.{object_tagged}
 use Rattle.tg_graph.proofs.KeptAdopted.{young_moves}
 
 -- ---- steps

@@ -13,16 +13,17 @@ use Rattle.tg_block.specs.declared.CellKind.TheVariants.{Free, Object}
 use Rattle.tg_space.specs.SpaceList.{SpaceList, cell_at, cells_of}
 use Rattle.tg_space.specs.Soundness.{IsKindAt, IsReference, RefersTo}
 use Rattle.tg_payload.specs.Table.{Payloads, entry}
-use Rattle.tg_graph.specs.Content.{IsNamed}
+use Rattle.tg_rows.specs.Content.{IsNamed}
 use Rattle.tg_graph.specs.Standing.{Keeps}
-use Rattle.tg_graph.specs.Rows.{IsChain, IsVertexAt, key_at, name_at, name_in, names_in, rights_to, row_words}
+use Rattle.tg_rows.specs.Rows.{IsChain, IsVertexAt, key_at, name_at, name_in, names_in, rights_to, row_words}
 use Rattle.tg_space.specs.Rows.{chunks_from, link_at}
-use Rattle.tg_graph.specs.Heap.{IsGraph, content_in}
-use Rattle.tg_graph.specs.Kept.{KeepsPayloads, moved_place}
-use Rattle.tg_graph.proofs.Members.{Contains-here, Contains-more}
-use Rattle.tg_graph.proofs.Lookups.{vertex_of_name, name_of_vertex, label_at, value_at}
-use Rattle.tg_graph.proofs.KeptCells.{Moves, IsKeptWord, is_copied, name_kept, key_kept, kind_at_after, sound_after}
-use Rattle.tg_graph.proofs.KeptRows.{IsKeptRow, row_kept}
+use Rattle.tg_rows.specs.Graph.{IsGraph, content_in}
+use Rattle.tg_graph.specs.Kept.{KeepsPayloads}
+use Rattle.tg_rows.specs.Index.{moved_place}
+use Rattle.tg_rows.proofs.Members.{Contains-here, Contains-more}
+use Rattle.tg_rows.proofs.Lookups.{vertex_of_name, name_of_vertex, label_at, value_at}
+use Rattle.tg_rows.proofs.KeptCells.{Moves, IsKeptWord, is_copied, name_kept, key_kept, kind_at_after, sound_after}
+use Rattle.tg_rows.proofs.KeptRows.{IsKeptRow, row_kept}
 
 -- a word that gives a name some rights
 pub record GivesRights (h : SpaceList) (name : ℕ) (words : List ℕ) : Type 0 where

@@ -23,12 +23,13 @@ use Rattle.tg_space.specs.declared.root.Root.{Root}
 use Rattle.tg_space.specs.declared.root.Root.TheVariants.{Remembered}
 use Rattle.tg_space.proofs.Flat.{flat_inside, get_or-flat_of, same_place}
 use Rattle.tg_payload.specs.Table.{Payloads}
-use Rattle.tg_graph.specs.Heap.{IsGraph}
-use Rattle.tg_graph.specs.Kept.{IsKept, moved_place}
-use Rattle.tg_graph.proofs.Members.{Contains-flat_map, Contains-here, Contains-more}
-use Rattle.tg_graph.proofs.Places.{cell_long, layout_at, held_place}
-use Rattle.tg_graph.proofs.Layouts.{KindCases, is_free, is_object, is_chunk, is_bad, kind_cases, object_tagged, chunk_tagged, free_zero}
-use Rattle.tg_graph.proofs.KeptCells.{Moves}
+use Rattle.tg_rows.specs.Graph.{IsGraph}
+use Rattle.tg_graph.specs.Kept.{IsKept}
+use Rattle.tg_rows.specs.Index.{moved_place}
+use Rattle.tg_rows.proofs.Members.{Contains-flat_map, Contains-here, Contains-more}
+use Rattle.tg_rows.proofs.Places.{cell_long, layout_at, held_place}
+use Rattle.tg_rows.proofs.Layouts.{KindCases, is_free, is_object, is_chunk, is_bad, kind_cases, object_tagged, chunk_tagged, free_zero}
+use Rattle.tg_rows.proofs.KeptCells.{Moves}
 use Rattle.tg_graph.proofs.KeptTargets.{IsWholeRoot, IsInFrom, next_target, reached_in_from, target_held, target_of_word}
 use Rattle.tg_graph.proofs.KeptAdopted.{adopted_cases, new_apart, stays_cell, stays_held, young_moves}
 

@@ -22,16 +22,16 @@ use Rattle.tg_space.proofs.Flat.{same_place}
 use Rattle.tg_space.proofs.Pointing.{parts}
 use Rattle.tg_payload.specs.Table.{Payloads}
 use Rattle.tg_graph.specs.Standing.{IsReached}
-use Rattle.tg_graph.specs.Rows.{IsChain, IsVertexAt, name_at, name_in, object_named, references_of, rights_to, row_words}
-use Rattle.tg_graph.specs.Heap.{IsGraph, content_in, label_from}
-use Rattle.tg_graph.proofs.Members.{Contains-cases, Contains-here, Contains-more, Contains-none, Contains-flat_map, Contains-from_flat_map, Contains-from_map, Contains-map, option_cases}
-use Rattle.tg_graph.proofs.Places.{cell_long}
-use Rattle.tg_graph.proofs.Layouts.{object_tagged, chunk_tagged, apart_kinds, references_at}
-use Rattle.tg_graph.proofs.Lookups.{label_at, vertex_from_named}
-use Rattle.tg_graph.proofs.Slots.{IsOther, others_from_none}
-use Rattle.tg_graph.proofs.Chains.{chain_chunks, row_held, row_references}
-use Rattle.tg_graph.proofs.KeptCells.{Moves, IsKeptWord}
-use Rattle.tg_graph.proofs.KeptRows.{IsKeptRow, row_kept}
+use Rattle.tg_rows.specs.Rows.{IsChain, IsVertexAt, name_at, name_in, object_named, references_of, rights_to, row_words}
+use Rattle.tg_rows.specs.Graph.{IsGraph, content_in, label_from}
+use Rattle.tg_rows.proofs.Members.{Contains-cases, Contains-here, Contains-more, Contains-none, Contains-flat_map, Contains-from_flat_map, Contains-from_map, Contains-map, option_cases}
+use Rattle.tg_rows.proofs.Places.{cell_long}
+use Rattle.tg_rows.proofs.Layouts.{object_tagged, chunk_tagged, apart_kinds, references_at}
+use Rattle.tg_rows.proofs.Lookups.{label_at, vertex_from_named}
+use Rattle.tg_rows.proofs.Slots.{IsOther, others_from_none}
+use Rattle.tg_rows.proofs.Chains.{chain_chunks, row_held, row_references}
+use Rattle.tg_rows.proofs.KeptCells.{Moves, IsKeptWord}
+use Rattle.tg_rows.proofs.KeptRows.{IsKeptRow, row_kept}
 use Rattle.tg_graph.proofs.KeptGraph.{GivesRights, rights_given}
 use Rattle.tg_graph.proofs.KeptTargets.{NamesNumber, next_of}
 

@@ -17,10 +17,11 @@ use Rattle.tg_space.specs.declared.kind.Kind.{Kind}
 use Rattle.tg_space.specs.declared.kind.Kind.TheVariants.{Full, Nursery}
 use Rattle.tg_space.proofs.Tables.{table_list}
 use Rattle.tg_payload.specs.Table.{entry}
-use Rattle.tg_graph.specs.declared.indexed_row.IndexedRow.{IndexedRow}
+use Rattle.tg_rows.specs.declared.indexed_row.IndexedRow.{IndexedRow}
 use Rattle.tg_graph.specs.declared.settle.Rewritten.{Rewritten}
 use Rattle.tg_graph.specs.Heap.{HeapState, IsWellFormed, roots_of}
-use Rattle.tg_graph.specs.Kept.{AreWritten, Drops, IsDeadKey, moved_place, rewritten_at, ArePlaced}
+use Rattle.tg_graph.specs.Kept.{AreWritten, Drops, IsDeadKey, rewritten_at, ArePlaced}
+use Rattle.tg_rows.specs.Index.{moved_place}
 use Rattle.tg_graph.proofs.KeptAdopted.{adopted_length}
 use Rattle.tg_graph.proofs.KeptDropped.{dead_some, dropped_keeps, drops_same}
 use Rattle.tg_graph.proofs.KeptHeap.{AreIndexesFollowed, IsLeft, forward_in_range, left_by}

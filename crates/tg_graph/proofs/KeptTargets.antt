@@ -19,10 +19,10 @@ use Rattle.tg_space.specs.declared.root.Root.TheVariants.{Row, Remembered}
 use Rattle.tg_space.proofs.Flat.{get_or-flat_of}
 use Rattle.tg_space.proofs.Pointing.{pointers_from_layout}
 use Rattle.tg_payload.specs.Table.{Payloads}
-use Rattle.tg_graph.specs.Heap.{IsGraph}
-use Rattle.tg_graph.proofs.Members.{Contains-cases, Contains-here, Contains-none, Contains-flat_map, Contains-from_flat_map}
-use Rattle.tg_graph.proofs.Places.{cell_long, layout_at}
-use Rattle.tg_graph.proofs.Chains.{row_held}
+use Rattle.tg_rows.specs.Graph.{IsGraph}
+use Rattle.tg_rows.proofs.Members.{Contains-cases, Contains-here, Contains-none, Contains-flat_map, Contains-from_flat_map}
+use Rattle.tg_rows.proofs.Places.{cell_long, layout_at}
+use Rattle.tg_rows.proofs.Chains.{row_held}
 
 -- a root stands for the whole row of an object, or for a remembered cell of Old
 abbrev pub IsWholeRoot : SpaceList → Root → Type 0

@@ -16,8 +16,8 @@ use Rattle.tg_space.proofs.Writing.{other_cell}
 use Rattle.tg_graph.specs.declared.settle.Rewritten.{Rewritten}
 use Rattle.tg_graph.specs.Heap.{HeapState, IsWellFormed, roots_of}
 use Rattle.tg_graph.specs.Kept.{AreWritten, HasStayed, HasWritten, rewritten_at}
-use Rattle.tg_graph.proofs.Members.{Contains-from_map, Contains-map}
-use Rattle.tg_graph.proofs.Changes.{cell_written, same_or_other}
+use Rattle.tg_rows.proofs.Members.{Contains-from_map, Contains-map}
+use Rattle.tg_rows.proofs.Changes.{cell_written, same_or_other}
 use Rattle.tg_graph.proofs.KeptAdopted.{stays_held}
 use Rattle.tg_graph.proofs.KeptHeap.{no_row, remembered_cells, remembered_root}
 use Rattle.tg_graph.proofs.KeptMoves.{HasWordsAfter, IsAfter}

@@ -9,7 +9,7 @@ use Rattle.std.proofs.lemmas.List.FromFn.{fill_by_all}
 use Rattle.tg_word.specs.declared.Place.{Place}
 use Rattle.tg_block.specs.Cells.{IsBlock}
 use Rattle.tg_space.specs.SpaceList.{BlockList, SpaceList, IsSpace, IsSpaceList, cell_at, cells_of, space_of}
-use Rattle.tg_graph.specs.Rows.{is_object, name_at, objects_of, places_in, places_of}
+use Rattle.tg_rows.specs.Rows.{is_object, name_at, objects_of, places_in, places_of}
 use Rattle.tg_graph.specs.Shown.{shown_in}
 
 -- ---- names of cells

@@ -14,7 +14,7 @@ use Rattle.tg_subjects.specs.Subjects.{IsLeastFree, names_of, nurseries_of, plac
 use Rattle.tg_subjects.specs.declared.subject.Subject.{Subject}
 use Rattle.tg_space.specs.SpaceList.{SpaceList}
 use Rattle.tg_graph.specs.Heap.{AreAtHome}
-use Rattle.tg_graph.specs.Rows.{IsVertexAt}
+use Rattle.tg_rows.specs.Rows.{IsVertexAt}
 
 -- one number more
 pub range_more : (n : ℕ) → range_with_len 0 (n + 1) ≡ range_with_len 0 n ++ n ∷ []

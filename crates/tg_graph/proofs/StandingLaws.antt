@@ -18,10 +18,11 @@ use Rattle.tg_model.proofs.AllowedLaws.{permits-no_denial, step-allowed, step-de
 use Rattle.tg_model.proofs.NearLaws.{denial_of-near, reply_of-near, labels_after-same, values_after-same}
 use Rattle.tg_model.proofs.ReachLaws.{HasEdge-with_rights, closed_after, IsReachable-plain, IsReachable-step}
 use Rattle.tg_word.specs.declared.Place.{Place}
-use Rattle.tg_graph.specs.Rows.{name_at, object_named, objects_of}
-use Rattle.tg_graph.specs.Heap.{HeapState, IsUnchangedHeap, content_in, content_of}
-use Rattle.tg_graph.proofs.Members.{Contains-map, find_gives, option_cases}
-use Rattle.tg_graph.specs.Content.{Content, IsNamed, IsContent, IsSameContent, OnlyNamedHold}
+use Rattle.tg_rows.specs.Rows.{name_at, object_named, objects_of}
+use Rattle.tg_graph.specs.Heap.{HeapState, IsUnchangedHeap, content_of}
+use Rattle.tg_rows.specs.Graph.{content_in}
+use Rattle.tg_rows.proofs.Members.{Contains-map, find_gives, option_cases}
+use Rattle.tg_rows.specs.Content.{Content, IsNamed, IsContent, IsSameContent, OnlyNamedHold}
 use Rattle.tg_graph.specs.Standing.{IsContentOf, IsReached, Keeps, KeepsReached}
 use Rattle.tg_space.specs.declared.kind.Kind.{Kind}
 use Rattle.tg_space.specs.declared.kind.Kind.TheVariants.{Full, Nursery}

@@ -25,14 +25,14 @@ use Rattle.tg_space.specs.declared.root.Root.{Root}
 use Rattle.tg_space.specs.declared.root.Root.TheVariants.{Row, Remembered}
 use Rattle.tg_space.proofs.Pointing.{parts}
 use Rattle.tg_graph.specs.Heap.{AddsRoots, CollectAlike, HeapState, IsRowRoot, IsWellFormed, NamesRow, roots_of}
-use Rattle.tg_graph.specs.Index.{IsIndexed, IsOldPlace}
-use Rattle.tg_graph.specs.Rows.{IsChain, IsVertexAt}
-use Rattle.tg_graph.specs.declared.indexed_row.IndexedRow.{IndexedRow}
-use Rattle.tg_graph.proofs.Chains.{chain_chunks, chain_enough, chain_short, row_held}
+use Rattle.tg_rows.specs.Index.{IsIndexed, IsOldPlace}
+use Rattle.tg_rows.specs.Rows.{IsChain, IsVertexAt}
+use Rattle.tg_rows.specs.declared.indexed_row.IndexedRow.{IndexedRow}
+use Rattle.tg_rows.proofs.Chains.{chain_chunks, chain_enough, chain_short, row_held}
 use Rattle.tg_graph.proofs.KeptAdopted.{old_stays}
 use Rattle.tg_graph.proofs.KeptHeap.{remembered_cells, remembered_root}
-use Rattle.tg_graph.proofs.Places.{layout_at}
-use Rattle.tg_graph.proofs.Members.{Contains-flat_map, Contains-from_flat_map, Contains-from_map, Contains-here, Contains-map, Contains-more}
+use Rattle.tg_rows.proofs.Places.{layout_at}
+use Rattle.tg_rows.proofs.Members.{Contains-flat_map, Contains-from_flat_map, Contains-from_map, Contains-here, Contains-map, Contains-more}
 
 -- where a list that is too short would be read
 abbrev nowhere : Place

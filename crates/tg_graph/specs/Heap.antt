@@ -1,18 +1,15 @@
 -- What contracts see of a `Heap`, when it is well formed, and its content.
-use Rattle.std.specs.Prelude.{◌≡◌, ◌≢◌, ◌↔◌, ◌<◌, ℕ, ◌≤◌, ◌==◌, ◌++◌, List, [], ◌∷◌, Option, Some, None, IsSome, length, map}
-use Rattle.std.specs.List.{All, Contains, IsDistinct}
-use Rattle.tg_rights.specs.RightSet.{RightSet, no_rights}
-use Rattle.tg_model.specs.declared.value.Value.{Value}
+use Rattle.std.specs.Prelude.{◌≡◌, ◌≢◌, ◌↔◌, ℕ, ◌≤◌, ◌++◌, List, [], ◌∷◌, length, map}
+use Rattle.std.specs.List.{All, Contains}
 use Rattle.tg_word.specs.Word.{nursery_space, place_in}
 use Rattle.tg_word.specs.declared.Place.{Place}
 use Rattle.tg_word.specs.declared.TheConstants.{SPACES}
 use Rattle.tg_subjects.specs.Subjects.{AreSubjects, IsLeastFree, names_of, nursery_held, places_of}
 use Rattle.tg_subjects.specs.declared.subject.Subject.{Subject}
 use Rattle.tg_block.specs.declared.CellKind.TheVariants.{Object}
-use Rattle.tg_space.specs.SpaceList.{SpaceList, BlockList, cells_of}
-use Rattle.tg_space.specs.SpaceTable.{SpaceTable, IsFull}
-use Rattle.tg_nursery.specs.Allocation.{HasFewerLeft}
-use Rattle.tg_space.specs.Soundness.{AreSound, IsKindAt, IsRootIn}
+use Rattle.tg_space.specs.SpaceList.{SpaceList, BlockList}
+use Rattle.tg_space.specs.SpaceTable.{SpaceTable}
+use Rattle.tg_space.specs.Soundness.{IsKindAt, IsRootIn}
 use Rattle.tg_space.specs.Collection.{IsCollection}
 use Rattle.tg_space.specs.Targets.{all_root_targets, young_spaces}
 use Rattle.tg_space.specs.declared.root.Root.{Root}
@@ -20,12 +17,10 @@ use Rattle.tg_space.specs.declared.root.Root.TheVariants.{Row, Remembered}
 use Rattle.tg_space.specs.declared.kind.Kind.{Kind}
 use Rattle.tg_space.specs.declared.kind.Kind.TheVariants.{Full, Nursery}
 use Rattle.tg_space.specs.Generations.{AreRemembered}
-use Rattle.tg_payload.specs.Table.{Payloads, entry}
-use Rattle.tg_graph.specs.declared.heap.Found.{Found}
-use Rattle.tg_graph.specs.Content.{Content}
-use Rattle.tg_graph.specs.Rows.{IsChain, IsVertexAt, key_at, name_at, names_in, object_named, objects_of, rights_to, row_words}
-use Rattle.tg_space.specs.Rows.{chunks_from, link_at, row_of}
-use Rattle.tg_graph.specs.declared.rows.TheConstants.{SHORT}
+use Rattle.tg_payload.specs.Table.{Payloads}
+use Rattle.tg_rows.specs.Content.{Content}
+use Rattle.tg_rows.specs.Rows.{IsVertexAt, name_at}
+use Rattle.tg_rows.specs.Graph.{content_in, IsGraph, IsLongRow}
 
 -- The cells of all spaces, the table of payloads, the active subjects by rising name, which cells of Old are
 -- remembered, in the order in which they were noted, and the names of the vertices of which the row has an index.
@@ -52,42 +47,10 @@ nursery_of s x = nursery_held s.subjects x
 
 -- ---- content
 
--- the rights of the object at a place, if there is one, over the vertex y
-abbrev pub label_from : SpaceList → Option Place → ℕ → RightSet
-label_from h None y = no_rights
-label_from h (Some p) y = rights_to h y (row_words h p)
-
--- what the object at a place stores, if there is one
-abbrev pub value_from : SpaceList → Payloads → Option Place → Option Value
-value_from h payloads None = None
-value_from h payloads (Some p) = entry payloads (key_at h p)
-
--- Read off the words: a vertex for each object, the rights in the references of its row, and the payload under its key.
-abbrev pub content_in : SpaceList → Payloads → Content
-content_in h payloads = record {
-  names = map (name_at h) (objects_of h);
-  label = λ x y. label_from h (object_named h x) y;
-  value = λ x. value_from h payloads (object_named h x);
-}
-
 abbrev pub content_of : HeapState → Content
 content_of s = content_in s.table.spaces s.payloads
 
 -- ---- well-formed heaps
-
--- The cells are those of a graph whose vertices store these payloads.
-pub record IsGraph (h : SpaceList) (payloads : Payloads) : Type 0 where
-  -- each cell has the layout of its kind: references name objects, links name chunks, and no chunk is linked to twice
-  pub sound : AreSound h []
-  -- each row ends
-  pub ends : (p : Place) → IsKindAt h Object p → IsChain h (link_at h p) (chunks_from h (length (cells_of h)) (link_at h p))
-  -- a row has at most one reference to each vertex
-  pub targets : (p : Place) → IsKindAt h Object p → IsDistinct (λ a b. a == b) (names_in h (row_words h p))
-  -- each name is that of one object, and so is each key
-  pub names : (p q : Place) → IsKindAt h Object p → IsKindAt h Object q → name_at h p ≡ name_at h q → p ≡ q
-  pub keys : (p q : Place) → IsKindAt h Object p → IsKindAt h Object q → key_at h p ≡ key_at h q → p ≡ q
-  -- there is a payload under exactly the keys of the objects
-  pub payloads_used : (key : ℕ) → IsSome (entry payloads key) ↔ ((p : Place) × IsKindAt h Object p × (key_at h p ≡ key))
 
 -- What a collection starts from: the rows of the active subjects, by rising name; for a nursery collection the remembered
 -- cells too, in the order in which they were noted.
@@ -146,11 +109,6 @@ IsObject s p = IsKindAt s.table.spaces Object p
 abbrev pub name_of : HeapState → Place → ℕ
 name_of s p = name_at s.table.spaces p
 
--- the rights that were found, none where nothing was
-abbrev pub rights_found : Option Found → RightSet
-rights_found None = no_rights
-rights_found (Some found) = found.rights
-
 -- the object of each of these subjects lies in the nursery that the subject holds
 abbrev pub AreAtHome : List Subject → Type 0
 AreAtHome subjects = All (λ x. x.place.space ≡ nursery_space x.nursery) subjects
@@ -160,10 +118,6 @@ pub record KeepsPlaces (old new : HeapState) : Type 0 where
   pub subjects : new.subjects ≡ old.subjects
   pub limits : new.table.limits ≡ old.table.limits
   pub vertices : (x : ℕ) (p : Place) → IsVertexAt old.table.spaces x p → IsVertexAt new.table.spaces x p
-
--- the row of the object at a place has more cells than may be walked along
-abbrev pub IsLongRow : SpaceList → Place → Type 0
-IsLongRow h p = SHORT < length (row_of h p)
 
 -- The row of the object at a place has an index if it is long now, and keeps the one that it had. Each other row has one where it
 -- had one.
@@ -182,8 +136,3 @@ pub record AddsSubject (old new : HeapState) (name : ℕ) : Type 0 where
   pub subjects : new.subjects ≡ old.subjects ++ subject ∷ []
   pub limits : new.table.limits ≡ old.table.limits
   pub vertices : (x : ℕ) (p : Place) → IsVertexAt old.table.spaces x p → IsVertexAt new.table.spaces x p
-
--- fewer cells of the nursery than this many are left, and it gets no more blocks
-pub record IsOutOfCells (t : SpaceTable) (space cells : ℕ) : Type 0 where
-  pub few_left : HasFewerLeft t space cells
-  pub full : IsFull t space

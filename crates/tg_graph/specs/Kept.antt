@@ -1,5 +1,5 @@
 -- What a collection keeps of a heap, and what is written and dropped once nothing more can be refused.
-use Rattle.std.specs.Prelude.{[], ◌≡◌, ◌≢◌, ◌↔◌, ℕ, ◌<◌, ◌≤◌, ◌⊎◌, if◌then◌else◌, Bool, true, List, None, IsSome, AllPairs, length, map, slice_index, OnErr, OnOk, Result}
+use Rattle.std.specs.Prelude.{[], ◌≡◌, ◌≢◌, ◌↔◌, ℕ, ◌<◌, ◌≤◌, ◌⊎◌, true, List, None, IsSome, AllPairs, length, map, slice_index, OnErr, OnOk, Result}
 use Rattle.std.specs.List.{Contains, All}
 use Rattle.tg_word.specs.declared.Place.{Place}
 use Rattle.tg_block.specs.declared.CellKind.TheVariants.{Object}
@@ -14,19 +14,16 @@ use Rattle.tg_payload.specs.Table.{Payloads, entry}
 use Rattle.tg_graph.specs.declared.settle.Prepared.{Prepared}
 use Rattle.tg_graph.specs.declared.settle.Rewritten.{Rewritten}
 use Rattle.tg_space.specs.Generations.{AreNeeded}
-use Rattle.tg_graph.specs.Rows.{IsVertexAt, key_at}
+use Rattle.tg_rows.specs.Rows.{IsVertexAt, key_at}
 use Rattle.tg_subjects.specs.Subjects.{nurseries_of, places_of, AreSubjects, names_of}
 use Rattle.tg_graph.specs.Heap.{HeapState, content_of, subject_names}
-use Rattle.tg_graph.specs.Content.{IsNamed}
+use Rattle.tg_rows.specs.Content.{IsNamed}
 use Rattle.tg_graph.specs.Standing.{KeepsReached}
 use Rattle.tg_subjects.specs.declared.subject.Subject.{Subject}
 use Rattle.tg_word.specs.Word.{IsPlace, place_in}
+use Rattle.tg_rows.specs.Index.{moved_place}
 
 -- ---- cells
-
--- where a collection has the cell of a place: those of from-space are moved
-abbrev pub moved_place : (ℕ → Bool) → SpaceList → (ℕ → Place) → Place → Place
-moved_place from h to p = if from p.space then to (flat_of h p) else p
 
 -- the cell at a place isn't free, and it was copied if it is in from-space
 pub record IsKept (kind : Kind) (h : SpaceList) (forward : List ℕ) (p : Place) : Type 0 where

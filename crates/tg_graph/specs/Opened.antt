@@ -1,5 +1,5 @@
 -- What an opening has made of its cells on the way.
-use Rattle.std.specs.Prelude.{[], ◌≡◌, ◌≢◌, ℕ, ◌+◌, ◌<◌, ◌≤◌, ◌==◌, nat_lt, if◌then◌else◌, List, length, slice_get, slice_index_or, Some}
+use Rattle.std.specs.Prelude.{[], ◌≡◌, ℕ, ◌<◌, ◌≤◌, ◌==◌, nat_lt, if◌then◌else◌, List, length, slice_get, slice_index_or, Some}
 use Rattle.tg_rights.specs.RightSet.{RightSet, no_rights}
 use Rattle.tg_model.specs.declared.edge.Edge.{Edge}
 use Rattle.tg_model.specs.declared.value.Value.{Value}
@@ -10,16 +10,15 @@ use Rattle.tg_word.specs.declared.TheConstants.{MAX_NURSERIES, SPACES}
 use Rattle.tg_subjects.specs.Subjects.{places_of}
 use Rattle.tg_subjects.specs.declared.subject.Subject.{Subject}
 use Rattle.tg_space.specs.Generations.{AreRemembered}
-use Rattle.tg_graph.specs.declared.cells.Cells.{Cells}
+use Rattle.tg_rows.specs.declared.cells.Cells.{Cells}
 use Rattle.tg_graph.specs.declared.opening.Room.{Room}
 use Rattle.tg_block.specs.Cells.{free_cell}
 use Rattle.tg_space.specs.SpaceList.{Holds, block_count, cell_at, space_of}
 use Rattle.tg_space.specs.SpaceTable.{SpaceTable, BlockLimits, used_of}
-use Rattle.tg_nursery.specs.Allocation.{HasLeft}
 use Rattle.tg_payload.specs.Table.{Payloads}
-use Rattle.tg_graph.specs.Content.{IsContent}
-use Rattle.tg_graph.specs.Rows.{IsVertexAt}
-use Rattle.tg_graph.specs.Heap.{IsGraph, content_in}
+use Rattle.tg_rows.specs.Content.{IsContent}
+use Rattle.tg_rows.specs.Rows.{IsVertexAt}
+use Rattle.tg_rows.specs.Graph.{IsGraph, content_in}
 
 -- no space has a block, and no cell was handed out
 pub record HasNoBlocks (t : SpaceTable) : Type 0 where
@@ -59,12 +58,6 @@ with_row label x row a b = if a == x then slice_index_or row b no_rights else la
 -- what the edges give the first of the workers, and nobody else anything
 abbrev pub labels_before : List Edge → ℕ → ℕ → ℕ → RightSet
 labels_before edges n a b = if nat_lt a n then label_in edges a b else no_rights
-
--- At most one more cell of a nursery is used. Where the nursery has one left, no space gets a block.
-pub record TakesOneCell (old new : SpaceTable) (space : ℕ) : Type 0 where
-  pub here : used_of new space ≤ used_of old space + 1
-  pub others : (other : ℕ) → other ≢ space → used_of new other ≡ used_of old other
-  pub blocks : HasLeft old space 1 → (other : ℕ) → length (space_of new.spaces other) ≡ length (space_of old.spaces other)
 
 -- ---- what the steps of an opening are handed, and what they keep
 

@@ -5,7 +5,7 @@ use Rattle.tg_model.specs.Graph.{ProtectionGraph, HasEdge, IsReachable}
 use Rattle.tg_model.specs.Walks.{Walk}
 use Rattle.tg_space.specs.declared.kind.Kind.{Kind}
 use Rattle.tg_space.specs.declared.kind.Kind.TheVariants.{Full, Nursery}
-use Rattle.tg_graph.specs.Content.{Content, IsNamed}
+use Rattle.tg_rows.specs.Content.{Content, IsNamed}
 
 -- The content has all that can be reached, it has what its vertices have edges to, and on the names that it has it is the graph.
 pub record IsContentOf (c : Content) (g : ProtectionGraph) : Type 0 where

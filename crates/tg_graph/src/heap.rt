@@ -11,14 +11,13 @@ ghost use Rattle.tg_subjects.specs.Subjects.{IsSubjectNamed, nurseries_of, witho
 ghost use Rattle.tg_subjects.specs.declared.subject.Subject.{Subject as SubjectOf};
 ghost use Rattle.tg_space.specs.SpaceList.{block_count, space_of};
 ghost use Rattle.tg_space.specs.SpaceTable.{IsSpaceTable};
-ghost use Rattle.tg_graph.specs.Content.{IsContent, IsNamed};
-ghost use Rattle.tg_graph.specs.Heap.{AddsSubject, AreAtHome, IsActive, IsObject, IsUnchangedHeap, IsWellFormed, KeepsIndexes, KeepsPlaces, content_of, name_of, nursery_of, rights_found, subject_names};
-ghost use Rattle.tg_graph.specs.Rows.{IsVertexAt};
-ghost use Rattle.tg_graph.specs.Spots.{IsMadeInRow, IsPutInRow, LacksCellsFor};
+ghost use Rattle.tg_rows.specs.Content.{IsContent, IsNamed};
+ghost use Rattle.tg_graph.specs.Heap.{AddsSubject, AreAtHome, IsActive, IsObject, IsUnchangedHeap, IsWellFormed, KeepsIndexes, KeepsPlaces, content_of, name_of, nursery_of, subject_names};
+ghost use Rattle.tg_rows.specs.Graph.{rights_found};
+ghost use Rattle.tg_rows.specs.Rows.{IsVertexAt};
+ghost use Rattle.tg_rows.specs.Spots.{IsMadeInRow, IsPutInRow, LacksCellsFor};
 ghost use Rattle.tg_graph.specs.Standing.{IsContentOf};
 
-use crate::cells::Cells;
-use crate::indexes::LongRows;
 use crate::opening::opened;
 use std::alloc::{AllocError, Global};
 use std::marker::Model;
@@ -26,30 +25,15 @@ use tg_model::{EdgeList, Law, Numbers, Opening};
 use tg_payload::{Draft, Payload, PayloadTable};
 use tg_remember::Remembered;
 use tg_rights::{Label, Rights};
+use tg_rows::{Cells, Found, LongRows, VertexRefused};
 use tg_space::{Limits, RoomFault, Spaces};
 use tg_subjects::{Subject, Subjects};
 use tg_word::Place;
-
-/// A reference that was found in a row.
-#[derive(Clone, Copy, PartialEq, Eq, Debug)]
-pub struct Found {
-    /// Where its target is.
-    pub place: Place,
-    /// The rights over the target, at least one.
-    pub rights: Rights,
-}
 
 /// No heap was opened. The drafts come back as they were, and the rest is dropped.
 #[derive(Drop)]
 pub struct HeapRefused<P: Payload> {
     pub drafts: Vec<Draft<P>>,
-    pub why: RoomFault,
-}
-
-/// No vertex was made. The draft comes back as it was.
-#[derive(Drop)]
-pub struct VertexRefused<P: Payload> {
-    pub draft: Draft<P>,
     pub why: RoomFault,
 }
 
@@ -66,7 +50,7 @@ pub struct Heap<P: Payload> {
 
 impl<P: Payload> Model for Heap<P> {
     ghost use Rattle.tg_graph.specs.Heap.{HeapState, IsWellFormed};
-    ghost use Rattle.tg_graph.specs.Index.{AreIndexed, names_indexed};
+    ghost use Rattle.tg_rows.specs.Index.{AreIndexed, names_indexed};
 
     ghost Value = { HeapState };
 

@@ -4,7 +4,7 @@
 ghost use Rattle.std.specs.Prelude.{◌≡◌, ◌↔◌, ℕ};
 ghost use Rattle.tg_model.specs.Graph.{ProtectionGraph, IsReachable};
 ghost use Rattle.tg_space.specs.declared.kind.Kind.{Kind};
-ghost use Rattle.tg_graph.specs.Content.{Content, IsNamed, IsSameContent, OnlyNamedHold};
+ghost use Rattle.tg_rows.specs.Content.{Content, IsNamed, IsSameContent, OnlyNamedHold};
 ghost use Rattle.tg_graph.specs.Heap.{HeapState, IsUnchangedHeap, content_of};
 ghost use Rattle.tg_graph.specs.Standing.{IsContentOf, IsReached, Keeps, KeepsReached};
 

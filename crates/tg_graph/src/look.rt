@@ -3,7 +3,7 @@ ghost use Rattle.std.specs.Prelude.{◌≡◌, ◌==◌, length, map, slice_set}
 ghost use Rattle.std.specs.List.{IsDistinct};
 ghost use Rattle.tg_space.specs.SpaceTable.{IsSpaceTable};
 ghost use Rattle.tg_graph.specs.Heap.{content_of};
-ghost use Rattle.tg_graph.specs.Rows.{name_at, objects_of};
+ghost use Rattle.tg_rows.specs.Rows.{name_at, objects_of};
 ghost use Rattle.tg_graph.specs.Shown.{shown_in};
 
 use crate::heap::Heap;

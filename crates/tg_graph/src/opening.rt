@@ -14,20 +14,20 @@ ghost use Rattle.tg_space.specs.SpaceTable.{AreLimits, IsSpaceTable, no_blocks, 
 ghost use Rattle.tg_space.specs.Soundness.{IsKindAt};
 ghost use Rattle.tg_space.specs.Generations.{AreRemembered};
 ghost use Rattle.tg_nursery.specs.Allocation.{HasLeft};
-ghost use Rattle.tg_graph.specs.Content.{IsNamed};
-ghost use Rattle.tg_graph.specs.Heap.{AreAtHome, IsGraph, content_in};
-ghost use Rattle.tg_graph.specs.Rows.{name_at};
-ghost use Rattle.tg_graph.specs.Steps.{ChangesTo};
-ghost use Rattle.tg_graph.specs.Opened.{HasBlocks, HasNoBlocks, IsOpened, TakesOneCell, no_labels, with_row, AreFewWorkers, AreWorkers, IsRoomFor, KeepsBlocks};
+ghost use Rattle.tg_rows.specs.Content.{IsNamed};
+ghost use Rattle.tg_graph.specs.Heap.{AreAtHome};
+ghost use Rattle.tg_rows.specs.Graph.{IsGraph, content_in};
+ghost use Rattle.tg_rows.specs.Rows.{name_at};
+ghost use Rattle.tg_rows.specs.Steps.{ChangesTo, TakesOneCell};
+ghost use Rattle.tg_graph.specs.Opened.{HasBlocks, HasNoBlocks, IsOpened, no_labels, with_row, AreFewWorkers, AreWorkers, IsRoomFor, KeepsBlocks};
 
-use crate::cells::Cells;
 use crate::heap::HeapRefused;
-use crate::rows::find_spot;
 use std::alloc::{AllocError, Global};
 use tg_model::{Edge, Opening};
 use tg_payload::{Draft, Payload, PayloadTable};
 use tg_remember::Remembered;
 use tg_rights::Rights;
+use tg_rows::{Cells, find_spot};
 use tg_space::{Limits, RoomFault, Spaces};
 use tg_subjects::{Subject, Subjects};
 use tg_word::{MAX_NURSERIES, Place, nursery_space};

@@ -9,7 +9,7 @@ use Rattle.tg_model.specs.declared.reply.Reply.{Reply}
 use Rattle.tg_model.specs.declared.reply.Reply.TheVariants as reply
 use Rattle.tg_model.specs.Graph.{ProtectionGraph, IsSubject}
 use Rattle.tg_model.specs.Rules.{denial_of, denied_or, reply_of, answer_of}
-use Rattle.tg_graph.specs.Content.{Content}
+use Rattle.tg_rows.specs.Content.{Content}
 use Rattle.tg_graph.specs.Standing.{IsContentOf}
 use Rattle.tg_graph.proofs.StandingLaws.{answer_of-stands}
 use Rattle.tg_rules.specs.Effect.{IsReplyOn}

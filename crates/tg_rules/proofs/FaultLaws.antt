@@ -1,7 +1,7 @@
 -- For which vertices there is no room.
 use Rattle.std.proofs.Common.{◌≡◌, ℕ, subst, ◌∙◌}
 use Rattle.tg_graph.specs.Heap.{HeapState, name_of}
-use Rattle.tg_graph.specs.Spots.{LacksCellsFor}
+use Rattle.tg_rows.specs.Spots.{LacksCellsFor}
 use Rattle.tg_rules.specs.declared.vertex.Vertex.{Vertex}
 use Rattle.tg_rules.specs.Verdict.{HasVertex}
 

@@ -4,7 +4,7 @@ use Rattle.tg_rights.specs.RightSet.{RightSet}
 use Rattle.tg_model.specs.declared.command.Command.{Command}
 use Rattle.tg_model.specs.declared.command.Command.TheVariants.{Take, Grant}
 use Rattle.tg_graph.specs.Heap.{HeapState, KeepsIndexes}
-use Rattle.tg_graph.specs.Rows.{IsVertexAt}
+use Rattle.tg_rows.specs.Rows.{IsVertexAt}
 use Rattle.tg_rules.specs.Effect.{AddsEdge, IndexesAfter}
 use Rattle.tg_rules.specs.Parties.{AreParties, owner_of_row}
 use Rattle.tg_rules.specs.declared.vertex.Parties.{Parties}

@@ -3,7 +3,7 @@ use Rattle.std.proofs.Common.{◌≡◌, ℕ, List, refl}
 use Rattle.tg_model.specs.declared.command.Command.{Command}
 use Rattle.tg_model.specs.declared.command.Command.TheVariants.{Read}
 use Rattle.tg_model.specs.Rules.{subjects_after}
-use Rattle.tg_graph.specs.Content.{Content}
+use Rattle.tg_rows.specs.Content.{Content}
 use Rattle.tg_graph.proofs.StandingLaws.{IsSameContent-self}
 use Rattle.tg_rules.specs.Effect.{IsContentAfter, OnlyLooks}
 

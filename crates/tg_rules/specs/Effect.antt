@@ -9,10 +9,10 @@ use Rattle.tg_model.specs.declared.reply.Reply.TheVariants.{Done, Values, Edges}
 use Rattle.tg_model.specs.Rules.{labels_after, values_after, reply_of}
 use Rattle.tg_word.specs.Word.{nursery_space}
 use Rattle.tg_space.specs.SpaceTable.{SpaceTable}
-use Rattle.tg_graph.specs.Content.{Content, IsNamed, IsContent}
+use Rattle.tg_rows.specs.Content.{Content, IsNamed, IsContent}
 use Rattle.tg_graph.specs.Heap.{HeapState, IsUnchangedHeap, KeepsIndexes, KeepsPlaces}
-use Rattle.tg_graph.specs.Rows.{IsVertexAt}
-use Rattle.tg_graph.specs.Spots.{LacksCellsFor}
+use Rattle.tg_rows.specs.Rows.{IsVertexAt}
+use Rattle.tg_rows.specs.Spots.{LacksCellsFor}
 use Rattle.tg_word.specs.declared.Place.{Place}
 use Rattle.tg_rules.specs.Parties.{owner_of_row}
 

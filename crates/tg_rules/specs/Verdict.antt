@@ -5,7 +5,7 @@ use Rattle.tg_rights.specs.RightSet.{RightSet, is_none_held}
 use Rattle.tg_model.specs.declared.reply.Denial.{Denial}
 use Rattle.tg_subjects.specs.declared.subject.Subject.{Subject}
 use Rattle.tg_graph.specs.Heap.{HeapState, nursery_of}
-use Rattle.tg_graph.specs.Rows.{IsVertexAt}
+use Rattle.tg_rows.specs.Rows.{IsVertexAt}
 use Rattle.tg_rules.specs.declared.decision.Verdict.{Verdict}
 use Rattle.tg_rules.specs.declared.decision.Verdict.TheVariants.{Served, Denied}
 use Rattle.tg_rules.specs.declared.vertex.Vertex.{Vertex}

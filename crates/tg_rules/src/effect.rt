@@ -5,8 +5,8 @@ ghost use Rattle.tg_model.specs.Graph.{with_rights, without_rights, without_subj
 ghost use Rattle.tg_model.specs.Rules.{denial_of, state_of, subjects_after, written_at};
 ghost use Rattle.tg_word.specs.Word.{nursery_space};
 ghost use Rattle.tg_graph.specs.Heap.{content_of, IsActive, KeepsIndexes, KeepsPlaces, nursery_of, subject_names};
-ghost use Rattle.tg_graph.specs.Content.{IsContent, IsNamed};
-ghost use Rattle.tg_graph.specs.Spots.{LacksCellsFor};
+ghost use Rattle.tg_rows.specs.Content.{IsContent, IsNamed};
+ghost use Rattle.tg_rows.specs.Spots.{LacksCellsFor};
 ghost use Rattle.tg_rules.specs.Effect.{IndexesAfter, IsReplyOn, IsContentAfter, IsDoneInPlace, KeepsVertices, LeavesHeap, AddsEdge, LacksCellsToServe, OnlyLooks, SameIndexes};
 ghost use Rattle.tg_rules.specs.Parties.{AreParties};
 ghost use Rattle.tg_rules.specs.Verdict.{HasSubject, HasVertex};

@@ -15,7 +15,7 @@ ghost use Rattle.tg_model.specs.declared.opening.TheConstants.{MAX_WORKERS};
 ghost use Rattle.tg_model.specs.declared.reply.Denial.{Denial};
 ghost use Rattle.tg_model.specs.declared.reply.Reply.{Reply};
 ghost use Rattle.tg_model.specs.declared.reply.Reply.TheVariants.{Denied};
-ghost use Rattle.tg_graph.specs.Content.{Content, IsNamed, IsContent, IsSameContent, OnlyNamedHold};
+ghost use Rattle.tg_rows.specs.Content.{Content, IsNamed, IsContent, IsSameContent, OnlyNamedHold};
 ghost use Rattle.tg_graph.specs.Standing.{IsContentOf};
 ghost use Rattle.tg_rules.specs.Effect.{IsReplyOn, IsContentAfter};
 

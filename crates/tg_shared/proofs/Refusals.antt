@@ -9,7 +9,7 @@ use Rattle.tg_model.specs.Graph.{IsSubject}
 use Rattle.tg_model.specs.Rules.{IsAllowed}
 use Rattle.tg_word.specs.Word.{nursery_space}
 use Rattle.tg_graph.specs.Heap.{nursery_of}
-use Rattle.tg_graph.specs.Spots.{LacksCellsFor}
+use Rattle.tg_rows.specs.Spots.{LacksCellsFor}
 use Rattle.tg_store.specs.declared.fault.CreateFault.TheVariants as fault
 use Rattle.tg_store.specs.declared.fault.CreateRefused.{CreateRefused}
 use Rattle.tg_store.specs.Made.{MayRefuse}

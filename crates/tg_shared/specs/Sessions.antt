@@ -17,7 +17,7 @@ use Rattle.tg_journal.specs.declared.entry.Entry.{Entry}
 use Rattle.tg_journal.specs.History.{IsLegal, IsLegalEntry, graph_after}
 use Rattle.tg_journal.specs.Journal.{Entries}
 use Rattle.tg_graph.specs.Heap.{nursery_of}
-use Rattle.tg_graph.specs.Spots.{LacksCellsFor}
+use Rattle.tg_rows.specs.Spots.{LacksCellsFor}
 use Rattle.tg_space.specs.declared.kind.Kind.{Kind}
 use Rattle.tg_store.specs.Collecting.{IsSwept, KeepsHistory}
 use Rattle.tg_store.specs.Leaving.{HasLeft, leaving}

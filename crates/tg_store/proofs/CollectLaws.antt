@@ -6,7 +6,7 @@ use Rattle.tg_model.specs.Opened.{start_of}
 use Rattle.tg_journal.specs.History.{graph_after}
 use Rattle.tg_space.specs.declared.kind.Kind.{Kind}
 use Rattle.tg_space.specs.declared.kind.Kind.TheVariants.{Full, Nursery}
-use Rattle.tg_graph.specs.Content.{Content, IsNamed}
+use Rattle.tg_rows.specs.Content.{Content, IsNamed}
 use Rattle.tg_graph.specs.Heap.{content_of, subject_names}
 use Rattle.tg_graph.specs.Standing.{IsReached, Keeps, KeepsReached}
 use Rattle.tg_graph.specs.Standing as content_stands

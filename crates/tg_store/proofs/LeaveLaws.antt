@@ -7,7 +7,7 @@ use Rattle.tg_model.specs.declared.reply.Denial.{Denial}
 use Rattle.tg_subjects.specs.declared.subject.Subject.{Subject}
 use Rattle.tg_model.specs.Opened.{IsPlan, start_of}
 use Rattle.tg_graph.specs.Heap.{HeapState, KeepsPlaces, content_of, subject_names}
-use Rattle.tg_graph.specs.Content.{Content}
+use Rattle.tg_rows.specs.Content.{Content}
 use Rattle.tg_graph.specs.Standing.{IsContentOf}
 use Rattle.tg_store.proofs.AnswerLaws.{reply-served}
 use Rattle.tg_store.specs.Store.{StoreState, IsFaithful, IsStore, graph_of_store}

@@ -18,7 +18,7 @@ use Rattle.tg_model.proofs.SoundLaws.{create-subjects, spawn-subjects}
 use Rattle.tg_subjects.specs.declared.subject.Subject.{Subject as SubjectAt}
 use Rattle.tg_journal.specs.declared.entry.Entry.{Entry}
 use Rattle.tg_journal.proofs.HistoryLaws.{IsSound-opened}
-use Rattle.tg_graph.specs.Content.{Content, IsNamed, OnlyNamedHold}
+use Rattle.tg_rows.specs.Content.{Content, IsNamed, OnlyNamedHold}
 use Rattle.tg_graph.specs.Heap.{IsActive, content_of, subject_names}
 use Rattle.tg_graph.specs.Standing as standing
 use Rattle.tg_graph.proofs.StandingLaws as content

@@ -10,7 +10,7 @@ use Rattle.tg_model.specs.Picture.{Shown}
 use Rattle.tg_journal.proofs.Decided.{contains}
 use Rattle.tg_could.specs.Reached.{IsReachedEdge, IsReachedPicture}
 use Rattle.tg_journal.proofs.HistoryLaws.{IsSound-opened}
-use Rattle.tg_graph.specs.Content.{Content}
+use Rattle.tg_rows.specs.Content.{Content}
 use Rattle.tg_graph.specs.Heap.{content_of, subject_names}
 use Rattle.tg_graph.proofs.StandingLaws.{IsReachable-IsReached, IsReached-IsReachable, OnlyNamedHold-content_of}
 use Rattle.tg_store.specs.Inner.Reaching.{AreBelow, IsReachedEdgeOf}

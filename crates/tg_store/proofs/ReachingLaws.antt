@@ -15,11 +15,11 @@ use Rattle.tg_model.specs.Graph.{HasEdge, listing_of}
 use Rattle.tg_model.specs.Walks.{begins, goes, Walk-within}
 use Rattle.tg_word.specs.declared.Place.{Place}
 use Rattle.tg_space.specs.SpaceList.{SpaceList}
-use Rattle.tg_graph.specs.Content.{Content}
-use Rattle.tg_graph.specs.Rows.{IsVertexAt}
+use Rattle.tg_rows.specs.Content.{Content}
+use Rattle.tg_rows.specs.Rows.{IsVertexAt}
 use Rattle.tg_graph.specs.Standing.{IsReached}
-use Rattle.tg_graph.proofs.Listing.{listed, listed_from}
-use Rattle.tg_graph.proofs.Members.{Contains-cases, Contains-from_map, Contains-map, Contains-none}
+use Rattle.tg_rows.proofs.Listing.{listed, listed_from}
+use Rattle.tg_rows.proofs.Members.{Contains-cases, Contains-from_map, Contains-map, Contains-none}
 use Rattle.tg_store.specs.Inner.Reaching.{FindsMore, IsEdgeOf, IsFoundIn, IsReachedEdgeOf, names_found}
 use Rattle.tg_store.specs.declared.store.picture.Found.{Found}
 

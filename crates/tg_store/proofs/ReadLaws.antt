@@ -8,7 +8,7 @@ use Rattle.tg_model.specs.Graph.{ProtectionGraph, IsSubject}
 use Rattle.tg_model.specs.Rules.{Permits, denial_of}
 use Rattle.tg_model.proofs.AllowedLaws.{permits-no_denial, no_denial-permits}
 use Rattle.tg_model.proofs.ReachLaws.{HasEdge-holds}
-use Rattle.tg_graph.specs.Content.{Content}
+use Rattle.tg_rows.specs.Content.{Content}
 use Rattle.tg_graph.specs.Standing.{IsContentOf}
 use Rattle.tg_graph.proofs.StandingLaws.{StandsFor-values_near, denial_of-stands}
 

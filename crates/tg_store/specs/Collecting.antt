@@ -5,7 +5,7 @@ use Rattle.tg_space.specs.Generations.{AreNeeded}
 use Rattle.tg_space.specs.SpaceList.{space_of}
 use Rattle.tg_space.specs.declared.kind.Kind.{Kind}
 use Rattle.tg_space.specs.declared.kind.Kind.TheVariants.{Full, Nursery}
-use Rattle.tg_graph.specs.Content.{IsNamed}
+use Rattle.tg_rows.specs.Content.{IsNamed}
 use Rattle.tg_graph.specs.Heap.{content_of}
 use Rattle.tg_graph.specs.Kept.{VerticesOfOldStay}
 use Rattle.tg_store.specs.Counts.{with_one_collection}

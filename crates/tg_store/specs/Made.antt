@@ -7,9 +7,9 @@ use Rattle.tg_model.specs.declared.value.Value.{Value}
 use Rattle.tg_model.specs.Graph.{ProtectionGraph, IsSubject}
 use Rattle.tg_model.specs.Rules.{IsAllowed, step, answer_of}
 use Rattle.tg_word.specs.Word.{nursery_space}
-use Rattle.tg_graph.specs.Content.{IsNamed}
+use Rattle.tg_rows.specs.Content.{IsNamed}
 use Rattle.tg_graph.specs.Heap.{content_of, nursery_of}
-use Rattle.tg_graph.specs.Spots.{IsMadeInRow, LacksCellsFor}
+use Rattle.tg_rows.specs.Spots.{IsMadeInRow, LacksCellsFor}
 use Rattle.tg_store.specs.declared.fault.CreateFault.TheVariants.{NoSuchWorker, OutOfMemory, VerticesFull, HeapFull}
 use Rattle.tg_store.specs.declared.fault.CreateRefused.{CreateRefused}
 use Rattle.tg_store.specs.Store.{StoreState, StandsFor}

@@ -9,7 +9,7 @@ use Rattle.tg_model.specs.declared.value.Value.{Value}
 use Rattle.tg_model.specs.declared.opening.TheConstants.{MAX_WORKERS}
 use Rattle.tg_model.specs.Graph.{ProtectionGraph, with_rights}
 use Rattle.tg_model.specs.Rules.{with_value}
-use Rattle.tg_graph.specs.Content.{Content, IsContent, IsNamed}
+use Rattle.tg_rows.specs.Content.{Content, IsContent, IsNamed}
 use Rattle.tg_store.specs.declared.fault.CreateFault.{CreateFault}
 use Rattle.tg_store.specs.declared.fault.CreateFault.TheVariants as fault
 use Rattle.tg_store.specs.declared.making.Making.{Making}

@@ -3,9 +3,9 @@ ghost use Rattle.std.specs.Prelude.{◌≡◌, ◌<◌, IfErr, IfOk, OnErr, OnOk
 ghost use Rattle.std.specs.List.{All};
 ghost use Rattle.tg_word.specs.Word.{nursery_space};
 ghost use Rattle.tg_word.specs.declared.TheConstants.{MAX_NURSERIES};
-ghost use Rattle.tg_graph.specs.Content.{IsNamed};
+ghost use Rattle.tg_rows.specs.Content.{IsNamed};
 ghost use Rattle.tg_graph.specs.Heap.{IsActive, IsUnchangedHeap, content_of, nursery_of, subject_names};
-ghost use Rattle.tg_graph.specs.Spots.{IsMadeInRow, LacksCellsFor};
+ghost use Rattle.tg_rows.specs.Spots.{IsMadeInRow, LacksCellsFor};
 ghost use Rattle.tg_store.specs.Counts.{refusal_told};
 ghost use Rattle.tg_store.specs.Making.{IsCreated, deed_making, fault_at, reply_at, subjects_making};
 

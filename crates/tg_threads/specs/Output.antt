@@ -14,7 +14,7 @@ use Rattle.tg_word.specs.Word.{nursery_space}
 use Rattle.tg_space.specs.declared.kind.Kind.{Kind}
 use Rattle.tg_space.specs.declared.kind.Kind.TheVariants as kind
 use Rattle.tg_graph.specs.Heap.{nursery_of}
-use Rattle.tg_graph.specs.Spots.{LacksCellsFor}
+use Rattle.tg_rows.specs.Spots.{LacksCellsFor}
 use Rattle.tg_rules.specs.Effect.{AddsEdge, LacksCellsToServe}
 use Rattle.tg_store.specs.Room.{LacksRoomToCollect}
 use Rattle.tg_store.specs.Store.{StoreState, graph_of_store}

@@ -6,8 +6,8 @@ use Rattle.tg_model.specs.declared.edge.Edge.{Edge}
 use Rattle.tg_model.specs.Graph.{HasEdge}
 use Rattle.tg_word.specs.declared.Place.{Place}
 use Rattle.tg_space.specs.SpaceList.{SpaceList}
-use Rattle.tg_graph.specs.Content.{Content, IsNamed}
-use Rattle.tg_graph.specs.Rows.{IsVertexAt}
+use Rattle.tg_rows.specs.Content.{Content, IsNamed}
+use Rattle.tg_rows.specs.Rows.{IsVertexAt}
 use Rattle.tg_graph.specs.Standing.{IsReached}
 use Rattle.tg_store.specs.declared.store.picture.Found.{Found}
 

@@ -1,5 +1,5 @@
 use Rattle.std.proofs.Common.{refl}
-use Rattle.tg_graph.specs.Content.{IsNamed}
+use Rattle.tg_rows.specs.Content.{IsNamed}
 use Rattle.tg_graph.proofs.StandingLaws.{StandsFor-kept, StandsFor-full_collection, names-full_collection, IsReachable-IsReached, IsReached-IsReachable}
 use Rattle.tg_graph.proofs.laws.what_is_kept_stands_for_the_same_graph.Goals as goal
 

@@ -2,10 +2,10 @@ use Rattle.std.proofs.Common.{◌≡◌, ◌≢◌, ◌∙◌, ◌+◌, length, 
 use Rattle.tg_model.specs.Opened.{label_in, JoinsWorkers}
 use Rattle.tg_word.specs.Word.{nursery_space}
 use Rattle.tg_payload.specs.Table.{Payloads}
-use Rattle.tg_graph.specs.Content.{IsNamed}
-use Rattle.tg_graph.specs.Heap.{content_in, IsGraph}
+use Rattle.tg_rows.specs.Content.{IsNamed}
+use Rattle.tg_rows.specs.Graph.{content_in, IsGraph}
 use Rattle.tg_graph.specs.Opened.{labels_before, with_row}
-use Rattle.tg_graph.specs.Steps.{ChangesTo}
+use Rattle.tg_rows.specs.Steps.{ChangesTo}
 use Rattle.tg_graph.proofs.Openings.{changes_more, changes_relabel, labels_before-all, labels_before-more, row_no_loop}
 use borrow.Author.Count.{falls}
 use Rattle.std.specs.List.{All}

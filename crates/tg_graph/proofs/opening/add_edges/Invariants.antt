@@ -3,10 +3,10 @@ use Rattle.tg_word.specs.Word.{nursery_space}
 use Rattle.tg_space.specs.SpaceList.{space_of}
 use Rattle.tg_space.specs.SpaceTable.{used_of}
 use Rattle.tg_space.specs.Generations.{AreRemembered}
-use Rattle.tg_graph.specs.Content.{IsNamed}
-use Rattle.tg_graph.specs.Heap.{content_in}
+use Rattle.tg_rows.specs.Content.{IsNamed}
+use Rattle.tg_rows.specs.Graph.{content_in}
 use Rattle.tg_graph.specs.Opened.{labels_before}
-use Rattle.tg_graph.specs.Steps.{ChangesTo}
+use Rattle.tg_rows.specs.Steps.{ChangesTo}
 use Rattle.tg_graph.proofs.opening.add_edges.Given as goal
 
 abbrev pub invariant-loop-from : goal.invariant-loop-from

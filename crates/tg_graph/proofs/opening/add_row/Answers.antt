@@ -12,11 +12,11 @@ use Rattle.tg_subjects.specs.declared.subject.Subject.{Subject}
 use Rattle.tg_payload.specs.Table.{Payloads}
 use Rattle.tg_space.specs.SpaceList.{SpaceList}
 use Rattle.tg_space.specs.SpaceTable.{SpaceTable, used_of}
-use Rattle.tg_graph.specs.Content.{IsNamed}
-use Rattle.tg_graph.specs.Heap.{IsGraph, content_in}
+use Rattle.tg_rows.specs.Content.{IsNamed}
+use Rattle.tg_rows.specs.Graph.{IsGraph, content_in}
 use Rattle.tg_graph.specs.Opened.{with_row}
-use Rattle.tg_graph.specs.Rows.{IsVertexAt, name_at}
-use Rattle.tg_graph.specs.Steps.{ChangesTo}
+use Rattle.tg_rows.specs.Rows.{IsVertexAt, name_at}
+use Rattle.tg_rows.specs.Steps.{ChangesTo}
 use Rattle.tg_graph.proofs.Openings.{changes_more, with_row-more}
 use Rattle.tg_graph.proofs.opening.add_row.Goals as goal
 

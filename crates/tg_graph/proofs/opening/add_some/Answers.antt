@@ -3,9 +3,9 @@ use Rattle.std.proofs.lemmas.Bool.{cond_both}
 use Rattle.tg_rights.specs.RightSet.{RightSet, is_none_held, union}
 use Rattle.tg_rights.specs.RightLaws.{none_held-same, union_none}
 use Rattle.tg_model.specs.Graph.{with_rights}
-use Rattle.tg_graph.specs.Heap.{content_in}
-use Rattle.tg_graph.specs.Rows.{name_at}
-use Rattle.tg_graph.specs.Spots.{IsSpotFor}
+use Rattle.tg_rows.specs.Graph.{content_in}
+use Rattle.tg_rows.specs.Rows.{name_at}
+use Rattle.tg_rows.specs.Spots.{IsSpotFor}
 use Rattle.tg_graph.proofs.opening.add_some.Goals as goal
 
 -- the empty set adds nothing

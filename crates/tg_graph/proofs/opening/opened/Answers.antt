@@ -9,7 +9,7 @@ use Rattle.tg_subjects.specs.Subjects.{names_of, places_of}
 use Rattle.tg_subjects.specs.declared.subject.Subject.{Subject}
 use Rattle.tg_remember.specs.Notes.{Notes}
 use Rattle.tg_space.specs.Generations.{AreRemembered}
-use Rattle.tg_graph.proofs.Remembering.{nothing_remembered}
+use Rattle.tg_rows.proofs.Remembering.{nothing_remembered}
 use Rattle.tg_graph.proofs.OpenedSubjects.{subjects_counted}
 use Rattle.tg_graph.proofs.Openings.{edges_opened, opened_same}
 use Rattle.tg_space.specs.SpaceTable.{BlockLimits}

@@ -3,7 +3,7 @@ use Rattle.tg_word.specs.declared.TheConstants.{MAX_NURSERIES}
 use Rattle.tg_graph.specs.Opened.{HasNoBlocks}
 use Rattle.tg_graph.proofs.Openings.{none_made}
 use Rattle.tg_space.specs.SpaceTable.{AreLimits, SpaceTable}
-use Rattle.tg_graph.proofs.Heaps.{memory_or_full}
+use Rattle.tg_rows.proofs.Results.{memory_or_full}
 use Rattle.tg_graph.proofs.opening.with_room.Goals as goal
 
 pub add_blocks-requires-clause-empty : goal.add_blocks-requires-clause-empty

@@ -6,8 +6,8 @@ use Rattle.tg_word.specs.declared.Place.{Place}
 use Rattle.tg_space.specs.SpaceList.{Holds}
 use Rattle.tg_space.specs.Targets.{from_space}
 use Rattle.tg_space.specs.Collection.{new_place}
-use Rattle.tg_graph.specs.Kept.{moved_place}
-use Rattle.tg_graph.proofs.Members.{still_at}
+use Rattle.tg_rows.specs.Index.{moved_place}
+use Rattle.tg_rows.proofs.Members.{still_at}
 use Rattle.tg_graph.proofs.settle.follow.Goals as goal
 
 pub loop-place-preserved : goal.loop-place-preserved

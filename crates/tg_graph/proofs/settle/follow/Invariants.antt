@@ -1,7 +1,7 @@
 use Rattle.std.proofs.Common.{◌≡◌, ◌++◌, take, drop, map}
 use Rattle.tg_space.specs.Targets.{from_space}
 use Rattle.tg_space.specs.Collection.{new_place}
-use Rattle.tg_graph.specs.Kept.{moved_place}
+use Rattle.tg_rows.specs.Index.{moved_place}
 use Rattle.tg_graph.proofs.settle.follow.Given as goal
 
 abbrev pub invariant-loop-place : goal.invariant-loop-place

@@ -9,8 +9,8 @@ use Rattle.tg_space.specs.SpaceList.{Holds}
 use Rattle.tg_space.specs.Targets.{from_space}
 use Rattle.tg_space.specs.Collection.{new_place}
 use Rattle.tg_space.specs.declared.kind.Kind.TheVariants.{Full}
-use Rattle.tg_graph.specs.Kept.{moved_place}
-use Rattle.tg_graph.proofs.Members.{still_at}
+use Rattle.tg_rows.specs.Index.{moved_place}
+use Rattle.tg_rows.proofs.Members.{still_at}
 use borrow.Author.Count.{falls}
 use Rattle.tg_graph.proofs.settle.follow_subjects.Goals as goal
 

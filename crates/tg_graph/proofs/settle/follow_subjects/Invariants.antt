@@ -3,7 +3,7 @@ use Rattle.tg_subjects.specs.Subjects.{AreSubjects, names_of, nurseries_of, plac
 use Rattle.tg_space.specs.Targets.{from_space}
 use Rattle.tg_space.specs.Collection.{new_place}
 use Rattle.tg_space.specs.declared.kind.Kind.TheVariants.{Full}
-use Rattle.tg_graph.specs.Kept.{moved_place}
+use Rattle.tg_rows.specs.Index.{moved_place}
 use Rattle.tg_graph.proofs.settle.follow_subjects.Given as goal
 
 abbrev pub invariant-loop-at : goal.invariant-loop-at

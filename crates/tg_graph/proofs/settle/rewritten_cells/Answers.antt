@@ -10,7 +10,7 @@ use Rattle.tg_space.proofs.Tables.{table_list}
 use Rattle.tg_graph.specs.declared.settle.Rewritten.{Rewritten}
 use Rattle.tg_graph.specs.Kept.{rewritten_at}
 use Rattle.tg_graph.proofs.KeptWritten.{mapped_more}
-use Rattle.tg_graph.proofs.Places.{cell_long, layout_at}
+use Rattle.tg_rows.proofs.Places.{cell_long, layout_at}
 use borrow.Author.Count.{falls}
 use Rattle.std.proofs.lemmas.List.{take_all}
 use Rattle.tg_graph.proofs.settle.rewritten_cells.Goals as goal

@@ -3,7 +3,7 @@ use Rattle.std.specs.Prelude.{Err}
 use Rattle.std.proofs.lemmas.Result.{err_from_is_err_and}
 use Rattle.tg_model.specs.Graph.{with_rights}
 use Rattle.tg_word.specs.Word.{nursery_space}
-use Rattle.tg_graph.specs.Content.{IsContent, IsNamed}
+use Rattle.tg_rows.specs.Content.{IsContent, IsNamed}
 use Rattle.tg_graph.specs.Heap.{content_of, name_of}
 use Rattle.tg_rules.proofs.FaultLaws.{lacks_by_name}
 use Rattle.tg_rules.proofs.effect.add.Goals as goal

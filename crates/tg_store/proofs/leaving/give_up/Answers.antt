@@ -2,7 +2,7 @@ use Rattle.std.proofs.Common.{ℕ, ◌∙◌, subst}
 use Rattle.tg_model.specs.declared.command.Command.TheVariants.{Remove}
 use Rattle.tg_model.specs.Graph.{without_rights}
 use Rattle.tg_model.specs.Rules.{denial_of}
-use Rattle.tg_graph.specs.Content.{IsContent, IsNamed}
+use Rattle.tg_rows.specs.Content.{IsContent, IsNamed}
 use Rattle.tg_graph.specs.Heap.{content_of}
 use Rattle.tg_graph.proofs.StandingLaws.{StandsFor-served, denial_of-stands}
 use Rattle.tg_store.proofs.LeaveLaws.{served}

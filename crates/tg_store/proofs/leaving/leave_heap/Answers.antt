@@ -1,8 +1,9 @@
 use Rattle.std.proofs.Common.{◌≡◌, ◌∙◌, List, ap, map, sym, subst, refl}
 use Rattle.tg_model.specs.declared.command.Command.TheVariants.{Retire}
 use Rattle.tg_journal.specs.History.{graph_after}
-use Rattle.tg_graph.specs.Content.{Content, IsSameContent}
-use Rattle.tg_graph.specs.Heap.{content_in, content_of}
+use Rattle.tg_rows.specs.Content.{Content, IsSameContent}
+use Rattle.tg_rows.specs.Graph.{content_in}
+use Rattle.tg_graph.specs.Heap.{content_of}
 use Rattle.tg_graph.proofs.StandingLaws.{IsSameContent-self, StandsFor-served}
 use Rattle.tg_subjects.specs.Subjects.{names_of, without}
 use Rattle.tg_subjects.specs.declared.subject.Subject.{Subject}

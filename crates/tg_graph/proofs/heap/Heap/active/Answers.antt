@@ -3,7 +3,7 @@ use Rattle.std.specs.Prelude.{IfSome}
 use Rattle.tg_subjects.specs.Subjects.{IsSubjectNamed}
 use Rattle.tg_subjects.specs.declared.subject.Subject.{Subject}
 use Rattle.tg_graph.specs.Heap.{nursery_of}
-use Rattle.tg_graph.specs.Rows.{IsVertexAt}
+use Rattle.tg_rows.specs.Rows.{IsVertexAt}
 use Rattle.tg_graph.proofs.heap.Heap.active.Goals as goal
 
 pub returns-clause-there : goal.returns-clause-there

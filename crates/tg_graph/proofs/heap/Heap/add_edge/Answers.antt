@@ -2,7 +2,7 @@ use Rattle.std.proofs.Common.{ℕ, subst}
 use Rattle.std.specs.Prelude.{OnOk}
 use Rattle.tg_word.specs.Word.{nursery_space}
 use Rattle.tg_graph.specs.Heap.{name_of}
-use Rattle.tg_graph.specs.Spots.{IsPutInRow, LacksCellsFor}
+use Rattle.tg_rows.specs.Spots.{IsPutInRow, LacksCellsFor}
 use Rattle.tg_graph.proofs.heap.Heap.add_edge.Goals as goal
 
 pub add_edge_as-requires-clause-worker : goal.add_edge_as-requires-clause-worker

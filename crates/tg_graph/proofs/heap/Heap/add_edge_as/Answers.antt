@@ -1,19 +1,21 @@
 use Rattle.tg_rights.specs.RightSet.{RightSet}
 use Rattle.tg_word.specs.Word.{nursery_space}
-use Rattle.tg_graph.specs.Index.{SameIndexed, indexed_in, names_indexed}
-use Rattle.tg_graph.specs.Spots.{IsPutInRow, LacksCellsFor}
+use Rattle.tg_rows.specs.Index.{SameIndexed, indexed_in, names_indexed}
+use Rattle.tg_rows.specs.Spots.{IsPutInRow, LacksCellsFor}
 use Rattle.std.proofs.Common.{◌≡◌, ◌∙◌, ap, refl, subst, sym}
 use Rattle.std.specs.Prelude.{IsTrue}
 use Rattle.tg_space.specs.SpaceTable.{SpaceTable}
 use Rattle.tg_space.proofs.Tables.{table_list}
-use Rattle.tg_graph.proofs.Lookups.{name_of_vertex}
+use Rattle.tg_rows.proofs.Lookups.{name_of_vertex}
 use Rattle.std.specs.List.{Contains}
 use Rattle.std.proofs.lemmas.Result.{IfOk-weaker}
 use Rattle.tg_model.specs.Graph.{with_rights}
-use Rattle.tg_graph.specs.Content.{IsContent, IsNamed}
-use Rattle.tg_graph.specs.Heap.{HeapState, IsLongRow, IsObject, KeepsIndexes, KeepsPlaces, content_of, name_of}
-use Rattle.tg_graph.specs.Steps.{ChangesTo}
-use Rattle.tg_graph.proofs.Heaps.{both_errors, both_oks, content_after, either_way, error_gives, heap_same, heap_with, is_indexed, names_same, own_kept, still_indexed, nursery_inside, places_kept, success_gives, well_formed_after, well_formed_same}
+use Rattle.tg_rows.specs.Content.{IsContent, IsNamed}
+use Rattle.tg_graph.specs.Heap.{HeapState, IsObject, KeepsIndexes, KeepsPlaces, content_of, name_of}
+use Rattle.tg_rows.specs.Graph.{IsLongRow}
+use Rattle.tg_rows.specs.Steps.{ChangesTo}
+use Rattle.tg_rows.proofs.Results.{both_errors, both_oks, either_way, error_gives, success_gives}
+use Rattle.tg_graph.proofs.Heaps.{content_after, heap_same, heap_with, is_indexed, names_same, own_kept, still_indexed, nursery_inside, places_kept, well_formed_after, well_formed_same}
 use Rattle.tg_graph.proofs.heap.Heap.add_edge_as.Goals as goal
 
 pub invariant_of-self : goal.invariant_of-self

@@ -8,7 +8,7 @@ use Rattle.tg_space.specs.Soundness.{HasLayout}
 use Rattle.tg_space.specs.Targets.{root_targets_of, targets_at, young_spaces}
 use Rattle.tg_space.specs.declared.root.Root.TheVariants.{Row}
 use Rattle.tg_space.proofs.Tables.{table_list}
-use Rattle.tg_graph.specs.Index.{IsIndexed, IsOldPlace, names_indexed}
+use Rattle.tg_rows.specs.Index.{IsIndexed, IsOldPlace, names_indexed}
 use Rattle.tg_graph.specs.Heap.{AddsRoots, HeapState}
 use Rattle.tg_graph.proofs.Heaps.{subject_vertex}
 use Rattle.tg_graph.proofs.Starts.{all_targets, cell_held, cell_layout, none_added, row_done, row_rest, row_young, stepped}

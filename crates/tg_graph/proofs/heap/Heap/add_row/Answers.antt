@@ -2,7 +2,7 @@ use Rattle.std.proofs.Common.{inl, refl, subst, sym}
 use Rattle.std.specs.List.{Contains}
 use Rattle.tg_space.specs.declared.root.Root.TheVariants.{Row}
 use Rattle.tg_space.specs.Soundness.{IsRootIn}
-use Rattle.tg_graph.specs.Index.{IsIndexed, names_indexed}
+use Rattle.tg_rows.specs.Index.{IsIndexed, names_indexed}
 use Rattle.tg_graph.specs.Heap.{HeapState}
 use Rattle.tg_graph.proofs.Heaps.{subject_vertex}
 use Rattle.tg_graph.proofs.Starts.{row_added}

@@ -3,10 +3,10 @@ use Rattle.std.specs.List.{Contains}
 use Rattle.tg_model.specs.Graph.{without_rights}
 use Rattle.tg_word.specs.declared.Place.{Place}
 use Rattle.tg_space.specs.Generations.{AreRemembered}
-use Rattle.tg_graph.specs.Index.{names_indexed}
-use Rattle.tg_graph.specs.Content.{IsContent, IsNamed}
+use Rattle.tg_rows.specs.Index.{names_indexed}
+use Rattle.tg_rows.specs.Content.{IsContent, IsNamed}
 use Rattle.tg_graph.specs.Heap.{HeapState, KeepsPlaces, content_of, name_of, IsObject}
-use Rattle.tg_graph.specs.Steps.{ChangesTo}
+use Rattle.tg_rows.specs.Steps.{ChangesTo}
 use Rattle.tg_graph.proofs.Heaps.{content_after, heap_with, is_indexed, places_kept, well_formed_after}
 use Rattle.tg_graph.proofs.heap.Heap.drop_rights.Goals as goal
 

@@ -8,7 +8,7 @@ use Rattle.tg_graph.proofs.KeptReached.{subject_objects}
 use Rattle.tg_graph.proofs.KeptSettled.{full_left}
 use Rattle.tg_graph.proofs.heap.Heap.keep_copied.Given.{Over}
 use Rattle.tg_graph.proofs.heap.Heap.keep_copied.Goals.{After-drop-self-inside-4}
-use Rattle.tg_graph.specs.Index.{names_indexed}
+use Rattle.tg_rows.specs.Index.{names_indexed}
 use Rattle.tg_space.proofs.Tables.{table_list}
 use Rattle.tg_graph.proofs.heap.Heap.keep_copied.Goals as goal
 

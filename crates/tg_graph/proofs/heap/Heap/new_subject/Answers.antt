@@ -5,15 +5,15 @@ use Rattle.tg_model.specs.Rules.{with_value}
 use Rattle.tg_word.specs.declared.Place.{Place}
 use Rattle.tg_subjects.specs.Subjects.{AreSubjects, IsLeastFree}
 use Rattle.tg_subjects.specs.declared.subject.Subject.{Subject}
-use Rattle.tg_graph.specs.Index.{names_indexed}
-use Rattle.tg_graph.specs.Content.{IsContent, IsNamed}
+use Rattle.tg_rows.specs.Index.{names_indexed}
+use Rattle.tg_rows.specs.Content.{IsContent, IsNamed}
 use Rattle.tg_graph.specs.Heap.{HeapState, IsWellFormed, KeepsIndexes, content_of, nursery_of}
-use Rattle.tg_graph.specs.Rows.{IsVertexAt}
+use Rattle.tg_rows.specs.Rows.{IsVertexAt}
 use Rattle.tg_graph.proofs.Heaps.{names_above, well_formed_more}
 use Rattle.std.proofs.lemmas.Result.{err_from_is_err_and}
 use Rattle.tg_word.specs.declared.TheConstants.{MAX_NURSERIES}
 use Rattle.tg_word.specs.Word.{nursery_space}
-use Rattle.tg_graph.specs.Spots.{IsMadeInRow}
+use Rattle.tg_rows.specs.Spots.{IsMadeInRow}
 use Rattle.tg_graph.proofs.heap.Heap.new_subject.Goals as goal
 
 pub add-requires-clause-above : goal.add-requires-clause-above

@@ -2,9 +2,9 @@ use Rattle.std.proofs.Common.{◌≡◌, ◌⊎◌, ℕ, subst}
 use Rattle.tg_model.specs.Graph.{with_rights}
 use Rattle.tg_model.specs.Rules.{with_value}
 use Rattle.tg_word.specs.Word.{nursery_space}
-use Rattle.tg_graph.specs.Content.{IsContent, IsNamed}
+use Rattle.tg_rows.specs.Content.{IsContent, IsNamed}
 use Rattle.tg_graph.specs.Heap.{content_of}
-use Rattle.tg_graph.specs.Spots.{IsMadeInRow}
+use Rattle.tg_rows.specs.Spots.{IsMadeInRow}
 use Rattle.std.proofs.lemmas.Result.{err_from_is_err_and}
 use Rattle.tg_graph.proofs.heap.Heap.new_vertex.Goals as goal
 

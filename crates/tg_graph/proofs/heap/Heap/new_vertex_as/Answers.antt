@@ -3,7 +3,7 @@ use Rattle.std.specs.Prelude.{IsTrue}
 use Rattle.std.proofs.lemmas.Bool.{cases_eq}
 use Rattle.tg_space.specs.SpaceTable.{SpaceTable}
 use Rattle.tg_space.proofs.Tables.{table_list}
-use Rattle.tg_graph.proofs.Lookups.{name_of_vertex}
+use Rattle.tg_rows.proofs.Lookups.{name_of_vertex}
 use Rattle.std.specs.List.{Contains}
 use Rattle.std.proofs.lemmas.Result.{IfErr-weaker, IfOk-weaker}
 use Rattle.tg_rights.specs.RightSet.{RightSet}
@@ -11,12 +11,14 @@ use Rattle.tg_model.specs.Graph.{with_rights}
 use Rattle.tg_model.specs.Rules.{with_value}
 use Rattle.tg_word.specs.Word.{nursery_space}
 use Rattle.tg_space.specs.declared.room_fault.RoomFault.TheVariants.{HeapFull}
-use Rattle.tg_graph.specs.Index.{SameIndexed, indexed_in, names_indexed}
-use Rattle.tg_graph.specs.Content.{IsContent, IsNamed}
-use Rattle.tg_graph.specs.Heap.{HeapState, IsLongRow, IsUnchangedHeap, KeepsIndexes, KeepsPlaces, content_of, name_of}
-use Rattle.tg_graph.specs.Spots.{IsMadeInRow, LacksCellsFor}
-use Rattle.tg_graph.specs.Steps.{ChangesTo}
-use Rattle.tg_graph.proofs.Heaps.{both_errors, both_oks, content_after, indexed_named, is_indexed, names_same, new_unindexed, own_kept, still_indexed, either_way, error_gives, heap_with, nursery_inside, places_kept, success_gives, well_formed_after, well_formed_roomy, worker_there}
+use Rattle.tg_rows.specs.Index.{SameIndexed, indexed_in, names_indexed}
+use Rattle.tg_rows.specs.Content.{IsContent, IsNamed}
+use Rattle.tg_graph.specs.Heap.{HeapState, IsUnchangedHeap, KeepsIndexes, KeepsPlaces, content_of, name_of}
+use Rattle.tg_rows.specs.Graph.{IsLongRow}
+use Rattle.tg_rows.specs.Spots.{IsMadeInRow, LacksCellsFor}
+use Rattle.tg_rows.specs.Steps.{ChangesTo}
+use Rattle.tg_rows.proofs.Results.{both_errors, both_oks, either_way, error_gives, success_gives}
+use Rattle.tg_graph.proofs.Heaps.{content_after, indexed_named, is_indexed, names_same, new_unindexed, own_kept, still_indexed, heap_with, nursery_inside, places_kept, well_formed_after, well_formed_roomy, worker_there}
 use Rattle.tg_graph.proofs.heap.Heap.new_vertex_as.Goals as goal
 
 pub invariant_of-self : goal.invariant_of-self

@@ -5,7 +5,7 @@ use Rattle.tg_space.specs.Targets.{all_root_targets, young_spaces}
 use Rattle.tg_space.specs.declared.kind.Kind.TheVariants.{Nursery}
 use Rattle.tg_space.specs.declared.root.Root.{Root}
 use Rattle.tg_space.specs.declared.root.Root.TheVariants.{Remembered, Row}
-use Rattle.tg_graph.specs.Index.{names_indexed}
+use Rattle.tg_rows.specs.Index.{names_indexed}
 use Rattle.tg_graph.specs.Heap.{AddsRoots, CollectAlike, HeapState, roots_of}
 use Rattle.tg_graph.proofs.Starts.{all_same, starts_collect, starts_sound}
 use Rattle.tg_graph.proofs.heap.Heap.nursery_roots.Goals as goal

@@ -3,7 +3,7 @@ use Rattle.std.specs.Map.{lookup}
 use Rattle.std.proofs.lemmas.List.{length-map}
 use Rattle.tg_subjects.specs.Subjects.{places_of}
 use Rattle.tg_subjects.specs.declared.subject.Subject.{Subject}
-use Rattle.tg_graph.specs.declared.indexed_row.IndexedRow.{IndexedRow}
+use Rattle.tg_rows.specs.declared.indexed_row.IndexedRow.{IndexedRow}
 use Rattle.tg_graph.proofs.OpenedSubjects.{subjects_counted, vertices_named}
 use Rattle.tg_graph.proofs.Openings.{opened_stands}
 use Rattle.tg_graph.proofs.heap.Heap.open.Goals as goal

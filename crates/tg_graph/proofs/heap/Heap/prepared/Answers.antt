@@ -8,9 +8,9 @@ use Rattle.tg_space.specs.SpaceList.{Holds}
 use Rattle.tg_space.specs.Targets.{from_space}
 use Rattle.tg_space.specs.Collection.{new_place}
 use Rattle.tg_space.specs.declared.kind.Kind.TheVariants.{Nursery}
-use Rattle.tg_graph.specs.Index.{names_indexed}
+use Rattle.tg_rows.specs.Index.{names_indexed, moved_place}
 use Rattle.tg_graph.specs.Heap.{HeapState}
-use Rattle.tg_graph.specs.Kept.{IsPrepared, moved_place}
+use Rattle.tg_graph.specs.Kept.{IsPrepared}
 use Rattle.tg_graph.specs.declared.settle.Prepared.{Prepared}
 use Rattle.tg_graph.proofs.KeptHeap.{collected_words, remembered_cells}
 use Rattle.tg_graph.proofs.KeptReached.{subject_objects}

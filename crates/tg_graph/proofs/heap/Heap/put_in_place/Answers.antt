@@ -9,14 +9,14 @@ use Rattle.tg_space.specs.declared.kind.Kind.TheVariants.{Nursery}
 use Rattle.tg_space.specs.Targets.{young_spaces}
 use Rattle.tg_space.specs.Collection.{IsCollection, new_place}
 use Rattle.tg_graph.specs.Heap.{HeapState, IsWellFormed, roots_of}
-use Rattle.tg_graph.specs.Kept.{IsPrepared, moved_place}
+use Rattle.tg_graph.specs.Kept.{IsPrepared}
+use Rattle.tg_rows.specs.Index.{moved_place, AreIndexed, names_indexed}
 use Rattle.tg_graph.proofs.Heaps.{full_or_nursery}
 use Rattle.tg_graph.proofs.KeptBlocks.{nursery_written}
 use Rattle.tg_graph.proofs.KeptHeap.{IsLeft, collected_words, followable, indexed_beside}
 use Rattle.tg_graph.proofs.KeptSettled.{cells_there, nursery_left, payloads_there}
 use Rattle.tg_graph.proofs.heap.Heap.put_in_place.Given.{Over}
 use Rattle.tg_graph.proofs.heap.Heap.put_in_place.Goals.{After-drop-self-inside-4}
-use Rattle.tg_graph.specs.Index.{AreIndexed, names_indexed}
 use Rattle.tg_space.proofs.Tables.{table_list}
 use Rattle.std.proofs.lemmas.Result.{err_from_is_err_and}
 use Rattle.tg_graph.proofs.heap.Heap.put_in_place.Goals as goal

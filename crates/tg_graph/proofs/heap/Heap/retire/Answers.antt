@@ -1,7 +1,7 @@
 use Rattle.std.proofs.Common.{List, sym, subst}
 use Rattle.tg_subjects.specs.Subjects.{AreSubjects}
 use Rattle.tg_subjects.specs.declared.subject.Subject.{Subject}
-use Rattle.tg_graph.specs.Index.{names_indexed}
+use Rattle.tg_rows.specs.Index.{names_indexed}
 use Rattle.tg_graph.specs.Heap.{HeapState, IsWellFormed}
 use Rattle.tg_graph.proofs.Heaps.{well_formed_without}
 use Rattle.tg_graph.proofs.heap.Heap.retire.Goals as goal

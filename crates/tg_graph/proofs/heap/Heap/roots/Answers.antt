@@ -11,7 +11,7 @@ use Rattle.tg_space.specs.declared.kind.Kind.{Kind}
 use Rattle.tg_space.specs.declared.kind.Kind.TheVariants.{Full}
 use Rattle.tg_space.specs.declared.root.Root.{Root}
 use Rattle.tg_space.specs.declared.root.Root.TheVariants.{Row}
-use Rattle.tg_graph.specs.Index.{names_indexed}
+use Rattle.tg_rows.specs.Index.{names_indexed}
 use Rattle.tg_graph.specs.Heap.{CollectAlike, HeapState, roots_of}
 use Rattle.tg_graph.proofs.KeptHeap.{roots_sound}
 use Rattle.tg_graph.proofs.heap.Heap.roots.Goals as goal

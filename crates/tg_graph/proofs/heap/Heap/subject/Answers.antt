@@ -1,10 +1,11 @@
 use Rattle.std.proofs.Common.{◌≡◌, ◌↔◌, IsSome, subst}
 use Rattle.std.specs.Prelude.{IfSome}
 use Rattle.tg_subjects.specs.Subjects.{IsSubjectNamed}
-use Rattle.tg_graph.specs.Index.{names_indexed}
+use Rattle.tg_rows.specs.Index.{names_indexed}
 use Rattle.tg_graph.specs.Heap.{HeapState, IsActive, nursery_of}
-use Rattle.tg_graph.specs.Rows.{IsVertexAt}
-use Rattle.tg_graph.proofs.Heaps.{if_some, subject_vertex}
+use Rattle.tg_rows.specs.Rows.{IsVertexAt}
+use Rattle.tg_rows.proofs.Results.{if_some}
+use Rattle.tg_graph.proofs.Heaps.{subject_vertex}
 use Rattle.tg_graph.proofs.heap.Heap.subject.Goals as goal
 
 pub returns-clause-active : goal.returns-clause-active

@@ -3,9 +3,9 @@ use Rattle.std.proofs.Common.{◌≡◌, ◌==◌, length, map, subst, ◌∙◌
 use Rattle.std.specs.List.{IsDistinct}
 use Rattle.tg_space.proofs.Tables.{table_list}
 use Rattle.tg_payload.specs.Table.{count}
-use Rattle.tg_graph.specs.Index.{names_indexed}
+use Rattle.tg_rows.specs.Index.{names_indexed}
 use Rattle.tg_graph.specs.Heap.{HeapState}
-use Rattle.tg_graph.specs.Rows.{name_at, objects_of}
+use Rattle.tg_rows.specs.Rows.{name_at, objects_of}
 use Rattle.tg_graph.proofs.Counted.{names_once, payloads_counted}
 use Rattle.tg_graph.proofs.heap.Heap.vertices.Goals as goal
 

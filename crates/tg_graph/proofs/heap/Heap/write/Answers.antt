@@ -4,11 +4,12 @@ use Rattle.tg_model.specs.Rules.{written_at}
 use Rattle.tg_word.specs.declared.Place.{Place}
 use Rattle.tg_space.specs.SpaceTable.{SpaceTable}
 use Rattle.tg_space.specs.Generations.{AreRemembered}
-use Rattle.tg_graph.specs.Content.{IsContent, IsNamed}
+use Rattle.tg_rows.specs.Content.{IsContent, IsNamed}
 use Rattle.tg_graph.specs.Heap.{HeapState, KeepsPlaces, content_of, name_of, IsObject}
-use Rattle.tg_graph.specs.Index.{AreIndexed, names_indexed}
-use Rattle.tg_graph.specs.Steps.{ChangesTo}
-use Rattle.tg_graph.proofs.Heaps.{content_after, either_way, heap_with, places_kept, well_formed_after, well_formed_same}
+use Rattle.tg_rows.specs.Index.{AreIndexed, names_indexed}
+use Rattle.tg_rows.specs.Steps.{ChangesTo}
+use Rattle.tg_graph.proofs.Heaps.{content_after, heap_with, places_kept, well_formed_after, well_formed_same}
+use Rattle.tg_rows.proofs.Results.{either_way}
 use Rattle.tg_graph.proofs.heap.Heap.write.Goals as goal
 
 pub invariant_of-self : goal.invariant_of-self

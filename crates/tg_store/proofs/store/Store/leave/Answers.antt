@@ -5,7 +5,7 @@ use Rattle.tg_rights.specs.RightSet.{RightSet}
 use Rattle.tg_model.specs.declared.command.Command.TheVariants.{Retire}
 use Rattle.tg_model.specs.declared.command.Deed.TheVariants.{Plain}
 use Rattle.tg_model.specs.Graph.{ProtectionGraph, IsSound, IsSubject, listing_of, without_subject}
-use Rattle.tg_graph.specs.Content.{Content}
+use Rattle.tg_rows.specs.Content.{Content}
 use Rattle.tg_model.specs.Rules.{step}
 use Rattle.tg_journal.specs.declared.entry.Entry.{Entry}
 use Rattle.tg_journal.specs.History.{IsLegal, graph_after}

@@ -13,7 +13,7 @@ use Rattle.tg_journal.specs.History.{graph_after}
 use Rattle.tg_word.specs.Word.{nursery_space}
 use Rattle.tg_space.specs.SpaceTable.{SpaceTable}
 use Rattle.tg_graph.specs.Heap.{IsActive, content_of, nursery_of}
-use Rattle.tg_graph.specs.Spots.{IsMadeInRow, LacksCellsFor}
+use Rattle.tg_rows.specs.Spots.{IsMadeInRow, LacksCellsFor}
 use Rattle.tg_store.specs.Store.{StoreState, Enters, IsUnchanged, OnlyEnters, StandsFor, graph_of_store}
 use Rattle.tg_store.specs.declared.making.Limit.{Limit}
 use Rattle.tg_store.specs.declared.making.Making.{Making}

@@ -1,4 +1,0 @@
--- What private calls ask for and promise. No public clause cites it: who wants to believe the store needn't read it.
-pub mod Cells
-pub mod Following
-pub mod Deeds

@@ -1,0 +1,324 @@
+-- The indexes of a heap's rows, while a collection's copies are followed.
+use Rattle.std.proofs.Common.{◌≡◌, ◌≢◌, ℕ, ◌+◌, ◌-◌, ◌<◌, ◌≤◌, ◌⊎◌, inl, inr, Bool, List, [], ◌∷◌, Option, None, Some, false, true, cond, zero, suc, length, get_or, set, take, nat_eq, refl, sym, ap, subst, arith, ◌∙◌, ⊎_elim}
+use Rattle.std.specs.Prelude.{IfSome, IsSome, is_some, slice_get, swap, swap_remove}
+use Rattle.std.specs.List.{All, IsDistinct}
+use Rattle.std.specs.Map.{keys_of, lookup, values_of}
+use Rattle.std.proofs.Math.Seq.{take-length}
+use Rattle.std.proofs.lemmas.Bool.{cases_eq}
+use Rattle.std.proofs.lemmas.Bool.Decides.{Decides-eqb}
+use Rattle.std.proofs.lemmas.Cmp.{nat_eq_equiv}
+use Rattle.std.proofs.lemmas.List.{get_or_default, get_or-set_other, get_or-set_same, get_or-take, length-set, length-take}
+use Rattle.std.proofs.lemmas.List.Edits.{length-swap}
+use Rattle.std.proofs.lemmas.List.Elements.{Contains-get_or}
+use Rattle.std.proofs.lemmas.Map.Views.{Contains-from_lookup, lookup-from_Contains}
+use Rattle.std.proofs.lemmas.Option.{slice_get_within, slice_get-get_or}
+use Rattle.indexmap.proofs.ReorderLemmas.{exchange, exchange-within, get_or-swap}
+use Rattle.indexmap.specs.Layout.{length-set_value_at, set_value_at}
+use Rattle.tg_word.specs.declared.Place.{Place}
+use Rattle.tg_space.specs.Collection.{new_place}
+use Rattle.tg_space.specs.Targets.{from_space}
+use Rattle.tg_space.specs.declared.kind.Kind.{Kind}
+use Rattle.tg_space.specs.declared.kind.Kind.TheVariants.{Full, Nursery}
+use Rattle.tg_rows.specs.Index.{AreAged, AreFollowed, IsAged, IsFollowable, IsFollowed, IsFollowedTo, IsLeftBehind, IsNumbered, IsOldPlace, IsOldRow, IsMarked, followed_place, known_notes}
+use Rattle.tg_rows.specs.declared.indexed_row.IndexedRow.{IndexedRow}
+use Rattle.tg_rows.specs.declared.followed.Fate.TheVariants.{Gone, Young, Old}
+use Rattle.tg_rows.proofs.Ages.{exchanged_none, exchanged_second, first_below, map_same, old_row_at, slice_get_is, value_here, value_of, value_other, written_aged}
+
+abbrev Entries : Type 0
+Entries = List (ℕ × IndexedRow)
+
+abbrev Entry : Type 0
+Entry = ℕ × IndexedRow
+
+-- ---- the last entry takes the place of one
+
+module _ (es : Entries) (i : ℕ) (inside : i < length es) (p : Entry) where
+  removed_before : (j : ℕ) (d : Entry) → j < i → get_or (swap_remove es i p) j d ≡ get_or es j d
+  removed_before j d low =
+      get_or-take (length es - 1) (set es i (get_or es (length es - 1) p)) j d (omega arith)
+      ∙ get_or-set_other es i j (get_or es (length es - 1) p) d (λ e. omega arith)
+
+  removed_long : length (swap_remove es i p) ≡ length es - 1
+  removed_long = let a = length-take (length es - 1) (set es i (get_or es (length es - 1) p)) in let b = length-set es i (get_or es (length es - 1) p) in omega (arith, a, b)
+
+-- ---- which names have an index
+
+-- a value that is written leaves the names
+pub same_some : (q : ℕ) (es : Entries) (i : ℕ) (w : IndexedRow) → is_some (lookup (nat_eq q) (set_value_at es i w)) ≡ is_some (lookup (nat_eq q) es)
+same_some q [] i w = refl
+same_some q (e ∷ es) zero w = by_test (nat_eq q e.0)
+  where
+    by_test : (b : Bool) → is_some (cond b (Some w) (lookup (nat_eq q) es)) ≡ is_some (cond b (Some e.1) (lookup (nat_eq q) es))
+    by_test true = refl
+    by_test false = refl
+same_some q (e ∷ es) (suc i) w = by_test (nat_eq q e.0) (same_some q es i w)
+  where
+    by_test : (b : Bool) → is_some (lookup (nat_eq q) (set_value_at es i w)) ≡ is_some (lookup (nat_eq q) es) → is_some (cond b (Some e.1) (lookup (nat_eq q) (set_value_at es i w))) ≡ is_some (cond b (Some e.1) (lookup (nat_eq q) es))
+    by_test true rest = refl
+    by_test false rest = rest
+
+-- ---- the loop
+
+-- The indexes before a place were followed, and the others not yet. One is missing only where its row was left behind.
+pub record AreFollowedTo (kind : Kind) (starts forward : List ℕ) (notes : List Place) (rows es : Entries) (at : ℕ) : Type 0 where
+  pub done : (j : ℕ) (d : Entry) → j < at → j < length es → IsFollowed kind starts forward notes rows (get_or es j d).0 (get_or es j d).1
+  pub todo : (j : ℕ) (d : Entry) → at ≤ j → j < length es → lookup (nat_eq (get_or es j d).0) rows ≡ Some (get_or es j d).1
+  pub kept : (name : ℕ) (row : IndexedRow) → lookup (nat_eq name) rows ≡ Some row → IsSome (lookup (nat_eq name) es) ⊎ IsLeftBehind kind starts forward row
+
+-- a row that lies in Old whole is followed as it is by a nursery collection
+old_followed : (starts forward : List ℕ) (notes : List Place) (rows : Entries) (name : ℕ) (row : IndexedRow) → lookup (nat_eq name) rows ≡ Some row → IsMarked notes row → IsAged row → IsOldRow row → IsFollowed Nursery starts forward notes rows name row
+old_followed starts forward notes rows name row was marked aged old = record {
+  row = row;
+  was = was;
+  to = record {
+    names = refl;
+    cells = sym (map_same (followed_place (from_space Nursery) starts (new_place forward)) row.cells.items stays);
+    copied = λ p first moves. let here : from_space Nursery p.space ≡ false = in_old p first in let no : true ≡ false = sym moves ∙ here in absurd cc;
+  };
+  marked = marked;
+}
+  where
+    all_old : All IsOldPlace row.cells.items
+    all_old = subst (All IsOldPlace) (ap (λ n. take n row.cells.items) old ∙ take-length row.cells.items) aged.cells
+
+    stays : All (λ p. followed_place (from_space Nursery) starts (new_place forward) p ≡ p) row.cells.items
+    stays k d low = let here : from_space Nursery (get_or row.cells.items k d).space ≡ false = all_old k d low in rw here refl
+
+    in_old : (p : Place) → slice_get row.cells.items 0 ≡ Some p → IsOldPlace p
+    in_old p first =
+        let low = slice_get_within row.cells.items 0 p first in
+        subst IsOldPlace (slice_get_is row.cells.items 0 p first) (all_old 0 p low)
+
+-- the first rows needn't be looked at
+pub follow_begins : (kind : Kind) (starts forward : List ℕ) (notes : List Place) (es : Entries) (first words : ℕ) → ((name : ℕ) (row : IndexedRow) → lookup (nat_eq name) es ≡ Some row → IsFollowable starts words (known_notes kind notes) row) → AreAged es first → (kind ≡ Full → first ≡ 0) → IsDistinct nat_eq (keys_of es) → AreFollowedTo kind starts forward notes es es first
+follow_begins kind starts forward notes es first words able aged full unique = record {
+  done = λ j d low inside. first_done kind able full j d low inside;
+  todo = λ j d high inside. found_at j d inside;
+  kept = λ name row found. inl (ap (λ (o : Option IndexedRow). is_some o) found);
+}
+  where
+    found_at : (j : ℕ) (d : Entry) → j < length es → lookup (nat_eq (get_or es j d).0) es ≡ Some (get_or es j d).1
+    found_at j d inside = lookup-from_Contains nat_eq_equiv (get_or es j d).0 (get_or es j d).1 es unique (Contains-get_or es j d inside)
+
+    first_done : (k : Kind) → ((name : ℕ) (row : IndexedRow) → lookup (nat_eq name) es ≡ Some row → IsFollowable starts words (known_notes k notes) row) → (k ≡ Full → first ≡ 0) → (j : ℕ) (d : Entry) → j < first → j < length es → IsFollowed k starts forward notes es (get_or es j d).0 (get_or es j d).1
+    first_done Full can none j d low inside = let zero_rows = none refl in absurd (omega (arith, zero_rows))
+    first_done Nursery can none j d low inside =
+        let was = found_at j d inside in
+        old_followed starts forward notes es (get_or es j d).0 (get_or es j d).1 was (can (get_or es j d).0 (get_or es j d).1 was).marked (aged.each j d inside) (old_row_at es first aged j d low)
+
+pub follow_ends : (kind : Kind) (starts forward : List ℕ) (notes : List Place) (rows es : Entries) (at : ℕ) → AreFollowedTo kind starts forward notes rows es at → length es ≤ at → AreFollowed kind starts forward notes rows es
+follow_ends kind starts forward notes rows es at followed all = record {
+  each = λ name row found.
+      let has = Contains-from_lookup (λ x y same. (Decides-eqb x y).0 same) name row es found in
+      let low = has.1 in
+      subst (λ (e : Entry). IsFollowed kind starts forward notes rows e.0 e.1) has.2 (followed.done has.0 (name, row) (omega arith) low);
+  kept = followed.kept;
+}
+
+module _ (kind : Kind) (starts forward : List ℕ) (notes : List Place) (rows es later : Entries) (at : ℕ) (inside : at < length es) (followed : AreFollowedTo kind starts forward notes rows es at) (row next : IndexedRow)
+    (found : slice_get (values_of es) at ≡ Some row) (written : later ≡ set_value_at es at next) where
+  abbrev here : Entry
+  here = get_or es at (0, row)
+
+  was : lookup (nat_eq here.0) rows ≡ Some row
+  was = subst (λ (r : IndexedRow). lookup (nat_eq here.0) rows ≡ Some r) (value_of es at row (0, row) found) (followed.todo at (0, row) (omega arith) inside)
+
+  pub later_long : length later ≡ length es
+  later_long = ap (λ (l : Entries). length l) written ∙ length-set_value_at es at next
+
+  other : (j : ℕ) (d : Entry) → j ≢ at → get_or later j d ≡ get_or es j d
+  other j d ne = ap (λ (l : Entries). get_or l j d) written ∙ value_other es at j next d ne
+
+  still_some : (q : ℕ) → is_some (lookup (nat_eq q) later) ≡ is_some (lookup (nat_eq q) es)
+  still_some q = ap (λ (l : Entries). is_some (lookup (nat_eq q) l)) written ∙ same_some q es at next
+
+  kept_later : (name : ℕ) (r : IndexedRow) → lookup (nat_eq name) rows ≡ Some r → IsSome (lookup (nat_eq name) later) ⊎ IsLeftBehind kind starts forward r
+  kept_later name r in_rows = ⊎_elim (λ some. inl (still_some name ∙ some)) (λ left. inr left) (followed.kept name r in_rows)
+
+  -- one more was followed
+  pub one_followed : IsFollowedTo kind starts forward row next → IsMarked notes next → AreFollowedTo kind starts forward notes rows later (at + 1)
+  one_followed to marked = record {
+    done = λ j d low in_later. by_place j d low in_later (cases_eq j at);
+    todo = λ j d high in_later.
+        subst (λ (e : Entry). lookup (nat_eq e.0) rows ≡ Some e.1) (sym (other j d (λ e. omega arith))) (followed.todo j d (omega arith) (omega (arith, later_long)));
+    kept = kept_later;
+  }
+    where
+      by_place : (j : ℕ) (d : Entry) → j < at + 1 → j < length later → (j ≡ at) ⊎ (j ≢ at) → IsFollowed kind starts forward notes rows (get_or later j d).0 (get_or later j d).1
+      by_place j d low in_later (inl same) =
+          let now : get_or later j d ≡ (here.0, next) =
+          ap (λ (l : Entries). get_or l j d) written ∙ ap (λ k. get_or (set_value_at es at next) k d) same ∙ value_here es at next d inside
+          ∙ ap (λ (e : Entry). (e.0, next)) (get_or_default es at d (0, row) inside) in
+          subst (λ (e : Entry). IsFollowed kind starts forward notes rows e.0 e.1) (sym now) (record { row = row; was = was; to = to; marked = marked })
+      by_place j d low in_later (inr ne) =
+          subst (λ (e : Entry). IsFollowed kind starts forward notes rows e.0 e.1) (sym (other j d ne)) (followed.done j d (omega arith) (omega (arith, later_long)))
+
+  -- what was taken out
+  pub taken : (o : Option Entry) (rest : Entries) → o ≡ slice_get later at → IfSome o (λ p. rest ≡ swap_remove later at p) → (rest ≡ swap_remove later at (get_or later at (0, row))) × (length rest + 1 ≡ length later)
+  taken o rest is gone =
+      let there : o ≡ Some (get_or later at (0, row)) = is ∙ slice_get-get_or later at (0, row) (omega (arith, later_long)) in
+      let out : rest ≡ swap_remove later at (get_or later at (0, row)) = subst (λ (o : Option Entry). IfSome o (λ p. rest ≡ swap_remove later at p)) there gone in
+      let long : length rest ≡ length later - 1 = ap (λ (l : Entries). length l) out ∙ removed_long later at (omega (arith, later_long)) (get_or later at (0, row)) in
+      (out, omega (arith, later_long, long))
+
+  -- the name that goes is that of the row at the place
+  pub taken_out : (o : Option Entry) (rest : Entries) → o ≡ slice_get later at → IfSome o (λ p. (q : ℕ) → lookup (nat_eq q) rest ≡ cond (nat_eq p.0 q) None (lookup (nat_eq q) later)) → (q : ℕ) → lookup (nat_eq q) rest ≡ cond (nat_eq here.0 q) None (lookup (nat_eq q) later)
+  taken_out o rest is gone =
+      let there : o ≡ Some (get_or later at (0, row)) = is ∙ slice_get-get_or later at (0, row) (omega (arith, later_long)) in
+      let now : (get_or later at (0, row)).0 ≡ here.0 =
+      ap (λ (e : Entry). e.0) (ap (λ (l : Entries). get_or l at (0, row)) written ∙ value_here es at next (0, row) inside) in
+      let out : (q : ℕ) → lookup (nat_eq q) rest ≡ cond (nat_eq (get_or later at (0, row)).0 q) None (lookup (nat_eq q) later) = subst (λ (o : Option Entry). IfSome o (λ p. (q : ℕ) → lookup (nat_eq q) rest ≡ cond (nat_eq p.0 q) None (lookup (nat_eq q) later))) there gone in
+      subst (λ (n : ℕ). (q : ℕ) → lookup (nat_eq q) rest ≡ cond (nat_eq n q) None (lookup (nat_eq q) later)) now out
+
+  -- one goes, whose row was left behind
+  pub one_gone : (p : Entry) (rest : Entries) → rest ≡ swap_remove later at p → IsLeftBehind kind starts forward row → ((q : ℕ) → lookup (nat_eq q) rest ≡ cond (nat_eq here.0 q) None (lookup (nat_eq q) later)) → AreFollowedTo kind starts forward notes rows rest at
+  one_gone p rest gone left out = record {
+    done = λ j d low in_rest.
+        subst (λ (l : Entries). IsFollowed kind starts forward notes rows (get_or l j d).0 (get_or l j d).1) (sym gone)
+        (subst (λ (e : Entry). IsFollowed kind starts forward notes rows e.0 e.1) (sym (removed_before later at (omega (arith, later_long)) p j d low ∙ other j d (λ e. omega arith)))
+        (followed.done j d low (omega (arith, later_long))));
+    todo = λ j d high in_rest.
+        let long : length rest ≡ length (swap_remove later at p) = ap (λ (l : Entries). length l) gone in
+        subst (λ (l : Entries). lookup (nat_eq (get_or l j d).0) rows ≡ Some (get_or l j d).1) (sym gone)
+        (todo_rest j d high (let short = removed_long later at (omega (arith, later_long)) p in omega (arith, long, short, in_rest)));
+    kept = λ name r in_rows. by_name name r in_rows (nat_eq here.0 name) refl;
+  }
+    where
+      by_name : (name : ℕ) (r : IndexedRow) → lookup (nat_eq name) rows ≡ Some r → (b : Bool) → nat_eq here.0 name ≡ b → IsSome (lookup (nat_eq name) rest) ⊎ IsLeftBehind kind starts forward r
+      by_name name r in_rows true same =
+          let name_is : here.0 ≡ name = (Decides-eqb here.0 name).0 same in
+          let both : Some row ≡ Some r = sym was ∙ ap (λ (n : ℕ). lookup (nat_eq n) rows) name_is ∙ in_rows in
+          let row_same : row ≡ r = cc in
+          inr (subst (IsLeftBehind kind starts forward) row_same left)
+      by_name name r in_rows false other_name =
+          let stays : lookup (nat_eq name) rest ≡ lookup (nat_eq name) later = out name ∙ ap (λ (b : Bool). cond b None (lookup (nat_eq name) later)) other_name in
+          ⊎_elim (λ some. inl (ap (λ (o : Option IndexedRow). is_some o) stays ∙ some)) (λ gone_too. inr gone_too) (kept_later name r in_rows)
+
+      -- the entry that goes counts as the last one, where it was the last
+      todo_rest : (j : ℕ) (d : Entry) → at ≤ j → j < length later - 1 → lookup (nat_eq (get_or (swap_remove later at p) j d).0) rows ≡ Some (get_or (swap_remove later at p) j d).1
+      todo_rest j d high low = by_place (cases_eq j at)
+        where
+          last : Entry
+          last = get_or later (length later - 1) p
+
+          read : get_or (swap_remove later at p) j d ≡ get_or (set later at last) j d
+          read = get_or-take (length later - 1) (set later at last) j d low
+
+          by_place : (j ≡ at) ⊎ (j ≢ at) → lookup (nat_eq (get_or (swap_remove later at p) j d).0) rows ≡ Some (get_or (swap_remove later at p) j d).1
+          by_place (inl same) =
+              let set_here : get_or (set later at last) j d ≡ last = ap (λ k. get_or (set later at last) k d) same ∙ get_or-set_same later at last d (omega (arith, later_long)) in
+              let last_is : last ≡ get_or es (length later - 1) p = other (length later - 1) p (λ e. omega (arith, later_long)) in
+              subst (λ (e : Entry). lookup (nat_eq e.0) rows ≡ Some e.1) (sym (read ∙ set_here ∙ last_is)) (followed.todo (length later - 1) p (omega (arith, later_long)) (omega (arith, later_long)))
+          by_place (inr ne) =
+              subst (λ (e : Entry). lookup (nat_eq e.0) rows ≡ Some e.1) (sym (read ∙ get_or-set_other later at j last d ne ∙ other j d ne)) (followed.todo j d high (omega (arith, later_long)))
+
+-- ---- ages, while rows are followed
+
+module _ (es later : Entries) (old at : ℕ) (inside : at < length es) (low : old ≤ at) (aged : AreAged es old) (row next : IndexedRow) (found : slice_get (values_of es) at ≡ Some row) (written : later ≡ set_value_at es at next) (next_aged : IsAged next) where
+  long_as : length later ≡ length es
+  long_as = ap (λ (l : Entries). length l) written ∙ length-set_value_at es at next
+
+  -- a row before the place is as it was
+  pub aged_later : AreAged later old
+  aged_later = written_aged es later old at inside aged next written next_aged (inl low)
+
+  -- one goes
+  pub aged_rest : (p : Entry) (rest : Entries) → rest ≡ swap_remove later at p → AreAged rest old
+  aged_rest p rest gone = subst (λ (l : Entries). AreAged l old) (sym gone) (record {
+    within = omega (arith, long_as, short);
+    each = λ j d in_rest. by_place j d (omega (arith, short)) (cases_eq j at);
+    first = λ j d in_first.
+        let before : j < old = first_below (swap_remove later at p) old j in_first in
+        subst (λ (e : Entry). IsOldRow e.1) (sym (get_or-take old (swap_remove later at p) j d before ∙ removed_before later at (omega (arith, long_as)) p j d (omega arith))) (old_row_at later old aged_later j d before);
+  })
+    where
+      short : length (swap_remove later at p) ≡ length later - 1
+      short = removed_long later at (omega (arith, long_as)) p
+
+      last : Entry
+      last = get_or later (length later - 1) p
+
+      by_place : (j : ℕ) (d : Entry) → j < length later - 1 → (j ≡ at) ⊎ (j ≢ at) → IsAged (get_or (swap_remove later at p) j d).1
+      by_place j d in_rest (inl same) =
+          subst (λ (e : Entry). IsAged e.1) (sym (get_or-take (length later - 1) (set later at last) j d in_rest ∙ ap (λ k. get_or (set later at last) k d) same ∙ get_or-set_same later at last d (omega (arith, long_as))))
+          (aged_later.each (length later - 1) p (omega (arith, long_as)))
+      by_place j d in_rest (inr ne) =
+          subst (λ (e : Entry). IsAged e.1) (sym (get_or-take (length later - 1) (set later at last) j d in_rest ∙ get_or-set_other later at j last d ne))
+          (aged_later.each j d (omega arith))
+
+  -- a row that lies in Old whole joins the first ones
+  pub aged_swapped : IsOldRow next → (swapped : Entries) → swapped ≡ swap later at old → AreAged swapped (old + 1)
+  aged_swapped old_now swapped is = subst (λ (l : Entries). AreAged l (old + 1)) (sym is) (record {
+    within = omega (arith, long_as, long);
+    each = λ j d in_list.
+        subst (λ (e : Entry). IsAged e.1) (sym (read j d)) (aged_later.each (exchange at old j) d (exchange-within at old (length later) j (omega (arith, long_as)) (omega (arith, long_as)) (omega (arith, long))));
+    first = λ j d in_first.
+        let before : j < old + 1 = first_below (swap later at old) (old + 1) j in_first in
+        subst (λ (e : Entry). IsOldRow e.1) (sym (get_or-take (old + 1) (swap later at old) j d before ∙ read j d)) (by_place j d before (cases_eq j old));
+  })
+    where
+      long : length (swap later at old) ≡ length later
+      long = length-swap later at old
+
+      read : (j : ℕ) (d : Entry) → get_or (swap later at old) j d ≡ get_or later (exchange at old j) d
+      read j d = get_or-swap later at old d (omega (arith, long_as)) (omega (arith, long_as)) j
+
+      by_place : (j : ℕ) (d : Entry) → j < old + 1 → (j ≡ old) ⊎ (j ≢ old) → IsOldRow (get_or later (exchange at old j) d).1
+      by_place j d before (inl same) =
+          let place : exchange at old j ≡ at = ap (exchange at old) same ∙ exchanged_second at old in
+          let here : get_or later at d ≡ ((get_or es at d).0, next) = ap (λ (l : Entries). get_or l at d) written ∙ value_here es at next d inside in
+          subst (λ (e : Entry). IsOldRow e.1) (sym (ap (λ k. get_or later k d) place ∙ here)) old_now
+      by_place j d before (inr ne) =
+          let place = exchanged_none at old j (λ e. omega arith) ne in
+          subst (λ k. IsOldRow (get_or later k d).1) (sym place) (old_row_at later old aged_later j d (omega arith))
+
+-- what became of a row is one of three
+pub young_or_gone : Young ≡ Gone → ⊥
+young_or_gone same = cc
+
+pub old_or_gone : Old ≡ Gone → ⊥
+old_or_gone same = cc
+
+pub swapped_long : (later swapped : Entries) (a b : ℕ) → swapped ≡ swap later a b → length swapped ≡ length later
+swapped_long later swapped a b is = ap (λ (l : Entries). length l) is ∙ length-swap later a b
+
+-- two of those that were followed change places
+pub followed_swapped : (kind : Kind) (starts forward : List ℕ) (notes : List Place) (rows later swapped : Entries) (old at : ℕ) → at < length later → old ≤ at → AreFollowedTo kind starts forward notes rows later (at + 1) → swapped ≡ swap later at old → ((q : ℕ) → lookup (nat_eq q) swapped ≡ lookup (nat_eq q) later) → AreFollowedTo kind starts forward notes rows swapped (at + 1)
+followed_swapped kind starts forward notes rows later swapped old at inside low followed is same = record {
+  done = λ j d before in_list.
+      subst (λ (l : Entries). IsFollowed kind starts forward notes rows (get_or l j d).0 (get_or l j d).1) (sym is)
+      (subst (λ (e : Entry). IsFollowed kind starts forward notes rows e.0 e.1) (sym (read j d))
+      (followed.done (exchange at old j) d (exchange-within at old (at + 1) j (omega arith) (omega arith) before) (exchange-within at old (length later) j inside (omega arith) (omega (arith, long, in_list)))));
+  todo = λ j d behind in_list.
+      let place = exchanged_none at old j (λ e. omega arith) (λ e. omega arith) in
+      subst (λ (l : Entries). lookup (nat_eq (get_or l j d).0) rows ≡ Some (get_or l j d).1) (sym is)
+      (subst (λ (e : Entry). lookup (nat_eq e.0) rows ≡ Some e.1) (sym (read j d ∙ ap (λ k. get_or later k d) place)) (followed.todo j d behind (omega (arith, long, in_list))));
+  kept = λ name row in_rows. ⊎_elim (λ some. inl (ap (λ (o : Option IndexedRow). is_some o) (same name) ∙ some)) (λ left. inr left) (followed.kept name row in_rows);
+}
+  where
+    long : length swapped ≡ length later
+    long = ap (λ (l : Entries). length l) is ∙ length-swap later at old
+
+    read : (j : ℕ) (d : Entry) → get_or (swap later at old) j d ≡ get_or later (exchange at old j) d
+    read j d = get_or-swap later at old d inside (omega arith) j
+
+-- ---- what is asked of the row at a place
+
+module _ (kind : Kind) (starts forward : List ℕ) (notes : List Place) (rows es : Entries) (old at : ℕ) (inside : at < length es) (followed : AreFollowedTo kind starts forward notes rows es at) (aged : AreAged es old)
+    (words : ℕ) (able : (name : ℕ) (r : IndexedRow) → lookup (nat_eq name) rows ≡ Some r → IsFollowable starts words (known_notes kind notes) r) (row : IndexedRow) (found : slice_get (values_of es) at ≡ Some row) where
+  can_follow : IsFollowable starts words (known_notes kind notes) row
+  can_follow =
+      able (get_or es at (0, row)).0 row
+      (subst (λ (r : IndexedRow). lookup (nat_eq (get_or es at (0, row)).0) rows ≡ Some r) (value_of es at row (0, row) found) (followed.todo at (0, row) (omega arith) inside))
+
+  pub cells_numbered : All (IsNumbered starts words) row.cells.items
+  cells_numbered = can_follow.numbered
+
+  pub some_cell : 0 < length row.cells.items
+  some_cell = can_follow.some
+
+  pub aged_here : IsAged row
+  aged_here = subst IsAged (value_of es at row (0, row) found) (aged.each at (0, row) inside)
+
+  pub marked_here : IsMarked (known_notes kind notes) row
+  marked_here = can_follow.marked

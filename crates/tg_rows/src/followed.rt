@@ -1,0 +1,366 @@
+//! What a collection does to the indexes of rows. The blocks of from-space may be gone by then: cells are told by their
+//! numbers.
+ghost use Rattle.std.specs.Prelude.{◌≡◌, ◌≢◌, ◌≤◌, ◌<◌, ◌+◌, ◌^◌, ℕ, List, Some, length, map, nat_eq, slice_get, take, OnOk};
+ghost use Rattle.std.specs.List.{All};
+ghost use Rattle.std.specs.Map.{lookup};
+ghost use Rattle.indexmap.specs.IndexMap.{index_map_len, values};
+ghost use Rattle.indexmap.specs.Layout.{set_value_at};
+ghost use Rattle.tg_index.specs.Bits.{bit_of};
+ghost use Rattle.tg_space.specs.SpaceList.{cells_of};
+ghost use Rattle.tg_space.specs.SpaceTable.{IsSpaceTable};
+ghost use Rattle.tg_space.specs.Collection.{new_place};
+ghost use Rattle.tg_space.specs.Targets.{from_space};
+ghost use Rattle.tg_word.specs.Word.{place_in};
+ghost use Rattle.tg_word.specs.declared.Place.{Place as PlaceOf};
+ghost use Rattle.tg_rows.specs.Index.{AreAged, AreFollowed, AreMovedToOld, AreStarts, IsAged, IsFollowable, IsFollowedTo, IsLeftBehind, IsMarked, IsNumbered, IsOldPlace, IsOldRow, followed_place, followed_word, known_notes, number_by};
+ghost use Rattle.tg_rows.specs.declared.indexed_row.IndexedRow.{IndexedRow as RowOf};
+
+use crate::indexed_row::IndexedRow;
+use crate::indexes::LongRows;
+use crate::row_cells::RowCells;
+use indexmap::IndexMap;
+use std::alloc::AllocError;
+use tg_remember::Remembered;
+use tg_space::{Forwarding, Kind, Spaces};
+use tg_word::{CELLS, SPACES, number_of, nursery_space, place_of};
+
+// How many spaces there may be.
+const MOST_SPACES: usize = SPACES as usize;
+
+/// How many blocks stood before each space of a heap, from which the numbers of its cells come. A collection may then
+/// put other blocks in their place.
+#[derive(Drop)]
+pub struct Numbering {
+    starts: [u64; MOST_SPACES],
+}
+
+// What became of a row in a collection.
+#[derive(Clone, Copy)]
+enum Fate {
+    // It was left behind.
+    Gone,
+    // It may have cells outside Old, or marked ones.
+    Young,
+    // It lies in Old whole, and no cell of it is marked.
+    Old,
+}
+
+impl Numbering {
+    /// The numbers of the cells as they are now. Takes no memory.
+    pub fn of(spaces: &Spaces) -> Numbering
+        ensures starts { AreStarts result.starts spaces.now.spaces }
+        ensures table { IsSpaceTable spaces.now }
+        ensures few { length (cells_of spaces.now.spaces) ≤ 2 ^ 64 }
+    {
+        // It tells what holds of all spaces, and that their cells are few.
+        let _ = spaces.cells();
+        let mut starts = [0; MOST_SPACES];
+        let mut before = 0;
+        for space in 0..spaces.nurseries() + nursery_space(0) {
+            starts[space as usize] = before;
+            before += spaces.len(space);
+        }
+        Numbering { starts }
+    }
+
+    // The number of the cell that a word names.
+    #[inline(always)]
+    fn number(&self, word: u64) -> u64
+        requires space { (place_in word).space < length self.now.starts }
+        requires few { number_by self.now.starts (place_in word) < 2 ^ 64 }
+        ensures { result ≡ number_by self.now.starts (place_in word) }
+    {
+        let space = place_of(word).space;
+        CELLS * self.starts[space as usize] + number_of(word)
+    }
+
+    // A word of where a collection of this kind has the cell that a word names.
+    #[inline(always)]
+    fn followed(&self, kind: Kind, forward: &Forwarding, word: u64) -> u64
+        requires { IsNumbered self.now.starts (length forward.now.words) (place_in word) }
+        ensures { result ≡ followed_word (from_space kind) self.now.starts forward.now.words word }
+    {
+        if kind.moves(place_of(word).space) {
+            forward.word(self.number(word))
+        } else {
+            word
+        }
+    }
+
+    // Each of these words becomes one of where a collection of this kind has the cell.
+    fn follow(&self, kind: Kind, forward: &Forwarding, words: &mut [u64])
+        requires { All (λ word. IsNumbered self.now.starts (length forward.now.words) (place_in word)) words.old }
+        ensures { words.new ≡ map (followed_word (from_space kind) self.now.starts forward.now.words) words.old }
+    {
+        for word in words.iter_mut() {
+            *word = self.followed(kind, forward, *word);
+        }
+    }
+}
+
+impl LongRows {
+    /// Each index becomes that of the row's copy, and goes where a collection of this kind left the row behind. A
+    /// nursery collection looks at those rows alone that may have young or remembered cells, and only at these cells.
+    /// Cells have the numbers that they had before it. The cells that are to be remembered are in `noted`. It asks for
+    /// memory for marks alone, and does without it where that is refused.
+    pub fn follow(
+        &mut self,
+        numbering: &Numbering,
+        kind: Kind,
+        forward: &Forwarding,
+        noted: &Remembered,
+    )
+        requires rows { (name : ℕ) (row : RowOf) → lookup (nat_eq name) self.old.entries ≡ Some row → IsFollowable numbering.now.starts (length forward.now.words) (known_notes kind noted.now.places) row }
+        requires to_old { AreMovedToOld kind forward.now.words }
+        ensures { AreFollowed kind numbering.now.starts forward.now.words noted.now.places self.old.entries self.new.entries }
+    {
+        let old = match kind {
+            Kind::Full => 0,
+            Kind::Nursery => self.old_rows,
+        };
+        self.old_rows = follow_rows(numbering, kind, forward, noted, &mut self.indexes, old);
+    }
+}
+
+// Follows the rows behind the first `old` ones. The answer is how many lie in Old whole now.
+fn follow_rows(
+    numbering: &Numbering,
+    kind: Kind,
+    forward: &Forwarding,
+    noted: &Remembered,
+    rows: &mut IndexMap<u64, IndexedRow>,
+    first: usize,
+) -> usize
+    requires rows { (name : ℕ) (row : RowOf) → lookup (nat_eq name) rows.old.entries ≡ Some row → IsFollowable numbering.now.starts (length forward.now.words) (known_notes kind noted.now.places) row }
+    requires aged { AreAged rows.old.entries first }
+    requires full { kind ≡ Kind.Full → first ≡ 0 }
+    requires to_old { AreMovedToOld kind forward.now.words }
+    ensures followed { AreFollowed kind numbering.now.starts forward.now.words noted.now.places rows.old.entries rows.new.entries }
+    ensures aged { AreAged rows.new.entries result }
+{
+    // It tells that no name stands there twice.
+    let _ = rows.len();
+    let mut old = first;
+    let mut i = first;
+    while i < rows.len() {
+        match follow_row_at(numbering, kind, forward, noted, rows, i) {
+            Fate::Gone => drop(rows.swap_remove_index(i)),
+            Fate::Young => i += 1,
+            Fate::Old => {
+                rows.swap_indices(i, old);
+                old += 1;
+                i += 1;
+            }
+        }
+    }
+    old
+}
+
+// The index at a place of the map becomes that of the row's copy, unless the row was left behind.
+fn follow_row_at(
+    numbering: &Numbering,
+    kind: Kind,
+    forward: &Forwarding,
+    noted: &Remembered,
+    rows: &mut IndexMap<u64, IndexedRow>,
+    at: usize,
+) -> Fate
+    requires inside { at < index_map_len rows.old }
+    requires numbered { (row : RowOf) → slice_get (values rows.old) at ≡ Some row → All (IsNumbered numbering.now.starts (length forward.now.words)) row.cells.items }
+    requires some { (row : RowOf) → slice_get (values rows.old) at ≡ Some row → 0 < length row.cells.items }
+    requires aged { (row : RowOf) → slice_get (values rows.old) at ≡ Some row → IsAged row }
+    requires marked { (row : RowOf) → slice_get (values rows.old) at ≡ Some row → IsMarked (known_notes kind noted.now.places) row }
+    requires to_old { AreMovedToOld kind forward.now.words }
+    ensures { (row followed : RowOf) × (slice_get (values rows.old) at ≡ Some row) × (rows.new.entries ≡ set_value_at rows.old.entries at followed)
+        × (result ≢ Fate.Gone → IsFollowedTo kind numbering.now.starts forward.now.words row followed) × IsAged followed × (result ≡ Fate.Old → IsOldRow followed) × (result ≢ Fate.Gone → IsMarked noted.now.places followed)
+        × (result ≡ Fate.Gone → IsLeftBehind kind numbering.now.starts forward.now.words row) }
+{
+    match rows.get_index_mut(at) {
+        Some(row) => follow_row(numbering, kind, forward, noted, row),
+        None => unreachable!(),
+    }
+}
+
+// The index becomes that of the row's copy, unless the row was left behind.
+fn follow_row(
+    numbering: &Numbering,
+    kind: Kind,
+    forward: &Forwarding,
+    noted: &Remembered,
+    row: &mut IndexedRow,
+) -> Fate
+    requires numbered { All (IsNumbered numbering.now.starts (length forward.now.words)) row.old.cells.items }
+    requires some { 0 < length row.old.cells.items }
+    requires aged { IsAged row.old }
+    requires marked { IsMarked (known_notes kind noted.now.places) row.old }
+    requires to_old { AreMovedToOld kind forward.now.words }
+    ensures gone { result ≡ Fate.Gone → IsLeftBehind kind numbering.now.starts forward.now.words row.old }
+    ensures followed { result ≢ Fate.Gone → IsFollowedTo kind numbering.now.starts forward.now.words row.old row.new }
+    ensures aged { IsAged row.new }
+    ensures old { result ≡ Fate.Old → IsOldRow row.new }
+    ensures marked { result ≢ Fate.Gone → IsMarked noted.now.places row.new }
+{
+    let object = row.cells.word(0);
+    if kind.moves(place_of(object).space) && forward.word(numbering.number(object)) == 0 {
+        return Fate::Gone;
+    }
+    forget_moved(kind, row);
+    let old = follow_cells(numbering, kind, forward, &mut row.cells, row.old_cells);
+    note_cells(noted, row, old);
+    if row.old_cells < row.cells.len() || row.noted.next(0).is_some() {
+        return Fate::Young;
+    }
+    Fate::Old
+}
+
+// What is known of cells that a collection of this kind moves is known no more: a full one moves all.
+fn forget_moved(kind: Kind, row: &mut IndexedRow)
+    ensures names { row.new.names ≡ row.old.names }
+    ensures cells { row.new.cells ≡ row.old.cells }
+    ensures full { kind ≡ Kind.Full → row.new.old_cells ≡ 0 }
+    ensures marked { (places : List PlaceOf) → IsMarked (known_notes kind places) row.old → IsMarked places row.new }
+{
+    match kind {
+        Kind::Full => {
+            row.noted.clear();
+            row.old_cells = 0;
+        }
+        Kind::Nursery => {}
+    }
+}
+
+// Follows the cells behind the first ones, which stay where they are. The answer is how many of the first lie in Old
+// now.
+fn follow_cells(
+    numbering: &Numbering,
+    kind: Kind,
+    forward: &Forwarding,
+    cells: &mut RowCells,
+    first: usize,
+) -> usize
+    requires within { first ≤ length cells.old.items }
+    requires old { All IsOldPlace (take first cells.old.items) }
+    requires full { kind ≡ Kind.Full → first ≡ 0 }
+    requires numbered { All (IsNumbered numbering.now.starts (length forward.now.words)) cells.old.items }
+    requires to_old { AreMovedToOld kind forward.now.words }
+    ensures moved { cells.new.items ≡ map (followed_place (from_space kind) numbering.now.starts (new_place forward.now.words)) cells.old.items }
+    ensures from { first ≤ result }
+    ensures within { result ≤ length cells.new.items }
+    ensures old { All IsOldPlace (take result cells.new.items) }
+{
+    let (_, young) = cells.words.split_at_mut(first);
+    numbering.follow(kind, forward, young);
+    first + count_moved(kind, young)
+}
+
+// How many of the first of these cells lie in Old, where a collection of this kind has them.
+fn count_moved(kind: Kind, words: &[u64]) -> usize
+    requires { kind ≡ Kind.Full → All IsOldPlace (map place_in words.now) }
+    ensures within { result ≤ length words.now }
+    ensures old { All IsOldPlace (take result (map place_in words.now)) }
+{
+    match kind {
+        Kind::Full => words.len(),
+        Kind::Nursery => count_old(words),
+    }
+}
+
+// How many of the first cells lie in Old.
+fn count_old(words: &[u64]) -> usize
+    ensures within { result ≤ length words.now }
+    ensures old { All IsOldPlace (take result (map place_in words.now)) }
+{
+    for (count, word) in words.iter().enumerate() {
+        if Kind::Nursery.moves(place_of(*word).space) {
+            return count;
+        }
+    }
+    words.len()
+}
+
+// As many first cells of a row lie in Old. Those that are noted are marked, and no other.
+fn note_cells(noted: &Remembered, row: &mut IndexedRow, old: usize)
+    requires marked { IsMarked noted.now.places row.old }
+    requires from { row.old.old_cells ≤ old }
+    requires within { old ≤ length row.old.cells.items }
+    requires old { All IsOldPlace (take old row.old.cells.items) }
+    ensures names { row.new.names ≡ row.old.names }
+    ensures cells { row.new.cells ≡ row.old.cells }
+    ensures marked { IsMarked noted.now.places row.new }
+{
+    forget_unnoted(noted, row);
+    if noted.len() == 0 {
+        row.old_cells = old;
+        return;
+    }
+    mark_noted(noted, row, old);
+}
+
+// Cells that aren't noted are marked no more.
+fn forget_unnoted(noted: &Remembered, row: &mut IndexedRow)
+    requires { IsMarked noted.now.places row.old }
+    ensures names { row.new.names ≡ row.old.names }
+    ensures cells { row.new.cells ≡ row.old.cells }
+    ensures old { row.new.old_cells ≡ row.old.old_cells }
+    ensures marked { IsMarked noted.now.places row.new }
+{
+    let mut from = 0;
+    while let Some(number) = row.noted.next(from) {
+        forget_one(noted, row, number);
+        from = number + 1;
+    }
+}
+
+// A marked cell that isn't noted is marked no more.
+fn forget_one(noted: &Remembered, row: &mut IndexedRow, number: usize)
+    requires here { bit_of row.old.noted number ≡ 1 }
+    requires marked { IsMarked noted.now.places row.old }
+    ensures names { row.new.names ≡ row.old.names }
+    ensures cells { row.new.cells ≡ row.old.cells }
+    ensures old { row.new.old_cells ≡ row.old.old_cells }
+    ensures marked { IsMarked noted.now.places row.new }
+{
+    if noted.contains(row.cells.place(number)) {
+        return;
+    }
+    row.noted.remove(number);
+}
+
+// As many first cells of a row lie in Old. They are known to, and the noted ones of those that weren't are marked.
+// Where memory for a mark is refused, the cells from there on aren't known to.
+fn mark_noted(noted: &Remembered, row: &mut IndexedRow, old: usize)
+    requires marked { IsMarked noted.now.places row.old }
+    requires within { old ≤ length row.old.cells.items }
+    requires old { All IsOldPlace (take old row.old.cells.items) }
+    ensures names { row.new.names ≡ row.old.names }
+    ensures cells { row.new.cells ≡ row.old.cells }
+    ensures marked { IsMarked noted.now.places row.new }
+{
+    while row.old_cells < old {
+        if mark_next(noted, row, old).is_err() {
+            return;
+        }
+    }
+}
+
+// The first cell of a row that isn't known to lie in Old, as it does, is known to, and is marked if it is noted. There
+// are as many such cells. Where memory for the mark is refused, nothing changes.
+fn mark_next(noted: &Remembered, row: &mut IndexedRow, old: usize) -> Result<(), AllocError>
+    requires marked { IsMarked noted.now.places row.old }
+    requires below { row.old.old_cells < old }
+    requires within { old ≤ length row.old.cells.items }
+    requires old { All IsOldPlace (take old row.old.cells.items) }
+    ensures names { row.new.names ≡ row.old.names }
+    ensures cells { row.new.cells ≡ row.old.cells }
+    ensures more { OnOk result (row.new.old_cells ≡ row.old.old_cells + 1) }
+    ensures marked { IsMarked noted.now.places row.new }
+{
+    if !noted.contains(row.cells.place(row.old_cells)) {
+        row.old_cells += 1;
+        return Ok(());
+    }
+    row.noted.reserve(old)?;
+    row.noted.insert(row.old_cells);
+    row.old_cells += 1;
+    Ok(())
+}

@@ -1,0 +1,175 @@
+//! The index of a row: where the reference to each name stands, with no walk. See 'Rows and their indexes' in
+//! docs/ARCHITECTURE.md.
+ghost use Rattle.std.specs.Prelude.{◌≡◌, ◌≢◌, ℕ, List, Option, Some, None, IsSome, ◌+◌, ◌*◌, ◌^◌, ◌<◌, ◌≤◌, length, slice_index_or, IfSome, OnOk};
+ghost use Rattle.tg_word.specs.declared.Place.{Place};
+ghost use Rattle.tg_space.specs.Rows.{row_of};
+ghost use Rattle.tg_index.specs.Slots.{IsIndexOf, PutsAt, place_number, HasRoom};
+ghost use Rattle.tg_rows.specs.Inner.Following.{HasRoomIn, IsBehind, IsNotedIn, HasSameIndex};
+ghost use Rattle.tg_rows.specs.Index.{IsAged, IsMarked, IsPlaceOf, IsRowIndex};
+ghost use Rattle.tg_rows.specs.declared.indexed_row.TheConstants.{CHUNK_REFERENCES, FEWER_IN_OBJECT};
+ghost use Rattle.tg_rows.specs.Spots.{refers_to, with_note, word_where, IsSoundIndex, IsSpotOf};
+
+use crate::row_cells::RowCells;
+use crate::rows::Spot;
+use std::alloc::AllocError;
+use tg_block::{CHUNK_POINTERS, LINK, OBJECT_POINTERS};
+use tg_index::{NumberSet, RowIndex};
+use tg_space::Spaces;
+use tg_word::Place;
+
+// How many references a chunk has: its words from the first one on, up to its link.
+const CHUNK_REFERENCES: usize = LINK - CHUNK_POINTERS;
+
+// How many references fewer an object has than a chunk.
+const FEWER_IN_OBJECT: usize = OBJECT_POINTERS - CHUNK_POINTERS;
+
+/// The index of one row: its names by the numbers of their places, and its cells in chain order.
+#[derive(Drop)]
+pub struct IndexedRow {
+    /// Its names, by the numbers of their places.
+    pub names: RowIndex,
+    /// Its cells, in chain order.
+    pub cells: RowCells,
+    /// How many of the first cells are known to be in Old.
+    pub old_cells: usize,
+    /// The numbers of those among them that may be remembered: no other one of them names a young cell.
+    pub noted: NumberSet,
+}
+
+impl IndexedRow {
+    /// Makes room for one more name and for one more cell, and for the note of each cell that is known to be in Old.
+    /// Nothing else changes.
+    #[inline(always)]
+    pub(crate) fn reserve(&mut self) -> Result<(), AllocError>
+        ensures room { OnOk result (HasRoomIn self.new) }
+        ensures kept { HasSameIndex self.old self.new }
+    {
+        self.names.reserve()?;
+        self.noted.reserve(self.old_cells)?;
+        self.cells.reserve()
+    }
+
+    /// What follows in the index where a reference to the vertex with a name was put at the spot for it. There is room
+    /// for it.
+    #[inline(always)]
+    pub(crate) fn follow(
+        &mut self,
+        spaces: &Spaces,
+        from: Place,
+        name: u64,
+        spot: Spot,
+        note: Option<Place>,
+    )
+        requires put { IsBehind spaces.now from name spot note self.old }
+        requires room { HasRoomIn self.old }
+        ensures index { IsRowIndex spaces.now.spaces from self.new.names self.new.cells.items }
+        ensures aged { IsAged self.old → IsAged self.new }
+        ensures marked { (places : List Place) → IsMarked places self.old → IsMarked (with_note places note) self.new }
+    {
+        self.mark(note);
+        match spot {
+            Spot::Reference { .. } => {}
+            Spot::Empty { .. } => self.names.put(name),
+            Spot::Full { last } => {
+                self.names.grow(CHUNK_REFERENCES as u64);
+                self.names.put(name);
+                self.cells.push(spaces.read(last, LINK));
+            }
+        }
+    }
+
+    // Marks the cell of the row that is noted, if there is one and it is known to be in Old. It is the one to which a
+    // new reference goes, or from which a new chunk is linked.
+    fn mark(&mut self, note: Option<Place>)
+        requires noted { IsNotedIn self.old note }
+        requires short { self.old.names.len + CHUNK_REFERENCES < 2 ^ 64 }
+        requires room { self.old.old_cells ≤ 64 * length self.old.noted }
+        ensures names { self.new.names ≡ self.old.names }
+        ensures cells { self.new.cells ≡ self.old.cells }
+        ensures old { self.new.old_cells ≡ self.old.old_cells }
+        ensures aged { IsAged self.old → IsAged self.new }
+        ensures marked { (places : List Place) → IsMarked places self.old → IsMarked (with_note places note) self.new }
+    {
+        if note.is_none() {
+            return;
+        }
+        let number = self.number_noted(note);
+        if number < self.old_cells {
+            self.noted.insert(number);
+        }
+    }
+
+    // The number of the cell of the row that is noted, if there is one.
+    #[inline(always)]
+    fn number_noted(&self, note: Option<Place>) -> usize
+        requires noted { IsNotedIn self.now note }
+        requires short { self.now.names.len + CHUNK_REFERENCES < 2 ^ 64 }
+        ensures { IfSome note (λ cell. (n : ℕ) → n < length self.now.cells.items → slice_index_or self.now.cells.items n cell ≡ cell → n ≡ result) }
+    {
+        match self.names.first_empty() {
+            Some(number) => (number as usize + FEWER_IN_OBJECT) / CHUNK_REFERENCES,
+            None => self.cells.len() - 1,
+        }
+    }
+
+    /// Takes a name away where the word of its reference is empty.
+    pub(crate) fn forget_if_empty(&mut self, name: u64, word: u64)
+        requires { IsSome (place_number self.old.names name) }
+        ensures gone { word ≡ 0 → (names later : ℕ → Option ℕ) (n : ℕ) → IsIndexOf self.old.names names → place_number self.old.names name ≡ Some n → PutsAt names later n None → IsIndexOf self.new.names later }
+        ensures len { self.new.names.len ≡ self.old.names.len }
+        ensures kept { word ≢ 0 → self.new.names ≡ self.old.names }
+        ensures cells { self.new.cells ≡ self.old.cells }
+        ensures old { self.new.old_cells ≡ self.old.old_cells }
+        ensures noted { self.new.noted ≡ self.old.noted }
+    {
+        if word == 0 {
+            self.names.clear(name);
+        }
+    }
+}
+
+/// Finds what `find_spot` finds, in one look into the index.
+pub(crate) fn find_indexed(spaces: &Spaces, row: &IndexedRow, from: Place, name: u64) -> Spot
+    requires { IsSoundIndex spaces.now.spaces from row.now }
+    ensures { IsSpotOf spaces.now from name result }
+{
+    // It tells what holds of all spaces, and that their cells are few.
+    let _ = spaces.cells();
+    if let Some(number) = row.names.find(name) {
+        let (cell, index) = place_of_number(&row.cells, number);
+        return Spot::Reference { cell, index };
+    }
+    spot_for_new(spaces, row, from, name)
+}
+
+/// Where a reference to a name that the row doesn't have may be put, with no look for the name.
+#[inline(always)]
+pub(crate) fn spot_for_new(spaces: &Spaces, row: &IndexedRow, from: Place, name: u64) -> Spot
+    requires row { IsSoundIndex spaces.now.spaces from row.now }
+    requires absent { word_where (refers_to spaces.now.spaces name) spaces.now.spaces (row_of spaces.now.spaces from) ≡ None }
+    ensures { IsSpotOf spaces.now from name result }
+{
+    // It tells what holds of all spaces, and that their cells are few.
+    let _ = spaces.cells();
+    if let Some(number) = row.names.first_empty() {
+        let (cell, index) = place_of_number(&row.cells, number);
+        return Spot::Empty { cell, index };
+    }
+    Spot::Full {
+        last: row.cells.place(row.cells.len() - 1),
+    }
+}
+
+// The place with a number, as the word of a cell.
+fn place_of_number(cells: &RowCells, number: u64) -> (Place, usize)
+    requires { number + FEWER_IN_OBJECT < length cells.now.items * CHUNK_REFERENCES }
+    ensures { IsPlaceOf cells.now.items number result }
+{
+    // It tells that the cells are few.
+    let _ = cells.len();
+    let number = number as usize + FEWER_IN_OBJECT;
+    (
+        cells.place(number / CHUNK_REFERENCES),
+        CHUNK_POINTERS + number % CHUNK_REFERENCES,
+    )
+}
