@@ -3,7 +3,6 @@ use Rattle.tg_model.specs.Graph.{ProtectionGraph, IsSubject}
 use Rattle.tg_store.specs.Store.{graph_of_store}
 use Rattle.tg_c.specs.Forms.{rights_out}
 use Rattle.tg_c.proofs.RightsLaws.{rights_same}
-use Rattle.tg_c.proofs.law_store.LawStore.rights_over.Goals.{else-is_none-via-then-is_none+else-not-is_subject, else-is_none-via-else-is_none}
 use Rattle.tg_c.proofs.law_store.LawStore.rights_over.Goals as goal
 
 -- who isn't a worker is told so
@@ -16,18 +15,11 @@ returns-then-not-is_subject c =
       no_such_worker = λ g stands. (λ _. subst (λ (h : ProtectionGraph). ¬ IsSubject h c.args.worker) stands none, λ _. refl);
     }
 
--- a label is told of a worker alone
 pub returns : goal.returns
-returns c = record {
-  same = refl;
-  held = λ g stands subject. ap Ok (c.rights_out.ensures ∙ ap rights_out ((c.label-label.ensures.held g stands).subject subject) ∙ rights_same (g.label c.args.worker c.args.target));
-  no_such_worker = λ g stands. (
-    λ is. absurd (cc is),
-    λ none. absurd (elim c.else-is_none.branch [
-      | else-is_none-via-then-is_none+else-not-is_subject w ↦
-          (let there : IsSubject (graph_of_store c.args.self.now.store) c.args.worker = (w.is_subject.ensures (graph_of_store c.args.self.now.store) refl).0 (search rules) in
-          none (subst (λ (h : ProtectionGraph). IsSubject h c.args.worker) stands there))
-      | else-is_none-via-else-is_none w ↦ (let told = (c.label-label.ensures.held g stands).other none in search rules)
-    ]),
-  );
-}
+returns c =
+    let there : IsSubject (graph_of_store c.args.self.now.store) c.args.worker = (c.is_subject.ensures (graph_of_store c.args.self.now.store) refl).0 (search rules) in
+    record {
+      same = refl;
+      held = λ g stands subject. ap Ok (c.rights_out.ensures ∙ ap rights_out ((c.label.ensures.held g stands).subject subject) ∙ rights_same (g.label c.args.worker c.args.target));
+      no_such_worker = λ g stands. (λ is. absurd (cc is), λ none. absurd (none (subst (λ (h : ProtectionGraph). IsSubject h c.args.worker) stands there)));
+    }
