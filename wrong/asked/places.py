@@ -53,12 +53,9 @@ PLACES = {
         ["if error.kind()==ErrorKind::OutOfMemory"],
         "the error of the command line says so",
     ),
-    ("tgdot/src/draft.rt", "print"): (["if self.is_short"] * 2, "a growth was refused before, and noted"),
+    ("tg_plain/src/text.rt", "print"): (["if self.is_short"] * 2, "a growth was refused before, and noted"),
     ("tg_plain/src/script.rt", "read"): (["if self.is_short"] * 2, "a growth was refused before, and noted"),
-    ("tgcould/src/answers.rt", "print"): (
-        ["if self.text.is_short||self.notes.is_short"] * 2,
-        "a growth was refused before, and noted",
-    ),
+    ("tgcould/src/answers.rt", "print"): (["if self.notes.is_short"] * 2, "a growth was refused before, and noted"),
     **{
         ("tg_entries/src/part.rt", name): (
             [f"match {writer} Ok(()) Err(_)"],
@@ -86,7 +83,7 @@ PINNED = {
 # was noted there.
 NOTED = {"is_short"}
 NOTED_OTHERWISE = {
-    ("tgdot/src/draft.rt", "write_reply(self, answer).is_err()"),
+    ("tg_plain/src/text.rt", "write_reply(self, answer).is_err()"),
     ("tgdot/src/drawing.rt", "run.is_short()"),
     ("tgdot/src/steps.rt", "shot.run.is_short()||frame.is_short()"),
 }
@@ -104,7 +101,7 @@ NAMED = {
         "how many workers there are: at most 64, as the words of the command line may say",
     ("tg_program/src/boxes.rt", "serve_with_boxes", "start.settings.workers"): "the same",
     ("tgdot/src/run.rt", "open", "script.workers"): "the same",
-    ("tgdot/src/draft.rt", "pad", "first.saturating_add(columns)"): "the longest text of a kind that is drawn",
+    ("tg_plain/src/text.rt", "pad", "first.saturating_add(width)"): "the longest text of a kind that is drawn",
     ("tg_could/src/plan.rt", "make_names", "last.saturating_add(1)"):
         "a turn for each name up to the one that is asked about, which is 65,536 ahead at most",
     # Loops that end where there is no more.

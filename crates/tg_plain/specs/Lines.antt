@@ -1,5 +1,5 @@
 -- The graph that the lines of a script leave, with no collection, and how many boxes of its stock they take.
-use Rattle.std.specs.Prelude.{◌≡◌, ◌⊎◌, ℕ, ◌+◌, ◌<◌, ◌≤◌, true, false, List, [], ◌∷◌, length, slice_index_or, map, replicate, nat_lt, if◌then◌else◌}
+use Rattle.std.specs.Prelude.{◌≡◌, ◌⊎◌, ℕ, ◌+◌, ◌<◌, ◌≤◌, ◌-◌, true, false, List, [], ◌∷◌, length, slice_index_or, map, replicate, nat_lt, if◌then◌else◌}
 use Rattle.tg_model.specs.declared.command.Deed.{Deed}
 use Rattle.tg_model.specs.declared.command.Deed.TheVariants as deed
 use Rattle.tg_model.specs.declared.value.Value.{Value}
@@ -9,6 +9,7 @@ use Rattle.tg_model.specs.Picture.{IsPictureOf}
 use Rattle.tg_model.specs.Plain.{graph_of}
 use Rattle.tg_model.specs.Opened.{start_of}
 use Rattle.tg_plain.specs.Boxes.{value_of_box, making_of}
+use Rattle.tg_plain.specs.declared.options.PlainOptions.{PlainOptions}
 use Rattle.tg_plain.specs.declared.outcome.Outcome.{Outcome}
 use Rattle.tg_plain.specs.declared.run.PlainRun.{PlainRun}
 use Rattle.tg_plain.specs.declared.script.Script.{Script}
@@ -16,6 +17,7 @@ use Rattle.tg_text.specs.declared.line.Line.{Line}
 use Rattle.tg_text.specs.declared.line.Line.TheVariants as line
 use Rattle.tg_text.specs.declared.stock.StockItem.{StockItem}
 use Rattle.tg_text.specs.declared.stock.StockItem.TheVariants.{Cell}
+use Rattle.tg_text.specs.Stock.{IsStockText}
 
 -- a graph, and how many boxes of the stock were taken
 pub record Stage : Type 0 where
@@ -53,6 +55,12 @@ Runs stock s (l ∷ lines) t = (m : Stage) × Leads stock s l m × Runs stock m 
 
 -- ---- the run of a script
 
+-- it has no line, and runs on what the options say
+abbrev pub IsEmptyScript : PlainOptions → Script → Type 0
+IsEmptyScript options s =
+    (s.workers ≡ options.workers) × (s.max_vertices ≡ options.max_vertices) × IsStockText options.stock.now s.stock.items
+    × (s.edges.items ≡ []) × (s.lines.items ≡ [])
+
 -- the graph of a run, and how many boxes it took
 abbrev pub stage_of : PlainRun → Stage
 stage_of run = record { graph = graph_of run.graph; taken = run.taken }
@@ -72,6 +80,7 @@ lines_of s = map (λ l. l.line) s.lines.items
 abbrev pub RunsScript : Script → PlainRun → Type 0
 RunsScript s run = Runs s.stock.items (start_of_script s) (lines_of s) (stage_of run)
 
--- its picture is that of the graph which all of the script's lines leave
+-- its picture is that of the graph which all of the script's lines leave, and its boxes are those that they don't take
 abbrev pub IsOutcome : Script → Outcome → Type 0
-IsOutcome s outcome = (run : PlainRun) × RunsScript s run × IsPictureOf outcome.picture (graph_of run.graph)
+IsOutcome s outcome =
+    (run : PlainRun) × RunsScript s run × IsPictureOf outcome.picture (graph_of run.graph) × (outcome.boxes ≡ length s.stock.items - run.taken)

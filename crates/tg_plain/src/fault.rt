@@ -24,6 +24,15 @@ pub enum PlainFault {
     /// The line is none of the grammar, or an edge where it may not stand, or has no end.
     #[error("line {number}: bad line: {reason}")]
     BadLine { number: u64, reason: &'static str },
+    /// The first line that is asked for stands behind the last.
+    #[error("--from {from} is behind --to {to}")]
+    BadRange { from: u64, to: u64 },
+    /// The script has no line that is asked for.
+    #[error("--from {from} is behind the last of {lines} lines")]
+    NoLine { from: u64, lines: u64 },
+    /// More is asked for than is printed at once.
+    #[error("more than {most} {what}: choose some of the lines by --from and --to")]
+    TooMany { most: u64, what: &'static str },
     /// A standard stream failed.
     #[error(transparent)]
     Stream(#[from] io::Error),
@@ -34,6 +43,7 @@ impl PlainFault {
     pub fn status(&self) -> u8 {
         match self {
             PlainFault::BadWords
+            | PlainFault::BadRange { .. }
             | PlainFault::Stock(StockFault::BadStock)
             | PlainFault::Opening(_) => 2,
             _ => 1,

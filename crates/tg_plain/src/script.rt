@@ -1,4 +1,6 @@
 //! The lines of a script.
+ghost use Rattle.std.specs.Prelude.{IfOk};
+ghost use Rattle.tg_plain.specs.Lines.{IsEmptyScript};
 
 use crate::fault::PlainFault;
 use crate::options::PlainOptions;
@@ -52,7 +54,9 @@ pub struct Script {
 
 impl Script {
     /// A script with no line. `Stock` where the text of the stock is none, or memory is wanting for its boxes.
-    pub fn new(alloc: Global, options: PlainOptions) -> Result<Script, PlainFault> {
+    pub fn new(alloc: Global, options: PlainOptions) -> Result<Script, PlainFault>
+        ensures { IfOk result (IsEmptyScript options.entry) }
+    {
         Ok(Script {
             alloc,
             workers: options.workers,

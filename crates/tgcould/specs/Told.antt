@@ -9,8 +9,8 @@ use Rattle.tg_could.specs.Answered.{IsAnswer}
 use Rattle.tg_could.specs.Turns.{NeverHolds}
 use Rattle.tg_could.specs.Told.{IsLeftOut}
 use Rattle.tg_could.specs.declared.who.Who.{Who}
-use Rattle.tgcould.specs.declared.text.AnswerText.{AnswerText}
-use Rattle.tgcould.specs.Grown.{Adds}
+use Rattle.tg_plain.specs.declared.text.PlainText.{PlainText}
+use Rattle.tg_plain.specs.Grown.{Adds}
 use Rattle.tgcould.specs.declared.question.Vertex.{Vertex}
 use Rattle.tgcould.specs.declared.question.Vertex.TheVariants.{Named, New}
 use Rattle.tgcould.specs.Texts.{answer_text}
@@ -25,7 +25,7 @@ abbrev pub Answers : Shown → List ℕ → ℕ → Right → ℕ → Answer →
 Answers p silent x right y answer = (g : ProtectionGraph) → IsPictureOf p g → IsAnswer silent g x right y answer
 
 -- where memory wasn't wanting, the text of an answer to the question stands behind what was there
-abbrev pub TellsHold : Shown → List ℕ → ℕ → Right → ℕ → AnswerText → AnswerText → Type 0
+abbrev pub TellsHold : Shown → List ℕ → ℕ → Right → ℕ → PlainText → PlainText → Type 0
 TellsHold p silent x right y old new =
     new.is_short ≡ false → (answer : Answer) × Answers p silent x right y answer × Adds old (answer_text answer) new
 

@@ -3,15 +3,14 @@
 use crate::ask::{Scene, Told, tell};
 use crate::notes::Notes;
 use crate::question::{Question, read_question};
-use crate::text::AnswerText;
 use clap::ArgMatches;
 use std::alloc::{AllocError, Global};
-use tg_plain::PlainFault;
+use tg_plain::{PlainFault, PlainText};
 
 /// The answers to questions.
 #[derive(Drop)]
 pub struct Answers {
-    text: AnswerText,
+    text: PlainText,
     notes: Notes,
     // Whether each stands behind its question, and an empty line behind it.
     are_headed: bool,
@@ -21,7 +20,7 @@ impl Answers {
     /// No answer. So many boxes are left in the stock, and so many questions are asked.
     pub fn new(alloc: Global, boxes: u64, questions: usize) -> Answers {
         Answers {
-            text: AnswerText::new(alloc),
+            text: PlainText::new(alloc),
             notes: Notes::new(alloc, boxes),
             are_headed: questions > 1,
         }
@@ -42,19 +41,19 @@ impl Answers {
         if !self.are_headed {
             return tell(&mut self.text, scene, question);
         }
-        self.text.add(text.as_bytes());
-        self.text.add(b": ");
+        self.text.add(text);
+        self.text.add(": ");
         let told = tell(&mut self.text, scene, question);
-        self.text.add(b"\n");
+        self.text.add("\n");
         told
     }
 
     /// Prints the answers, and the notes on standard error. The exit status.
     pub fn print<R: Print + Eprint>(&self, rt: &R) -> Result<u8, PlainFault> {
-        if self.text.is_short || self.notes.is_short {
+        if self.notes.is_short {
             return Err(PlainFault::OutOfMemory(AllocError));
         }
-        rt.write_all(self.text.bytes.as_slice())?;
+        self.text.print(rt)?;
         rt.eprint(self.notes.text.as_str())?;
         Ok(self.notes.status)
     }

@@ -2,15 +2,16 @@
 ghost use Rattle.std.specs.Prelude.{◌≡◌, ℕ, IfOk, OnOk, IsTrue};
 ghost use Rattle.std.specs.List.{Contains};
 ghost use Rattle.tg_could.specs.Told.{IsLeftOut};
-ghost use Rattle.tgcould.specs.Grown.{Adds};
+ghost use Rattle.tg_plain.specs.Grown.{Adds};
 ghost use Rattle.tgcould.specs.Texts.{answer_text};
 ghost use Rattle.tgcould.specs.Told.{Answers, IsNever, LeavesOut, ListsWho, TellsHold, named_in};
 
 use crate::question::{Question, Vertex};
-use crate::text::AnswerText;
+use crate::text::add_answer;
 use std::alloc::{AllocError, Global};
 use tg_could::{Answer, Chance, What, Who, could_hold, what_could, who_could};
 use tg_model::{Deed, Picture};
+use tg_plain::PlainText;
 use tg_rights::{Right, Rights};
 
 // All rights, in the order of their letters.
@@ -48,7 +49,7 @@ pub struct Told {
 }
 
 /// Adds the answer to a question.
-pub fn tell(text: &mut AnswerText, scene: &Scene, question: Question) -> Told {
+pub fn tell(text: &mut PlainText, scene: &Scene, question: Question) -> Told {
     match question {
         Question::Hold { x, right, y } => tell_hold(text, scene, x, right, y),
         Question::Who { right, y } => tell_who(text, scene, right, name_of(scene, y)),
@@ -74,7 +75,7 @@ fn ask(scene: &Scene, x: u64, right: Right, y: u64) -> Result<Answer, AllocError
 }
 
 // Adds whether x could come to hold the right over y.
-fn tell_hold(text: &mut AnswerText, scene: &Scene, x: Vertex, right: Right, y: Vertex) -> Told
+fn tell_hold(text: &mut PlainText, scene: &Scene, x: Vertex, right: Right, y: Vertex) -> Told
     ensures { TellsHold scene.now.picture.now scene.now.silent.now
         (named_in scene.now.picture.now x) right (named_in scene.now.picture.now y) text.old text.new }
 {
@@ -88,10 +89,10 @@ fn tell_hold(text: &mut AnswerText, scene: &Scene, x: Vertex, right: Right, y: V
 }
 
 // Adds the text of an answer.
-fn tell_answer(text: &mut AnswerText, answer: &Answer) -> Told
+fn tell_answer(text: &mut PlainText, answer: &Answer) -> Told
     ensures { Adds text.old (answer_text answer.now) text.new }
 {
-    text.add_answer(answer);
+    add_answer(text, answer);
     Told {
         is_never: matches!(answer, Answer::Never(_)),
         is_open: matches!(answer, Answer::Open),
@@ -128,7 +129,7 @@ fn listed(is_never: bool) -> Told {
 }
 
 // Adds who could come to hold the right over y.
-fn tell_who(text: &mut AnswerText, scene: &Scene, right: Right, y: u64) -> Told {
+fn tell_who(text: &mut PlainText, scene: &Scene, right: Right, y: u64) -> Told {
     match who(scene, right, y) {
         Ok(names) => add_who(text, scene.picture.made(), names.as_slice()),
         Err(_) => {
@@ -139,14 +140,25 @@ fn tell_who(text: &mut AnswerText, scene: &Scene, right: Right, y: u64) -> Told 
 }
 
 // Adds these names, with a space between two, or that there are none.
-fn add_who(text: &mut AnswerText, made: u64, names: &[u64]) -> Told {
+fn add_who(text: &mut PlainText, made: u64, names: &[u64]) -> Told {
     let first = text.len();
     for name in names {
-        text.add_space(first);
-        text.add_vertex(made, *name);
+        add_vertex(text, first, made, *name);
     }
-    text.add(if names.is_empty() { b"nobody\n" } else { b"\n" });
+    text.add(if names.is_empty() { "nobody\n" } else { "\n" });
     listed(names.is_empty())
+}
+
+// Adds a vertex to the list that begins here, with a space between two: its name, or `new` where it is the next.
+fn add_vertex(text: &mut PlainText, first: usize, made: u64, name: u64) {
+    if text.len() > first {
+        text.add(" ");
+    }
+    if name == made {
+        text.add("new");
+    } else {
+        text.add_number(name);
+    }
 }
 
 // Of all vertices and the next, those of whom it isn't shown that they never hold the right over y.
@@ -211,7 +223,7 @@ fn is_left_out(who: &Who, x: u64) -> bool
 }
 
 // Adds which rights x could come to hold, and over whom.
-fn tell_what(text: &mut AnswerText, scene: &Scene, x: u64) -> Told {
+fn tell_what(text: &mut PlainText, scene: &Scene, x: u64) -> Told {
     match what_could(scene.alloc, scene.picture, scene.silent, x) {
         Ok(told) => add_what(text, scene, &told, x),
         Err(_) => {
@@ -222,24 +234,27 @@ fn tell_what(text: &mut AnswerText, scene: &Scene, x: u64) -> Told {
 }
 
 // Adds each vertex over which x could come to hold a right, with these rights, and a space between two.
-fn add_what(text: &mut AnswerText, scene: &Scene, told: &What, x: u64) -> Told {
+fn add_what(text: &mut PlainText, scene: &Scene, told: &What, x: u64) -> Told {
     let first = text.len();
     for y in 0..=scene.picture.made() {
         match what(scene, told, x, y) {
             Ok(rights) => add_held(text, first, scene.picture.made(), y, rights),
-            Err(_) => text.is_short = true,
+            Err(_) => {
+                text.is_short = true;
+                break;
+            }
         }
     }
     let is_never = text.len() == first;
-    text.add(if is_never { b"nothing\n" } else { b"\n" });
+    text.add(if is_never { "nothing\n" } else { "\n" });
     listed(is_never)
 }
 
 // Adds a vertex and the rights over it, unless there are none, to the list that begins here.
-fn add_held(text: &mut AnswerText, first: usize, made: u64, y: u64, rights: Rights) {
+fn add_held(text: &mut PlainText, first: usize, made: u64, y: u64, rights: Rights) {
     if !rights.is_empty() {
-        text.add_space(first);
-        text.add_vertex(made, y);
+        add_vertex(text, first, made, y);
+        text.add(":");
         text.add_rights(rights);
     }
 }

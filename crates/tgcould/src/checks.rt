@@ -3,7 +3,7 @@
 use crate::ask::Scene;
 use crate::options::{AS_IF, ASK, NEVER, questions_in};
 use crate::question::read_question;
-use crate::supposed::{edge_line, edge_of, reason_of_edge};
+use crate::supposed::read_edge;
 use clap::ArgMatches;
 use std::alloc::{AllocError, Global};
 use tg_model::Edge;
@@ -23,8 +23,8 @@ pub fn are_accepted<R: Eprint>(
 // Whether all are questions.
 fn are_questions<R: Eprint>(rt: &R, matches: &ArgMatches, option: &str) -> bool {
     for text in matches.get_strs(option).unwrap_or(&[]) {
-        if let Err(fault) = read_question(text) {
-            return refuse(rt, option, text, fault.reason(text));
+        if let Err(reason) = read_question(text) {
+            return refuse(rt, option, text, reason);
         }
     }
     true
@@ -33,20 +33,13 @@ fn are_questions<R: Eprint>(rt: &R, matches: &ArgMatches, option: &str) -> bool 
 // Whether all are edges.
 fn are_edges<R: Eprint>(rt: &R, alloc: Global, matches: &ArgMatches) -> Result<bool, AllocError> {
     for text in matches.get_strs(AS_IF).unwrap_or(&[]) {
-        if !is_edge(rt, alloc, text)? {
-            return Ok(false);
+        match read_edge(alloc, text) {
+            Ok(Ok(_)) => (),
+            Ok(Err(reason)) => return Ok(refuse(rt, AS_IF, text, reason)),
+            Err(error) => return Err(error),
         }
     }
     Ok(true)
-}
-
-// Whether it is one.
-fn is_edge<R: Eprint>(rt: &R, alloc: Global, text: &str) -> Result<bool, AllocError> {
-    let line = edge_line(alloc, text)?;
-    if edge_of(line.as_bytes()).is_some() {
-        return Ok(true);
-    }
-    Ok(refuse(rt, AS_IF, text, reason_of_edge(line.as_bytes())))
 }
 
 // Says why a value is none of its option's.

@@ -66,13 +66,7 @@ pub const COMMAND_LINE: CommandLine = CommandLine {
 
 /// How many questions are asked.
 pub fn questions_in(matches: &ArgMatches) -> usize {
-    values_in(matches, ASK).saturating_add(values_in(matches, NEVER))
-}
-
-// How many values an option has.
-fn values_in(matches: &ArgMatches, option: &str) -> usize {
-    match matches.get_strs(option) {
-        Some(texts) => texts.len(),
-        None => 0,
-    }
+    let asked = matches.get_strs(ASK).unwrap_or(&[]);
+    let never = matches.get_strs(NEVER).unwrap_or(&[]);
+    asked.len().saturating_add(never.len())
 }

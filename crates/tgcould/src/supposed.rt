@@ -29,37 +29,31 @@ pub fn suppose(
 ) -> Result<Picture, AllocError> {
     let mut picture = picture;
     for text in matches.get_strs(AS_IF).unwrap_or(&[]) {
-        if let Some(edge) = read_edge(alloc, text)? {
-            picture = picture.with(edge.from, edge.to, edge.label)?;
-        }
+        picture = with_edge(alloc, picture, text)?;
     }
     Ok(picture)
 }
 
-// The edge that the text is. Fails only when out of memory.
-fn read_edge(alloc: Global, text: &str) -> Result<Option<Edge>, AllocError> {
-    let line = edge_line(alloc, text)?;
-    Ok(edge_of(line.as_bytes()))
-}
-
-/// The edge line with this text. Fails only when out of memory.
-pub fn edge_line(alloc: Global, text: &str) -> Result<String, AllocError> {
-    format!(in alloc; "edge {text}")
-}
-
-/// The edge that the line is.
-pub fn edge_of(line: &[u8]) -> Option<Edge> {
-    match read_line(line) {
-        Some(Line::Edge(edge)) if edge.from != edge.to => Some(edge),
-        _ => None,
+// The picture with the edge that the text is, too. Fails only when out of memory.
+fn with_edge(alloc: Global, picture: Picture, text: &str) -> Result<Picture, AllocError> {
+    match read_edge(alloc, text) {
+        Ok(Ok(edge)) => picture.with(edge.from, edge.to, edge.label),
+        Ok(Err(_)) => Ok(picture),
+        Err(error) => Err(error),
     }
 }
 
-/// Why the line is no edge: one sentence without its dot.
-pub fn reason_of_edge(line: &[u8]) -> &'static str {
-    if read_line(line).is_some() {
-        "an edge joins two different vertices"
-    } else {
-        reason_of(line, true, ANY)
+/// The edge that the text is, or why it is none: one sentence without its dot. Fails only when out of memory.
+pub fn read_edge(alloc: Global, text: &str) -> Result<Result<Edge, &'static str>, AllocError> {
+    let line = format!(in alloc; "edge {text}")?;
+    Ok(edge_of(line.as_bytes()))
+}
+
+// The edge that the line is, or why it is none.
+fn edge_of(line: &[u8]) -> Result<Edge, &'static str> {
+    match read_line(line) {
+        Some(Line::Edge(edge)) if edge.from != edge.to => Ok(edge),
+        Some(_) => Err("an edge joins two different vertices"),
+        None => Err(reason_of(line, true, ANY)),
     }
 }

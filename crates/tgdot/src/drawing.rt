@@ -1,14 +1,13 @@
 //! The picture of the last graph, as a text for `dot`.
 
-use crate::draft::Draft;
-use crate::fault::DrawFault;
+use crate::picture::write_ends;
 use crate::run::Run;
-use tg_plain::{PlainRun, Script};
+use tg_plain::{PlainFault, PlainRun, PlainText, Script};
 use tg_text::Line;
 
 /// Writes the graph that a script leaves as a digraph: its vertices by rising name, then its edges. What a collection
 /// would take is there too. A bad line leaves nothing to be drawn.
-pub fn write_last(text: &mut Draft, script: &Script) -> Result<(), DrawFault> {
+pub fn write_last(text: &mut PlainText, script: &Script) -> Result<(), PlainFault> {
     script.whole()?;
     let mut run = Run::new(script.alloc, PlainRun::open(script)?);
     write_run(text, script, &mut run);
@@ -16,7 +15,7 @@ pub fn write_last(text: &mut Draft, script: &Script) -> Result<(), DrawFault> {
 }
 
 // Runs the lines that are no collection, and writes the graph that they leave.
-fn write_run(text: &mut Draft, script: &Script, run: &mut Run) {
+fn write_run(text: &mut PlainText, script: &Script, run: &mut Run) {
     run.open(script);
     for line in script.lines.as_slice() {
         if !matches!(line.line, Line::Full) {
@@ -29,21 +28,21 @@ fn write_run(text: &mut Draft, script: &Script, run: &mut Run) {
 }
 
 // Writes the digraph.
-fn write_digraph(text: &mut Draft, run: &Run) {
+fn write_digraph(text: &mut PlainText, run: &Run) {
     text.add("digraph store {\n");
     write_vertices(text, run);
     write_edges(text, run);
     text.add("}\n");
 }
 
-fn write_vertices(text: &mut Draft, run: &Run) {
+fn write_vertices(text: &mut PlainText, run: &Run) {
     for name in run.names.iter() {
         write_vertex(text, run, *name);
     }
 }
 
 // A vertex: a box or a circle.
-fn write_vertex(text: &mut Draft, run: &Run, name: u64) {
+fn write_vertex(text: &mut PlainText, run: &Run, name: u64) {
     text.add("    ");
     text.add_number(name);
     text.add(shape_of(run, name));
@@ -61,17 +60,17 @@ fn shape_of(run: &Run, name: u64) -> &'static str {
     }
 }
 
-fn write_edges(text: &mut Draft, run: &Run) {
+fn write_edges(text: &mut PlainText, run: &Run) {
     for ends in run.edges.iter() {
         write_edge(text, run, *ends);
     }
 }
 
 // An edge, with the letters of its rights, where it is there.
-fn write_edge(text: &mut Draft, run: &Run, ends: (u64, u64)) {
+fn write_edge(text: &mut PlainText, run: &Run, ends: (u64, u64)) {
     let held = run.held(ends);
     if !held.is_empty() {
-        text.add_ends(ends);
+        write_ends(text, ends);
         text.add_rights(held);
         text.add("\" ");
         text.add(colour_of(run, ends.0));

@@ -1,9 +1,9 @@
 //! What all steps of a run have in common.
 
-use crate::draft::Draft;
 use crate::shot::Shot;
 use std::alloc::Global;
 use std::collections::BTreeMap;
+use tg_plain::PlainText;
 
 /// What a vertex takes up in each picture.
 #[derive(Clone, Copy)]
@@ -42,7 +42,7 @@ pub struct Frame {
     // How many vertices it may have.
     most: u64,
     // A text whose columns are counted.
-    scratch: Draft,
+    scratch: PlainText,
     // Whether memory was wanting.
     is_short: bool,
 }
@@ -56,7 +56,7 @@ impl Frame {
             columns: 0,
             is_whole: false,
             most,
-            scratch: Draft::new(alloc),
+            scratch: PlainText::new(alloc),
             is_short: false,
         }
     }
@@ -142,7 +142,7 @@ impl Frame {
 }
 
 // Widens the room of a vertex, so that it holds the lines of its text.
-fn widen_room(room: &mut Room, scratch: &mut Draft, shot: &Shot, name: u64) {
+fn widen_room(room: &mut Room, scratch: &mut PlainText, shot: &Shot, name: u64) {
     scratch.clear();
     scratch.add_number(name);
     room.columns = room.columns.max(scratch.len());

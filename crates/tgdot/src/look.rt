@@ -1,6 +1,6 @@
 //! How vertices and edges of a step look.
 
-use crate::draft::Draft;
+use tg_plain::PlainText;
 
 /// A colour. None of them says a thing alone.
 #[derive(Clone, Copy)]
@@ -51,7 +51,7 @@ impl Look {
     }
 
     /// Writes the attributes of the look, and the end of its line.
-    pub fn write(self, text: &mut Draft) {
+    pub fn write(self, text: &mut PlainText) {
         text.add("\" style=\"");
         if self.is_bold {
             text.add("bold,");

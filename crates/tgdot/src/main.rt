@@ -10,13 +10,11 @@
 //! them, and knows which edges there are, so that no pair of vertices is asked for its edge in vain; `reach` says what
 //! subjects reach. `drawing` writes the last graph. Of the steps, `shot` says what is shown at one, `marks` what stands
 //! out and `look` how that looks, `frame` what all have in common, `picture` writes one, and `steps` all. What they
-//! write is a `draft`, which is printed at once. A line of the grammar has a place in `run`, where it is taken and
+//! write is a `PlainText`, which is printed at once. A line of the grammar has a place in `run`, where it is taken and
 //! followed, and in `named` of `marks`.
 #![tactic(auto)]
 
-mod draft;
 mod drawing;
-mod fault;
 mod frame;
 mod look;
 mod marks;
@@ -28,14 +26,12 @@ mod shot;
 mod steps;
 
 use clap::ArgMatches;
-use draft::Draft;
 use drawing::write_last;
-use fault::DrawFault;
 use options::{COMMAND_LINE, DotOptions, LineRange, options_of};
 use std::alloc::Global;
 use std::process::ExitCode;
 use steps::write_steps;
-use tg_plain::{PlainFault, Program, Script, obey};
+use tg_plain::{PlainFault, PlainText, Program, Script, obey};
 
 fn main(rt: HostRuntime) -> ExitCode {
     ExitCode::from(obey(&rt, &COMMAND_LINE, &Plotting))
@@ -45,15 +41,10 @@ fn main(rt: HostRuntime) -> ExitCode {
 #[derive(Clone, Copy)]
 struct Plotting;
 
-impl<R: AllocGlobal + Print + Eprint + Input> Program<R> for Plotting {
+impl<R: AllocGlobal + Print + Input> Program<R> for Plotting {
     fn run(&self, rt: &R, matches: &ArgMatches) -> Result<u8, PlainFault> {
-        match draw_script(rt, rt.alloc(), options_of(matches)) {
-            Ok(()) => Ok(0),
-            Err(fault) => {
-                let _ = eprintln!(rt; "tgdot: {fault}");
-                Ok(fault.status())
-            }
-        }
+        draw_script(rt, rt.alloc(), options_of(matches))?;
+        Ok(0)
     }
 }
 
@@ -62,7 +53,7 @@ fn draw_script<R: Print + Input>(
     rt: &R,
     alloc: Global,
     options: DotOptions,
-) -> Result<(), DrawFault> {
+) -> Result<(), PlainFault> {
     if let Some(range) = options.steps {
         range.check()?;
     }
@@ -75,26 +66,30 @@ fn draw<R: Print + Input>(
     rt: &R,
     steps: Option<LineRange>,
     script: &mut Script,
-) -> Result<(), DrawFault> {
+) -> Result<(), PlainFault> {
     script.read(rt)?;
-    let mut text = Draft::new(script.alloc);
+    let mut text = PlainText::new(script.alloc);
     print(rt, &mut text, steps, script)
 }
 
 // Prints what these lines leave, or their steps. A bad line ends the steps.
 fn print<R: Print>(
     rt: &R,
-    text: &mut Draft,
+    text: &mut PlainText,
     steps: Option<LineRange>,
     script: &Script,
-) -> Result<(), DrawFault> {
+) -> Result<(), PlainFault> {
     write(text, steps, script)?;
     text.print(rt)?;
-    Ok(script.whole()?)
+    script.whole()
 }
 
 // Writes what these lines leave, or their steps.
-fn write(text: &mut Draft, steps: Option<LineRange>, script: &Script) -> Result<(), DrawFault> {
+fn write(
+    text: &mut PlainText,
+    steps: Option<LineRange>,
+    script: &Script,
+) -> Result<(), PlainFault> {
     match steps {
         Some(range) => write_steps(text, range, script),
         None => write_last(text, script),

@@ -1,9 +1,10 @@
 //! The words of the command line.
 
-use crate::fault::DrawFault;
 use clap::builder::ValueParser;
 use clap::{ArgAction, ArgMatches};
-use tg_plain::{Choice, CommandLine, PlainOptions, STOCK, VERTICES, WORKERS, read_options};
+use tg_plain::{
+    Choice, CommandLine, PlainFault, PlainOptions, STOCK, VERTICES, WORKERS, read_options,
+};
 
 const ABOUT: &str = "Draws the graph that a script leaves, for GraphViz's dot
 
@@ -93,10 +94,10 @@ impl LineRange {
     }
 
     /// A fault where there is no such line, whatever the script.
-    pub fn check(self) -> Result<(), DrawFault> {
+    pub fn check(self) -> Result<(), PlainFault> {
         let LineRange { from, to } = self;
         if from > to {
-            return Err(DrawFault::BadRange { from, to });
+            return Err(PlainFault::BadRange { from, to });
         }
         Ok(())
     }

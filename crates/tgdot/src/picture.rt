@@ -1,8 +1,8 @@
 //! The picture of a step, as a text for `dot`.
 
-use crate::draft::Draft;
 use crate::frame::{Frame, Room};
 use crate::shot::{EdgeView, Shot};
+use tg_plain::PlainText;
 
 // The width of a letter, the height of a box with two lines and with a note below them, and what stands round a text,
 // in hundredths of an inch.
@@ -20,7 +20,7 @@ const CIRCLE_MARGIN: u64 = 34;
 const MOST_PLAIN: usize = 8;
 
 /// Writes the step as a digraph with all that the frame has, by name. What the step doesn't have is invisible.
-pub fn write_shot(text: &mut Draft, frame: &Frame, shot: &Shot) {
+pub fn write_shot(text: &mut PlainText, frame: &Frame, shot: &Shot) {
     write_head(text, frame, shot);
     write_kinds(text, frame.edges.len() > MOST_PLAIN);
     write_vertices(text, frame, shot);
@@ -29,17 +29,17 @@ pub fn write_shot(text: &mut Draft, frame: &Frame, shot: &Shot) {
 }
 
 // The line and its answer above the picture.
-fn write_head(text: &mut Draft, frame: &Frame, shot: &Shot) {
+fn write_head(text: &mut PlainText, frame: &Frame, shot: &Shot) {
     text.add("digraph step_");
     text.add_number(shot.number);
     text.add(" {\n    graph [fontname=Courier labelloc=t labeljust=l label=\"");
-    write_padded(text, shot.heading.as_bytes(), frame.columns);
-    write_padded(text, shot.told.as_bytes(), frame.columns);
+    write_padded(text, shot.heading.bytes.as_slice(), frame.columns);
+    write_padded(text, shot.told.bytes.as_slice(), frame.columns);
     text.add("\"]\n");
 }
 
 // A line of the label above the picture.
-fn write_padded(text: &mut Draft, line: &[u8], columns: usize) {
+fn write_padded(text: &mut PlainText, line: &[u8], columns: usize) {
     let first = text.len();
     text.add_bytes(line);
     text.pad(first, columns);
@@ -48,12 +48,12 @@ fn write_padded(text: &mut Draft, line: &[u8], columns: usize) {
 
 // What holds of all vertices and of all edges. The letters of all texts are equally wide, so that a text's columns tell
 // its width. Among many edges a line leads from each label to its own.
-fn write_kinds(text: &mut Draft, are_many: bool) {
+fn write_kinds(text: &mut PlainText, are_many: bool) {
     text.add("    node [fontname=Courier fixedsize=true]\n    edge [fontname=Courier");
     text.add(if are_many { " decorate=true]\n" } else { "]\n" });
 }
 
-fn write_vertices(text: &mut Draft, frame: &Frame, shot: &Shot) {
+fn write_vertices(text: &mut PlainText, frame: &Frame, shot: &Shot) {
     let circle = frame.circle_columns();
     for (name, room) in frame.vertices.iter() {
         text.add("    ");
@@ -64,7 +64,7 @@ fn write_vertices(text: &mut Draft, frame: &Frame, shot: &Shot) {
 }
 
 // The text and the look of a vertex.
-fn write_vertex(text: &mut Draft, shot: &Shot, name: u64) {
+fn write_vertex(text: &mut PlainText, shot: &Shot, name: u64) {
     match shot.vertex(name) {
         Some(view) => {
             let look = view.look;
@@ -83,7 +83,7 @@ fn write_vertex(text: &mut Draft, shot: &Shot, name: u64) {
 
 // The shape and the size of a vertex, which are its own for all steps. All circles have room for so many columns; one
 // with a longer text is an ellipse of their height.
-fn write_room(text: &mut Draft, room: Room, circle: usize) {
+fn write_room(text: &mut PlainText, room: Room, circle: usize) {
     if room.ever_subject {
         let height = if room.is_noted { NOTED_HEIGHT } else { HEIGHT };
         text.add(" [shape=box width=");
@@ -108,7 +108,7 @@ fn width_of(columns: usize, margin: u64) -> u64 {
 }
 
 // A width and a height, as far as into the label behind them.
-fn write_sizes(text: &mut Draft, width: u64, height: u64) {
+fn write_sizes(text: &mut PlainText, width: u64, height: u64) {
     write_inches(text, width);
     text.add(" height=");
     write_inches(text, height);
@@ -116,7 +116,7 @@ fn write_sizes(text: &mut Draft, width: u64, height: u64) {
 }
 
 // Hundredths of an inch.
-fn write_inches(text: &mut Draft, hundredths: u64) {
+fn write_inches(text: &mut PlainText, hundredths: u64) {
     text.add_number(hundredths / 100);
     text.add(".");
     text.add_number(hundredths / 10 % 10);
@@ -124,16 +124,26 @@ fn write_inches(text: &mut Draft, hundredths: u64) {
 }
 
 // The edges, each with a label of its own width for all steps.
-fn write_edges(text: &mut Draft, frame: &Frame, shot: &Shot) {
+fn write_edges(text: &mut PlainText, frame: &Frame, shot: &Shot) {
     for (ends, columns) in frame.edges.iter() {
-        text.add_ends(*ends);
+        write_ends(text, *ends);
         text.add(" ");
         write_edge(text, *columns, shot.edge(*ends));
     }
 }
 
+/// Writes the front of an edge's line, as far as into its label.
+pub fn write_ends(text: &mut PlainText, ends: (u64, u64)) {
+    let (from, to) = ends;
+    text.add("    ");
+    text.add_number(from);
+    text.add(" -> ");
+    text.add_number(to);
+    text.add(" [label=\"");
+}
+
 // The text and the look of an edge.
-fn write_edge(text: &mut Draft, columns: usize, view: Option<EdgeView>) {
+fn write_edge(text: &mut PlainText, columns: usize, view: Option<EdgeView>) {
     let first = text.len();
     match view {
         Some(view) => {

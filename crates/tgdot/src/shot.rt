@@ -1,12 +1,11 @@
 //! What a step shows.
 
-use crate::draft::Draft;
 use crate::look::{Colour, Look, Stroke};
 use crate::marks::{Marks, NO_MARKS};
 use crate::run::Run;
 use std::alloc::Global;
 use tg_model::{Law, Value};
-use tg_plain::{PlainRun, Script, ScriptLine};
+use tg_plain::{PlainRun, PlainText, Script, ScriptLine};
 use tg_rights::Rights;
 
 /// The graph of a run at a step, what its line was answered, and what stands out.
@@ -15,9 +14,9 @@ pub struct Shot {
     /// The number of the line.
     pub number: u64,
     /// The number and the line.
-    pub heading: Draft,
+    pub heading: PlainText,
     /// What the line was answered.
-    pub told: Draft,
+    pub told: PlainText,
     /// What stands out.
     pub marks: Marks,
     /// The run.
@@ -47,8 +46,8 @@ impl Shot {
     pub fn new(alloc: Global, plain: PlainRun) -> Shot {
         Shot {
             number: 0,
-            heading: Draft::new(alloc),
-            told: Draft::new(alloc),
+            heading: PlainText::new(alloc),
+            told: PlainText::new(alloc),
             marks: NO_MARKS,
             run: Run::new(alloc, plain),
         }
@@ -91,7 +90,7 @@ impl Shot {
     }
 
     /// Writes the second line of a vertex, below its name: its law and its state, or that it isn't there.
-    pub fn write_state(&self, text: &mut Draft, name: u64) {
+    pub fn write_state(&self, text: &mut PlainText, name: u64) {
         match self.run.value(name) {
             Some(value) => write_value(text, value),
             None => text.add("not there"),
@@ -99,7 +98,7 @@ impl Shot {
     }
 
     /// Writes the third line of a vertex, or nothing where there is nothing to note.
-    pub fn write_note(&self, text: &mut Draft, name: u64) {
+    pub fn write_note(&self, text: &mut PlainText, name: u64) {
         let mut space = "";
         for (holds, note) in self.notes(name) {
             if holds {
@@ -166,7 +165,7 @@ impl Shot {
 
 impl EdgeView {
     /// Writes the text of the edge.
-    pub fn write(self, text: &mut Draft) {
+    pub fn write(self, text: &mut PlainText) {
         text.add_rights(self.held);
         if !self.missing.is_empty() {
             text.add(if self.held.is_empty() { "no " } else { " no " });
@@ -178,7 +177,7 @@ impl EdgeView {
 }
 
 // Writes the law and the state, each number behind a space.
-fn write_value(text: &mut Draft, value: &Value) {
+fn write_value(text: &mut PlainText, value: &Value) {
     text.add(word_of(value.law));
     for number in value.state.as_slice() {
         text.add(" ");

@@ -1,12 +1,10 @@
 //! The steps of a script, each as a digraph.
 
-use crate::draft::Draft;
-use crate::fault::DrawFault;
 use crate::frame::Frame;
 use crate::options::LineRange;
 use crate::picture::write_shot;
 use crate::shot::Shot;
-use tg_plain::{PlainRun, Script};
+use tg_plain::{PlainFault, PlainRun, PlainText, Script};
 
 // The most lines of which the steps are drawn at once.
 const MOST_LINES: u64 = 400;
@@ -18,10 +16,14 @@ const MOST_VERTICES: u64 = 100_000;
 /// line: it is shown where the range begins at an edge line or at line 1. All have the same vertices and edges, in the
 /// same order: so the lines are run twice, first to learn which there are. Where there is none, the bad line is told
 /// that ends the script, or that there are no such lines.
-pub fn write_steps(text: &mut Draft, range: LineRange, script: &Script) -> Result<(), DrawFault> {
+pub fn write_steps(
+    text: &mut PlainText,
+    range: LineRange,
+    script: &Script,
+) -> Result<(), PlainFault> {
     let lines = count(range, script);
     if lines > MOST_LINES {
-        return Err(DrawFault::TooMany {
+        return Err(PlainFault::TooMany {
             most: MOST_LINES,
             what: "lines",
         });
@@ -38,9 +40,9 @@ pub fn write_steps(text: &mut Draft, range: LineRange, script: &Script) -> Resul
 }
 
 // Why no step is drawn.
-fn refuse_range(range: LineRange, script: &Script) -> Result<(), DrawFault> {
+fn refuse_range(range: LineRange, script: &Script) -> Result<(), PlainFault> {
     script.whole()?;
-    Err(DrawFault::NoStep {
+    Err(PlainFault::NoLine {
         from: range.from,
         lines: last_line(script),
     })
@@ -48,14 +50,14 @@ fn refuse_range(range: LineRange, script: &Script) -> Result<(), DrawFault> {
 
 // Measures the steps, and then writes them, unless there are too many vertices.
 fn write_framed(
-    text: &mut Draft,
+    text: &mut PlainText,
     frame: &mut Frame,
     range: LineRange,
     script: &Script,
-) -> Result<(), DrawFault> {
+) -> Result<(), PlainFault> {
     run_lines(text, frame, range, script)?;
     if frame.is_over() {
-        return Err(DrawFault::TooMany {
+        return Err(PlainFault::TooMany {
             most: MOST_VERTICES,
             what: "vertices in all steps",
         });
@@ -66,11 +68,11 @@ fn write_framed(
 
 // Runs the lines once, and shows them to the frame, or writes them where it is whole.
 fn run_lines(
-    text: &mut Draft,
+    text: &mut PlainText,
     frame: &mut Frame,
     range: LineRange,
     script: &Script,
-) -> Result<(), DrawFault> {
+) -> Result<(), PlainFault> {
     let mut shot = Shot::new(script.alloc, PlainRun::open(script)?);
     show_lines(text, frame, range, script, &mut shot);
     Ok(())
@@ -78,7 +80,7 @@ fn run_lines(
 
 // Shows the start, and what is after each line.
 fn show_lines(
-    text: &mut Draft,
+    text: &mut PlainText,
     frame: &mut Frame,
     range: LineRange,
     script: &Script,
@@ -101,7 +103,7 @@ fn show_lines(
 }
 
 // Shows a step to the frame, or writes it where that is whole.
-fn show(text: &mut Draft, frame: &mut Frame, shot: &mut Shot) {
+fn show(text: &mut PlainText, frame: &mut Frame, shot: &mut Shot) {
     shot.run.reach();
     if frame.is_whole {
         write_shot(text, frame, shot);

@@ -1,0 +1,123 @@
+//! Texts that grow until they are printed.
+ghost use Rattle.std.specs.Prelude.{◌≡◌, false, None, [], OnOk, decimal, length};
+ghost use Rattle.tg_rights.specs.RightSet.{text_of};
+ghost use Rattle.tg_plain.specs.Grown.{Adds};
+
+use crate::fault::PlainFault;
+use itoa::Buffer;
+use std::alloc::{AllocError, Global};
+use tg_rights::Rights;
+use tg_text::{Answer, Put, Sink, write_reply};
+
+/// A text that grows until it is printed. Where memory was wanting for it, it isn't printed.
+#[derive(Drop)]
+pub struct PlainText {
+    /// The text, where memory was never wanting.
+    pub bytes: Vec<u8>,
+    /// Whether memory was wanting for a part of it, or for what it tells of.
+    pub is_short: bool,
+    is_finished: bool,
+}
+
+impl PlainText {
+    /// No text.
+    pub fn new(alloc: Global) -> PlainText
+        ensures bytes { result.bytes.items ≡ [] }
+        ensures whole { result.is_short ≡ false }
+    {
+        PlainText {
+            bytes: Vec::new(alloc),
+            is_short: false,
+            is_finished: true,
+        }
+    }
+
+    /// How many bytes it has, and so how many columns where it has no letters but ASCII's.
+    pub fn len(&self) -> usize
+        ensures { result ≡ length self.now.bytes.items }
+    {
+        self.bytes.len()
+    }
+
+    /// Takes the text away. That memory was wanting stays noted.
+    pub fn clear(&mut self)
+        ensures bytes { self.new.bytes.items ≡ [] }
+        ensures whole { self.new.is_short ≡ self.old.is_short }
+    {
+        self.bytes.clear();
+    }
+
+    /// Adds a text.
+    pub fn add(&mut self, text: &str)
+        ensures { Adds self.old text.now self.new }
+    {
+        self.add_bytes(text.as_bytes());
+    }
+
+    /// Adds the bytes of a text.
+    pub fn add_bytes(&mut self, text: &[u8])
+        ensures { Adds self.old text.now self.new }
+    {
+        self.is_short |= self.bytes.extend_from_slice(text).is_err();
+    }
+
+    /// Adds a number.
+    pub fn add_number(&mut self, number: u64)
+        ensures { Adds self.old (decimal number) self.new }
+    {
+        let mut buffer = Buffer::new();
+        self.add(buffer.format(number));
+    }
+
+    /// Adds the letters of rights.
+    pub fn add_rights(&mut self, rights: Rights)
+        ensures { Adds self.old (text_of rights) self.new }
+    {
+        self.add_bytes(rights.text().as_bytes());
+    }
+
+    /// Adds spaces until so many bytes stand behind this place of the text.
+    pub fn pad(&mut self, first: usize, width: usize) {
+        for _ in self.len()..first.saturating_add(width) {
+            self.add(" ");
+        }
+    }
+
+    /// Adds an answer as a run of `tgstore` prints it, without the line feed.
+    pub fn add_answer(&mut self, answer: &Answer) {
+        self.is_short |= write_reply(self, answer).is_err();
+        let _ = self.bytes.pop();
+    }
+
+    /// Prints the text. `OutOfMemory` where memory was wanting for it, and nothing is printed.
+    pub fn print<R: Print>(&self, rt: &R) -> Result<(), PlainFault>
+        ensures { OnOk result (self.now.is_short ≡ false) }
+    {
+        if self.is_short {
+            return Err(PlainFault::OutOfMemory(AllocError));
+        }
+        match rt.write_all(self.bytes.as_slice()) {
+            Ok(()) => Ok(()),
+            Err(error) => Err(PlainFault::Stream(error)),
+        }
+    }
+}
+
+impl Sink for PlainText {
+    ghost taken = { λ _. None };
+
+    ghost failures = { λ _. 0 };
+
+    ghost finished = { λ s. s.is_finished };
+
+    fn put(&mut self, bytes: &[u8]) -> Put {
+        self.add_bytes(bytes);
+        self.is_finished = false;
+        Put::Took(bytes.len())
+    }
+
+    fn finish(&mut self) -> bool {
+        self.is_finished = true;
+        true
+    }
+}

@@ -1,8 +1,0 @@
-use Rattle.std.proofs.Common.{take}
-use Rattle.std.specs.List.{flat_map}
-use Rattle.tgcould.specs.Grown.{Adds}
-use Rattle.tgcould.specs.Texts.{turn_text}
-use Rattle.tgcould.proofs.text.AnswerText.add_turns.Given as goal
-
-abbrev pub invariant-loop-turn : goal.invariant-loop-turn
-invariant-loop-turn l = Adds l.fn.self (flat_map turn_text (take l.turn-index l.turns)) l.self
