@@ -11,7 +11,7 @@ use Rattle.tg_model.specs.declared.reply.Reply.{Reply}
 use Rattle.tg_model.specs.declared.reply.Reply.TheVariants.{Denied}
 use Rattle.tg_store.specs.Store.{StoreState}
 use Rattle.tg_c.specs.declared.place.StorePlace.{StorePlace}
-use Rattle.tg_store.specs.declared.making.Making.{Making}
+use Rattle.tg_model.specs.declared.making.Making.{Making}
 use Rattle.tg_c.specs.declared.forms.ValueIn.{ValueIn}
 use Rattle.tg_c.specs.declared.refusal.CallRefusal.{CallRefusal}
 use Rattle.tg_c.specs.declared.refusal.CallRefusal.TheVariants.{NotOpen}

@@ -29,7 +29,7 @@ use Rattle.tg_space.specs.declared.room_fault.RoomFault.TheVariants as no_room
 use Rattle.tg_journal.specs.declared.entry.Entry.{Entry}
 use Rattle.tg_store.specs.Collecting.{IsSwept, KeepsHistory}
 use Rattle.tg_store.specs.Made.{IsMadeFor}
-use Rattle.tg_store.specs.Making.{deed_making}
+use Rattle.tg_model.specs.Making.{deed_making}
 use Rattle.tg_store.specs.Room.{LacksRoomToCollect}
 use Rattle.tg_store.specs.Counts.{no_collections, refusals_in}
 use Rattle.tg_store.specs.Store.{StoreState, StandsFor, Enters, HasFewBlocks, HoldsFrom, OnlyEnters, IsUnchanged}
@@ -38,8 +38,8 @@ use Rattle.tg_store.specs.declared.fault.ApplyFault.{ApplyFault}
 use Rattle.tg_store.specs.declared.fault.ApplyFault.TheVariants as apply
 use Rattle.tg_store.specs.declared.fault.CreateFault.{CreateFault}
 use Rattle.tg_store.specs.declared.fault.CreateFault.TheVariants as create
-use Rattle.tg_store.specs.declared.making.Making.{Making}
-use Rattle.tg_store.specs.declared.making.Making.TheVariants.{Subject}
+use Rattle.tg_model.specs.declared.making.Making.{Making}
+use Rattle.tg_model.specs.declared.making.Making.TheVariants.{Subject}
 use Rattle.tg_c.specs.declared.place.StorePlace.{StorePlace}
 use Rattle.tg_c.specs.declared.refusal.CallRefusal.{CallRefusal}
 use Rattle.tg_c.specs.declared.refusal.CallRefusal.TheVariants as refusal

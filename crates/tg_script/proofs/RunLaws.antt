@@ -23,10 +23,10 @@ use Rattle.tg_store.specs.declared.fault.ApplyFault.TheVariants as apply
 use Rattle.tg_store.specs.declared.fault.CreateFault.{CreateFault}
 use Rattle.tg_store.specs.declared.fault.CreateFault.TheVariants as create
 use Rattle.tg_store.specs.declared.fault.CreateRefused.{CreateRefused}
-use Rattle.tg_store.specs.declared.making.Making.{Making}
-use Rattle.tg_store.specs.declared.making.Making.TheVariants.{Object, Subject}
+use Rattle.tg_model.specs.declared.making.Making.{Making}
+use Rattle.tg_model.specs.declared.making.Making.TheVariants.{Object, Subject}
 use Rattle.tg_store.specs.Made.{IsMadeFor, MayRefuse}
-use Rattle.tg_store.specs.Making.{deed_making}
+use Rattle.tg_model.specs.Making.{deed_making}
 use Rattle.tg_journal.specs.declared.entry.Entry.{Entry}
 use Rattle.tg_store.specs.Store.{StoreState, graph_of_store, Enters, OnlyEnters, StandsFor, IsUnchanged}
 use Rattle.tg_text.specs.declared.line.Line.{Line}

@@ -6,10 +6,10 @@ use crate::helpers::Helpers;
 use crate::refusals::{apply_refusal, create_answer};
 use crate::supply::Supply;
 use crate::telling::Holding;
-use tg_model::{Command, Reply};
+use tg_model::{Command, Making, Reply};
 use tg_payload::{Draft, Payload};
 use tg_rights::Label;
-use tg_store::{CreateRefused, Kind, Making, Store};
+use tg_store::{CreateRefused, Kind, Store};
 use tg_text::{Answer, Line, Refusal};
 
 // How many entries a run holds at most, and how many edges a list that it holds.

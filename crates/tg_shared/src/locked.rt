@@ -10,10 +10,10 @@ use std::alloc::{AllocError, Global};
 use std::marker::Model;
 use std::sync::ledger::{Blank, Book, Share};
 use tg_journal::{Entry, Journal};
-use tg_model::{Command, Deed, Picture};
+use tg_model::{Command, Deed, Making, Picture};
 use tg_payload::{Draft, Payload};
 use tg_rights::Label;
-use tg_store::{ApplyFault, CreateFault, CreateRefused, Kind, Making, RoomFault, Store};
+use tg_store::{ApplyFault, CreateFault, CreateRefused, Kind, RoomFault, Store};
 use tg_subjects::Subject;
 
 /// What is behind the lock: the store, the book that counts its entries since it was shared, and the parts of the

@@ -3,7 +3,7 @@ ghost use Rattle.std.specs.Prelude.{◌≡◌, ◌⊎◌, ◌<◌, ◌≤◌, �
 ghost use Rattle.tg_model.specs.Graph.{ProtectionGraph, IsSubject};
 ghost use Rattle.tg_model.specs.declared.opening.TheConstants.{MAX_WORKERS};
 ghost use Rattle.tg_store.specs.Made.{IsMadeFor, MayRefuse};
-ghost use Rattle.tg_store.specs.Making.{deed_making};
+ghost use Rattle.tg_model.specs.Making.{deed_making};
 ghost use Rattle.tg_store.specs.Store.{StandsFor};
 ghost use Rattle.tg_shared.specs.Sessions.{MayNote, Records, RecordsNothing, reply_entered, reply_made};
 
@@ -11,10 +11,10 @@ use crate::round::Round;
 use crate::session::Session;
 use std::sync::ledger::Book;
 use tg_journal::Entry;
-use tg_model::{Reply, Value};
+use tg_model::{Making, Reply, Value};
 use tg_payload::{Draft, Payload};
 use tg_rights::Label;
-use tg_store::{CreateFault, CreateRefused, Making, Store};
+use tg_store::{CreateFault, CreateRefused, Store};
 
 /// Makes a vertex of a kind for the session's subject, by one call of the store, and notes the receipt of the entry
 /// that came of it, if one did.

@@ -27,10 +27,11 @@ use Rattle.tg_space.specs.declared.room_fault.RoomFault.TheVariants as no_room
 use Rattle.tg_store.specs.declared.fault.CreateFault.TheVariants as fault
 use Rattle.tg_store.specs.declared.making.Limit.{Limit}
 use Rattle.tg_store.specs.declared.making.Limit.TheVariants.{Vertices, Subjects}
-use Rattle.tg_store.specs.declared.making.Making.{Making}
-use Rattle.tg_store.specs.declared.making.Making.TheVariants.{Object, Subject}
+use Rattle.tg_model.specs.declared.making.Making.{Making}
+use Rattle.tg_model.specs.declared.making.Making.TheVariants.{Object, Subject}
 use Rattle.tg_store.specs.Faults.{create_fault_of}
-use Rattle.tg_store.specs.Making.{IsCreated, IsLimitMet, deed_making, fault_at, reply_at, subjects_making}
+use Rattle.tg_model.specs.Making.{deed_making, subjects_making}
+use Rattle.tg_store.specs.Making.{IsCreated, IsLimitMet, fault_at, reply_at}
 use Rattle.tg_store.specs.Store.{StoreState, StandsFor, Enters, IsStore, graph_of_store}
 use Rattle.tg_store.proofs.StandLaws.{IsStore-entered, StandsFor-entered, subject_here}
 

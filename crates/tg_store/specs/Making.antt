@@ -1,8 +1,6 @@
--- The two kinds of vertices that a store makes, the deeds by which it does, and what is told at a limit.
-use Rattle.std.specs.Prelude.{◌≡◌, ◌⊎◌, ◌<◌, ◌≤◌, ◌++◌, ◌∷◌, [], ℕ, List, Option, Some, None, length}
+-- What a store has once a vertex was made, and what is told at a limit.
+use Rattle.std.specs.Prelude.{◌≡◌, ◌⊎◌, ◌<◌, ◌≤◌, ℕ, Option, Some, None, length}
 use Rattle.tg_rights.specs.RightSet.{RightSet}
-use Rattle.tg_model.specs.declared.command.Deed.{Deed}
-use Rattle.tg_model.specs.declared.command.Deed.TheVariants.{Create, Spawn}
 use Rattle.tg_model.specs.declared.reply.Reply.{Reply}
 use Rattle.tg_model.specs.declared.reply.Reply.TheVariants.{VerticesFull, WorkersFull}
 use Rattle.tg_model.specs.declared.value.Value.{Value}
@@ -12,20 +10,10 @@ use Rattle.tg_model.specs.Rules.{with_value}
 use Rattle.tg_rows.specs.Content.{Content, IsContent, IsNamed}
 use Rattle.tg_store.specs.declared.fault.CreateFault.{CreateFault}
 use Rattle.tg_store.specs.declared.fault.CreateFault.TheVariants as fault
-use Rattle.tg_store.specs.declared.making.Making.{Making}
-use Rattle.tg_store.specs.declared.making.Making.TheVariants.{Object, Subject}
+use Rattle.tg_model.specs.declared.making.Making.{Making}
+use Rattle.tg_model.specs.declared.making.Making.TheVariants.{Subject}
 use Rattle.tg_store.specs.declared.making.Limit.{Limit}
 use Rattle.tg_store.specs.declared.making.Limit.TheVariants.{Vertices, Subjects}
-
--- the deed by which a vertex with this value is made
-abbrev pub deed_making : Making → RightSet → Value → Deed
-deed_making Object label value = Create label value.law value.state
-deed_making Subject label value = Spawn label value.law value.state
-
--- the names of the subjects once a vertex with this name was made
-abbrev pub subjects_making : Making → List ℕ → ℕ → List ℕ
-subjects_making Object subjects name = subjects
-subjects_making Subject subjects name = subjects ++ name ∷ []
 
 -- the content has a new vertex with a name, over which x has the rights of the label
 abbrev pub IsCreated : Content → Content → ℕ → ℕ → RightSet → Value → Type 0

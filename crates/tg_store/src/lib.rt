@@ -46,7 +46,6 @@ mod tallied;
 
 pub use census::{Census, Collections, Refusals};
 pub use fault::{ApplyFault, CreateFault, CreateRefused, OpenFault, OpenRefused, StoreAuditFault};
-pub use making::Making;
 pub use store::Store;
 pub use store_fault::StoreFault;
 pub use tg_space::{Kind, Limits, RoomFault};

@@ -1,4 +1,4 @@
-//! The two kinds of vertices that a store makes, and which limit stands in the way.
+//! Makes a vertex in a store, or tells which limit stands in the way.
 ghost use Rattle.std.specs.Prelude.{◌≡◌, ◌<◌, IfErr, IfOk, OnErr, OnOk, Some, length};
 ghost use Rattle.std.specs.List.{All};
 ghost use Rattle.tg_word.specs.Word.{nursery_space};
@@ -7,26 +7,18 @@ ghost use Rattle.tg_rows.specs.Content.{IsNamed};
 ghost use Rattle.tg_graph.specs.Heap.{IsActive, IsUnchangedHeap, content_of, nursery_of, subject_names};
 ghost use Rattle.tg_rows.specs.Spots.{IsMadeInRow, LacksCellsFor};
 ghost use Rattle.tg_store.specs.Counts.{refusal_told};
-ghost use Rattle.tg_store.specs.Making.{IsCreated, deed_making, fault_at, reply_at, subjects_making};
+ghost use Rattle.tg_model.specs.Making.{deed_making, subjects_making};
+ghost use Rattle.tg_store.specs.Making.{IsCreated, fault_at, reply_at};
 
 use crate::census::Refusal;
 use crate::fault::CreateFault;
 use crate::tallied::TalliedJournal;
 use std::alloc::{AllocError, Global};
 use tg_graph::{Heap, VertexRefused};
-use tg_model::{Deed, Reply, Value};
+use tg_model::{Deed, Making, Reply, Value};
 use tg_payload::{Draft, Payload};
 use tg_rights::Label;
 use tg_space::RoomFault;
-
-/// What a vertex that is made is.
-#[derive(Clone, Copy, PartialEq, Eq, Debug)]
-pub enum Making {
-    /// An object.
-    Object,
-    /// A subject, which issues commands of its own.
-    Subject,
-}
 
 /// A limit that is reached.
 #[derive(Clone, Copy, PartialEq, Eq, Debug)]
@@ -35,19 +27,6 @@ pub(crate) enum Limit {
     Vertices,
     /// As many subjects are active as may be.
     Subjects,
-}
-
-impl Making {
-    /// The deed by which a vertex with this value is made.
-    pub fn deed(self, label: Label, value: Value) -> Deed
-        ensures { result ≡ deed_making self label value }
-    {
-        let Value { law, state } = value;
-        match self {
-            Making::Object => Deed::Create { label, law, state },
-            Making::Subject => Deed::Spawn { label, law, state },
-        }
-    }
 }
 
 impl Limit {

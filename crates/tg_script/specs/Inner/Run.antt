@@ -6,8 +6,8 @@ use Rattle.tg_model.specs.declared.reply.Reply.TheVariants as reply
 use Rattle.tg_rights.specs.RightSet.{RightSet}
 use Rattle.tg_script.specs.Refusals.{create_answer}
 use Rattle.tg_store.specs.declared.fault.CreateRefused.{CreateRefused}
-use Rattle.tg_store.specs.declared.making.Making.{Making}
-use Rattle.tg_store.specs.declared.making.Making.TheVariants.{Object, Subject}
+use Rattle.tg_model.specs.declared.making.Making.{Making}
+use Rattle.tg_model.specs.declared.making.Making.TheVariants.{Object, Subject}
 use Rattle.tg_store.specs.Store.{StoreState, StandsFor}
 use Rattle.tg_text.specs.declared.line.Line.{Line}
 use Rattle.tg_text.specs.declared.line.Line.TheVariants as line

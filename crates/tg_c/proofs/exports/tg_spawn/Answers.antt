@@ -1,4 +1,4 @@
-use Rattle.tg_store.specs.declared.making.Making.TheVariants.{Subject}
+use Rattle.tg_model.specs.declared.making.Making.TheVariants.{Subject}
 use Rattle.tg_c.specs.Statuses.{TellsNumber}
 use Rattle.tg_c.proofs.CallLaws.{makes_told}
 use Rattle.tg_c.proofs.exports.tg_spawn.Goals as goal

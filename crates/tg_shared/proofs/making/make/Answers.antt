@@ -1,7 +1,7 @@
 use Rattle.std.proofs.Common.{◌≡◌, ◌∙◌, ℕ, rules, subst}
 use Rattle.std.proofs.lemmas.Result.{IfErr-weaker}
 use Rattle.tg_model.specs.declared.command.Deed.{Deed}
-use Rattle.tg_store.specs.Making.{deed_making}
+use Rattle.tg_model.specs.Making.{deed_making}
 use Rattle.tg_store.specs.Store.{Enters}
 use Rattle.tg_shared.proofs.Makings.{made_as}
 use Rattle.tg_shared.proofs.making.make.Goals.{in-Some, in_default}

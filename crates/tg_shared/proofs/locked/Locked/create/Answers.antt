@@ -3,7 +3,7 @@ use Rattle.std.proofs.Common.{◌≡◌, ◌≢◌, ap, refl, length, subst}
 use Rattle.std.proofs.lemmas.Result.{IfErr-weaker}
 use Rattle.tg_model.specs.declared.command.Deed.{Deed}
 use Rattle.tg_store.specs.declared.fault.CreateFault.{CreateFault}
-use Rattle.tg_store.specs.declared.making.Making.TheVariants.{Object, Subject}
+use Rattle.tg_model.specs.declared.making.Making.TheVariants.{Object, Subject}
 use Rattle.tg_store.specs.Store.{graph_of_store}
 use Rattle.tg_shared.specs.Sessions.{LockedState, RecordsNothing, reply_made}
 use Rattle.tg_shared.proofs.Makings.{locked_noted, refused_made}

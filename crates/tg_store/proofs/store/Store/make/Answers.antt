@@ -16,8 +16,9 @@ use Rattle.tg_graph.specs.Heap.{IsActive, content_of, nursery_of}
 use Rattle.tg_rows.specs.Spots.{IsMadeInRow, LacksCellsFor}
 use Rattle.tg_store.specs.Store.{StoreState, Enters, IsUnchanged, OnlyEnters, StandsFor, graph_of_store}
 use Rattle.tg_store.specs.declared.making.Limit.{Limit}
-use Rattle.tg_store.specs.declared.making.Making.{Making}
-use Rattle.tg_store.specs.Making.{IsLimitMet, deed_making, reply_at}
+use Rattle.tg_model.specs.declared.making.Making.{Making}
+use Rattle.tg_model.specs.Making.{deed_making}
+use Rattle.tg_store.specs.Making.{IsLimitMet, reply_at}
 use Rattle.tg_store.proofs.MakingLaws as making
 use Rattle.tg_store.proofs.StandLaws.{IsStore-unchanged, StandsFor-entered, subject_here, active_here}
 use Rattle.tg_store.proofs.store.Store.make.Goals as goal
