@@ -4,7 +4,8 @@ use Rattle.std.proofs.lemmas.Bool.{eqb-false, ne_eqb, cond_both, cond-true}
 use Rattle.std.specs.Prelude.{not}
 use Rattle.std.specs.List.{Contains}
 use Rattle.std.specs.List.Sorted.{IsStrictlyIncreasing}
-use Rattle.std.proofs.lemmas.List.Elements.{All-contains, All-contains_itself, All-filter, Contains-get_or}
+use Rattle.std.proofs.lemmas.List.Elements.{All-contains, All-contains_itself, All-filter, Contains-get_or, filter_passes}
+use Rattle.std.proofs.lemmas.List.Filters.{length-filter_both}
 use Rattle.std.proofs.lemmas.List.Kept.{IsStrictlyIncreasing-filter}
 use Rattle.tg_model.specs.declared.command.Command.{Command}
 use Rattle.tg_model.specs.declared.command.Command.TheVariants.{Retire}
@@ -24,11 +25,7 @@ first_or_later x z xs (suc k) l e = inr (k, omega arith, e)
 -- ---- one less
 
 pub length-without : (subjects : List ℕ) (x : ℕ) → length (without_subject subjects x) ≤ length subjects
-length-without [] x = omega arith
-length-without (s ∷ subjects) x =
-    let rest = length-without subjects x in
-    cond_both (not (s == x)) (s ∷ without_subject subjects x) (without_subject subjects x) (λ l. length l ≤ length (s ∷ subjects))
-    (λ _. omega (arith, rest)) (λ _. omega (arith, rest))
+length-without subjects x = let both = length-filter_both (λ s. not (s == x)) (λ s. not (not (s == x))) (λ s. refl) subjects in omega (arith, both)
 
 pub before_without : (subjects : List ℕ) (x y : ℕ) → Contains (without_subject subjects x) y → Contains subjects y
 before_without subjects x y is =
@@ -42,11 +39,8 @@ passed true is = sym is
 passed false is = refl
 
 gone : (subjects : List ℕ) (x : ℕ) → Contains (without_subject subjects x) x → ⊥
-gone [] x = λ (k, inside, at). omega (arith, inside)
-gone (s ∷ subjects) x =
-    cond_both (not (s == x)) (s ∷ without_subject subjects x) (without_subject subjects x) (λ l. Contains l x → ⊥)
-    (λ other (k, inside, at). ⊎_elim (eqb-false s x (passed (s == x) other)) (gone subjects x) (first_or_later s x (without_subject subjects x) k inside at))
-    (λ _. gone subjects x)
+gone subjects x is =
+    eqb-false x x (passed (x == x) (All-contains (λ s. not (s == x) ≡ true) (without_subject subjects x) x (filter_passes (λ s. not (s == x)) subjects) is)) refl
 
 after_without : (subjects : List ℕ) (x y : ℕ) → Contains subjects y → y ≢ x → Contains (without_subject subjects x) y
 after_without [] x y (k, inside, at) other = absurd (omega (arith, inside))

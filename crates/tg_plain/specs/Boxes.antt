@@ -1,8 +1,5 @@
--- What new boxes store, and the deeds that make vertices with them.
-use Rattle.std.specs.Prelude.{Bool, true, false, [], ◌∷◌}
-use Rattle.tg_rights.specs.RightSet.{RightSet}
-use Rattle.tg_model.specs.declared.command.Deed.{Deed}
-use Rattle.tg_model.specs.declared.command.Deed.TheVariants as deed
+-- What new boxes store.
+use Rattle.std.specs.Prelude.{[], ◌∷◌}
 use Rattle.tg_model.specs.declared.law.Law.TheVariants as law
 use Rattle.tg_model.specs.declared.value.Value.{Value}
 use Rattle.tg_text.specs.declared.stock.StockItem.{StockItem}
@@ -14,8 +11,3 @@ value_of_box Cell = record { law = law.Cell; state = 0 ∷ [] }
 value_of_box Sum = record { law = law.Sum; state = 0 ∷ [] }
 value_of_box Max = record { law = law.Max; state = 0 ∷ [] }
 value_of_box Log = record { law = law.Log 4; state = [] }
-
--- the making of an object, or of a subject, over which who makes it has these rights
-abbrev pub making_of : Bool → RightSet → Value → Deed
-making_of false label value = deed.Create label value.law value.state
-making_of true label value = deed.Spawn label value.law value.state

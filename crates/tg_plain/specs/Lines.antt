@@ -1,14 +1,16 @@
 -- The graph that the lines of a script leave, with no collection, and how many boxes of its stock they take.
-use Rattle.std.specs.Prelude.{◌≡◌, ◌⊎◌, ℕ, ◌+◌, ◌<◌, ◌≤◌, ◌-◌, true, false, List, [], ◌∷◌, length, slice_index_or, map, replicate, nat_lt, if◌then◌else◌}
+use Rattle.std.specs.Prelude.{◌≡◌, ◌⊎◌, ℕ, ◌+◌, ◌<◌, ◌≤◌, ◌-◌, List, [], ◌∷◌, length, slice_index_or, map, replicate, nat_lt, if◌then◌else◌}
 use Rattle.tg_model.specs.declared.command.Deed.{Deed}
 use Rattle.tg_model.specs.declared.command.Deed.TheVariants as deed
 use Rattle.tg_model.specs.declared.value.Value.{Value}
 use Rattle.tg_model.specs.Graph.{ProtectionGraph, IsSubject}
+use Rattle.tg_model.specs.declared.making.Making.TheVariants.{Object, Subject}
+use Rattle.tg_model.specs.Making.{deed_making}
 use Rattle.tg_model.specs.Rules.{step}
 use Rattle.tg_model.specs.Picture.{IsPictureOf}
 use Rattle.tg_model.specs.Plain.{graph_of}
 use Rattle.tg_model.specs.Opened.{start_of}
-use Rattle.tg_plain.specs.Boxes.{value_of_box, making_of}
+use Rattle.tg_plain.specs.Boxes.{value_of_box}
 use Rattle.tg_plain.specs.declared.options.PlainOptions.{PlainOptions}
 use Rattle.tg_plain.specs.declared.outcome.Outcome.{Outcome}
 use Rattle.tg_plain.specs.declared.run.PlainRun.{PlainRun}
@@ -42,8 +44,8 @@ Makes stock s x making t =
 -- a line leads from one stage to the other; a collection changes nothing, and neither does an edge line, which the graph began with
 abbrev pub Leads : List StockItem → Stage → Line → Stage → Type 0
 Leads stock s (line.Edge edge) t = t ≡ s
-Leads stock s (line.Create x label) t = Makes stock s x (making_of false label) t
-Leads stock s (line.Spawn x label) t = Makes stock s x (making_of true label) t
+Leads stock s (line.Create x label) t = Makes stock s x (deed_making Object label) t
+Leads stock s (line.Spawn x label) t = Makes stock s x (deed_making Subject label) t
 Leads stock s (line.Plain x command) t = Steps s.graph x (deed.Plain command) t.graph × (t.taken ≡ s.taken)
 Leads stock s line.Full t = t ≡ s
 Leads stock s line.Minor t = t ≡ s

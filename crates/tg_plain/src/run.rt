@@ -1,13 +1,14 @@
 //! A script, run on the plain graph.
 ghost use Rattle.std.specs.Prelude.{◌≡◌, ◌<◌, ◌+◌, ◌^◌, nat_lt, if◌then◌else◌, IfOk, OnOk, OnErr, replicate};
+ghost use Rattle.tg_model.specs.Making.{deed_making};
 ghost use Rattle.tg_model.specs.Rules.{DeedFits};
 ghost use Rattle.tg_text.specs.declared.stock.StockItem.TheVariants as StockItem;
-ghost use Rattle.tg_plain.specs.Boxes.{value_of_box, making_of};
+ghost use Rattle.tg_plain.specs.Boxes.{value_of_box};
 
 use crate::fault::PlainFault;
 use crate::script::Script;
 use std::alloc::{AllocError, Global};
-use tg_model::{Deed, Graph, Law, Numbers, Opening, Picture, Value};
+use tg_model::{Deed, Graph, Law, Making, Numbers, Opening, Picture, Value};
 use tg_rights::Label;
 use tg_text::{Answer, Line, Refusal, StockItem};
 
@@ -57,8 +58,8 @@ impl PlainRun {
         ensures err { OnErr result (self.new ≡ self.old) }
     {
         match *line {
-            Line::Create { worker, label } => self.make(stock, worker, label, false),
-            Line::Spawn { worker, label } => self.make(stock, worker, label, true),
+            Line::Create { worker, label } => self.make(stock, worker, label, Making::Object),
+            Line::Spawn { worker, label } => self.make(stock, worker, label, Making::Subject),
             Line::Plain { worker, command } => self.apply(worker, &Deed::Plain(command)),
             Line::Full | Line::Minor | Line::Edge(_) => Ok(Answer::Collected(None)),
         }
@@ -77,9 +78,9 @@ impl PlainRun {
         stock: &[StockItem],
         worker: u64,
         label: Label,
-        as_subject: bool,
+        making: Making,
     ) -> Result<Answer, AllocError>
-        ensures ok { OnOk result (Makes stock.now (stage_of self.old) worker (making_of as_subject label) (stage_of self.new)) }
+        ensures ok { OnOk result (Makes stock.now (stage_of self.old) worker (deed_making making label) (stage_of self.new)) }
         ensures err { OnErr result (self.new ≡ self.old) }
     {
         if self.taken >= stock.len() {
@@ -87,7 +88,7 @@ impl PlainRun {
         }
         let kind = stock[self.taken];
         let made = self.graph.made();
-        let answer = self.apply(worker, &deed_of(label, kind, as_subject))?;
+        let answer = self.apply(worker, &deed_of(label, kind, making))?;
         self.taken = taken_after(self.taken, made, self.graph.made());
         Ok(answer)
     }
@@ -130,16 +131,11 @@ fn cells(alloc: Global, number: u64) -> Result<Vec<Value>, AllocError>
 }
 
 // The making of a subject or an object that stores a new box.
-fn deed_of(label: Label, kind: StockItem, as_subject: bool) -> Deed
-    ensures made { result ≡ making_of as_subject label (value_of_box kind) }
+fn deed_of(label: Label, kind: StockItem, making: Making) -> Deed
+    ensures made { result ≡ deed_making making label (value_of_box kind) }
     ensures fits { DeedFits result }
 {
-    let Value { law, state } = value_of(kind);
-    if as_subject {
-        Deed::Spawn { label, law, state }
-    } else {
-        Deed::Create { label, law, state }
-    }
+    making.deed(label, value_of(kind))
 }
 
 /// What a new box stores.
