@@ -5,6 +5,7 @@
 //! Contracts see the words of the lower bits.
 ghost use Rattle.std.specs.Prelude.{◌≡◌, ℕ, List, ◌*◌, ◌^◌, ◌<◌, ◌≤◌, [], length, None, IfSome, OnOk};
 ghost use Rattle.tg_index.specs.Bits.{AreMarks, IsFirstOf, IsNextFrom, SetsBit, bit_of};
+ghost use Rattle.tg_index.specs.Inner.Steps.{MakesRoomFor, MayLengthen};
 
 use crate::bits::{BITS, Bits, MOST_WORDS};
 use std::alloc::{AllocError, Global};
@@ -59,8 +60,7 @@ impl NumberSet {
     // Makes room for the numbers below this one, word by word.
     #[inline(never)]
     fn reserve_words(&mut self, numbers: usize) -> Result<(), AllocError>
-        ensures room { OnOk result (numbers ≤ 64 * length self.new) }
-        ensures kept { (n : ℕ) → bit_of self.new n ≡ bit_of self.old n }
+        ensures { MakesRoomFor self.old self.new numbers result }
     {
         while self.room() < numbers {
             self.lengthen(self.room())?;
@@ -82,9 +82,7 @@ impl NumberSet {
     pub(crate) fn lengthen(&mut self, place: usize) -> Result<(), AllocError>
         requires { place ≤ 64 * length self.old }
         ensures room { OnOk result (place < 64 * length self.new) }
-        ensures longer { length self.old ≤ length self.new }
-        ensures few { 64 * length self.new ≤ 2 ^ 32 }
-        ensures kept { (n : ℕ) → bit_of self.new n ≡ bit_of self.old n }
+        ensures words { MayLengthen self.old self.new }
     {
         let words = self.places.words.len();
         if place / 64 < words {

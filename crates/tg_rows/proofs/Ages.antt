@@ -16,8 +16,6 @@ use Rattle.tg_word.specs.declared.Place.{Place}
 use Rattle.tg_space.specs.Targets.{from_space}
 use Rattle.tg_space.specs.declared.kind.Kind.{Kind}
 use Rattle.tg_space.specs.declared.kind.Kind.TheVariants.{Full, Nursery}
-use Rattle.tg_index.specs.Bits.{bit_of}
-use Rattle.tg_rows.specs.Inner.Cells.{CellList}
 use Rattle.tg_rows.specs.Index.{AreAged, HasIndexAt, IsAged, IsOldPlace, IsOldRow, followed_place}
 use Rattle.tg_rows.specs.declared.indexed_row.IndexedRow.{IndexedRow}
 
@@ -238,14 +236,3 @@ old_or_behind es old aged name at was later still = by_place (cases_lt at old)
     by_place : (at < old) ⊎ (old ≤ at) → (old ≤ at) ⊎ IsOldRow later
     by_place (inl before) = inr (still (subst (λ (e : Entry). IsOldRow e.1) (slice_get_is es at (name, was.row) was.here) (old_row_at es old aged at (name, was.row) before)))
     by_place (inr behind) = inl behind
-
--- the cells and how many are known to be old are as they were
-pub same_aged : (row later : IndexedRow) → later.cells ≡ row.cells → later.old_cells ≡ row.old_cells → later.noted ≡ row.noted → (IsAged row → IsAged later) × (IsOldRow row → IsOldRow later)
-same_aged row later cells known marks = (
-  λ aged. record {
-    within = let low = aged.within in omega (arith, low, known, ap (λ (v : CellList). length v.items) cells);
-    cells = subst (All IsOldPlace) (sym (ap (λ n. take n later.cells.items) known ∙ ap (λ (v : CellList). take row.old_cells v.items) cells)) aged.cells;
-    marks = λ n here. let low = aged.marks n (ap (λ (words : List ℕ). bit_of words n) (sym marks) ∙ here) in omega (arith, low, known);
-  },
-  λ old. known ∙ old ∙ sym (ap (λ (v : CellList). length v.items) cells),
-)

@@ -19,7 +19,8 @@ use Rattle.tg_space.specs.Collection.{new_place}
 use Rattle.tg_space.specs.Targets.{from_space}
 use Rattle.tg_space.specs.declared.kind.Kind.{Kind}
 use Rattle.tg_space.specs.declared.kind.Kind.TheVariants.{Full, Nursery}
-use Rattle.tg_rows.specs.Index.{AreAged, AreFollowed, IsAged, IsFollowable, IsFollowed, IsFollowedTo, IsLeftBehind, IsNumbered, IsOldPlace, IsOldRow, IsMarked, followed_place, known_notes}
+use Rattle.tg_rows.specs.Index.{AreAged, AreFollowed, IsAged, IsFollowed, IsFollowedTo, IsLeftBehind, IsOldPlace, IsOldRow, IsMarked, followed_place}
+use Rattle.tg_rows.specs.Inner.Followed.{CanFollow}
 use Rattle.tg_rows.specs.declared.indexed_row.IndexedRow.{IndexedRow}
 use Rattle.tg_rows.specs.declared.followed.Fate.TheVariants.{Gone, Young, Old}
 use Rattle.tg_rows.proofs.Ages.{exchanged_none, exchanged_second, first_below, map_same, old_row_at, slice_get_is, value_here, value_of, value_other, written_aged}
@@ -90,8 +91,8 @@ old_followed starts forward notes rows name row was marked aged old = record {
         subst IsOldPlace (slice_get_is row.cells.items 0 p first) (all_old 0 p low)
 
 -- the first rows needn't be looked at
-pub follow_begins : (kind : Kind) (starts forward : List ℕ) (notes : List Place) (es : Entries) (first words : ℕ) → ((name : ℕ) (row : IndexedRow) → lookup (nat_eq name) es ≡ Some row → IsFollowable starts words (known_notes kind notes) row) → AreAged es first → (kind ≡ Full → first ≡ 0) → IsDistinct nat_eq (keys_of es) → AreFollowedTo kind starts forward notes es es first
-follow_begins kind starts forward notes es first words able aged full unique = record {
+pub follow_begins : (kind : Kind) (starts forward : List ℕ) (notes : List Place) (es : Entries) (first : ℕ) → ((name : ℕ) (row : IndexedRow) → lookup (nat_eq name) es ≡ Some row → CanFollow kind starts forward notes row) → AreAged es first → (kind ≡ Full → first ≡ 0) → IsDistinct nat_eq (keys_of es) → AreFollowedTo kind starts forward notes es es first
+follow_begins kind starts forward notes es first able aged full unique = record {
   done = λ j d low inside. first_done kind able full j d low inside;
   todo = λ j d high inside. found_at j d inside;
   kept = λ name row found. inl (ap (λ (o : Option IndexedRow). is_some o) found);
@@ -100,11 +101,11 @@ follow_begins kind starts forward notes es first words able aged full unique = r
     found_at : (j : ℕ) (d : Entry) → j < length es → lookup (nat_eq (get_or es j d).0) es ≡ Some (get_or es j d).1
     found_at j d inside = lookup-from_Contains nat_eq_equiv (get_or es j d).0 (get_or es j d).1 es unique (Contains-get_or es j d inside)
 
-    first_done : (k : Kind) → ((name : ℕ) (row : IndexedRow) → lookup (nat_eq name) es ≡ Some row → IsFollowable starts words (known_notes k notes) row) → (k ≡ Full → first ≡ 0) → (j : ℕ) (d : Entry) → j < first → j < length es → IsFollowed k starts forward notes es (get_or es j d).0 (get_or es j d).1
+    first_done : (k : Kind) → ((name : ℕ) (row : IndexedRow) → lookup (nat_eq name) es ≡ Some row → CanFollow k starts forward notes row) → (k ≡ Full → first ≡ 0) → (j : ℕ) (d : Entry) → j < first → j < length es → IsFollowed k starts forward notes es (get_or es j d).0 (get_or es j d).1
     first_done Full can none j d low inside = let zero_rows = none refl in absurd (omega (arith, zero_rows))
     first_done Nursery can none j d low inside =
         let was = found_at j d inside in
-        old_followed starts forward notes es (get_or es j d).0 (get_or es j d).1 was (can (get_or es j d).0 (get_or es j d).1 was).marked (aged.each j d inside) (old_row_at es first aged j d low)
+        old_followed starts forward notes es (get_or es j d).0 (get_or es j d).1 was (can (get_or es j d).0 (get_or es j d).1 was).able.marked (aged.each j d inside) (old_row_at es first aged j d low)
 
 pub follow_ends : (kind : Kind) (starts forward : List ℕ) (notes : List Place) (rows es : Entries) (at : ℕ) → AreFollowedTo kind starts forward notes rows es at → length es ≤ at → AreFollowed kind starts forward notes rows es
 follow_ends kind starts forward notes rows es at followed all = record {
@@ -302,23 +303,9 @@ followed_swapped kind starts forward notes rows later swapped old at inside low 
     read : (j : ℕ) (d : Entry) → get_or (swap later at old) j d ≡ get_or later (exchange at old j) d
     read j d = get_or-swap later at old d inside (omega arith) j
 
--- ---- what is asked of the row at a place
-
-module _ (kind : Kind) (starts forward : List ℕ) (notes : List Place) (rows es : Entries) (old at : ℕ) (inside : at < length es) (followed : AreFollowedTo kind starts forward notes rows es at) (aged : AreAged es old)
-    (words : ℕ) (able : (name : ℕ) (r : IndexedRow) → lookup (nat_eq name) rows ≡ Some r → IsFollowable starts words (known_notes kind notes) r) (row : IndexedRow) (found : slice_get (values_of es) at ≡ Some row) where
-  can_follow : IsFollowable starts words (known_notes kind notes) row
-  can_follow =
-      able (get_or es at (0, row)).0 row
-      (subst (λ (r : IndexedRow). lookup (nat_eq (get_or es at (0, row)).0) rows ≡ Some r) (value_of es at row (0, row) found) (followed.todo at (0, row) (omega arith) inside))
-
-  pub cells_numbered : All (IsNumbered starts words) row.cells.items
-  cells_numbered = can_follow.numbered
-
-  pub some_cell : 0 < length row.cells.items
-  some_cell = can_follow.some
-
-  pub aged_here : IsAged row
-  aged_here = subst IsAged (value_of es at row (0, row) found) (aged.each at (0, row) inside)
-
-  pub marked_here : IsMarked (known_notes kind notes) row
-  marked_here = can_follow.marked
+-- what is asked of the row at a place
+pub can_follow : (kind : Kind) (starts forward : List ℕ) (notes : List Place) (rows es : Entries) (at : ℕ) → at < length es → AreFollowedTo kind starts forward notes rows es at →
+    ((name : ℕ) (r : IndexedRow) → lookup (nat_eq name) rows ≡ Some r → CanFollow kind starts forward notes r) → (row : IndexedRow) → slice_get (values_of es) at ≡ Some row → CanFollow kind starts forward notes row
+can_follow kind starts forward notes rows es at inside followed can row found =
+    can (get_or es at (0, row)).0 row
+    (subst (λ (r : IndexedRow). lookup (nat_eq (get_or es at (0, row)).0) rows ≡ Some r) (value_of es at row (0, row) found) (followed.todo at (0, row) (omega arith) inside))

@@ -14,7 +14,7 @@ use Rattle.tg_space.proofs.Flat.{length-cells_of}
 use Rattle.tg_space.proofs.Tables.{count_few, table_list}
 use Rattle.tg_index.specs.Slots.{Slots, HasVacant, IsFirstVacant, IsIndexOf, PutsAt, place_number}
 use Rattle.tg_rows.specs.Content.{IsNamed}
-use Rattle.tg_rows.specs.Inner.Following.{AreBehind, IsBehind, IsNarrowed, IsNotedIn, IsPutAt, IsReady, IsWay}
+use Rattle.tg_rows.specs.Inner.Following.{AreBehind, IsBehind, IsNarrowed, IsNotedIn, IsPutAt, IsReady, IsReadyAt, IsWay}
 use Rattle.tg_rows.specs.Graph.{content_in}
 use Rattle.tg_rows.specs.Index.{Indexes, IsRowIndex, KeepsOtherIndexes}
 use Rattle.tg_rows.specs.Rows.{IsRow, IsVertexAt, name_at}
@@ -247,3 +247,7 @@ pub ready_way : (h : SpaceList) (rows : Indexes) (from : Place) (way : Way) → 
 ready_way h rows from Walk is = is.none
 ready_way h rows from (Index at) is = is.here
 ready_way h rows from (New row) is = (is.none, is.index)
+
+-- the index that stands there is ready for the change
+pub ready_there : (rows inside : Indexes) → inside ≡ rows → (h : SpaceList) (from : Place) (way : Way) (at : ℕ) → way ≡ Index at → IsReady h rows from way → IsReadyAt inside (name_at h from) at
+ready_there rows inside same h from way at is ready = subst (λ (s : Indexes). IsReadyAt s (name_at h from) at) (sym same) (subst (λ (w : Way). IsReady h rows from w) is ready)

@@ -1,5 +1,5 @@
 -- The indexes of a heap's rows, once one row was changed.
-use Rattle.std.proofs.Common.{◌≡◌, ◌≢◌, ℕ, Bool, true, false, cond, List, Option, Some, None, is_some, nat_eq, refl, sym, ap, subst, ◌∙◌}
+use Rattle.std.proofs.Common.{◌≡◌, ◌≢◌, ℕ, Bool, true, false, cond, List, Option, Some, None, Result, Err, is_some, nat_eq, refl, sym, ap, subst, ◌∙◌}
 use Rattle.std.specs.Map.{lookup}
 use Rattle.std.proofs.lemmas.Bool.Decides.{Decides-eqb}
 use Rattle.tg_word.specs.declared.Place.{Place}
@@ -8,7 +8,10 @@ use Rattle.tg_space.specs.SpaceList.{SpaceList}
 use Rattle.tg_space.specs.Soundness.{IsKindAt}
 use Rattle.tg_payload.specs.Table.{Payloads}
 use Rattle.tg_rows.specs.Graph.{IsGraph}
-use Rattle.tg_rows.specs.Index.{AreIndexed, IsIndexed, IsMarked, IsRowIndex, KeepsOtherIndexes, MayIndex, SameIndexed, indexed_in}
+use Rattle.tg_rows.specs.Inner.Deeds.{FollowsChange, KeepsIndexed}
+use Rattle.tg_rows.specs.declared.cells.Cells.{Cells}
+use Rattle.tg_space.specs.SpaceTable.{SpaceTable}
+use Rattle.tg_rows.specs.Index.{AreIndexed, Indexes, IsIndexed, IsMarked, IsRowIndex, KeepsOtherIndexes, MayIndex, SameIndexed, indexed_in}
 use Rattle.tg_rows.specs.Rows.{IsVertexAt, name_at}
 use Rattle.tg_rows.specs.declared.indexed_row.IndexedRow.{IndexedRow}
 use Rattle.indexmap.specs.Layout.{set_value_at}
@@ -114,3 +117,12 @@ module _ (own : ℕ) (rows later : Entries) (row : IndexedRow) (added : (q : ℕ
       by_test : (x : ℕ) → x ≢ own → (b : Bool) → nat_eq own x ≡ b → indexed_in later x ≡ indexed_in rows x
       by_test x other true same = absurd (other (sym ((Decides-eqb own x).0 same)))
       by_test x other false apart = ap (λ (o : Option IndexedRow). is_some o) (added x) ∙ ap (λ (b : Bool). is_some (cond b (Some row) (lookup (nat_eq x) rows))) apart
+
+-- where a change is refused, the indexes are those of the rows still
+pub change_refused : {P A E : Type 0} (old new : Cells P) (rows later : Indexes) (p : Place) (result : Result A E) (e : E) → result ≡ Err e → new.spaces ≡ old.spaces → new.remembered.places ≡ old.remembered.places → KeepsIndexed old rows later → FollowsChange old new rows later p result
+change_refused old new rows later p result e is spaces places kept = record {
+  indexed = subst (λ (x : SpaceTable). AreIndexed x.spaces new.remembered.places later.entries) (sym spaces) (subst (λ (ps : List Place). AreIndexed old.spaces.spaces ps later.entries) (sym places) kept.indexed);
+  long = rw is tt;
+  names = may_index (name_at old.spaces.spaces p) rows.entries later.entries kept.kept;
+  kept = rw is kept.kept;
+}

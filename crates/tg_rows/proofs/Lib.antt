@@ -35,3 +35,4 @@ pub mod Written
 pub mod Linked
 pub mod Results
 pub mod OneCell
+pub mod Looking

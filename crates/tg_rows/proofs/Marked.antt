@@ -7,7 +7,7 @@ use Rattle.std.proofs.lemmas.List.{get_or-map, get_or-take, get_or_default, leng
 use Rattle.std.proofs.lemmas.List.Elements.{All-nil, Contains-get_or}
 use Rattle.std.proofs.lemmas.Nat.Bits.{bit_at-zero}
 use Rattle.std.proofs.Math.Seq.{take-append-le}
-use Rattle.std.proofs.lemmas.Option.{none-some, slice_get-get_or}
+use Rattle.std.proofs.lemmas.Option.{none-some, same_Some, slice_get-get_or}
 use Rattle.tg_word.specs.declared.Place.{Place}
 use Rattle.tg_block.specs.declared.CellKind.TheVariants.{Object}
 use Rattle.tg_remember.proofs.NoteLemmas.{Contains-noted}
@@ -20,7 +20,6 @@ use Rattle.tg_space.specs.declared.kind.Kind.TheVariants.{Full as FullKind, Nurs
 use Rattle.tg_payload.specs.Table.{Payloads}
 use Rattle.tg_index.specs.Bits.{SetsBit, bit_of}
 use Rattle.tg_index.specs.Slots.{Slots, IsFirstVacant}
-use Rattle.tg_rows.specs.Inner.Cells.{CellList}
 use Rattle.tg_rows.specs.Graph.{IsGraph}
 use Rattle.tg_rows.specs.Index.{IsAged, IsMarked, IsOldPlace, IsPlaceOf, IsRowIndex, row_slots, followed_place}
 use Rattle.tg_rows.specs.Rows.{IsRow}
@@ -49,10 +48,6 @@ marked_by places row later cells old marks is = record {
   aged = aged_by row later cells old marks is.aged;
   marked = λ n d low has. marks n ∙ is.marked n d (omega (arith, low, old)) (subst (λ (ps : List Place). Contains places (get_or ps n d)) cells has);
 }
-
--- the cells and the marks are as they were
-pub marked_same : (places : List Place) (row later : IndexedRow) → later.cells ≡ row.cells → later.old_cells ≡ row.old_cells → later.noted ≡ row.noted → IsMarked places row → IsMarked places later
-marked_same places row later cells old marks = marked_by places row later (ap (λ (v : CellList). v.items) cells) old (λ n. ap (λ (words : List ℕ). bit_of words n) marks)
 
 -- no cell is known to lie in Old
 pub none_aged : (row : IndexedRow) → row.old_cells ≡ 0 → ((n : ℕ) → bit_of row.noted n ≡ 0) → IsAged row
@@ -184,50 +179,41 @@ marked_moved kind starts to notes row later is full moved old marks = record {
 -- ---- marks, while notes are gone through
 
 -- a mark goes, of a cell that isn't noted
-pub forgot_one : (notes : List Place) (row later : IndexedRow) (number : ℕ) (cell : Place) → later.cells ≡ row.cells → later.old_cells ≡ row.old_cells → SetsBit row.noted later.noted number 0 → get_or row.cells.items number cell ≡ cell → (Contains notes cell → ⊥) → IsMarked notes row → IsMarked notes later
-forgot_one notes row later number cell same_cells old sets at unnoted is = record {
+pub forgot_one : (notes : List Place) (row : IndexedRow) (marks : List ℕ) (number : ℕ) (cell : Place) → SetsBit row.noted marks number 0 → get_or row.cells.items number cell ≡ cell → (Contains notes cell → ⊥) → IsMarked notes row →
+    IsMarked notes (record { names = row.names; cells = row.cells; old_cells = row.old_cells; noted = marks })
+forgot_one notes row marks number cell sets at unnoted is = record {
   aged = record {
-    within = let low = is.aged.within in omega (arith, low, old, ap (λ (ps : List Place). length ps) cells);
-    cells = subst (All IsOldPlace) (sym (ap (λ n. take n later.cells.items) old ∙ ap (take row.old_cells) cells)) is.aged.cells;
+    within = is.aged.within;
+    cells = is.aged.cells;
     marks = λ n here.
-        ⊎_elim (λ same. let no : 1 ≡ 0 = sym here ∙ ap (λ k. bit_of later.noted k) same ∙ sets.here in absurd (omega (arith, no)))
-        (λ other. let low = is.aged.marks n (sym (sets.others n other) ∙ here) in omega (arith, low, old))
+        ⊎_elim (λ same. let no : 1 ≡ 0 = sym here ∙ ap (λ k. bit_of marks k) same ∙ sets.here in absurd (omega (arith, no)))
+        (λ other. is.aged.marks n (sym (sets.others n other) ∙ here))
         (cases_eq n number);
   };
   marked = λ n d low has.
       let within = is.aged.within in
       ⊎_elim
       (λ (same : n ≡ number).
-      let here : get_or row.cells.items n d ≡ cell = get_or_default row.cells.items n d cell (omega (arith, low, old, within)) ∙ ap (λ k. get_or row.cells.items k cell) same ∙ at in
-      absurd (unnoted (subst (Contains notes) here (subst (λ (ps : List Place). Contains notes (get_or ps n d)) cells has))))
-      (λ other. sets.others n other ∙ is.marked n d (omega (arith, low, old)) (subst (λ (ps : List Place). Contains notes (get_or ps n d)) cells has))
+      let here : get_or row.cells.items n d ≡ cell = get_or_default row.cells.items n d cell (omega (arith, low, within)) ∙ ap (λ k. get_or row.cells.items k cell) same ∙ at in
+      absurd (unnoted (subst (Contains notes) here has)))
+      (λ other. sets.others n other ∙ is.marked n d low has)
       (cases_eq n number);
 }
-  where
-    cells : later.cells.items ≡ row.cells.items
-    cells = ap (λ (v : CellList). v.items) same_cells
 
 -- one more cell is known to lie in Old, and is marked where it is noted
-pub aged_one : (notes : List Place) (row later : IndexedRow) → later.cells ≡ row.cells → later.old_cells ≡ row.old_cells + 1 → ((n : ℕ) → bit_of later.noted n ≡ 1 → n < row.old_cells + 1) → ((n : ℕ) → bit_of row.noted n ≡ 1 → bit_of later.noted n ≡ 1) →
-    (d : Place) → row.old_cells < length row.cells.items → IsOldPlace (get_or row.cells.items row.old_cells d) → (Contains notes (get_or row.cells.items row.old_cells d) → bit_of later.noted row.old_cells ≡ 1) → IsMarked notes row → IsMarked notes later
-aged_one notes row later same_cells old only more d inside here noted is = record {
-  aged = record {
-    within = omega (arith, inside, old, ap (λ (ps : List Place). length ps) cells);
-    cells = subst (All IsOldPlace) (sym (ap (λ n. take n later.cells.items) old ∙ ap (take (row.old_cells + 1)) cells)) (one_more IsOldPlace row.cells.items row.old_cells d inside is.aged.cells here);
-    marks = λ n set. let low = only n set in omega (arith, low, old);
-  };
+pub aged_one : (notes : List Place) (row : IndexedRow) (marks : List ℕ) → ((n : ℕ) → bit_of marks n ≡ 1 → n < row.old_cells + 1) → ((n : ℕ) → bit_of row.noted n ≡ 1 → bit_of marks n ≡ 1) →
+    (d : Place) → row.old_cells < length row.cells.items → IsOldPlace (get_or row.cells.items row.old_cells d) → (Contains notes (get_or row.cells.items row.old_cells d) → bit_of marks row.old_cells ≡ 1) → IsMarked notes row →
+    IsMarked notes (record { names = row.names; cells = row.cells; old_cells = row.old_cells + 1; noted = marks })
+aged_one notes row marks only more d inside here noted is = record {
+  aged = record { within = omega (arith, inside); cells = one_more IsOldPlace row.cells.items row.old_cells d inside is.aged.cells here; marks = only };
   marked = λ n e low has.
-      let was : Contains notes (get_or row.cells.items n e) = subst (λ (ps : List Place). Contains notes (get_or ps n e)) cells has in
       ⊎_elim
       (λ (same : n ≡ row.old_cells).
       let at : get_or row.cells.items n e ≡ get_or row.cells.items row.old_cells d = ap (λ k. get_or row.cells.items k e) same ∙ get_or_default row.cells.items row.old_cells e d inside in
-      ap (λ k. bit_of later.noted k) same ∙ noted (subst (Contains notes) at was))
-      (λ other. more n (is.marked n e (omega (arith, low, old, other)) was))
+      ap (λ k. bit_of marks k) same ∙ noted (subst (Contains notes) at has))
+      (λ other. more n (is.marked n e (omega (arith, low, other)) has))
       (cases_eq n row.old_cells);
 }
-  where
-    cells : later.cells.items ≡ row.cells.items
-    cells = ap (λ (v : CellList). v.items) same_cells
 
 -- where none is remembered, no mark is needed
 pub unmarked : (notes : List Place) → length notes ≡ 0 → (later : IndexedRow) → later.old_cells ≤ length later.cells.items → All IsOldPlace (take later.old_cells later.cells.items) → ((n : ℕ) → bit_of later.noted n ≡ 1 → n < later.old_cells) → IsMarked notes later
@@ -237,12 +223,6 @@ unmarked notes none later within old marks = record {
 }
 
 -- ---- which cell is noted
-
-some_is : {x y : Place × ℕ} → Some x ≡ Some y → x ≡ y
-some_is both = cc
-
-some_number : {n m : ℕ} → Some n ≡ Some m → n ≡ m
-some_number both = cc
 
 noted_if : (wanted : Bool) (c : Place) (cell : Place) → old_cell_if wanted c ≡ Some cell → c ≡ cell
 noted_if wanted c cell is = by_test (cases_Bool (wanted && not (young_spaces c.space)))
@@ -281,7 +261,7 @@ module _ (h : SpaceList) (is : IsSpaceList h) (from : Place) (row : IsRow h from
             let q = get_or cells number cell in
             let place : IsPlaceOf cells n (q, n + 4 - number * 6) = record { number = number; cell = slice_get-get_or cells number cell inside; inside = inside; is = omega arith; from = omega arith; to = omega arith } in
             let both : Some (q, n + 4 - number * 6) ≡ Some (c, i) = sym (empty_nth h is from row s cells index n q (n + 4 - number * 6) first place) ∙ found.1 in
-            let here : q ≡ c = ap (λ (e : Place × ℕ). e.0) (some_is both) in
+            let here : q ≡ c = ap (λ (e : Place × ℕ). e.0) (same_Some _ _ both) in
             here ∙ noted_if note.young c cell (sym same)
         by_spot (Full last) found same (Some n) first some none =
             let at = some n refl in
@@ -362,5 +342,5 @@ module _ (h : SpaceList) (is : IsSpaceList h) (sound : AreSound h []) (from : Pl
           let inside : number < length cells = omega arith in
           same_number number m cell inside
           (note_number h is from row s cells index cell note (Some n) first number inside
-          (λ k same. let both : n ≡ k = some_number same in (omega (arith, both), omega (arith, both)))
+          (λ k same. let both : n ≡ k = same_Some _ _ same in (omega (arith, both), omega (arith, both)))
           (λ same. absurd (none-some n (sym same)))) low there

@@ -14,7 +14,7 @@ use Rattle.tg_space.specs.Targets.{first_pointer, young_spaces}
 use Rattle.tg_rows.specs.Graph.{IsOutOfCells}
 use Rattle.tg_rows.specs.Rows.{IsVertexAt, name_at, name_in, references_of, IsRow}
 use Rattle.tg_rows.specs.Steps.{vertex_words}
-use Rattle.tg_space.specs.Rows.{chunks_from, link_at}
+use Rattle.tg_space.specs.Rows.{chunks_from, link_at, row_of}
 use Rattle.tg_rows.specs.declared.rows.Spot.{Spot}
 use Rattle.tg_rows.specs.declared.rows.Spot.TheVariants.{Reference, Empty, Full}
 use Rattle.tg_word.specs.declared.TheConstants.{MAX_NURSERIES}
@@ -210,6 +210,11 @@ pub record IsSoundIndex (h : SpaceList) (p : Place) (indexed : IndexedRow) : Typ
   pub sound : AreSound h []
   pub row : IsRow h p
   pub index : IsRowIndex h p indexed.names indexed.cells.items
+
+-- the same, and the row has no reference to the name
+pub record IsSoundIndexWithout (h : SpaceList) (p : Place) (name : ℕ) (indexed : IndexedRow) : Type 0 where
+  pub row : IsSoundIndex h p indexed
+  pub absent : word_where (refers_to h name) h (row_of h p) ≡ None
 
 -- the spot for a name in the row of an object, beside what holds of all spaces
 pub record IsSpotOf (t : SpaceTable) (p : Place) (name : ℕ) (found : Spot) : Type 0 where

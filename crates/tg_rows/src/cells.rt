@@ -18,10 +18,10 @@ ghost use Rattle.tg_rows.specs.Inner.Following.{IsRowPut};
 ghost use Rattle.tg_rows.specs.Graph.{IsGraph, content_in};
 ghost use Rattle.tg_rows.specs.Rows.{IsVertexAt, name_at};
 ghost use Rattle.tg_rows.specs.Steps.{TakesOneCell, ChangesTo, KeepsRows};
-ghost use Rattle.tg_rows.specs.Spots.{narrowed, note_for, vertex_put, with_note, word_put};
-ghost use Rattle.tg_rows.specs.Inner.Deeds.{AddsEdge, CanGive, CanMake, CanReserve, HasObject, HasSpot, IsEdgeFound, MakesRoom, MakesVertex, TakesRights};
+ghost use Rattle.tg_rows.specs.Spots.{note_for, vertex_put, with_note};
+ghost use Rattle.tg_rows.specs.Inner.Deeds.{AddsEdge, CanGive, CanMakeAt, CanReserve, HasObject, HasSpot, MakesRoom, MakesVertexAt, MakesVertexRoom};
 
-use crate::references::{narrow, put};
+use crate::references::put;
 use crate::rows::{Spot, edges_of};
 use std::alloc::{AllocError, Global};
 use tg_block::{KEY, NAME, OBJECT_TAG};
@@ -70,18 +70,6 @@ impl<P: Payload> Cells<P> {
         ensures { result ≡ name_at self.now.spaces.spaces at }
     {
         self.spaces.read(at, NAME)
-    }
-
-    /// What the reference at a spot says, if the spot has one.
-    #[inline(always)]
-    pub(crate) fn found_at_spot(&self, from: Place, name: u64, spot: Spot) -> Option<Found>
-        requires { HasSpot self.now from name spot }
-        ensures { IsEdgeFound self.now from name result }
-    {
-        match spot {
-            Spot::Reference { cell, index } => Some(self.found_at(cell, index)),
-            _ => None,
-        }
     }
 
     /// What a reference says.
@@ -177,23 +165,6 @@ impl<P: Payload> Cells<P> {
         Ok(())
     }
 
-    /// Takes rights off the reference to a vertex in the row of an object. What is remembered stays.
-    pub(crate) fn narrow_reference(
-        &mut self,
-        from: Place,
-        name: u64,
-        cell: Place,
-        index: usize,
-        rights: Rights,
-    )
-        requires { HasSpot self.old from name (Spot.Reference cell index) }
-        ensures taken { TakesRights self.old self.new from name rights }
-        ensures written { self.new.spaces ≡ word_put self.old.spaces cell index (narrowed (slice_index (cell_at self.old.spaces.spaces cell) index) rights) }
-        ensures notes { self.new.remembered ≡ self.old.remembered }
-    {
-        narrow(&mut self.spaces, cell, index, rights);
-    }
-
     /// Makes an object with a name that none has, gives another one rights over it, at the spot for them, and notes the
     /// written cell if it has to be remembered. The answer is where the object is. Growth comes first, that of the
     /// spaces last: where it is refused, there may be room for one more payload and one more note, and else nothing is
@@ -207,10 +178,8 @@ impl<P: Payload> Cells<P> {
         rights: Rights,
         draft: Draft<P>,
     ) -> Result<Place, VertexRefused<P>>
-        requires row { HasSpot self.old from name spot }
-        requires vertex { CanMake self.old nursery name rights }
-        ensures vertex { MakesVertex self.old self.new nursery from name rights draft result }
-        ensures put { OnOk result (IsRowPut self.old.spaces self.new.spaces self.old.remembered.places self.new.remembered.places from name spot (note_for spot true)) }
+        requires { CanMakeAt self.old nursery from name spot rights }
+        ensures { MakesVertexAt self.old self.new nursery from name spot rights draft result }
     {
         let note = spot.note(true);
         if let Err(why) = self.make_vertex_room(nursery, note, 1 + spot.cells()) {
@@ -230,9 +199,7 @@ impl<P: Payload> Cells<P> {
         cells: u64,
     ) -> Result<(), RoomFault>
         requires { CanReserve self.old nursery cells }
-        ensures room { MakesRoom self.old self.new nursery note cells result }
-        ensures payloads { self.new.payloads.entries ≡ self.old.payloads.entries }
-        ensures spare { OnOk result (0 < self.new.payloads.spare) }
+        ensures { MakesVertexRoom self.old self.new nursery note cells result }
     {
         let Ok(()) = self.payloads.reserve(1) else {
             return Err(RoomFault::OutOfMemory);

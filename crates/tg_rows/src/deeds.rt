@@ -4,18 +4,17 @@ ghost use Rattle.std.specs.Prelude.{◌≡◌, ◌<◌, List, None, nat_eq, Err,
 ghost use Rattle.tg_word.specs.declared.Place.{Place as PlaceOf};
 ghost use Rattle.tg_block.specs.declared.CellKind.TheVariants.{Object};
 ghost use Rattle.tg_space.specs.Soundness.{IsKindAt};
-ghost use Rattle.tg_rows.specs.Content.{IsNamed};
 ghost use Rattle.tg_rows.specs.Inner.Following.{AreBehind, AreUncleared, IsReady, IsWay};
-ghost use Rattle.tg_rows.specs.Graph.{IsLongRow, content_in};
+ghost use Rattle.tg_rows.specs.Graph.{IsLongRow};
 ghost use Rattle.tg_rows.specs.Index.{AreIndexed, IsAged, IsMarked, IsRowIndex, MayIndex, indexed_in};
 ghost use Rattle.std.specs.Map.{lookup};
 ghost use Rattle.tg_rows.specs.Rows.{name_at};
-ghost use Rattle.tg_space.specs.SpaceTable.{IsSpaceTable};
-ghost use Rattle.tg_rows.specs.Inner.Deeds.{AddsEdge, CanGive, CanLook, CanMake, FollowsChange, HasObject, HasSpot, IsEdgeFound, KeepsIndexed, LooksAlong, MakesVertex, TakesRights};
+ghost use Rattle.tg_rows.specs.Inner.Deeds.{AddsEdge, CanGive, CanLook, CanMake, FollowsChange, HasObject, HasSpot, IsEdgeFound, IsReadied, KeepsIndexed, LooksAlong, LooksForNew, MakesVertex, TakesRights};
 
 use crate::cells::{Cells, Found, VertexRefused};
-use crate::indexed_row::{IndexedRow, find_indexed, spot_for_new};
+use crate::indexed_row::{IndexedRow, find_indexed, forget_if_empty, spot_for_new};
 use crate::indexes::{LongRows, Way};
+use crate::references::narrow;
 use crate::rows::{Spot, find_spot, may_get_long, places_of};
 use std::alloc::AllocError;
 use tg_index::{NumberSet, RowIndex};
@@ -58,8 +57,7 @@ impl<P: Payload> Cells<P> {
     #[inline(always)]
     fn way_to_change(&self, rows: &mut LongRows, from: Place) -> Result<Way, AllocError>
         requires { CanLook self.now rows.old from }
-        ensures rows { KeepsIndexed self.now rows.old rows.new }
-        ensures ready { IfOk result (IsReady self.now.spaces.spaces rows.new from) }
+        ensures { IsReadied self.now rows.old rows.new from result }
     {
         let name = self.name_of(from);
         let Some(at) = rows.young_place(name) else {
@@ -133,8 +131,7 @@ impl<P: Payload> Cells<P> {
     // its name.
     #[inline(always)]
     fn spot_for_new(&self, rows: &LongRows, way: &Way, from: Place, name: u64) -> Spot
-        requires row { LooksAlong self.now rows.now way.now from }
-        requires fresh { ¬ IsNamed (content_in self.now.spaces.spaces self.now.payloads) name }
+        requires { LooksForNew self.now rows.now way.now from name }
         ensures { HasSpot self.now from name result }
     {
         // It tells what holds of all spaces (`IsSpaceTable`).
@@ -153,7 +150,10 @@ impl<P: Payload> Cells<P> {
         ensures { IsEdgeFound self.now from name result }
     {
         let way = self.way(rows, from);
-        self.found_at_spot(from, name, self.spot(rows, &way, from, name))
+        match self.spot(rows, &way, from, name) {
+            Spot::Reference { cell, index } => Some(self.found_at(cell, index)),
+            _ => None,
+        }
     }
 
     /// Gives one object rights over another, and notes the written cell if it has to be remembered. Growth comes first,
@@ -193,7 +193,7 @@ impl<P: Payload> Cells<P> {
     {
         let way = self.way(rows, from);
         if let Spot::Reference { cell, index } = self.spot(rows, &way, from, name) {
-            self.narrow_reference(from, name, cell, index, rights);
+            narrow(&mut self.spaces, cell, index, rights);
             self.forget(rows, way, from, name, cell, index);
         }
     }
@@ -217,7 +217,7 @@ impl<P: Payload> Cells<P> {
         };
         let word = self.spaces.read(cell, index);
         match rows.indexes.get_index_mut(at) {
-            Some(row) => row.forget_if_empty(name, word),
+            Some(row) => forget_if_empty(&mut row.names, name, word),
             None => unreachable!(),
         }
     }

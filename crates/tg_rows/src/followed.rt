@@ -1,6 +1,6 @@
 //! What a collection does to the indexes of rows. The blocks of from-space may be gone by then: cells are told by their
 //! numbers.
-ghost use Rattle.std.specs.Prelude.{◌≡◌, ◌≢◌, ◌≤◌, ◌<◌, ◌+◌, ◌^◌, ℕ, List, Some, length, map, nat_eq, slice_get, take, OnOk};
+ghost use Rattle.std.specs.Prelude.{◌≡◌, ◌≢◌, ◌≤◌, ◌<◌, ◌^◌, ℕ, List, Some, length, map, nat_eq, slice_get, take, OnErr, OnOk};
 ghost use Rattle.std.specs.List.{All};
 ghost use Rattle.std.specs.Map.{lookup};
 ghost use Rattle.indexmap.specs.IndexMap.{index_map_len, values};
@@ -13,6 +13,7 @@ ghost use Rattle.tg_space.specs.Targets.{from_space};
 ghost use Rattle.tg_word.specs.Word.{place_in};
 ghost use Rattle.tg_word.specs.declared.Place.{Place as PlaceOf};
 ghost use Rattle.tg_rows.specs.Index.{AreAged, AreFollowed, AreMovedToOld, AreStarts, IsAged, IsFollowable, IsFollowedTo, IsLeftBehind, IsMarked, IsNumbered, IsOldPlace, IsOldRow, followed_place, followed_word, known_notes, number_by};
+ghost use Rattle.tg_rows.specs.Inner.Followed.{CanFollow, CanFollowCells, CanMark, KeepsMarks};
 ghost use Rattle.tg_rows.specs.declared.indexed_row.IndexedRow.{IndexedRow as RowOf};
 
 use crate::indexed_row::IndexedRow;
@@ -20,6 +21,7 @@ use crate::indexes::LongRows;
 use crate::row_cells::RowCells;
 use indexmap::IndexMap;
 use std::alloc::AllocError;
+use tg_index::NumberSet;
 use tg_remember::Remembered;
 use tg_space::{Forwarding, Kind, Spaces};
 use tg_word::{CELLS, SPACES, number_of, nursery_space, place_of};
@@ -131,10 +133,9 @@ fn follow_rows(
     rows: &mut IndexMap<u64, IndexedRow>,
     first: usize,
 ) -> usize
-    requires rows { (name : ℕ) (row : RowOf) → lookup (nat_eq name) rows.old.entries ≡ Some row → IsFollowable numbering.now.starts (length forward.now.words) (known_notes kind noted.now.places) row }
+    requires rows { (name : ℕ) (row : RowOf) → lookup (nat_eq name) rows.old.entries ≡ Some row → CanFollow kind numbering.now.starts forward.now.words noted.now.places row }
     requires aged { AreAged rows.old.entries first }
     requires full { kind ≡ Kind.Full → first ≡ 0 }
-    requires to_old { AreMovedToOld kind forward.now.words }
     ensures followed { AreFollowed kind numbering.now.starts forward.now.words noted.now.places rows.old.entries rows.new.entries }
     ensures aged { AreAged rows.new.entries result }
 {
@@ -166,11 +167,7 @@ fn follow_row_at(
     at: usize,
 ) -> Fate
     requires inside { at < index_map_len rows.old }
-    requires numbered { (row : RowOf) → slice_get (values rows.old) at ≡ Some row → All (IsNumbered numbering.now.starts (length forward.now.words)) row.cells.items }
-    requires some { (row : RowOf) → slice_get (values rows.old) at ≡ Some row → 0 < length row.cells.items }
-    requires aged { (row : RowOf) → slice_get (values rows.old) at ≡ Some row → IsAged row }
-    requires marked { (row : RowOf) → slice_get (values rows.old) at ≡ Some row → IsMarked (known_notes kind noted.now.places) row }
-    requires to_old { AreMovedToOld kind forward.now.words }
+    requires can { (row : RowOf) → slice_get (values rows.old) at ≡ Some row → CanFollow kind numbering.now.starts forward.now.words noted.now.places row }
     ensures { (row followed : RowOf) × (slice_get (values rows.old) at ≡ Some row) × (rows.new.entries ≡ set_value_at rows.old.entries at followed)
         × (result ≢ Fate.Gone → IsFollowedTo kind numbering.now.starts forward.now.words row followed) × IsAged followed × (result ≡ Fate.Old → IsOldRow followed) × (result ≢ Fate.Gone → IsMarked noted.now.places followed)
         × (result ≡ Fate.Gone → IsLeftBehind kind numbering.now.starts forward.now.words row) }
@@ -189,24 +186,21 @@ fn follow_row(
     noted: &Remembered,
     row: &mut IndexedRow,
 ) -> Fate
-    requires numbered { All (IsNumbered numbering.now.starts (length forward.now.words)) row.old.cells.items }
-    requires some { 0 < length row.old.cells.items }
-    requires aged { IsAged row.old }
-    requires marked { IsMarked (known_notes kind noted.now.places) row.old }
-    requires to_old { AreMovedToOld kind forward.now.words }
+    requires { CanFollow kind numbering.now.starts forward.now.words noted.now.places row.old }
     ensures gone { result ≡ Fate.Gone → IsLeftBehind kind numbering.now.starts forward.now.words row.old }
     ensures followed { result ≢ Fate.Gone → IsFollowedTo kind numbering.now.starts forward.now.words row.old row.new }
     ensures aged { IsAged row.new }
     ensures old { result ≡ Fate.Old → IsOldRow row.new }
     ensures marked { result ≢ Fate.Gone → IsMarked noted.now.places row.new }
 {
-    let object = row.cells.word(0);
+    let object = row.cells.first_word();
     if kind.moves(place_of(object).space) && forward.word(numbering.number(object)) == 0 {
         return Fate::Gone;
     }
     forget_moved(kind, row);
     let old = follow_cells(numbering, kind, forward, &mut row.cells, row.old_cells);
-    note_cells(noted, row, old);
+    forget_unnoted(noted, row);
+    mark_noted(noted, row, old);
     if row.old_cells < row.cells.len() || row.noted.next(0).is_some() {
         return Fate::Young;
     }
@@ -238,11 +232,7 @@ fn follow_cells(
     cells: &mut RowCells,
     first: usize,
 ) -> usize
-    requires within { first ≤ length cells.old.items }
-    requires old { All IsOldPlace (take first cells.old.items) }
-    requires full { kind ≡ Kind.Full → first ≡ 0 }
-    requires numbered { All (IsNumbered numbering.now.starts (length forward.now.words)) cells.old.items }
-    requires to_old { AreMovedToOld kind forward.now.words }
+    requires { CanFollowCells kind numbering.now.starts forward.now.words first cells.old.items }
     ensures moved { cells.new.items ≡ map (followed_place (from_space kind) numbering.now.starts (new_place forward.now.words)) cells.old.items }
     ensures from { first ≤ result }
     ensures within { result ≤ length cells.new.items }
@@ -253,23 +243,15 @@ fn follow_cells(
     first + count_moved(kind, young)
 }
 
-// How many of the first of these cells lie in Old, where a collection of this kind has them.
+// How many of the first of these cells lie in Old, where a collection of this kind has them: all after a full one.
 fn count_moved(kind: Kind, words: &[u64]) -> usize
     requires { kind ≡ Kind.Full → All IsOldPlace (map place_in words.now) }
     ensures within { result ≤ length words.now }
     ensures old { All IsOldPlace (take result (map place_in words.now)) }
 {
-    match kind {
-        Kind::Full => words.len(),
-        Kind::Nursery => count_old(words),
+    if let Kind::Full = kind {
+        return words.len();
     }
-}
-
-// How many of the first cells lie in Old.
-fn count_old(words: &[u64]) -> usize
-    ensures within { result ≤ length words.now }
-    ensures old { All IsOldPlace (take result (map place_in words.now)) }
-{
     for (count, word) in words.iter().enumerate() {
         if Kind::Nursery.moves(place_of(*word).space) {
             return count;
@@ -278,89 +260,49 @@ fn count_old(words: &[u64]) -> usize
     words.len()
 }
 
-// As many first cells of a row lie in Old. Those that are noted are marked, and no other.
-fn note_cells(noted: &Remembered, row: &mut IndexedRow, old: usize)
-    requires marked { IsMarked noted.now.places row.old }
-    requires from { row.old.old_cells ≤ old }
-    requires within { old ≤ length row.old.cells.items }
-    requires old { All IsOldPlace (take old row.old.cells.items) }
-    ensures names { row.new.names ≡ row.old.names }
-    ensures cells { row.new.cells ≡ row.old.cells }
-    ensures marked { IsMarked noted.now.places row.new }
-{
-    forget_unnoted(noted, row);
-    if noted.len() == 0 {
-        row.old_cells = old;
-        return;
-    }
-    mark_noted(noted, row, old);
-}
-
 // Cells that aren't noted are marked no more.
 fn forget_unnoted(noted: &Remembered, row: &mut IndexedRow)
     requires { IsMarked noted.now.places row.old }
-    ensures names { row.new.names ≡ row.old.names }
-    ensures cells { row.new.cells ≡ row.old.cells }
+    ensures kept { KeepsMarks noted.now.places row.old row.new }
     ensures old { row.new.old_cells ≡ row.old.old_cells }
-    ensures marked { IsMarked noted.now.places row.new }
 {
     let mut from = 0;
     while let Some(number) = row.noted.next(from) {
-        forget_one(noted, row, number);
+        if !noted.contains(row.cells.place(number)) {
+            row.noted.remove(number);
+        }
         from = number + 1;
     }
-}
-
-// A marked cell that isn't noted is marked no more.
-fn forget_one(noted: &Remembered, row: &mut IndexedRow, number: usize)
-    requires here { bit_of row.old.noted number ≡ 1 }
-    requires marked { IsMarked noted.now.places row.old }
-    ensures names { row.new.names ≡ row.old.names }
-    ensures cells { row.new.cells ≡ row.old.cells }
-    ensures old { row.new.old_cells ≡ row.old.old_cells }
-    ensures marked { IsMarked noted.now.places row.new }
-{
-    if noted.contains(row.cells.place(number)) {
-        return;
-    }
-    row.noted.remove(number);
 }
 
 // As many first cells of a row lie in Old. They are known to, and the noted ones of those that weren't are marked.
 // Where memory for a mark is refused, the cells from there on aren't known to.
 fn mark_noted(noted: &Remembered, row: &mut IndexedRow, old: usize)
-    requires marked { IsMarked noted.now.places row.old }
-    requires within { old ≤ length row.old.cells.items }
-    requires old { All IsOldPlace (take old row.old.cells.items) }
-    ensures names { row.new.names ≡ row.old.names }
-    ensures cells { row.new.cells ≡ row.old.cells }
-    ensures marked { IsMarked noted.now.places row.new }
+    requires { CanMark noted.now.places row.old old }
+    ensures { KeepsMarks noted.now.places row.old row.new }
 {
+    if noted.len() == 0 {
+        row.old_cells = old;
+        return;
+    }
     while row.old_cells < old {
-        if mark_next(noted, row, old).is_err() {
-            return;
+        if noted.contains(row.cells.place(row.old_cells)) {
+            let Ok(()) = mark_cell(&mut row.noted, row.old_cells, old) else {
+                return;
+            };
         }
+        row.old_cells += 1;
     }
 }
 
-// The first cell of a row that isn't known to lie in Old, as it does, is known to, and is marked if it is noted. There
-// are as many such cells. Where memory for the mark is refused, nothing changes.
-fn mark_next(noted: &Remembered, row: &mut IndexedRow, old: usize) -> Result<(), AllocError>
-    requires marked { IsMarked noted.now.places row.old }
-    requires below { row.old.old_cells < old }
-    requires within { old ≤ length row.old.cells.items }
-    requires old { All IsOldPlace (take old row.old.cells.items) }
-    ensures names { row.new.names ≡ row.old.names }
-    ensures cells { row.new.cells ≡ row.old.cells }
-    ensures more { OnOk result (row.new.old_cells ≡ row.old.old_cells + 1) }
-    ensures marked { IsMarked noted.now.places row.new }
+// Marks the cell with a number, one of so many. Where memory for the mark is refused, no mark changes.
+fn mark_cell(marks: &mut NumberSet, number: usize, cells: usize) -> Result<(), AllocError>
+    requires { number < cells }
+    ensures here { OnOk result (bit_of marks.new number ≡ 1) }
+    ensures others { (n : ℕ) → n ≢ number → bit_of marks.new n ≡ bit_of marks.old n }
+    ensures refused { OnErr result ((n : ℕ) → bit_of marks.new n ≡ bit_of marks.old n) }
 {
-    if !noted.contains(row.cells.place(row.old_cells)) {
-        row.old_cells += 1;
-        return Ok(());
-    }
-    row.noted.reserve(old)?;
-    row.noted.insert(row.old_cells);
-    row.old_cells += 1;
+    marks.reserve(cells)?;
+    marks.insert(number);
     Ok(())
 }

@@ -1,13 +1,12 @@
 //! The index of a row: where the reference to each name stands, with no walk. See 'Rows and their indexes' in
 //! docs/ARCHITECTURE.md.
-ghost use Rattle.std.specs.Prelude.{◌≡◌, ◌≢◌, ℕ, List, Option, Some, None, IsSome, ◌+◌, ◌*◌, ◌^◌, ◌<◌, ◌≤◌, length, slice_index_or, IfSome, OnOk};
+ghost use Rattle.std.specs.Prelude.{◌≡◌, ◌≢◌, ℕ, Option, Some, None, IsSome, ◌+◌, ◌*◌, ◌^◌, ◌<◌, ◌≤◌, length, slice_index_or, IfSome, OnOk};
 ghost use Rattle.tg_word.specs.declared.Place.{Place};
-ghost use Rattle.tg_space.specs.Rows.{row_of};
-ghost use Rattle.tg_index.specs.Slots.{IsIndexOf, PutsAt, place_number, HasRoom};
-ghost use Rattle.tg_rows.specs.Inner.Following.{HasRoomIn, IsBehind, IsNotedIn, HasSameIndex};
-ghost use Rattle.tg_rows.specs.Index.{IsAged, IsMarked, IsPlaceOf, IsRowIndex};
+ghost use Rattle.tg_index.specs.Slots.{IsIndexOf, PutsAt, place_number};
+ghost use Rattle.tg_rows.specs.Inner.Following.{HasRoomIn, IsBehind, IsNotedIn, HasSameIndex, NotesCell};
+ghost use Rattle.tg_rows.specs.Index.{IsPlaceOf, IsRowIndex};
 ghost use Rattle.tg_rows.specs.declared.indexed_row.TheConstants.{CHUNK_REFERENCES, FEWER_IN_OBJECT};
-ghost use Rattle.tg_rows.specs.Spots.{refers_to, with_note, word_where, IsSoundIndex, IsSpotOf};
+ghost use Rattle.tg_rows.specs.Spots.{IsSoundIndex, IsSoundIndexWithout, IsSpotOf};
 
 use crate::row_cells::RowCells;
 use crate::rows::Spot;
@@ -63,8 +62,7 @@ impl IndexedRow {
         requires put { IsBehind spaces.now from name spot note self.old }
         requires room { HasRoomIn self.old }
         ensures index { IsRowIndex spaces.now.spaces from self.new.names self.new.cells.items }
-        ensures aged { IsAged self.old → IsAged self.new }
-        ensures marked { (places : List Place) → IsMarked places self.old → IsMarked (with_note places note) self.new }
+        ensures marks { NotesCell note self.old self.new }
     {
         self.mark(note);
         match spot {
@@ -87,8 +85,7 @@ impl IndexedRow {
         ensures names { self.new.names ≡ self.old.names }
         ensures cells { self.new.cells ≡ self.old.cells }
         ensures old { self.new.old_cells ≡ self.old.old_cells }
-        ensures aged { IsAged self.old → IsAged self.new }
-        ensures marked { (places : List Place) → IsMarked places self.old → IsMarked (with_note places note) self.new }
+        ensures marks { NotesCell note self.old self.new }
     {
         if note.is_none() {
             return;
@@ -111,20 +108,17 @@ impl IndexedRow {
             None => self.cells.len() - 1,
         }
     }
+}
 
-    /// Takes a name away where the word of its reference is empty.
-    pub(crate) fn forget_if_empty(&mut self, name: u64, word: u64)
-        requires { IsSome (place_number self.old.names name) }
-        ensures gone { word ≡ 0 → (names later : ℕ → Option ℕ) (n : ℕ) → IsIndexOf self.old.names names → place_number self.old.names name ≡ Some n → PutsAt names later n None → IsIndexOf self.new.names later }
-        ensures len { self.new.names.len ≡ self.old.names.len }
-        ensures kept { word ≢ 0 → self.new.names ≡ self.old.names }
-        ensures cells { self.new.cells ≡ self.old.cells }
-        ensures old { self.new.old_cells ≡ self.old.old_cells }
-        ensures noted { self.new.noted ≡ self.old.noted }
-    {
-        if word == 0 {
-            self.names.clear(name);
-        }
+/// Takes a name away where the word of its reference is empty.
+pub(crate) fn forget_if_empty(names: &mut RowIndex, name: u64, word: u64)
+    requires { IsSome (place_number names.old name) }
+    ensures gone { word ≡ 0 → (slots later : ℕ → Option ℕ) (n : ℕ) → IsIndexOf names.old slots → place_number names.old name ≡ Some n → PutsAt slots later n None → IsIndexOf names.new later }
+    ensures len { names.new.len ≡ names.old.len }
+    ensures kept { word ≢ 0 → names.new ≡ names.old }
+{
+    if word == 0 {
+        names.clear(name);
     }
 }
 
@@ -145,8 +139,7 @@ pub(crate) fn find_indexed(spaces: &Spaces, row: &IndexedRow, from: Place, name:
 /// Where a reference to a name that the row doesn't have may be put, with no look for the name.
 #[inline(always)]
 pub(crate) fn spot_for_new(spaces: &Spaces, row: &IndexedRow, from: Place, name: u64) -> Spot
-    requires row { IsSoundIndex spaces.now.spaces from row.now }
-    requires absent { word_where (refers_to spaces.now.spaces name) spaces.now.spaces (row_of spaces.now.spaces from) ≡ None }
+    requires { IsSoundIndexWithout spaces.now.spaces from name row.now }
     ensures { IsSpotOf spaces.now from name result }
 {
     // It tells what holds of all spaces, and that their cells are few.

@@ -42,13 +42,13 @@ impl RowCells {
         self.words.as_slice().len()
     }
 
-    /// A word that names the cell with a number.
+    /// A word that names the first cell.
     #[inline(always)]
-    pub(crate) fn word(&self, number: usize) -> u64
-        requires { number < length self.now.items }
-        ensures { slice_get self.now.items number ≡ Some (place_in result) }
+    pub(crate) fn first_word(&self) -> u64
+        requires { 0 < length self.now.items }
+        ensures { slice_get self.now.items 0 ≡ Some (place_in result) }
     {
-        self.words[number]
+        self.words[0]
     }
 
     /// The cell with a number.
@@ -57,7 +57,7 @@ impl RowCells {
         requires { number < length self.now.items }
         ensures { slice_get self.now.items number ≡ Some result }
     {
-        place_of(self.word(number))
+        place_of(self.words[number])
     }
 
     /// Makes room for one more cell. Nothing else changes.

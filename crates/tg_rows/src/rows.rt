@@ -212,7 +212,6 @@ pub(crate) fn places_of(
     from: Place,
 ) -> Result<(Vec<Option<u64>>, RowCells), AllocError>
     requires { IsSoundRow spaces.now.spaces from }
-    ensures table { OnOk result (IsSpaceTable spaces.now) }
     ensures names { IfOk result (λ places. places.0.items ≡ map (name_referred spaces.now.spaces) (row_words spaces.now.spaces from)) }
     ensures cells { IfOk result (λ places. places.1.items ≡ row_of spaces.now.spaces from) }
 {

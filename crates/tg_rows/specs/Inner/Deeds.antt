@@ -1,5 +1,5 @@
 -- What the calls on one row are handed and what they promise: each set of clauses stands once, and has a name.
-use Rattle.std.specs.Prelude.{◌≡◌, ◌⊎◌, ℕ, ◌<◌, ◌≤◌, false, Option, Result, Err, IfErr, IfOk, IfSome, IsTrue, OnErr, OnOk, length}
+use Rattle.std.specs.Prelude.{◌≡◌, ◌⊎◌, ℕ, ◌<◌, ◌≤◌, false, true, Option, Result, Err, IfErr, IfOk, IfSome, IsTrue, OnErr, OnOk, length}
 use Rattle.tg_rights.specs.RightSet.{RightSet, is_none_held}
 use Rattle.tg_model.specs.declared.value.Value.{Value}
 use Rattle.tg_model.specs.Graph.{with_rights, without_rights}
@@ -16,11 +16,11 @@ use Rattle.tg_space.specs.declared.room_fault.RoomFault.{RoomFault}
 use Rattle.tg_space.specs.declared.room_fault.RoomFault.TheVariants.{HeapFull}
 use Rattle.tg_nursery.specs.Allocation.{HasFewerLeft, HasLeft, room_made_for}
 use Rattle.tg_rows.specs.Content.{IsNamed}
-use Rattle.tg_rows.specs.Inner.Following.{IsWay}
+use Rattle.tg_rows.specs.Inner.Following.{IsReady, IsRowPut, IsWay}
 use Rattle.tg_rows.specs.Graph.{IsGraph, IsLongRow, content_in, rights_found}
 use Rattle.tg_rows.specs.Index.{AreIndexed, Indexes, MayIndex, SameIndexed, indexed_in}
 use Rattle.tg_rows.specs.Rows.{IsVertexAt, name_at}
-use Rattle.tg_rows.specs.Spots.{IsMadeInRow, IsPutInRow, IsSpotFor, LacksCellsFor}
+use Rattle.tg_rows.specs.Spots.{IsMadeInRow, IsPutInRow, IsSpotFor, LacksCellsFor, note_for}
 use Rattle.tg_rows.specs.Steps.{ChangesTo}
 use Rattle.tg_rows.specs.declared.cells.Cells.{Cells}
 use Rattle.tg_rows.specs.declared.cells.Found.{Found}
@@ -47,6 +47,11 @@ pub record LooksAlong {P : Type 0} (cells : Cells P) (rows : Indexes) (w : Way) 
   pub from : IsKindAt cells.spaces.spaces Object p
   pub indexed : AreIndexed cells.spaces.spaces cells.remembered.places rows.entries
   pub way : IsWay cells.spaces.spaces rows.entries p w
+
+-- the same, for a name that no vertex has
+pub record LooksForNew {P : Type 0} (cells : Cells P) (rows : Indexes) (w : Way) (p : Place) (name : ℕ) : Type 0 where
+  pub row : LooksAlong cells rows w p
+  pub fresh : ¬ IsNamed (content_in cells.spaces.spaces cells.payloads) name
 
 -- of the row of an object of the graph, this is the spot for the reference to a name
 pub record HasSpot {P : Type 0} (cells : Cells P) (p : Place) (name : ℕ) (s : Spot) : Type 0 where
@@ -75,6 +80,11 @@ pub record CanMake {P : Type 0} (cells : Cells P) (n name : ℕ) (rights : Right
   pub some : is_none_held rights ≡ false
   pub fresh : ¬ IsNamed (content_in cells.spaces.spaces cells.payloads) name
 
+-- the same, with the spot for the rights in a row
+pub record CanMakeAt {P : Type 0} (cells : Cells P) (n : ℕ) (p : Place) (name : ℕ) (s : Spot) (rights : RightSet) : Type 0 where
+  pub row : HasSpot cells p name s
+  pub vertex : CanMake cells n name rights
+
 -- ---- what is promised
 
 -- what a look for a name in a row finds: the rights over the vertex with that name, and where its object is
@@ -93,6 +103,12 @@ pub record MakesRoom {P A : Type 0} (old new : Cells P) (n : ℕ) (wanted : Opti
   pub left : OnOk result (HasLeft new.spaces (nursery_space n) count)
   pub refused : OnErr result (new.spaces ≡ old.spaces)
   pub full : result ≡ Err HeapFull → HasFewerLeft old.spaces (nursery_space n) count × IsFull old.spaces (nursery_space n)
+
+-- the same, and there is room for one payload
+pub record MakesVertexRoom {P A : Type 0} (old new : Cells P) (n : ℕ) (wanted : Option Place) (count : ℕ) (result : Result A RoomFault) : Type 0 where
+  pub room : MakesRoom old new n wanted count result
+  pub payloads : new.payloads.entries ≡ old.payloads.entries
+  pub spare : OnOk result (0 < new.payloads.spare)
 
 -- Rights over one object were put in the row of another, and the written cell is remembered if it has to be; where it is refused,
 -- there may be room for one more note.
@@ -124,6 +140,11 @@ pub record MakesVertex {P : Type 0} (old new : Cells P) (n : ℕ) (p : Place) (n
   pub full : IfErr result (λ refused. refused.why ≡ HeapFull →
       LacksCellsFor old.spaces (nursery_space n) 1 (name_at old.spaces.spaces p) name)
 
+-- the same, and in the row the rights were put at this spot
+pub record MakesVertexAt {P : Type 0} (old new : Cells P) (n : ℕ) (p : Place) (name : ℕ) (s : Spot) (rights : RightSet) (value : Value) (result : Result Place (VertexRefused P)) : Type 0 where
+  pub vertex : MakesVertex old new n p name rights value result
+  pub put : OnOk result (IsRowPut old.spaces new.spaces old.remembered.places new.remembered.places p name s (note_for s true))
+
 -- rights over the vertex with a name were taken from an object, with no cell and no payload more or less
 pub record TakesRights {P : Type 0} (old new : Cells P) (p : Place) (name : ℕ) (rights : RightSet) : Type 0 where
   pub dropped : let content = content_in old.spaces.spaces old.payloads in
@@ -140,6 +161,11 @@ pub record TakesRights {P : Type 0} (old new : Cells P) (p : Place) (name : ℕ)
 pub record KeepsIndexed {P : Type 0} (cells : Cells P) (rows later : Indexes) : Type 0 where
   pub indexed : AreIndexed cells.spaces.spaces cells.remembered.places later.entries
   pub kept : SameIndexed rows.entries later.entries
+
+-- the same, and the row of an object may be changed once it was looked along so
+pub record IsReadied {P E : Type 0} (cells : Cells P) (before later : Indexes) (p : Place) (result : Result Way E) : Type 0 where
+  pub rows : KeepsIndexed cells before later
+  pub ready : IfOk result (IsReady cells.spaces.spaces later p)
 
 -- The indexes are those of the rows after a change of the row of an object, which has one then if it is long; of the other names, the
 -- same have one, and of all where the change was refused.

@@ -44,6 +44,11 @@ pub record HasSameIndex (row later : IndexedRow) : Type 0 where
   pub aged : IsAged row → IsAged later
   pub marked : (places : List Place) → IsMarked places row → IsMarked places later
 
+-- what is known of the row's cells in Old is known still, once this cell was noted
+pub record NotesCell (note : Option Place) (row later : IndexedRow) : Type 0 where
+  pub aged : IsAged row → IsAged later
+  pub marked : (places : List Place) → IsMarked places row → IsMarked (with_note places note) later
+
 -- a row may be changed that has no index, and then isn't long yet
 pub record IsReadyShort (h : SpaceList) (rows : Indexes) (from : Place) : Type 0 where
   pub none : lookup (nat_eq (name_at h from)) rows.entries ≡ None

@@ -6,12 +6,12 @@ use Rattle.tg_index.proofs.RowIndex.of_row.Goals as goal
 pub loop-slot-init : goal.loop-slot-init
 loop-slot-init c = record { index = c.new-index.ensures.index; next = c.new-index.ensures.next; len = c.new-index.ensures.len }
 
-pub set_next-requires-clause-inside : goal.set_next-requires-clause-inside
-set_next-requires-clause-inside c =
+pub set_next-requires : goal.set_next-requires
+set_next-requires c =
     let at = c.loop-slot.invariant in
     let next = at.next in
     let len = at.len in
-    omega (arith, next, len, c.in_ok-reserve.ensures.next, c.in_ok-reserve.ensures.len, c.loop-slot-test.true)
+    record { room = c.in_ok-reserve.ensures.room; inside = omega (arith, next, len, c.in_ok-reserve.ensures.next, c.in_ok-reserve.ensures.len, c.loop-slot-test.true) }
 
 pub loop-slot-preserved : goal.loop-slot-preserved
 loop-slot-preserved c =

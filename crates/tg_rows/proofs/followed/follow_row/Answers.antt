@@ -1,9 +1,11 @@
-use Rattle.std.proofs.Common.{◌∙◌, length, refl, subst, sym, ap, arith}
+use Rattle.std.proofs.Common.{◌∙◌, ◌≤◌, length, take, refl, subst, sym, ap, arith}
+use Rattle.std.specs.List.{All}
 use Rattle.tg_word.specs.Word.{place_in}
 use Rattle.tg_word.specs.declared.Place.{Place}
 use Rattle.tg_space.specs.Collection.{new_place}
 use Rattle.tg_space.specs.Targets.{from_space}
-use Rattle.tg_rows.specs.Index.{IsNumbered}
+use Rattle.tg_rows.specs.Inner.Cells.{CellList}
+use Rattle.tg_rows.specs.Index.{IsNumbered, IsOldPlace}
 use Rattle.tg_rows.proofs.Marked.{marked_moved}
 use Rattle.std.specs.Prelude.{slice_index}
 use Rattle.std.proofs.lemmas.Option.{get_or_from_slice_get}
@@ -11,51 +13,44 @@ use Rattle.tg_rows.proofs.FollowedRows.{old_or_gone}
 use Rattle.tg_rows.proofs.followed.follow_row.Goals as goal
 
 -- the object of the row has a number
-numbered : (c : goal.Then-moves) → IsNumbered c.args.numbering.now.starts (length c.args.forward.now.words) (place_in c.word-object.result)
+numbered : (c : goal.Then-moves) → IsNumbered c.args.numbering.now.starts (length c.args.forward.now.words) (place_in c.first_word-object.result)
 numbered c =
-    let object = place_in c.word-object.result in
-    subst (IsNumbered c.args.numbering.now.starts (length c.args.forward.now.words)) (get_or_from_slice_get c.args.row.now.cells.items 0 object object c.word-object.ensures) (c.requires.numbered 0 object c.requires.some)
+    let object = place_in c.first_word-object.result in
+    subst (IsNumbered c.args.numbering.now.starts (length c.args.forward.now.words)) (get_or_from_slice_get c.args.row.now.cells.items 0 object object c.first_word-object.ensures) (c.requires.able.numbered 0 object c.requires.able.some)
 
-pub follow_cells-old-requires-clause-within : goal.follow_cells-old-requires-clause-within
-follow_cells-old-requires-clause-within c = (c.forget_moved.ensures.marked c.args.noted.now.places c.requires.marked).aged.within
+pub follow_cells-old-requires : goal.follow_cells-old-requires
+follow_cells-old-requires c =
+    let aged = (c.forget_moved.ensures.marked c.args.noted.now.places c.requires.able.marked).aged in
+    record { within = aged.within; old = aged.cells; full = c.forget_moved.ensures.full; numbered = rw c.forget_moved.ensures.cells c.requires.able.numbered; to_old = c.requires.to_old }
 
-pub follow_cells-old-requires-clause-old : goal.follow_cells-old-requires-clause-old
-follow_cells-old-requires-clause-old c = (c.forget_moved.ensures.marked c.args.noted.now.places c.requires.marked).aged.cells
-
-pub follow_cells-old-requires-clause-full : goal.follow_cells-old-requires-clause-full
-follow_cells-old-requires-clause-full c = c.forget_moved.ensures.full
-
-pub follow_cells-old-requires-clause-numbered : goal.follow_cells-old-requires-clause-numbered
-follow_cells-old-requires-clause-numbered c = rw c.forget_moved.ensures.cells c.requires.numbered
-
-pub note_cells-requires-clause-marked : goal.note_cells-requires-clause-marked
-note_cells-requires-clause-marked c =
-    marked_moved c.args.kind c.args.numbering.now.starts (new_place c.args.forward.now.words) c.args.noted.now.places c.forget_moved.new.row _ (c.forget_moved.ensures.marked c.args.noted.now.places c.requires.marked) c.forget_moved.ensures.full
+pub forget_unnoted-requires : goal.forget_unnoted-requires
+forget_unnoted-requires c =
+    marked_moved c.args.kind c.args.numbering.now.starts (new_place c.args.forward.now.words) c.args.noted.now.places c.forget_moved.new.row _ (c.forget_moved.ensures.marked c.args.noted.now.places c.requires.able.marked) c.forget_moved.ensures.full
     c.follow_cells-old.ensures.moved refl refl
 
-pub returns-then-word-eq0-clause-followed : goal.returns-then-word-eq0-clause-followed
-returns-then-word-eq0-clause-followed c = λ no. absurd (no refl)
-
-pub returns-then-word-eq0-clause-aged : goal.returns-then-word-eq0-clause-aged
-returns-then-word-eq0-clause-aged c = c.requires.aged
+pub mark_noted-requires : goal.mark_noted-requires
+mark_noted-requires c =
+    let kept = c.forget_unnoted.ensures.kept in
+    let same = sym kept.cells in
+    let first = c.follow_cells-old.ensures in
+    record {
+      marked = kept.marked;
+      from = omega (arith, c.forget_unnoted.ensures.old, first.from);
+      within = subst (λ (v : CellList). c.follow_cells-old.result ≤ length v.items) same first.within;
+      old = subst (λ (v : CellList). All IsOldPlace (take c.follow_cells-old.result v.items)) same first.old;
+    }
 
 pub returns-then-word-eq0-clause-old : goal.returns-then-word-eq0-clause-old
 returns-then-word-eq0-clause-old c = λ is. absurd (old_or_gone (sym is))
 
-pub returns-then-word-eq0-clause-marked : goal.returns-then-word-eq0-clause-marked
-returns-then-word-eq0-clause-marked c = λ no. absurd (no refl)
-
-pub number-requires-clause-space : goal.number-requires-clause-space
-number-requires-clause-space c = (numbered c).space
-
-pub number-requires-clause-few : goal.number-requires-clause-few
-number-requires-clause-few c = let inside = (numbered c).inside in let few = (numbered c).few in omega (arith, inside, few)
+pub number-requires : goal.number-requires
+number-requires c = record { space = (numbered c).space; few = let inside = (numbered c).inside in let few = (numbered c).few in omega (arith, inside, few) }
 
 pub returns-then-word-eq0-clause-gone : goal.returns-then-word-eq0-clause-gone
 returns-then-word-eq0-clause-gone c =
     λ same. record {
-      object = place_in c.word-object.result;
-      first = c.word-object.ensures;
+      object = place_in c.first_word-object.result;
+      first = c.first_word-object.ensures;
       moves = ap (λ (p : Place). from_space c.args.kind p.space) (sym c.place_of.ensures) ∙ sym c.moves.ensures ∙ c.if-moves.true;
       uncopied = ap (slice_index c.args.forward.now.words) (sym c.number.ensures) ∙ sym c.word.ensures ∙ c.if-word-eq0.true;
     }

@@ -1,29 +1,17 @@
-use Rattle.std.proofs.Common.{◌≡◌, ◌∙◌, ℕ, None, arith, cond, length, nat_eq, sym}
+use Rattle.std.proofs.Common.{◌≡◌, ◌∙◌, ℕ, None, arith, cond, nat_eq, sym}
 use Rattle.std.specs.Map.{lookup}
 use Rattle.indexmap.specs.IndexMap.{Updates}
 use Rattle.tg_rows.proofs.Results.{if_some}
-use Rattle.tg_rows.proofs.FollowedRows.{aged_here, aged_later, aged_rest, aged_swapped, cells_numbered, follow_begins, follow_ends, followed_swapped, later_long, one_followed, one_gone, marked_here, some_cell, swapped_long, taken, taken_out, old_or_gone, young_or_gone}
+use Rattle.tg_rows.proofs.FollowedRows.{aged_later, aged_rest, aged_swapped, can_follow, follow_begins, follow_ends, followed_swapped, later_long, one_followed, one_gone, swapped_long, taken, taken_out, old_or_gone, young_or_gone}
 use Rattle.tg_rows.proofs.followed.follow_rows.Goals as goal
 
 pub loop-i-init : goal.loop-i-init
 loop-i-init c =
-    (follow_begins c.args.kind c.args.numbering.now.starts c.args.forward.now.words c.args.noted.now.places c.args.rows.now.entries c.args.first (length c.args.forward.now.words) c.requires.rows c.requires.aged c.requires.full c.len.ensures.unique, c.requires.aged, omega arith)
+    (follow_begins c.args.kind c.args.numbering.now.starts c.args.forward.now.words c.args.noted.now.places c.args.rows.now.entries c.args.first c.requires.rows c.requires.aged c.requires.full c.len.ensures.unique, c.requires.aged, omega arith)
 
-pub follow_row_at-requires-clause-numbered : goal.follow_row_at-requires-clause-numbered
-follow_row_at-requires-clause-numbered c =
-    λ row found. cells_numbered c.args.kind c.args.numbering.now.starts c.args.forward.now.words c.args.noted.now.places c.args.rows.now.entries c.loop-i.rows.entries c.loop-i.old c.loop-i.i (omega (arith, c.loop-i-test.true)) c.loop-i.invariant.0 c.loop-i.invariant.1 (length c.args.forward.now.words) c.requires.rows row found
-
-pub follow_row_at-requires-clause-some : goal.follow_row_at-requires-clause-some
-follow_row_at-requires-clause-some c =
-    λ row found. some_cell c.args.kind c.args.numbering.now.starts c.args.forward.now.words c.args.noted.now.places c.args.rows.now.entries c.loop-i.rows.entries c.loop-i.old c.loop-i.i (omega (arith, c.loop-i-test.true)) c.loop-i.invariant.0 c.loop-i.invariant.1 (length c.args.forward.now.words) c.requires.rows row found
-
-pub follow_row_at-requires-clause-aged : goal.follow_row_at-requires-clause-aged
-follow_row_at-requires-clause-aged c =
-    λ row found. aged_here c.args.kind c.args.numbering.now.starts c.args.forward.now.words c.args.noted.now.places c.args.rows.now.entries c.loop-i.rows.entries c.loop-i.old c.loop-i.i (omega (arith, c.loop-i-test.true)) c.loop-i.invariant.0 c.loop-i.invariant.1 (length c.args.forward.now.words) c.requires.rows row found
-
-pub follow_row_at-requires-clause-marked : goal.follow_row_at-requires-clause-marked
-follow_row_at-requires-clause-marked c =
-    λ row found. marked_here c.args.kind c.args.numbering.now.starts c.args.forward.now.words c.args.noted.now.places c.args.rows.now.entries c.loop-i.rows.entries c.loop-i.old c.loop-i.i (omega (arith, c.loop-i-test.true)) c.loop-i.invariant.0 c.loop-i.invariant.1 (length c.args.forward.now.words) c.requires.rows row found
+pub follow_row_at-requires-clause-can : goal.follow_row_at-requires-clause-can
+follow_row_at-requires-clause-can c =
+    λ row found. can_follow c.args.kind c.args.numbering.now.starts c.args.forward.now.words c.args.noted.now.places c.args.rows.now.entries c.loop-i.rows.entries c.loop-i.i (omega (arith, c.loop-i-test.true)) c.loop-i.invariant.0 c.requires.rows row found
 
 pub loop-i-smaller-in-Gone : goal.loop-i-smaller-in-Gone
 loop-i-smaller-in-Gone c =
@@ -48,15 +36,10 @@ pub loop-i-preserved-in-Young : goal.loop-i-preserved-in-Young
 loop-i-preserved-in-Young c =
     (one_followed c.args.kind c.args.numbering.now.starts c.args.forward.now.words c.args.noted.now.places c.args.rows.now.entries c.loop-i.rows.entries c.follow_row_at.new.rows.entries c.loop-i.i (omega (arith, c.loop-i-test.true)) c.loop-i.invariant.0 c.follow_row_at.ensures.0 c.follow_row_at.ensures.1 c.follow_row_at.ensures.2 c.follow_row_at.ensures.3 (c.follow_row_at.ensures.4 (λ gone. young_or_gone (sym c.in-Young.is ∙ gone))) (c.follow_row_at.ensures.7 (λ gone. young_or_gone (sym c.in-Young.is ∙ gone))), aged_later c.loop-i.rows.entries c.follow_row_at.new.rows.entries c.loop-i.old c.loop-i.i (omega (arith, c.loop-i-test.true)) c.loop-i.invariant.2 c.loop-i.invariant.1 c.follow_row_at.ensures.0 c.follow_row_at.ensures.1 c.follow_row_at.ensures.2 c.follow_row_at.ensures.3 c.follow_row_at.ensures.5, omega (arith, c.loop-i.invariant.2))
 
-pub swap_indices-requires-clause-a_in_bounds : goal.swap_indices-requires-clause-a_in_bounds
-swap_indices-requires-clause-a_in_bounds c =
+pub swap_indices-requires : goal.swap_indices-requires
+swap_indices-requires c =
     let long = later_long c.args.kind c.args.numbering.now.starts c.args.forward.now.words c.args.noted.now.places c.args.rows.now.entries c.loop-i.rows.entries c.follow_row_at.new.rows.entries c.loop-i.i (omega (arith, c.loop-i-test.true)) c.loop-i.invariant.0 c.follow_row_at.ensures.0 c.follow_row_at.ensures.1 c.follow_row_at.ensures.2 c.follow_row_at.ensures.3 in
-    omega (arith, long, c.loop-i-test.true)
-
-pub swap_indices-requires-clause-b_in_bounds : goal.swap_indices-requires-clause-b_in_bounds
-swap_indices-requires-clause-b_in_bounds c =
-    let long = later_long c.args.kind c.args.numbering.now.starts c.args.forward.now.words c.args.noted.now.places c.args.rows.now.entries c.loop-i.rows.entries c.follow_row_at.new.rows.entries c.loop-i.i (omega (arith, c.loop-i-test.true)) c.loop-i.invariant.0 c.follow_row_at.ensures.0 c.follow_row_at.ensures.1 c.follow_row_at.ensures.2 c.follow_row_at.ensures.3 in
-    omega (arith, long, c.loop-i.invariant.2, c.loop-i-test.true)
+    record { a_in_bounds = omega (arith, long, c.loop-i-test.true); b_in_bounds = omega (arith, long, c.loop-i.invariant.2, c.loop-i-test.true) }
 
 pub loop-i-smaller : goal.loop-i-smaller
 loop-i-smaller c =

@@ -11,10 +11,10 @@ place_of_number-index-requires c =
     let long = places_long c.args.spaces.now.spaces is c.args.from c.requires.row c.args.row.now.names cells c.requires.index in
     omega (arith, low, long)
 
-pub spot_for_new-requires-clause-absent : goal.spot_for_new-requires-clause-absent
-spot_for_new-requires-clause-absent c =
+pub spot_for_new-requires : goal.spot_for_new-requires
+spot_for_new-requires c =
     let is = table_list c.args.spaces.now c.cells.ensures.table in
-    index_lacks c.args.spaces.now.spaces is c.args.from c.requires.row c.args.row.now.names c.args.row.now.cells.items c.requires.index c.args.name (sym c.find.ensures ∙ c.in_default.is)
+    record { row = c.requires; absent = index_lacks c.args.spaces.now.spaces is c.args.from c.requires.row c.args.row.now.names c.args.row.now.cells.items c.requires.index c.args.name (sym c.find.ensures ∙ c.in_default.is) }
 
 pub returns-in-Some : goal.returns-in-Some
 returns-in-Some c =

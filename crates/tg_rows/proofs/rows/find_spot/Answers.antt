@@ -36,9 +36,6 @@ overflow_sub-left c =
 pub row-smaller : goal.row-smaller
 row-smaller c = let some : 0 < c.row.left = overflow_sub-left c in omega arith
 
-pub words-cell-requires : goal.words-cell-requires
-words-cell-requires c = c.row.invariant.row.held
-
 pub returns-then-cell-eq0 : goal.returns-then-cell-eq0
 returns-then-cell-eq0 c =
     let h = c.args.spaces.now.spaces in

@@ -13,9 +13,6 @@ loop-step-preserved c =
     follow_goes_on c.args.spaces.now.spaces c.args.from c.loop-step.at c.loop-step._step c.loop-step.invariant c.place_of-at.result
     (λ none. c.if-link-eq0.false (c.read-link.ensures ∙ none)) (c.place_of-at.ensures ∙ ap place_in c.read-link.ensures)
 
-pub read-link-requires-clause-held : goal.read-link-requires-clause-held
-read-link-requires-clause-held c = c.loop-step.invariant.row.held
-
 pub returns-then-link-eq0 : goal.returns-then-link-eq0
 returns-then-link-eq0 c =
     let long : length (row_of c.args.spaces.now.spaces c.args.from) ≡ c.loop-step._step + 1 =

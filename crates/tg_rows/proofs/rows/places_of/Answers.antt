@@ -69,6 +69,3 @@ overflow_sub-left c =
 
 pub row-smaller : goal.row-smaller
 row-smaller c = let some : 0 < c.row.left = overflow_sub-left c in omega arith
-
-pub returns-then-cell-eq0-clause-table : goal.returns-then-cell-eq0-clause-table
-returns-then-cell-eq0-clause-table c = c.cells-left.ensures.table

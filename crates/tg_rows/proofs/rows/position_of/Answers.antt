@@ -25,9 +25,6 @@ returns c =
 pub loop-k-init : goal.loop-k-init
 loop-k-init c = λ j low. absurd (omega arith)
 
-pub bounds-words-k : goal.bounds-words-k
-bounds-words-k c = c.loop-k-test.true
-
 pub read-requires-clause-held : goal.read-requires-clause-held
 read-requires-clause-held c =
     let h = c.args.spaces.now.spaces in

@@ -60,12 +60,6 @@ read-requires-clause-held c =
     ⊎_elim (λ (zero : word ≡ 0). let none : label_of (rights_in word) ≡ None = ap (λ (w : ℕ). label_of (rights_in w)) zero in absurd cc) (λ (to : RefersTo h word). to.object.held) (c.requires c.loop-word.word-index 0 c.loop-word-test.true) in
     subst (Holds h) (sym c.place_of.ensures) held
 
-pub loop-word-init : goal.loop-word-init
-loop-word-init c = sym (append-nil c.args.edges.now.items)
-
-pub bounds-words-word-index : goal.bounds-words-word-index
-bounds-words-word-index c = c.loop-word-test.true
-
 pub loop-word-smaller : goal.loop-word-smaller
 loop-word-smaller c = falls (length c.args.words.now) c.loop-word.word-index c.loop-word-test.true
 

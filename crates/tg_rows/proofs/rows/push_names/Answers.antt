@@ -1,11 +1,8 @@
 use Rattle.std.proofs.Common.{◌++◌, ◌∷◌, ◌∙◌, ℕ, List, Option, [], map, take, get_or, sym, ap, append_assoc, length}
-use Rattle.std.proofs.lemmas.List.{map-append, take_more, append-nil, take_all}
+use Rattle.std.proofs.lemmas.List.{map-append, take_more, take_all}
 use Rattle.tg_rows.specs.Index.{name_referred}
 use borrow.Author.Count.{falls}
 use Rattle.tg_rows.proofs.rows.push_names.Goals as goal
-
-pub name_of_target-requires : goal.name_of_target-requires
-name_of_target-requires c = c.requires c.loop-word.word-index 0 c.loop-word-test.true
 
 pub loop-word-preserved : goal.loop-word-preserved
 loop-word-preserved c =
@@ -19,9 +16,6 @@ loop-word-preserved c =
     ∙ append_assoc before (map f (take i words)) (one ∷ [])
     ∙ ap (λ (o : Option ℕ). before ++ (map f (take i words) ++ o ∷ [])) c.name_of_target.ensures
     ∙ ap (λ (names : List (Option ℕ)). before ++ names) (sym (map-append f (take i words) (get_or words i 0 ∷ [])) ∙ ap (map f) (sym (take_more words i 0 c.loop-word-test.true)))
-
-pub loop-word-init : goal.loop-word-init
-loop-word-init c = sym (append-nil c.args.names.now.items)
 
 pub loop-word-smaller : goal.loop-word-smaller
 loop-word-smaller c = falls (length c.args.words.now) c.loop-word.word-index c.loop-word-test.true

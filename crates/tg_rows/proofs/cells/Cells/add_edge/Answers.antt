@@ -1,15 +1,14 @@
-use Rattle.std.proofs.Common.{◌≡◌, ◌∙◌, List, Option, Err, true, refl, ap, sym, subst}
+use Rattle.std.proofs.Common.{◌≡◌, ◌∙◌, Option, Err, true, refl, ap, sym, subst}
 use Rattle.std.proofs.lemmas.Result.{err_from_is_err_and}
 use Rattle.tg_word.specs.declared.Place.{Place}
-use Rattle.tg_space.specs.SpaceTable.{SpaceTable}
 use Rattle.tg_space.specs.Targets.{young_spaces}
 use Rattle.tg_space.specs.declared.room_fault.RoomFault.{RoomFault}
 use Rattle.tg_rows.specs.Inner.Following.{IsRowPut}
-use Rattle.tg_rows.specs.Index.{AreIndexed, MayIndex, indexed_in}
+use Rattle.tg_rows.specs.Index.{MayIndex, indexed_in}
 use Rattle.tg_rows.specs.Rows.{name_at}
 use Rattle.tg_rows.specs.Spots.{IsSpotFor, note_for}
 use Rattle.tg_rows.proofs.Following.{ready_way}
-use Rattle.tg_rows.proofs.IndexedRows.{may_index, may_index_after}
+use Rattle.tg_rows.proofs.IndexedRows.{change_refused, may_index_after}
 use Rattle.tg_rows.proofs.Results.{ok_or_err, no_full}
 use Rattle.tg_rows.proofs.cells.Cells.add_edge.Goals as goal
 
@@ -52,23 +51,10 @@ put_edge-requires-clause-row g c =
     }
 
 pub returns-in_default-clause-edge : goal.returns-in_default-clause-edge
-returns-in_default-clause-edge g c = record {
-  added = tt;
-  payloads = refl;
-  refused = refl;
-  full = λ is. absurd (no_full is);
-  placed = tt;
-  remembered = λ before. before;
-  places = refl;
-}
+returns-in_default-clause-edge g c = record { added = tt; payloads = refl; refused = refl; full = λ is. absurd (no_full is); placed = tt; remembered = λ before. before; places = refl }
 
 pub returns-in_default-clause-rows : goal.returns-in_default-clause-rows
-returns-in_default-clause-rows g c = record {
-  indexed = c.way_to_change.ensures.rows.indexed;
-  long = tt;
-  names = may_index (name_at c.args.self.now.spaces.spaces c.args.from) c.args.rows.now.entries c.way_to_change.new.rows.entries c.way_to_change.ensures.rows.kept;
-  kept = c.way_to_change.ensures.rows.kept;
-}
+returns-in_default-clause-rows g c = change_refused c.args.self.now c.args.self.now c.args.rows.now c.way_to_change.new.rows c.args.from _ _ refl refl refl c.way_to_change.ensures.rows
 
 pub returns-in_err-put_edge-clause-edge : goal.returns-in_err-put_edge-clause-edge
 returns-in_err-put_edge-clause-edge g c =
@@ -86,16 +72,8 @@ returns-in_err-put_edge-clause-edge g c =
 
 pub returns-in_err-put_edge-clause-rows : goal.returns-in_err-put_edge-clause-rows
 returns-in_err-put_edge-clause-rows g c =
-    let given = err_from_is_err_and c.from_residual.result c.from_residual.ensures.1 in
     let was = c.in_err-put_edge.ensures.edge in
-    let rows = c.way_to_change.ensures.rows in
-    record {
-      indexed = subst (λ (x : SpaceTable). AreIndexed x.spaces c.put_edge.new.self.remembered.places c.way_to_change.new.rows.entries) (sym was.refused)
-          (subst (λ (ps : List Place). AreIndexed c.args.self.now.spaces.spaces ps c.way_to_change.new.rows.entries) (sym was.places) rows.indexed);
-      long = rw given.1 tt;
-      names = may_index (name_at c.args.self.now.spaces.spaces c.args.from) c.args.rows.now.entries c.way_to_change.new.rows.entries rows.kept;
-      kept = rw given.1 rows.kept;
-    }
+    change_refused c.args.self.now c.put_edge.new.self c.args.rows.now c.way_to_change.new.rows c.args.from c.from_residual.result _ (err_from_is_err_and c.from_residual.result c.from_residual.ensures.1).1 was.refused was.places c.way_to_change.ensures.rows
 
 pub returns-clause-edge : goal.returns-clause-edge
 returns-clause-edge g c =

@@ -1,7 +1,22 @@
-use Rattle.std.proofs.Common.{List, ap, sym, subst, refl}
-use Rattle.tg_remember.specs.Notes.{Notes}
-use Rattle.tg_word.specs.declared.Place.{Place}
-use Rattle.tg_rows.specs.Index.{AreIndexed}
+use Rattle.std.proofs.Common.{arith, sym, subst, refl, ap, ◌∙◌, length}
+use Rattle.std.specs.Prelude.{slice_index, slice_set}
+use Rattle.std.proofs.lemmas.List.{length-set}
+use Rattle.tg_space.specs.SpaceList.{cell_at, space_of}
+use Rattle.tg_space.specs.SpaceTable.{SpaceTable}
+use Rattle.tg_space.specs.Generations.{AreRemembered}
+use Rattle.tg_space.proofs.Tables.{table_list}
+use Rattle.tg_model.specs.Graph.{without_rights}
+use Rattle.tg_rows.specs.Content.{IsNamed}
+use Rattle.tg_rows.specs.Graph.{content_in}
+use Rattle.tg_rows.specs.Rows.{name_at}
+use Rattle.tg_rows.specs.Spots.{narrowed, word_put}
+use Rattle.tg_rows.specs.Steps.{ChangesTo}
+use Rattle.tg_rows.proofs.Changes.{shape_kept}
+use Rattle.tg_rows.proofs.Layouts.{present_place}
+use Rattle.tg_rows.proofs.Finding.{found_refers, reference_found}
+use Rattle.tg_rows.proofs.Growing.{changes}
+use Rattle.tg_rows.proofs.Remembering.{narrowed_remembered}
+use Rattle.tg_rows.proofs.Putting.{can_write, narrowed_becomes}
 use Rattle.tg_rows.proofs.Narrowed.{nothing_dropped}
 use Rattle.tg_rows.proofs.cells.Cells.drop_rights.Goals as goal
 
@@ -15,9 +30,9 @@ forget-requires g c = record {
     graph = c.requires.graph;
     object = c.requires.from;
     found = c.in-Reference.ensures.spot;
-    written = c.narrow_reference.ensures.written;
+    written = c.narrow.ensures;
   };
-  indexed = subst (λ (ps : List Place). AreIndexed c.args.self.now.spaces.spaces ps c.args.rows.now.entries) (ap (λ (n : Notes). n.places) (sym c.narrow_reference.ensures.notes)) c.requires.indexed;
+  indexed = c.requires.indexed;
   looked = c.way-way.ensures;
 }
 
@@ -30,11 +45,42 @@ returns-in_default-clause-taken g c = record {
   blocks = λ space. refl;
 }
 
-pub returns-in_default-clause-rows : goal.returns-in_default-clause-rows
-returns-in_default-clause-rows g c = record { indexed = c.requires.indexed; kept = λ x. refl }
-
 pub returns-in-Reference-clause-taken : goal.returns-in-Reference-clause-taken
-returns-in-Reference-clause-taken g c = c.narrow_reference.ensures.taken
+returns-in-Reference-clause-taken g c =
+    let t = c.args.self.now.spaces in
+    let payloads = c.args.self.now.payloads in
+    let list = table_list t c.spot.ensures.table in
+    let content = content_in t.spaces payloads in
+    let cell = c.in-Reference.cell in
+    let words = cell_at t.spaces cell in
+    let word = slice_index words c.in-Reference.index in
+    let label = without_rights content.label (name_at t.spaces c.args.from) c.args.name c.args.rights in
+    record {
+      dropped =
+          subst (λ (x : SpaceTable). ChangesTo t x payloads (IsNamed content) label content.value) (sym c.narrow.ensures)
+          (changes t (word_put t cell c.in-Reference.index (narrowed word c.args.rights)) payloads (IsNamed content) label content.value
+          (narrowed_becomes t c.spot.ensures.table payloads c.requires.graph c.args.from c.requires.from c.args.name c.args.rights cell c.in-Reference.index c.in-Reference.ensures.spot) (length-set t.spaces cell.space _) refl);
+      payloads = refl;
+      remembered = λ before.
+          let places = c.args.self.now.remembered.places in
+          subst (λ (x : SpaceTable). AreRemembered x.spaces places) (sym c.narrow.ensures)
+          (narrowed_remembered t c.spot.ensures.table payloads c.requires.graph c.args.from c.requires.from c.args.name c.args.rights cell c.in-Reference.index c.in-Reference.ensures.spot places before);
+      used = ap (λ (x : SpaceTable). x.used) c.narrow.ensures;
+      blocks = λ space.
+          let reference = reference_found t.spaces c.args.from c.args.name cell c.in-Reference.index c.in-Reference.ensures.spot in
+          let to = reference.to in
+          let can = can_write t c.spot.ensures.table payloads c.requires.graph c.args.from c.requires.from cell c.in-Reference.index reference.cell (omega arith) in
+          let shape = shape_kept t.spaces list cell can.held (slice_set words c.in-Reference.index (narrowed word c.args.rights)) in
+          ap (λ (x : SpaceTable). length (space_of x.spaces space)) c.narrow.ensures ∙ shape.blocks space;
+    }
 
-pub returns-in-Reference-clause-rows : goal.returns-in-Reference-clause-rows
-returns-in-Reference-clause-rows g c = c.forget.ensures
+pub narrow-requires : goal.narrow-requires
+narrow-requires g c =
+    let t = c.args.self.now.spaces in
+    let reference = reference_found t.spaces c.args.from c.args.name c.in-Reference.cell c.in-Reference.index c.in-Reference.ensures.spot in
+    let to = reference.to in
+    let refers = found_refers t.spaces c.args.self.now.payloads (table_list t c.spot.ensures.table) c.requires.graph c.args.from c.requires.from c.args.name c.in-Reference.cell c.in-Reference.index reference in
+    record {
+      can = can_write t c.spot.ensures.table c.args.self.now.payloads c.requires.graph c.args.from c.requires.from c.in-Reference.cell c.in-Reference.index reference.cell (omega arith);
+      place = present_place (slice_index (cell_at t.spaces c.in-Reference.cell) c.in-Reference.index) refers.present;
+    }

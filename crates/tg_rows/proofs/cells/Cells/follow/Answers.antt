@@ -5,13 +5,13 @@ use Rattle.std.proofs.lemmas.Option.{slice_get_within}
 use Rattle.indexmap.proofs.CallerLemmas.{updates-with_value_at}
 use Rattle.indexmap.specs.Layout.{set_value_at}
 use Rattle.tg_word.specs.declared.Place.{Place}
-use Rattle.tg_rows.specs.Inner.Following.{HasRoomIn, IsReady, IsReadyAt, IsReadyNew, IsReadyShort}
+use Rattle.tg_rows.specs.Inner.Following.{HasRoomIn, IsReady, IsReadyNew, IsReadyShort}
 use Rattle.tg_rows.specs.Index.{AreIndexed, Indexes, IsAged, IsMarked, MayIndex, SameIndexed, indexed_in}
 use Rattle.tg_rows.specs.Rows.{name_at}
 use Rattle.tg_rows.specs.declared.indexed_row.IndexedRow.{IndexedRow}
 use Rattle.tg_rows.specs.declared.indexes.Way.{Way}
 use Rattle.tg_rows.proofs.Ages.{aged_at, row_there, same_row, written_aged}
-use Rattle.tg_rows.proofs.Following.{behind_grown, behind_object, behind_others, behind_own, behind_marked, behind_vertices, row_behind}
+use Rattle.tg_rows.proofs.Following.{behind_grown, behind_object, behind_others, behind_own, behind_marked, behind_vertices, ready_there, row_behind}
 use Rattle.tg_rows.proofs.IndexedRows.{added_here, added_index, index_at, indexes_kept, indexes_written, may_index, written_indexed}
 use Rattle.std.proofs.lemmas.Bool.{false≢true}
 use Rattle.tg_rows.proofs.cells.Cells.follow.Goals as goal
@@ -41,8 +41,7 @@ follow-requires-clause-put g c =
     let b = c.requires in
     let own = name_at b.old.spaces c.args.from in
     let es = c.rows.inside.indexes.entries in
-    let ready : IsReadyAt c.args.rows.now own c.in-Index.at = subst (λ (w : Way). IsReady b.old.spaces c.args.rows.now c.args.from w) c.in-Index.is b.looked in
-    let inside = subst (λ (s : Indexes). IsReadyAt s own c.in-Index.at) (sym c.rows.view_is) ready in
+    let inside = ready_there c.args.rows.now _ c.rows.view_is b.old.spaces c.args.from c.args.way c.in-Index.at c.in-Index.is b.looked in
     let indexed : AreIndexed b.old.spaces b.places es = subst (λ (s : Indexes). AreIndexed b.old.spaces b.places s.entries) (sym c.rows.view_is) b.indexed in
     row_behind b c.in-Some.row.now
     (index_at b.old.spaces b.payloads b.graph b.places es indexed c.args.from b.object own refl c.in-Some.row.now (row_there es own c.in-Index.at inside.here c.in-Some.row.now c.in-Some.ensures.value)).0
@@ -51,8 +50,7 @@ pub follow-requires-clause-room : goal.follow-requires-clause-room
 follow-requires-clause-room g c =
     let b = c.requires in
     let own = name_at b.old.spaces c.args.from in
-    let ready : IsReadyAt c.args.rows.now own c.in-Index.at = subst (λ (w : Way). IsReady b.old.spaces c.args.rows.now c.args.from w) c.in-Index.is b.looked in
-    let inside = subst (λ (s : Indexes). IsReadyAt s own c.in-Index.at) (sym c.rows.view_is) ready in
+    let inside = ready_there c.args.rows.now _ c.rows.view_is b.old.spaces c.args.from c.args.way c.in-Index.at c.in-Index.is b.looked in
     subst HasRoomIn (sym (same_row c.rows.inside.indexes.entries own c.in-Index.at inside.here c.in-Some.row.now c.in-Some.ensures.value)) inside.room
 
 pub unreachable-requires : goal.unreachable-requires
@@ -60,8 +58,7 @@ unreachable-requires g c =
     let b = c.requires in
     let own = name_at b.old.spaces c.args.from in
     let es = c.rows.inside.indexes.entries in
-    let ready : IsReadyAt c.args.rows.now own c.in-Index.at = subst (λ (w : Way). IsReady b.old.spaces c.args.rows.now c.args.from w) c.in-Index.is b.looked in
-    let inside = subst (λ (s : Indexes). IsReadyAt s own c.in-Index.at) (sym c.rows.view_is) ready in
+    let inside = ready_there c.args.rows.now _ c.rows.view_is b.old.spaces c.args.from c.args.way c.in-Index.at c.in-Index.is b.looked in
     let low : c.in-Index.at < length es = slice_get_within es c.in-Index.at (own, inside.here.row) inside.here.here in
     false≢true (rw c.in-None.is at (c.get_index_mut.ensures.found.1 low))
 
@@ -70,11 +67,10 @@ invariant_of-rows g c =
     let b = c.requires in
     let own = name_at b.old.spaces c.args.from in
     let es = c.rows.inside.indexes.entries in
-    let ready : IsReadyAt c.args.rows.now own c.in-Index.at = subst (λ (w : Way). IsReady b.old.spaces c.args.rows.now c.args.from w) c.in-Index.is b.looked in
-    let inside = subst (λ (s : Indexes). IsReadyAt s own c.in-Index.at) (sym c.rows.view_is) ready in
+    let inside = ready_there c.args.rows.now _ c.rows.view_is b.old.spaces c.args.from c.args.way c.in-Index.at c.in-Index.is b.looked in
     let low : c.in-Index.at < length es = slice_get_within es c.in-Index.at (own, inside.here.row) inside.here.here in
     let aged = subst IsAged (sym (same_row es own c.in-Index.at inside.here c.in-Some.row.now c.in-Some.ensures.value)) (aged_at es c.rows.inside.old_rows c.rows.invariant own c.in-Index.at inside.here) in
-    written_aged es (set_value_at es c.in-Index.at c.follow.new.self) c.rows.inside.old_rows c.in-Index.at low c.rows.invariant c.follow.new.self refl (c.follow.ensures.aged aged) (inl inside.behind)
+    written_aged es (set_value_at es c.in-Index.at c.follow.new.self) c.rows.inside.old_rows c.in-Index.at low c.rows.invariant c.follow.new.self refl (c.follow.ensures.marks.aged aged) (inl inside.behind)
 
 pub returns-in-Some-clause-indexed : goal.returns-in-Some-clause-indexed
 returns-in-Some-clause-indexed g c =
@@ -82,11 +78,10 @@ returns-in-Some-clause-indexed g c =
     let own = name_at b.old.spaces c.args.from in
     let es = c.rows.inside.indexes.entries in
     let new = c.follow.new.self in
-    let ready : IsReadyAt c.args.rows.now own c.in-Index.at = subst (λ (w : Way). IsReady b.old.spaces c.args.rows.now c.args.from w) c.in-Index.is b.looked in
-    let inside = subst (λ (s : Indexes). IsReadyAt s own c.in-Index.at) (sym c.rows.view_is) ready in
+    let inside = ready_there c.args.rows.now _ c.rows.view_is b.old.spaces c.args.from c.args.way c.in-Index.at c.in-Index.is b.looked in
     let indexed : AreIndexed b.old.spaces b.places es = subst (λ (s : Indexes). AreIndexed b.old.spaces b.places s.entries) (sym c.rows.view_is) b.indexed in
     let was_marked = (index_at b.old.spaces b.payloads b.graph b.places es indexed c.args.from b.object own refl c.in-Some.row.now (row_there es own c.in-Index.at inside.here c.in-Some.row.now c.in-Some.ensures.value)).1 in
-    let marked = subst (λ (ps : List Place). IsMarked ps new) (sym b.put.remembered) (c.follow.ensures.marked b.places was_marked) in
+    let marked = subst (λ (ps : List Place). IsMarked ps new) (sym b.put.remembered) (c.follow.ensures.marks.marked b.places was_marked) in
     let written = updates-with_value_at c.rows.inside.indexes c.in-Index.at new nat_eq_equiv c.get_index_mut.ensures.unique own inside.here.row inside.here.here in
     indexes_written b.old.spaces c.args.self.now.spaces.spaces (behind_vertices b) c.args.from b.object (behind_others b) b.places c.args.self.now.remembered.places (behind_marked b) es indexed own refl
     (set_value_at es c.in-Index.at new) new written.0 c.follow.ensures.index marked
@@ -96,8 +91,7 @@ returns-in-Some-clause-long g c =
     let b = c.requires in
     let own = name_at b.old.spaces c.args.from in
     let es = c.rows.inside.indexes.entries in
-    let ready : IsReadyAt c.args.rows.now own c.in-Index.at = subst (λ (w : Way). IsReady b.old.spaces c.args.rows.now c.args.from w) c.in-Index.is b.looked in
-    let inside = subst (λ (s : Indexes). IsReadyAt s own c.in-Index.at) (sym c.rows.view_is) ready in
+    let inside = ready_there c.args.rows.now _ c.rows.view_is b.old.spaces c.args.from c.args.way c.in-Index.at c.in-Index.is b.looked in
     let here = written_indexed es es c.in-Index.at c.follow.new.self (λ x. refl) own ∙ ap (λ (o : Option IndexedRow). is_some o) inside.here.found in
     λ long. subst (λ n. indexed_in (set_value_at es c.in-Index.at c.follow.new.self) n ≡ true) (sym (behind_own b)) here
 
@@ -108,17 +102,11 @@ returns-in-Some-clause-names g c =
     let first : SameIndexed rows es = subst (λ (s : Indexes). SameIndexed rows s.entries) (sym c.rows.view_is) (λ x. refl) in
     may_index (name_at c.args.self.now.spaces.spaces c.args.from) rows (set_value_at es c.in-Index.at c.follow.new.self) (written_indexed rows es c.in-Index.at c.follow.new.self first)
 
-pub follow-requires-in-New-clause-put : goal.follow-requires-in-New-clause-put
-follow-requires-in-New-clause-put g c =
+pub follow-requires-in-New : goal.follow-requires-in-New
+follow-requires-in-New g c =
     let b = c.requires in
     let ready = subst (λ (r : IndexedRow). IsReadyNew b.old.spaces c.args.rows.now c.args.from r) (sym c.into_inner-row.ensures) (subst (λ (w : Way). IsReady b.old.spaces c.args.rows.now c.args.from w) c.in-New.is b.looked) in
-    row_behind b c.into_inner-row.result ready.index
-
-pub follow-requires-in-New-clause-room : goal.follow-requires-in-New-clause-room
-follow-requires-in-New-clause-room g c =
-    let b = c.requires in
-    let ready = subst (λ (r : IndexedRow). IsReadyNew b.old.spaces c.args.rows.now c.args.from r) (sym c.into_inner-row.ensures) (subst (λ (w : Way). IsReady b.old.spaces c.args.rows.now c.args.from w) c.in-New.is b.looked) in
-    ready.room
+    record { put = row_behind b c.into_inner-row.result ready.index; room = ready.room }
 
 pub name_of-requires : goal.name_of-requires
 name_of-requires g c = behind_object c.requires
@@ -133,7 +121,7 @@ pub add-requires-clause-aged : goal.add-requires-clause-aged
 add-requires-clause-aged g c =
     let b = c.requires in
     let ready = subst (λ (r : IndexedRow). IsReadyNew b.old.spaces c.args.rows.now c.args.from r) (sym c.into_inner-row.ensures) (subst (λ (w : Way). IsReady b.old.spaces c.args.rows.now c.args.from w) c.in-New.is b.looked) in
-    c.follow-in-New.ensures.aged ready.aged
+    c.follow-in-New.ensures.marks.aged ready.aged
 
 pub add-requires-clause-room : goal.add-requires-clause-room
 add-requires-clause-room g c =
@@ -146,7 +134,7 @@ returns-in-New-clause-indexed g c =
     let b = c.requires in
     let new = c.follow-in-New.new.self in
     let ready = subst (λ (r : IndexedRow). IsReadyNew b.old.spaces c.args.rows.now c.args.from r) (sym c.into_inner-row.ensures) (subst (λ (w : Way). IsReady b.old.spaces c.args.rows.now c.args.from w) c.in-New.is b.looked) in
-    let marked = subst (λ (ps : List Place). IsMarked ps new) (sym b.put.remembered) (c.follow-in-New.ensures.marked b.places (ready.marked b.places)) in
+    let marked = subst (λ (ps : List Place). IsMarked ps new) (sym b.put.remembered) (c.follow-in-New.ensures.marks.marked b.places (ready.marked b.places)) in
     indexes_written b.old.spaces c.args.self.now.spaces.spaces (behind_vertices b) c.args.from b.object (behind_others b) b.places c.args.self.now.remembered.places (behind_marked b) c.args.rows.now.entries b.indexed
     c.name_of.result (c.name_of.ensures ∙ behind_own b) c.add.new.self.entries new c.add.ensures c.follow-in-New.ensures.index marked
 

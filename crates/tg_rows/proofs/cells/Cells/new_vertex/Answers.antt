@@ -1,11 +1,10 @@
-use Rattle.std.proofs.Common.{◌≡◌, List, Option, true, refl, sym, subst}
+use Rattle.std.proofs.Common.{◌≡◌, Option, true, refl, sym, subst}
 use Rattle.tg_word.specs.declared.Place.{Place}
-use Rattle.tg_space.specs.SpaceTable.{SpaceTable}
 use Rattle.tg_rows.specs.Inner.Following.{IsRowPut}
-use Rattle.tg_rows.specs.Index.{AreIndexed, MayIndex, indexed_in}
+use Rattle.tg_rows.specs.Index.{MayIndex, indexed_in}
 use Rattle.tg_rows.specs.Rows.{name_at}
 use Rattle.tg_rows.proofs.Following.{ready_way}
-use Rattle.tg_rows.proofs.IndexedRows.{may_index, may_index_after}
+use Rattle.tg_rows.proofs.IndexedRows.{change_refused, may_index_after}
 use Rattle.std.proofs.lemmas.Result.{err_from_is_err_and}
 use Rattle.tg_rows.proofs.Results.{memory_or_full}
 use Rattle.tg_rows.proofs.cells.Cells.new_vertex.Goals as goal
@@ -29,34 +28,22 @@ follow-requires g c =
       put = subst (λ (o : Option Place). IsRowPut t new places later c.args.from c.args.name spot o) (sym c.note.ensures) c.in_ok-to.ensures.put;
     }
 
-pub spot_for_new-spot-requires-clause-row : goal.spot_for_new-spot-requires-clause-row
-spot_for_new-spot-requires-clause-row g c = record {
-  graph = c.requires.row.graph;
-  from = c.requires.row.from;
-  indexed = c.way_to_change.ensures.rows.indexed;
-  way = ready_way c.args.self.now.spaces.spaces c.way_to_change.new.rows c.args.from c.in-Ok.way c.in-Ok.ensures.ready;
+pub spot_for_new-spot-requires : goal.spot_for_new-spot-requires
+spot_for_new-spot-requires g c = record {
+  row = record {
+    graph = c.requires.row.graph;
+    from = c.requires.row.from;
+    indexed = c.way_to_change.ensures.rows.indexed;
+    way = ready_way c.args.self.now.spaces.spaces c.way_to_change.new.rows c.args.from c.in-Ok.way c.in-Ok.ensures.ready;
+  };
+  fresh = c.requires.vertex.fresh;
 }
 
 pub returns-in_default-clause-vertex : goal.returns-in_default-clause-vertex
-returns-in_default-clause-vertex g c = record {
-  made = tt;
-  vertex = tt;
-  handed_back = refl;
-  spaces = refl;
-  payloads = refl;
-  places = refl;
-  remembered = λ before. before;
-  placed = tt;
-  full = λ is. absurd (memory_or_full is);
-}
+returns-in_default-clause-vertex g c = record { made = tt; vertex = tt; handed_back = refl; spaces = refl; payloads = refl; places = refl; remembered = λ before. before; placed = tt; full = λ is. absurd (memory_or_full is) }
 
 pub returns-in_default-clause-rows : goal.returns-in_default-clause-rows
-returns-in_default-clause-rows g c = record {
-  indexed = c.way_to_change.ensures.rows.indexed;
-  long = tt;
-  names = may_index (name_at c.args.self.now.spaces.spaces c.args.from) c.args.rows.now.entries c.way_to_change.new.rows.entries c.way_to_change.ensures.rows.kept;
-  kept = c.way_to_change.ensures.rows.kept;
-}
+returns-in_default-clause-rows g c = change_refused c.args.self.now c.args.self.now c.args.rows.now c.way_to_change.new.rows c.args.from _ _ refl refl refl c.way_to_change.ensures.rows
 
 pub returns-in_err-to-clause-vertex : goal.returns-in_err-to-clause-vertex
 returns-in_err-to-clause-vertex g c =
@@ -76,16 +63,8 @@ returns-in_err-to-clause-vertex g c =
 
 pub returns-in_err-to-clause-rows : goal.returns-in_err-to-clause-rows
 returns-in_err-to-clause-rows g c =
-    let given = err_from_is_err_and c.from_residual.result c.from_residual.ensures.1 in
     let was = c.in_err-to.ensures.vertex in
-    let rows = c.way_to_change.ensures.rows in
-    record {
-      indexed = subst (λ (x : SpaceTable). AreIndexed x.spaces c.put_vertex.new.self.remembered.places c.way_to_change.new.rows.entries) (sym was.spaces)
-          (subst (λ (ps : List Place). AreIndexed c.args.self.now.spaces.spaces ps c.way_to_change.new.rows.entries) (sym was.places) rows.indexed);
-      long = rw given.1 tt;
-      names = may_index (name_at c.args.self.now.spaces.spaces c.args.from) c.args.rows.now.entries c.way_to_change.new.rows.entries rows.kept;
-      kept = rw given.1 rows.kept;
-    }
+    change_refused c.args.self.now c.put_vertex.new.self c.args.rows.now c.way_to_change.new.rows c.args.from c.from_residual.result _ (err_from_is_err_and c.from_residual.result c.from_residual.ensures.1).1 was.spaces was.places c.way_to_change.ensures.rows
 
 pub returns-clause-rows : goal.returns-clause-rows
 returns-clause-rows g c =

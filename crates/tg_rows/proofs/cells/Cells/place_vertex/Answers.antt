@@ -1,4 +1,4 @@
-use Rattle.std.proofs.Common.{◌≡◌, ◌∙◌, ◌<◌, ap, arith, length, refl, subst, sym, ◌+◌, ◌*◌}
+use Rattle.std.proofs.Common.{◌≡◌, ◌∙◌, ◌<◌, ap, arith, length, subst, sym, ◌+◌, ◌*◌}
 use Rattle.tg_word.specs.declared.Place.{Place}
 use Rattle.tg_space.specs.SpaceList.{Holds, with_cell_at, space_of}
 use Rattle.tg_space.specs.SpaceTable.{SpaceTable, IsHandedOut, place_in_space, used_of, with_spaces}
@@ -41,25 +41,17 @@ returns-clause-remembered g c = (step g c).remembered
 pub returns-clause-next : goal.returns-clause-next
 returns-clause-next g c = subst (λ s. c.hand_out-place.result ≡ place_in_space s (used_of c.args.self.now.spaces s)) c.nursery_space.ensures c.hand_out-place.ensures.place
 
-pub returns-clause-notes : goal.returns-clause-notes
-returns-clause-notes g c = refl
-
-pub returns-clause-spare_left : goal.returns-clause-spare_left
-returns-clause-spare_left g c = c.insert.ensures.spare
-
 pub write_cell-requires-clause-held : goal.write_cell-requires-clause-held
 write_cell-requires-clause-held g c = subst (λ (x : SpaceTable). Holds x.spaces c.hand_out-place.result) (sym c.hand_out-place.ensures.counted) c.hand_out-place.ensures.held
 
-pub write_cell-requires-clause-handed_out : goal.write_cell-requires-clause-handed_out
-write_cell-requires-clause-handed_out g c = c.hand_out-place.ensures.handed_out
-
-pub hand_out-place-requires-clause-nursery : goal.hand_out-place-requires-clause-nursery
-hand_out-place-requires-clause-nursery g c = (let is = c.nursery_space.ensures in omega (arith, is), subst (λ s. s < length c.args.self.now.spaces.spaces) (sym c.nursery_space.ensures) c.requires.nursery)
-
-pub hand_out-place-requires-clause-room : goal.hand_out-place-requires-clause-room
-hand_out-place-requires-clause-room g c =
+pub hand_out-place-requires : goal.hand_out-place-requires
+hand_out-place-requires g c =
     let t = c.args.self.now.spaces in
-    subst (λ s. used_of t s < 64 * length (space_of t.spaces s)) (sym c.nursery_space.ensures) (omega (arith, c.requires.left))
+    let is = c.nursery_space.ensures in
+    record {
+      nursery = (omega (arith, is), subst (λ s. s < length t.spaces) (sym is) c.requires.nursery);
+      room = subst (λ s. used_of t s < 64 * length (space_of t.spaces s)) (sym is) (omega (arith, c.requires.left));
+    }
 
 pub returns-clause-used : goal.returns-clause-used
 returns-clause-used g c =

@@ -38,12 +38,6 @@ returns-in_err-make_room-clause-had_room g c =
     let ok : false ≡ true = c.in_err-make_room.ensures.had_room (omega (arith, left, few, c.cells.ensures)) (c.note-note.ensures ∙ nothing) in
     absurd (false≢true ok)
 
-pub remember-requires : goal.remember-requires
-remember-requires g c = c.in_ok-make_room.ensures.room.note
-
-pub returns-clause-had_room : goal.returns-clause-had_room
-returns-clause-had_room g c = λ left none. refl
-
 pub returns-clause-put : goal.returns-clause-put
 returns-clause-put g c =
     let t = c.args.self.now.spaces in
@@ -78,11 +72,7 @@ returns-clause-put g c =
     }
 
 pub make_room-requires : goal.make_room-requires
-make_room-requires g c = record {
-  few = let few = c.requires.row.table.few in omega (arith, few, c.requires.gift.nursery);
-  few_cells = omega (arith, cells_few c.args.spot, c.cells.ensures);
-  nursery = c.requires.gift.nursery;
-}
+make_room-requires g c = record { few = let few = c.requires.row.table.few in omega (arith, few, c.requires.gift.nursery); few_cells = omega (arith, cells_few c.args.spot, c.cells.ensures); nursery = c.requires.gift.nursery }
 
 pub returns-clause-edge : goal.returns-clause-edge
 returns-clause-edge g c =

@@ -15,103 +15,63 @@ use Rattle.tg_space.proofs.Tables.{table_list}
 use Rattle.tg_rows.proofs.Places.{held_place}
 use Rattle.tg_rows.proofs.cells.Cells.put_vertex.Goals as goal
 
-pub place_vertex-to-requires-clause-graph : goal.place_vertex-to-requires-clause-graph
-place_vertex-to-requires-clause-graph g c =
+pub place_vertex-to-requires : goal.place_vertex-to-requires
+place_vertex-to-requires g c =
+    let t = c.args.self.now.spaces in
+    let payloads = c.args.self.now.payloads in
+    let row = c.requires.row in
+    let vertex = c.requires.vertex in
     let made = c.in_default.ensures in
     let grown = c.make_vertex_room.new.self in
-    grown_graph c.args.self.now.spaces grown.spaces grown.spaces c.args.self.now.payloads grown.payloads grown.payloads c.requires.row.table made.room.table made.room.table c.requires.row.graph (nursery_space c.args.nursery) (1 + c.cells.result) c.requires.vertex.nursery made.room.spaces made.payloads
-    c.args.from c.requires.row.from c.args.name c.args.spot c.requires.row.spot
-
-pub place_vertex-to-requires-clause-fresh : goal.place_vertex-to-requires-clause-fresh
-place_vertex-to-requires-clause-fresh g c =
-    let made = c.in_default.ensures in
-    let grown = c.make_vertex_room.new.self in
-    still_fresh c.args.self.now.spaces grown.spaces grown.spaces c.args.self.now.payloads grown.payloads grown.payloads c.requires.row.table made.room.table made.room.table c.requires.row.graph (nursery_space c.args.nursery) (1 + c.cells.result) c.requires.vertex.nursery made.room.spaces made.payloads
-    c.args.from c.requires.row.from c.args.name c.args.spot c.requires.row.spot c.requires.vertex.fresh
-
-pub place_vertex-to-requires-clause-table : goal.place_vertex-to-requires-clause-table
-place_vertex-to-requires-clause-table g c = c.in_default.ensures.room.table
-
-pub place_vertex-to-requires-clause-spare : goal.place_vertex-to-requires-clause-spare
-place_vertex-to-requires-clause-spare g c = c.in_default.ensures.spare
+    let space = nursery_space c.args.nursery in
+    let room = made_room t grown.spaces grown.spaces payloads grown.payloads grown.payloads row.table made.room.table made.room.table row.graph space (1 + c.cells.result) vertex.nursery made.room.spaces made.payloads c.args.from row.from c.args.name c.args.spot row.spot in
+    record {
+      few = let few = row.table.few in omega (arith, few, vertex.nursery);
+      nursery = subst (λ (n : ℕ). space < n) (sym room.spaces) vertex.nursery;
+      table = made.room.table;
+      graph = grown_graph t grown.spaces grown.spaces payloads grown.payloads grown.payloads row.table made.room.table made.room.table row.graph space (1 + c.cells.result) vertex.nursery made.room.spaces made.payloads c.args.from row.from c.args.name c.args.spot row.spot;
+      fresh = still_fresh t grown.spaces grown.spaces payloads grown.payloads grown.payloads row.table made.room.table made.room.table row.graph space (1 + c.cells.result) vertex.nursery made.room.spaces made.payloads c.args.from row.from c.args.name c.args.spot row.spot vertex.fresh;
+      spare = made.spare;
+      left = let left = made.room.left in omega (arith, left);
+    }
 
 pub remember-requires : goal.remember-requires
 remember-requires g c = subst (λ (n : Notes). IfSome c.note-note.result (λ _. 0 < n.spare)) (sym c.place_vertex-to.ensures.notes) c.in_default.ensures.room.note
 
-pub returns-clause-put : goal.returns-clause-put
-returns-clause-put g c =
-    let t = c.args.self.now.spaces in
-    let payloads = c.args.self.now.payloads in
-    let made = c.in_default.ensures in
-    let grown = c.make_vertex_room.new.self in
-    let placed = c.place_vertex-to.new.self in
-    let step = c.place_vertex-to.ensures in
-    let space = nursery_space c.args.nursery in
-    let spot = c.args.spot in
-    let cells = ap (λ n. 1 + n) c.cells.ensures in
-    let room = made_room t grown.spaces placed.spaces payloads grown.payloads placed.payloads c.requires.row.table made.room.table step.table c.requires.row.graph space (1 + c.cells.result) c.requires.vertex.nursery made.room.spaces made.payloads c.args.from c.requires.row.from c.args.name spot c.requires.row.spot in
-    let object = object_placed t grown.spaces placed.spaces payloads grown.payloads placed.payloads c.requires.row.table made.room.table step.table c.requires.row.graph space (1 + c.cells.result) c.requires.vertex.nursery made.room.spaces made.payloads c.args.from c.requires.row.from c.args.name spot c.requires.row.spot c.args.draft step.placed step.rows c.place_vertex-to.result step.vertex step.used (step.blocks space) made.room.left cells in
-    let there = found_placed t grown.spaces placed.spaces payloads grown.payloads placed.payloads c.requires.row.table made.room.table step.table c.requires.row.graph space (1 + c.cells.result) c.requires.vertex.nursery made.room.spaces made.payloads c.args.from c.requires.row.from c.args.name spot c.requires.row.spot c.args.draft step.placed step.rows c.place_vertex-to.result step.vertex step.used (step.blocks space) made.room.left cells in
-    let left = left_over t grown.spaces placed.spaces payloads grown.payloads placed.payloads c.requires.row.table made.room.table step.table c.requires.row.graph space (1 + c.cells.result) c.requires.vertex.nursery made.room.spaces made.payloads c.args.from c.requires.row.from c.args.name spot c.requires.row.spot c.args.draft step.placed step.rows c.place_vertex-to.result step.vertex step.used (step.blocks space) made.room.left cells in
-    record {
-      ready = placed.spaces;
-      rows = keeps_rows_then t.spaces grown.spaces.spaces placed.spaces.spaces room.rows step.rows;
-      put = record {
-        payloads = placed.payloads;
-        space = space;
-        to = c.place_vertex-to.result;
-        rights = c.args.rights;
-        young = true;
-        table = step.table;
-        graph = step.placed.graph;
-        object = object;
-        found = there;
-        nursery = (omega arith, omega (arith, c.requires.vertex.nursery, room.spaces, step.placed.spaces));
-        left = left;
-        target = step.vertex;
-        some = c.requires.vertex.some;
-        put = c.put.ensures;
-        noted = refl;
-      };
-      remembered = c.remember.ensures.noted
-          ∙ ap (λ (ps : List Place). with_note ps c.note-note.result) (ap (λ (r : Notes). r.places) step.notes ∙ made.room.remembered) ∙ ap (with_note c.args.self.now.remembered.places) c.note-note.ensures;
-    }
-
 pub make_vertex_room-requires : goal.make_vertex_room-requires
-make_vertex_room-requires g c = record {
-  few = let few = c.requires.row.table.few in omega (arith, few, c.requires.vertex.nursery);
-  few_cells = omega (arith, cells_few c.args.spot, c.cells.ensures);
-  nursery = c.requires.vertex.nursery;
-}
+make_vertex_room-requires g c = record { few = let few = c.requires.row.table.few in omega (arith, few, c.requires.vertex.nursery); few_cells = omega (arith, cells_few c.args.spot, c.cells.ensures); nursery = c.requires.vertex.nursery }
 
-pub returns-in-Err-clause-vertex : goal.returns-in-Err-clause-vertex
-returns-in-Err-clause-vertex g c =
+pub returns-in-Err : goal.returns-in-Err
+returns-in-Err g c =
     let was = c.make_vertex_room.ensures in
     record {
-      made = tt;
-      vertex = tt;
-      handed_back = refl;
-      spaces = c.in-Err.ensures.room.refused;
-      payloads = was.payloads;
-      places = was.room.remembered;
-      remembered = λ before.
-          subst (λ (t : SpaceTable). AreRemembered t.spaces c.make_vertex_room.new.self.remembered.places) (sym c.in-Err.ensures.room.refused)
-          (subst (λ (ps : List Place). AreRemembered c.args.self.now.spaces.spaces ps) (sym was.room.remembered) before);
-      placed = tt;
-      full = λ is.
-          let spot = c.args.spot in
-          let out = was.room.full (c.in-Err.is ∙ ap (λ (why : RoomFault). Err why) is) in
-          record {
-            row = c.args.from;
-            held = record { object = c.requires.row.from; named = refl };
-            spot = spot;
-            found = c.requires.row.spot;
-            out = subst (λ (n : ℕ). IsOutOfCells c.args.self.now.spaces (nursery_space c.args.nursery) (1 + n)) c.cells.ensures (record { few_left = out.0; full = out.1 });
-          };
+      vertex = record {
+        made = tt;
+        vertex = tt;
+        handed_back = refl;
+        spaces = c.in-Err.ensures.room.refused;
+        payloads = was.payloads;
+        places = was.room.remembered;
+        remembered = λ before.
+            subst (λ (t : SpaceTable). AreRemembered t.spaces c.make_vertex_room.new.self.remembered.places) (sym c.in-Err.ensures.room.refused)
+            (subst (λ (ps : List Place). AreRemembered c.args.self.now.spaces.spaces ps) (sym was.room.remembered) before);
+        placed = tt;
+        full = λ is.
+            let spot = c.args.spot in
+            let out = was.room.full (c.in-Err.is ∙ ap (λ (why : RoomFault). Err why) is) in
+            record {
+              row = c.args.from;
+              held = record { object = c.requires.row.from; named = refl };
+              spot = spot;
+              found = c.requires.row.spot;
+              out = subst (λ (n : ℕ). IsOutOfCells c.args.self.now.spaces (nursery_space c.args.nursery) (1 + n)) c.cells.ensures (record { few_left = out.0; full = out.1 });
+            };
+      };
+      put = tt;
     }
 
-pub returns-clause-vertex : goal.returns-clause-vertex
-returns-clause-vertex g c =
+pub returns : goal.returns
+returns g c =
     let t = c.args.self.now.spaces in
     let payloads = c.args.self.now.payloads in
     let row = c.requires.row in
@@ -128,22 +88,51 @@ returns-clause-vertex g c =
     let later = c.remember.new.remembered.places in
     let cells = ap (λ n. 1 + n) c.cells.ensures in
     let kept : placed.remembered.places ≡ places = ap (λ (r : Notes). r.places) step.notes ∙ made.room.remembered in
+    let room = made_room t grown.spaces placed.spaces payloads grown.payloads placed.payloads row.table made.room.table step.table row.graph space (1 + c.cells.result) vertex.nursery made.room.spaces made.payloads from row.from name spot row.spot in
+    let object = object_placed t grown.spaces placed.spaces payloads grown.payloads placed.payloads row.table made.room.table step.table row.graph space (1 + c.cells.result) vertex.nursery made.room.spaces made.payloads from row.from name spot row.spot c.args.draft step.placed step.rows c.place_vertex-to.result step.vertex step.used (step.blocks space) made.room.left cells in
+    let there = found_placed t grown.spaces placed.spaces payloads grown.payloads placed.payloads row.table made.room.table step.table row.graph space (1 + c.cells.result) vertex.nursery made.room.spaces made.payloads from row.from name spot row.spot c.args.draft step.placed step.rows c.place_vertex-to.result step.vertex step.used (step.blocks space) made.room.left cells in
+    let left = left_over t grown.spaces placed.spaces payloads grown.payloads placed.payloads row.table made.room.table step.table row.graph space (1 + c.cells.result) vertex.nursery made.room.spaces made.payloads from row.from name spot row.spot c.args.draft step.placed step.rows c.place_vertex-to.result step.vertex step.used (step.blocks space) made.room.left cells in
     record {
-      made = vertex_made t grown.spaces placed.spaces payloads grown.payloads placed.payloads row.table made.room.table step.table row.graph space (1 + c.cells.result) vertex.nursery made.room.spaces made.payloads from row.from name spot row.spot
-          c.args.draft step.placed step.rows c.place_vertex-to.result step.vertex step.used (step.blocks space) made.room.left cells c.args.rights vertex.some (omega arith) c.put.new.spaces c.put.ensures;
-      vertex = vertex_there t grown.spaces placed.spaces payloads grown.payloads placed.payloads row.table made.room.table step.table row.graph space (1 + c.cells.result) vertex.nursery made.room.spaces made.payloads from row.from name spot row.spot
-          c.args.draft step.placed step.rows c.place_vertex-to.result step.vertex step.used (step.blocks space) made.room.left cells c.args.rights vertex.some (omega arith) c.put.new.spaces c.put.ensures;
-      handed_back = tt;
-      spaces = tt;
-      payloads = tt;
-      places = tt;
-      remembered = λ before.
-          let noted = subst (λ (o : Option Place). AreNoted places later o) c.note-note.ensures (subst (λ (ps : List Place). AreNoted ps later c.note-note.result) kept c.remember.ensures.members) in
-          vertex_remembered t grown.spaces placed.spaces payloads grown.payloads placed.payloads row.table made.room.table step.table row.graph space (1 + c.cells.result) vertex.nursery made.room.spaces made.payloads from row.from name spot row.spot
-          c.args.draft step.placed step.rows c.place_vertex-to.result step.vertex step.used (step.blocks space) made.room.left cells (omega arith) c.args.rights places later noted (step.remembered places) c.put.new.spaces c.put.ensures before;
-      placed = made_in_row t grown.spaces placed.spaces c.put.new.spaces places later space c.cells.result from row.from name c.args.rights spot row.spot c.cells.ensures made.room.spaces step.written c.place_vertex-to.result step.next c.put.ensures
-          (c.remember.ensures.noted ∙ ap (λ (ps : List Place). with_note ps c.note-note.result) kept ∙ ap (with_note places) c.note-note.ensures);
-      full = tt;
+      vertex = record {
+        made = vertex_made t grown.spaces placed.spaces payloads grown.payloads placed.payloads row.table made.room.table step.table row.graph space (1 + c.cells.result) vertex.nursery made.room.spaces made.payloads from row.from name spot row.spot
+            c.args.draft step.placed step.rows c.place_vertex-to.result step.vertex step.used (step.blocks space) made.room.left cells c.args.rights vertex.some (omega arith) c.put.new.spaces c.put.ensures;
+        vertex = vertex_there t grown.spaces placed.spaces payloads grown.payloads placed.payloads row.table made.room.table step.table row.graph space (1 + c.cells.result) vertex.nursery made.room.spaces made.payloads from row.from name spot row.spot
+            c.args.draft step.placed step.rows c.place_vertex-to.result step.vertex step.used (step.blocks space) made.room.left cells c.args.rights vertex.some (omega arith) c.put.new.spaces c.put.ensures;
+        handed_back = tt;
+        spaces = tt;
+        payloads = tt;
+        places = tt;
+        remembered = λ before.
+            let noted = subst (λ (o : Option Place). AreNoted places later o) c.note-note.ensures (subst (λ (ps : List Place). AreNoted ps later c.note-note.result) kept c.remember.ensures.members) in
+            vertex_remembered t grown.spaces placed.spaces payloads grown.payloads placed.payloads row.table made.room.table step.table row.graph space (1 + c.cells.result) vertex.nursery made.room.spaces made.payloads from row.from name spot row.spot
+            c.args.draft step.placed step.rows c.place_vertex-to.result step.vertex step.used (step.blocks space) made.room.left cells (omega arith) c.args.rights places later noted (step.remembered places) c.put.new.spaces c.put.ensures before;
+        placed = made_in_row t grown.spaces placed.spaces c.put.new.spaces places later space c.cells.result from row.from name c.args.rights spot row.spot c.cells.ensures made.room.spaces step.written c.place_vertex-to.result step.next c.put.ensures
+            (c.remember.ensures.noted ∙ ap (λ (ps : List Place). with_note ps c.note-note.result) kept ∙ ap (with_note places) c.note-note.ensures);
+        full = tt;
+      };
+      put = record {
+        ready = placed.spaces;
+        rows = keeps_rows_then t.spaces grown.spaces.spaces placed.spaces.spaces room.rows step.rows;
+        put = record {
+          payloads = placed.payloads;
+          space = space;
+          to = c.place_vertex-to.result;
+          rights = c.args.rights;
+          young = true;
+          table = step.table;
+          graph = step.placed.graph;
+          object = object;
+          found = there;
+          nursery = (omega arith, omega (arith, vertex.nursery, room.spaces, step.placed.spaces));
+          left = left;
+          target = step.vertex;
+          some = vertex.some;
+          put = c.put.ensures;
+          noted = refl;
+        };
+        remembered = c.remember.ensures.noted
+            ∙ ap (λ (ps : List Place). with_note ps c.note-note.result) (ap (λ (r : Notes). r.places) step.notes ∙ made.room.remembered) ∙ ap (with_note places) c.note-note.ensures;
+      };
     }
 
 pub put-requires : goal.put-requires
@@ -162,17 +151,3 @@ put-requires g c =
 
 pub overflow_add-cells : goal.overflow_add-cells
 overflow_add-cells g c = omega (arith, cells_few c.args.spot, c.cells.ensures)
-
-pub place_vertex-to-requires-clause-few : goal.place_vertex-to-requires-clause-few
-place_vertex-to-requires-clause-few g c = let few = c.requires.row.table.few in omega (arith, few, c.requires.vertex.nursery)
-
-pub place_vertex-to-requires-clause-nursery : goal.place_vertex-to-requires-clause-nursery
-place_vertex-to-requires-clause-nursery g c =
-    let made = c.in_default.ensures in
-    let grown = c.make_vertex_room.new.self in
-    let room = made_room c.args.self.now.spaces grown.spaces grown.spaces c.args.self.now.payloads grown.payloads grown.payloads c.requires.row.table made.room.table made.room.table c.requires.row.graph (nursery_space c.args.nursery) (1 + c.cells.result) c.requires.vertex.nursery made.room.spaces made.payloads
-    c.args.from c.requires.row.from c.args.name c.args.spot c.requires.row.spot in
-    subst (λ (n : ℕ). nursery_space c.args.nursery < n) (sym room.spaces) c.requires.vertex.nursery
-
-pub place_vertex-to-requires-clause-left : goal.place_vertex-to-requires-clause-left
-place_vertex-to-requires-clause-left g c = let left = c.in_default.ensures.room.left in omega (arith, left)

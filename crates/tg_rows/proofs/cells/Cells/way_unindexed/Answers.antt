@@ -35,21 +35,3 @@ returns-clause-ready g c =
       room = c.in_ok-reserve-2.ensures.room;
     } in
     subst (λ (r : IndexedRow). IsReadyNew c.args.self.now.spaces.spaces c.reserve.new.self c.args.from r) (sym c.in_ok-new.ensures.ok) ready
-
-pub returns-in_err-reserve-clause-entries : goal.returns-in_err-reserve-clause-entries
-returns-in_err-reserve-clause-entries g c = c.reserve.ensures.entries
-
-pub index_of-requires : goal.index_of-requires
-index_of-requires g c = c.requires.row
-
-pub returns-in_err-row-clause-entries : goal.returns-in_err-row-clause-entries
-returns-in_err-row-clause-entries g c = c.reserve.ensures.entries
-
-pub returns-in_err-reserve-2-clause-entries : goal.returns-in_err-reserve-2-clause-entries
-returns-in_err-reserve-2-clause-entries g c = c.reserve.ensures.entries
-
-pub returns-in_err-new-clause-entries : goal.returns-in_err-new-clause-entries
-returns-in_err-new-clause-entries g c = c.reserve.ensures.entries
-
-pub returns-clause-entries : goal.returns-clause-entries
-returns-clause-entries g c = c.reserve.ensures.entries

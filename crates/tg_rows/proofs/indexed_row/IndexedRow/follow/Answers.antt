@@ -8,55 +8,24 @@ use Rattle.tg_rows.proofs.Following.{behind_noted, behind_short, empty_absent, e
 use Rattle.tg_rows.proofs.Marked.{aged_by, aged_grown, marked_by, marked_grown}
 use Rattle.tg_rows.proofs.indexed_row.IndexedRow.follow.Goals as goal
 
-pub mark-requires-clause-noted : goal.mark-requires-clause-noted
-mark-requires-clause-noted c = behind_noted c.requires.put
-
-pub mark-requires-clause-short : goal.mark-requires-clause-short
-mark-requires-clause-short c = behind_short c.requires.put
-
-pub mark-requires-clause-room : goal.mark-requires-clause-room
-mark-requires-clause-room c = c.requires.room.marks
+pub mark-requires : goal.mark-requires
+mark-requires c = record { noted = behind_noted c.requires.put; short = behind_short c.requires.put; room = c.requires.room.marks }
 
 pub returns-in-Reference-clause-index : goal.returns-in-Reference-clause-index
 returns-in-Reference-clause-index c = rw c.mark.ensures.names (rw c.mark.ensures.cells (index_widened c.requires.put _ _ c.in-Reference.is))
 
-pub put-requires-clause-room : goal.put-requires-clause-room
-put-requires-clause-room c = rw c.mark.ensures.names c.requires.room.names
-
-pub put-requires-clause-absent : goal.put-requires-clause-absent
-put-requires-clause-absent c = rw c.mark.ensures.names (empty_absent c.requires.put _ _ c.in-Empty.is)
-
-pub put-requires-clause-vacant : goal.put-requires-clause-vacant
-put-requires-clause-vacant c = rw c.mark.ensures.names (empty_vacant c.requires.put _ _ c.in-Empty.is)
+pub put-requires : goal.put-requires
+put-requires c = record { room = rw c.mark.ensures.names c.requires.room.names; absent = rw c.mark.ensures.names (empty_absent c.requires.put _ _ c.in-Empty.is); vacant = rw c.mark.ensures.names (empty_vacant c.requires.put _ _ c.in-Empty.is) }
 
 pub returns-in-Empty-clause-index : goal.returns-in-Empty-clause-index
 returns-in-Empty-clause-index c =
     rw c.mark.ensures.cells (index_filled c.requires.put _ _ c.in-Empty.is c.put.new.self (rw c.mark.ensures.names at c.put.ensures.len) (rw c.mark.ensures.names at c.put.ensures.put))
 
-pub returns-in-Empty-clause-aged : goal.returns-in-Empty-clause-aged
-returns-in-Empty-clause-aged c = λ aged.
-    let m = c.mark.new.self in
-    let later : IndexedRow = record { names = c.put.new.self; cells = m.cells; old_cells = m.old_cells; noted = m.noted } in
-    aged_by m later refl refl (λ n. refl) (c.mark.ensures.aged aged)
-
-pub returns-in-Empty-clause-marked : goal.returns-in-Empty-clause-marked
-returns-in-Empty-clause-marked c = λ places marked.
-    let m = c.mark.new.self in
-    let later : IndexedRow = record { names = c.put.new.self; cells = m.cells; old_cells = m.old_cells; noted = m.noted } in
-    marked_by (with_note places c.args.note) m later refl refl (λ n. refl) (c.mark.ensures.marked places marked)
-
 pub grow-requires : goal.grow-requires
 grow-requires c = rw c.mark.ensures.names (behind_short c.requires.put)
 
-pub put-requires-in-Full-clause-room : goal.put-requires-in-Full-clause-room
-put-requires-in-Full-clause-room c = c.grow.ensures.room (rw c.mark.ensures.names c.requires.room.names)
-
-pub put-requires-in-Full-clause-absent : goal.put-requires-in-Full-clause-absent
-put-requires-in-Full-clause-absent c =
-    ap (λ (es : List (ℕ × ℕ)). lookup (nat_eq c.args.name) es) c.grow.ensures.entries ∙ rw c.mark.ensures.names (full_lacks c.requires.put c.in-Full.last c.in-Full.is)
-
-pub put-requires-in-Full-clause-vacant : goal.put-requires-in-Full-clause-vacant
-put-requires-in-Full-clause-vacant c = c.grow.ensures.vacant (omega arith)
+pub put-requires-in-Full : goal.put-requires-in-Full
+put-requires-in-Full c = record { room = c.grow.ensures.room (rw c.mark.ensures.names c.requires.room.names); absent = ap (λ (es : List (ℕ × ℕ)). lookup (nat_eq c.args.name) es) c.grow.ensures.entries ∙ rw c.mark.ensures.names (full_lacks c.requires.put c.in-Full.last c.in-Full.is); vacant = c.grow.ensures.vacant (omega arith) }
 
 pub push-requires : goal.push-requires
 push-requires c = rw c.mark.ensures.cells c.requires.room.cells
@@ -71,16 +40,20 @@ returns-in-Full-clause-index c =
     (λ slots later n of first puts. c.put-in-Full.ensures.put slots later n (c.grow.ensures.grown slots (rw c.mark.ensures.names of)) (subst (λ l. IsFirstVacant slots l (Some n)) (sym (rw c.mark.ensures.names at c.grow.ensures.len)) first) puts)
     (c.push.ensures ∙ rw c.mark.ensures.cells (ap (λ word. cells ++ place_in word ∷ []) c.read.ensures))
 
-pub returns-in-Full-clause-aged : goal.returns-in-Full-clause-aged
-returns-in-Full-clause-aged c =
-    λ aged.
+pub returns-in-Empty-clause-marks : goal.returns-in-Empty-clause-marks
+returns-in-Empty-clause-marks c =
     let m = c.mark.new.self in
-    let later : IndexedRow = record { names = c.put-in-Full.new.self; cells = c.push.new.self; old_cells = m.old_cells; noted = m.noted } in
-    aged_grown m later (place_in c.read.result) c.push.ensures refl refl (c.mark.ensures.aged aged)
+    let later : IndexedRow = record { names = c.put.new.self; cells = m.cells; old_cells = m.old_cells; noted = m.noted } in
+    record {
+      aged = λ aged. aged_by m later refl refl (λ n. refl) (c.mark.ensures.marks.aged aged);
+      marked = λ places marked. marked_by (with_note places c.args.note) m later refl refl (λ n. refl) (c.mark.ensures.marks.marked places marked);
+    }
 
-pub returns-in-Full-clause-marked : goal.returns-in-Full-clause-marked
-returns-in-Full-clause-marked c =
-    λ places marked.
+pub returns-in-Full-clause-marks : goal.returns-in-Full-clause-marks
+returns-in-Full-clause-marks c =
     let m = c.mark.new.self in
     let later : IndexedRow = record { names = c.put-in-Full.new.self; cells = c.push.new.self; old_cells = m.old_cells; noted = m.noted } in
-    marked_grown (with_note places c.args.note) m later (place_in c.read.result) c.push.ensures refl refl (c.mark.ensures.marked places marked)
+    record {
+      aged = λ aged. aged_grown m later (place_in c.read.result) c.push.ensures refl refl (c.mark.ensures.marks.aged aged);
+      marked = λ places marked. marked_grown (with_note places c.args.note) m later (place_in c.read.result) c.push.ensures refl refl (c.mark.ensures.marks.marked places marked);
+    }
