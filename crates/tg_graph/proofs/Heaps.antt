@@ -37,10 +37,6 @@ pub subject_vertex : (s : HeapState) → IsWellFormed s → (x : ℕ) (subject :
 subject_vertex s formed x subject is =
     subst (λ (name : ℕ). IsVertexAt s.table.spaces name subject.place) is.named (All-contains (λ (y : Subject). IsVertexAt s.table.spaces y.name y.place) s.subjects subject formed.vertices is.there)
 
-pub worker_there : (s seen : HeapState) → s ≡ seen → IsWellFormed s → (subject : Subject) → Contains seen.subjects subject → IsVertexAt s.table.spaces subject.name subject.place
-worker_there s seen same formed subject there =
-    subject_vertex s formed subject.name subject (record { there = subst (λ (x : HeapState). Contains x.subjects subject) (sym same) there; named = refl })
-
 -- the nursery of an active subject is one of the spaces
 pub nursery_inside : (s : HeapState) → IsWellFormed s → (subject : Subject) → Contains s.subjects subject → nursery_space subject.nursery < length s.table.spaces
 nursery_inside s formed subject there =

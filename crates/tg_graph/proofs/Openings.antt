@@ -29,8 +29,9 @@ use Rattle.tg_space.proofs.Flat.{before_le, before_more}
 use Rattle.tg_space.proofs.Tables.{table_list}
 use Rattle.tg_payload.specs.Table.{Payloads, entry}
 use Rattle.tg_rows.specs.Content.{IsNamed}
-use Rattle.tg_rows.specs.Graph.{content_in}
-use Rattle.tg_graph.specs.Opened.{HasBlocks, HasNoBlocks, IsOpened, labels_before, no_labels, with_row}
+use Rattle.tg_rows.specs.Graph.{content_in, IsGraph}
+use Rattle.tg_rows.specs.declared.cells.Cells.{Cells}
+use Rattle.tg_graph.specs.Opened.{HasBlocks, HasNoBlocks, IsOpened, Relabels, labels_before, labels_in, no_labels, with_row}
 use Rattle.tg_rows.specs.Rows.{IsVertexAt}
 use Rattle.tg_graph.specs.Standing.{IsContentOf}
 use Rattle.tg_rows.specs.Steps.{ChangesTo}
@@ -159,6 +160,34 @@ changes_more t mid after payloads label1 label f one two same =
     let labels : m.label ≡ label1 = label_is m (IsNamed c) label1 c.value one.content in
     changes_then t mid after payloads payloads (IsNamed c) (IsNamed m) (IsNamed c) label1 (f m.label) label c.value m.value c.value one two one.content.names
     (λ a b. ap (λ (l : ℕ → ℕ → RightSet). f l a b) labels ∙ same a b) one.content.values
+
+-- the same of the cells that hold them
+module _ {P : Type 0} (old : Cells P) where
+  pub relabels_none : (label : ℕ → ℕ → RightSet) → IsGraph old.spaces.spaces old.payloads → ((a b : ℕ) → labels_in old a b ≡ label a b) → Relabels old old label
+  relabels_none label graph same = record {
+    changed = record { graph = graph; content = record { names = λ x. (λ is. is, λ is. is); labels = same; values = λ x. refl }; vertices = λ x p is. is; spaces = refl; limits = refl };
+    payloads = refl;
+    blocks = λ space. refl;
+    remembered = λ before. before;
+  }
+
+  pub relabels_to : (new : Cells P) (label other : ℕ → ℕ → RightSet) → ((a b : ℕ) → label a b ≡ other a b) → Relabels old new label → Relabels old new other
+  relabels_to new label other same to = record {
+    changed = let content = content_in old.spaces.spaces old.payloads in changes_relabel old.spaces new.spaces old.payloads (IsNamed content) label other content.value same to.changed;
+    payloads = to.payloads;
+    blocks = to.blocks;
+    remembered = to.remembered;
+  }
+
+  pub relabels_more : (mid new : Cells P) (label1 label : ℕ → ℕ → RightSet) (f : (ℕ → ℕ → RightSet) → ℕ → ℕ → RightSet) → Relabels old mid label1 → Relabels mid new (f (labels_in mid)) → ((a b : ℕ) → f label1 a b ≡ label a b) → Relabels old new label
+  relabels_more mid new label1 label f one two same =
+      let Step : Payloads → Type 0 = λ s. ChangesTo mid.spaces new.spaces s (IsNamed (content_in mid.spaces.spaces s)) (f (content_in mid.spaces.spaces s).label) (content_in mid.spaces.spaces s).value in
+      record {
+        changed = changes_more old.spaces mid.spaces new.spaces old.payloads label1 label f one.changed (subst Step one.payloads two.changed) same;
+        payloads = two.payloads ∙ one.payloads;
+        blocks = λ space. two.blocks space ∙ one.blocks space;
+        remembered = λ formed. two.remembered (one.remembered formed);
+      }
 
 -- ---- rows of rights
 

@@ -1,6 +1,10 @@
 -- What contracts see of a `Heap`, when it is well formed, and its content.
-use Rattle.std.specs.Prelude.{◌≡◌, ◌≢◌, ◌↔◌, ℕ, ◌≤◌, ◌++◌, List, [], ◌∷◌, length, map}
+use Rattle.std.specs.Prelude.{◌≡◌, ◌≢◌, ◌↔◌, ℕ, ◌≤◌, ◌++◌, ◌⊎◌, List, [], ◌∷◌, length, map, Result, Err, OnOk, OnErr, IfOk, IfErr}
 use Rattle.std.specs.List.{All, Contains}
+use Rattle.tg_rights.specs.RightSet.{RightSet}
+use Rattle.tg_model.specs.Graph.{with_rights}
+use Rattle.tg_model.specs.Rules.{with_value}
+use Rattle.tg_model.specs.declared.value.Value.{Value}
 use Rattle.tg_word.specs.Word.{nursery_space, place_in}
 use Rattle.tg_word.specs.declared.Place.{Place}
 use Rattle.tg_word.specs.declared.TheConstants.{SPACES}
@@ -18,7 +22,11 @@ use Rattle.tg_space.specs.declared.kind.Kind.{Kind}
 use Rattle.tg_space.specs.declared.kind.Kind.TheVariants.{Full, Nursery}
 use Rattle.tg_space.specs.Generations.{AreRemembered}
 use Rattle.tg_payload.specs.Table.{Payloads}
-use Rattle.tg_rows.specs.Content.{Content}
+use Rattle.tg_space.specs.declared.room_fault.RoomFault.{RoomFault}
+use Rattle.tg_space.specs.declared.room_fault.RoomFault.TheVariants.{HeapFull}
+use Rattle.tg_rows.specs.declared.cells.VertexRefused.{VertexRefused}
+use Rattle.tg_rows.specs.Content.{Content, IsContent, IsNamed}
+use Rattle.tg_rows.specs.Spots.{IsMadeInRow, IsPutInRow, LacksCellsFor}
 use Rattle.tg_rows.specs.Rows.{IsVertexAt, name_at}
 use Rattle.tg_rows.specs.Graph.{content_in, IsGraph, IsLongRow}
 
@@ -136,3 +144,45 @@ pub record AddsSubject (old new : HeapState) (name : ℕ) : Type 0 where
   pub subjects : new.subjects ≡ old.subjects ++ subject ∷ []
   pub limits : new.table.limits ≡ old.table.limits
   pub vertices : (x : ℕ) (p : Place) → IsVertexAt old.table.spaces x p → IsVertexAt new.table.spaces x p
+
+-- ---- what the calls that make a vertex or add an edge ask for, and what they do
+
+-- a worker may add an edge between the vertices at two places: it is an active subject, and there are objects
+pub record MayAddEdge (s : HeapState) (x : ℕ) (p q : Place) : Type 0 where
+  pub worker : IsActive s x
+  pub from : IsObject s p
+  pub to : IsObject s q
+
+-- The vertex at one place has rights over the vertex at another: a reference stands in its row, which has an index if it is long, and
+-- may have taken a cell from the nursery with a number. Where it is refused nothing is changed, and it is told as a full heap only
+-- where more cells are needed than that nursery has left and gets.
+pub record AddsEdgeFor {A : Type 0} (old new : HeapState) (nursery : ℕ) (from to : Place) (label : RightSet) (result : Result A RoomFault) : Type 0 where
+  pub added : OnOk result (IsContent (content_of new) (IsNamed (content_of old))
+      (with_rights (content_of old).label (name_of old from) (name_of old to) label) (content_of old).value)
+  pub placed : OnOk result (IsPutInRow old.table new.table old.remembered new.remembered (nursery_space nursery) from to label)
+  pub kept : OnOk result (KeepsPlaces old new)
+  pub indexed : OnOk result (KeepsIndexes old new from)
+  pub refused : OnErr result (new ≡ old)
+  pub full : result ≡ Err HeapFull → LacksCellsFor old.table (nursery_space nursery) 0 (name_of old from) (name_of old to)
+
+-- a worker may make a vertex with this name: it is an active subject, and no vertex has the name
+pub record MayMake (s : HeapState) (x name : ℕ) : Type 0 where
+  pub worker : IsActive s x
+  pub fresh : ¬ IsNamed (content_of s) name
+
+-- the new vertex with this name is where it is told, and active subjects, limits and the places of all others are as they were
+pub record TellsPlace {E : Type 0} (old new : HeapState) (name : ℕ) (result : Result Place E) : Type 0 where
+  pub vertex : IfOk result (IsVertexAt new.table.spaces name)
+  pub kept : OnOk result (KeepsPlaces old new)
+
+-- There is a vertex with this name, which stores this value, and the worker's has rights over it. It is the next cell of the nursery
+-- that the worker holds, and the worker's row has an index if it is long. Where it is refused the draft comes back and the heap is as
+-- it was, but for room; it is told as a full heap only where more cells are needed than the nursery has left and gets.
+pub record MakesVertexFor {P A : Type 0} (old new : HeapState) (worker name : ℕ) (label : RightSet) (draft : Value) (result : Result A (VertexRefused P)) : Type 0 where
+  pub made : OnOk result (IsContent (content_of new) (λ x. IsNamed (content_of old) x ⊎ (x ≡ name))
+      (with_rights (content_of old).label worker name label) (with_value (content_of old).value name draft))
+  pub placed : OnOk result (IsMadeInRow old.table new.table old.remembered new.remembered (nursery_space (nursery_of old worker)) worker name label)
+  pub indexed : OnOk result ((row : Place) × IsVertexAt old.table.spaces worker row × KeepsIndexes old new row)
+  pub handed_back : IfErr result (λ refused. refused.draft ≡ draft)
+  pub refused : OnErr result (IsUnchangedHeap old new)
+  pub full : IfErr result (λ refused. refused.why ≡ HeapFull → LacksCellsFor old.table (nursery_space (nursery_of old worker)) 1 worker name)

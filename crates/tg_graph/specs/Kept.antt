@@ -57,12 +57,22 @@ pub record AreWritten (old new : SpaceTable) (cells : List Rewritten) : Type 0 w
   pub held : (p : Place) → Holds new.spaces p ↔ Holds old.spaces p
   pub written : (p : Place) → HasWritten new.spaces cells p ⊎ HasStayed old.spaces new.spaces cells p
 
+-- these were written, and what holds of all spaces holds of these
+pub record LeavesWritten (old new : SpaceTable) (cells : List Rewritten) : Type 0 where
+  pub written : AreWritten old new cells
+  pub table : IsSpaceTable new
+
 -- ---- payloads
 
 -- each key is that of one object
 abbrev pub HaveKeysApart : SpaceList → Type 0
 HaveKeysApart h =
     (p q : Place) → IsKindAt h Object p → IsKindAt h Object q → key_at h p ≡ key_at h q → p ≡ q
+
+-- each object has a key of its own, and there is a forwarding word for each cell
+pub record CanTellDead (h : SpaceList) (forward : List ℕ) : Type 0 where
+  pub apart : HaveKeysApart h
+  pub whole : length forward ≡ length (cells_of h)
 
 -- the payloads of the kept objects are left, and no other
 pub record KeepsPayloads (h : SpaceList) (kept : Place → Type 0) (payloads left : Payloads) : Type 0 where

@@ -14,11 +14,12 @@ use Rattle.tg_rows.specs.declared.cells.Cells.{Cells}
 use Rattle.tg_graph.specs.declared.opening.Room.{Room}
 use Rattle.tg_block.specs.Cells.{free_cell}
 use Rattle.tg_space.specs.SpaceList.{Holds, block_count, cell_at, space_of}
-use Rattle.tg_space.specs.SpaceTable.{SpaceTable, BlockLimits, used_of}
+use Rattle.tg_space.specs.SpaceTable.{AreLimits, IsSpaceTable, SpaceTable, BlockLimits, used_of}
 use Rattle.tg_payload.specs.Table.{Payloads}
-use Rattle.tg_rows.specs.Content.{IsContent}
+use Rattle.tg_rows.specs.Content.{IsContent, IsNamed}
 use Rattle.tg_rows.specs.Rows.{IsVertexAt}
 use Rattle.tg_rows.specs.Graph.{IsGraph, content_in}
+use Rattle.tg_rows.specs.Steps.{ChangesTo}
 
 -- no space has a block, and no cell was handed out
 pub record HasNoBlocks (t : SpaceTable) : Type 0 where
@@ -27,6 +28,7 @@ pub record HasNoBlocks (t : SpaceTable) : Type 0 where
 
 -- The nursery of each worker has a block, and no other space has one; no cell was handed out, and all are free.
 pub record HasBlocks (t : SpaceTable) (workers : ℕ) (limits : BlockLimits) : Type 0 where
+  pub table : IsSpaceTable t
   pub spaces : SPACES ≤ length t.spaces
   pub limits_kept : t.limits ≡ limits
   pub blocks : (x : ℕ) → x < workers → 1 ≤ length (space_of t.spaces (nursery_space x))
@@ -47,6 +49,10 @@ pub record IsOpened (t : SpaceTable) (payloads : Payloads) (places : List Place)
   pub all : block_count t.spaces ≡ workers
   pub old : length (space_of t.spaces 0) ≡ 0
 
+-- the rights of each over each in these cells
+abbrev pub labels_in : {P : Type 0} → Cells P → ℕ → ℕ → RightSet
+labels_in cells = (content_in cells.spaces.spaces cells.payloads).label
+
 -- no rights of anyone over anyone
 abbrev pub no_labels : ℕ → ℕ → RightSet
 no_labels x y = no_rights
@@ -66,6 +72,14 @@ pub record AreFewWorkers (workers : ℕ) : Type 0 where
   pub some : 1 ≤ workers
   pub few : workers ≤ MAX_NURSERIES
 
+-- these spaces can get a first block for each of so many workers: none has any, and as many are allowed
+pub record CanGetBlocks (t : SpaceTable) (n : ℕ) : Type 0 where
+  pub workers : AreFewWorkers n
+  pub limits : AreLimits t.limits
+  pub empty : HasNoBlocks t
+  pub spaces : SPACES ≤ length t.spaces
+  pub allowed : n ≤ t.limits.max_blocks
+
 -- nothing stands in the room yet, and it is enough for so many workers
 pub record IsRoomFor {P : Type 0} (workers : ℕ) (room : Room P) : Type 0 where
   pub payloads : room.cells.payloads.entries ≡ []
@@ -73,6 +87,11 @@ pub record IsRoomFor {P : Type 0} (workers : ℕ) (room : Room P) : Type 0 where
   pub subjects : room.subjects ≡ []
   pub row : length room.row.items ≡ workers
   pub remembered : room.cells.remembered.places ≡ []
+
+-- the same, and the nursery of each worker has its block
+pub record IsReadyFor {P : Type 0} (workers : ℕ) (limits : BlockLimits) (ready : Room P) : Type 0 where
+  pub room : IsRoomFor workers ready
+  pub nurseries : HasBlocks ready.cells.spaces workers limits
 
 -- the subjects are vertices of the graph in these cells, each with its number as its name, and Old has no block
 pub record AreWorkers {P : Type 0} (cells : Cells P) (workers : List Subject) : Type 0 where
@@ -82,8 +101,18 @@ pub record AreWorkers {P : Type 0} (cells : Cells P) (workers : List Subject) : 
   pub vertices : (x : ℕ) (p : Place) → slice_get (places_of workers) x ≡ Some p → IsVertexAt cells.spaces.spaces x p
   pub old : length (space_of cells.spaces.spaces 0) ≡ 0
 
--- payloads and blocks are as they were, and each cell of Old that has to be remembered still is
-pub record KeepsBlocks {P : Type 0} (old new : Cells P) : Type 0 where
+-- the worker with a number has no edge yet: in its nursery, which has a block, is its object alone
+pub record IsUnjoined {P : Type 0} (cells : Cells P) (subjects : List Subject) (from : ℕ) : Type 0 where
+  pub workers : AreWorkers cells subjects
+  pub inside : from < length subjects
+  pub labels : (y : ℕ) → labels_in cells from y ≡ no_rights
+  pub unused : used_of cells.spaces (nursery_space from) ≤ 1
+  pub block : 1 ≤ length (space_of cells.spaces.spaces (nursery_space from))
+
+-- The labels became these, and nothing else of the graph is another. Payloads and blocks are as they were, and each cell of Old
+-- that has to be remembered still is.
+pub record Relabels {P : Type 0} (old new : Cells P) (label : ℕ → ℕ → RightSet) : Type 0 where
+  pub changed : let content = content_in old.spaces.spaces old.payloads in ChangesTo old.spaces new.spaces old.payloads (IsNamed content) label content.value
   pub payloads : new.payloads ≡ old.payloads
   pub blocks : (space : ℕ) → length (space_of new.spaces.spaces space) ≡ length (space_of old.spaces.spaces space)
   pub remembered : AreRemembered old.spaces.spaces old.remembered.places → AreRemembered new.spaces.spaces new.remembered.places

@@ -1,32 +1,29 @@
 //! The heap of one store.
-ghost use Rattle.std.specs.Prelude.{◌==◌, ◌≡◌, ◌↔◌, ◌<◌, ◌⊎◌, ℕ, Err, IfOk, IfErr, IfSome, IsErrAnd, IsSome, OnOk, OnErr, length, option_map, Some};
-ghost use Rattle.std.specs.List.{All, Contains, IsDistinct, range_with_len};
+ghost use Rattle.std.specs.Prelude.{◌==◌, ◌≡◌, ◌↔◌, ◌<◌, ◌⊎◌, ℕ, Err, IfOk, IfErr, IfSome, IsSome, OnOk, OnErr, length, option_map, Some};
+ghost use Rattle.std.specs.List.{All, Contains, IsDistinct};
 ghost use Rattle.tg_model.specs.Graph.{HasEdge, listing_of, with_rights, without_rights};
-ghost use Rattle.tg_model.specs.Opened.{start_of};
 ghost use Rattle.tg_model.specs.Rules.{state_of, with_value, written_at};
 ghost use Rattle.tg_word.specs.Word.{nursery_space};
 ghost use Rattle.tg_word.specs.declared.TheConstants.{MAX_NURSERIES};
 ghost use Rattle.tg_word.specs.declared.Place.{Place as PlaceOf};
-ghost use Rattle.tg_subjects.specs.Subjects.{IsSubjectNamed, nurseries_of, without};
+ghost use Rattle.tg_subjects.specs.Subjects.{IsSubjectNamed, without};
 ghost use Rattle.tg_subjects.specs.declared.subject.Subject.{Subject as SubjectOf};
-ghost use Rattle.tg_space.specs.SpaceList.{block_count, space_of};
+ghost use Rattle.tg_space.specs.SpaceList.{space_of};
 ghost use Rattle.tg_space.specs.SpaceTable.{IsSpaceTable};
 ghost use Rattle.tg_rows.specs.Content.{IsContent, IsNamed};
-ghost use Rattle.tg_graph.specs.Heap.{AddsSubject, AreAtHome, IsActive, IsObject, IsUnchangedHeap, IsWellFormed, KeepsIndexes, KeepsPlaces, content_of, name_of, nursery_of, subject_names};
+ghost use Rattle.tg_graph.specs.Heap.{AddsEdgeFor, AddsSubject, IsActive, IsObject, IsUnchangedHeap, IsWellFormed, KeepsIndexes, KeepsPlaces, MakesVertexFor, MayAddEdge, MayMake, TellsPlace, content_of, name_of, nursery_of, subject_names};
 ghost use Rattle.tg_rows.specs.Graph.{rights_found};
 ghost use Rattle.tg_rows.specs.Rows.{IsVertexAt};
 ghost use Rattle.tg_rows.specs.Spots.{IsMadeInRow, IsPutInRow, LacksCellsFor};
-ghost use Rattle.tg_graph.specs.Standing.{IsContentOf};
 
-use crate::opening::opened;
-use std::alloc::{AllocError, Global};
+use std::alloc::AllocError;
 use std::marker::Model;
-use tg_model::{EdgeList, Law, Numbers, Opening};
+use tg_model::{EdgeList, Law, Numbers};
 use tg_payload::{Draft, Payload, PayloadTable};
 use tg_remember::Remembered;
 use tg_rights::{Label, Rights};
 use tg_rows::{Cells, Found, LongRows, VertexRefused};
-use tg_space::{Limits, RoomFault, Spaces};
+use tg_space::{RoomFault, Spaces};
 use tg_subjects::{Subject, Subjects};
 use tg_word::Place;
 
@@ -60,36 +57,6 @@ impl<P: Payload> Model for Heap<P> {
 }
 
 impl<P: Payload> Heap<P> {
-    /// The heap of the graph that an opening starts from. The drafts are those of the workers, by rising name, with the
-    /// opening's values. The active subjects are the workers, and each holds the nursery whose number is its name. Its
-    /// object lies there, and so do the chunks of its row. The heap takes a block for each worker and no more.
-    ///
-    /// It is refused where there may be fewer blocks than there are workers (`HeapFull`, exactly then), and where
-    /// memory is (`OutOfMemory`). Then the drafts come back as they were.
-    pub fn open(
-        alloc: Global,
-        opening: &Opening,
-        limits: Limits,
-        drafts: Vec<Draft<P>>,
-    ) -> Result<Heap<P>, HeapRefused<P>>
-        requires { drafts.items ≡ opening.now.values }
-        ensures stands { IfOk result (λ heap. IsContentOf (content_of heap) (start_of opening.now)) }
-        ensures subjects { IfOk result (λ heap. subject_names heap ≡ range_with_len 0 opening.now.workers) }
-        ensures numbers { IfOk result (λ heap. nurseries_of heap.subjects ≡ range_with_len 0 opening.now.workers) }
-        ensures nurseries { IfOk result (λ heap. AreAtHome heap.subjects) }
-        ensures limits { IfOk result (λ heap. heap.table.limits ≡ limits) }
-        ensures blocks { IfOk result (λ heap. block_count heap.table.spaces ≡ opening.now.workers) }
-        ensures handed_back { IfErr result (λ refused. refused.drafts.items ≡ drafts.items) }
-        ensures full { IsErrAnd result (λ refused. refused.why ≡ RoomFault.HeapFull) ↔ (limits.max_blocks < opening.now.workers) }
-    {
-        let (cells, subjects) = opened(alloc, opening, limits, drafts)?;
-        Ok(Heap {
-            cells,
-            subjects,
-            rows: LongRows::new(alloc),
-        })
-    }
-
     /// The active subjects, by rising name. What holds of every heap is told here. Takes no memory.
     pub fn subjects(&self) -> &[Subject]
         ensures subjects { result.now ≡ self.now.subjects }
@@ -246,16 +213,8 @@ impl<P: Payload> Heap<P> {
         to: Place,
         label: Label,
     ) -> Result<(), RoomFault>
-        requires worker { IsActive self.old worker }
-        requires from { IsObject self.old from }
-        requires to { IsObject self.old to }
-        ensures added { OnOk result (IsContent (content_of self.new) (IsNamed (content_of self.old))
-            (with_rights (content_of self.old).label (name_of self.old from) (name_of self.old to) label) (content_of self.old).value) }
-        ensures placed { OnOk result (IsPutInRow self.old.table self.new.table self.old.remembered self.new.remembered (nursery_space (nursery_of self.old worker)) from to label) }
-        ensures kept { OnOk result (KeepsPlaces self.old self.new) }
-        ensures indexed { OnOk result (KeepsIndexes self.old self.new from) }
-        ensures refused { OnErr result (self.new ≡ self.old) }
-        ensures full { result ≡ Err RoomFault.HeapFull → LacksCellsFor self.old.table (nursery_space (nursery_of self.old worker)) 0 (name_of self.old from) (name_of self.old to) }
+        requires { MayAddEdge self.old worker from to }
+        ensures { AddsEdgeFor self.old self.new (nursery_of self.old worker) from to label result }
     {
         let subject = self.active(worker);
         self.add_edge_as(subject, from, to, label)
@@ -331,38 +290,30 @@ impl<P: Payload> Heap<P> {
         ensures refused { OnErr result (IsUnchangedHeap self.old self.new) }
         ensures full { IfErr result (λ refused. refused.why ≡ RoomFault.HeapFull → LacksCellsFor self.old.table (nursery_space (nursery_of self.old worker)) 1 worker name) }
     {
-        let subject = self.active(worker);
-        self.new_vertex_as(subject, name, label, draft)?;
+        self.make_vertex(worker, name, label, draft)?;
         Ok(())
     }
 
-    /// What [`Heap::new_vertex`] does for a worker that was looked up. It answers where the vertex is.
+    // Makes a vertex that is no active subject, and answers where it is.
     #[inline(always)]
-    pub fn new_vertex_as(
+    fn make_vertex(
         &mut self,
-        worker: Subject,
+        worker: u64,
         name: u64,
         label: Label,
         draft: Draft<P>,
     ) -> Result<Place, VertexRefused<P>>
-        requires worker { Contains self.old.subjects worker }
-        requires fresh { ¬ IsNamed (content_of self.old) name }
-        ensures made { OnOk result (IsContent (content_of self.new) (λ x. IsNamed (content_of self.old) x ⊎ (x ≡ name))
-            (with_rights (content_of self.old).label worker.name name label) (with_value (content_of self.old).value name draft)) }
-        ensures placed { OnOk result (IsMadeInRow self.old.table self.new.table self.old.remembered self.new.remembered (nursery_space worker.nursery) worker.name name label) }
-        ensures vertex { IfOk result (IsVertexAt self.new.table.spaces name) }
-        ensures kept { OnOk result (KeepsPlaces self.old self.new) }
-        ensures indexed { OnOk result (KeepsIndexes self.old self.new worker.place) }
-        ensures handed_back { IfErr result (λ refused. refused.draft ≡ draft) }
-        ensures refused { OnErr result (IsUnchangedHeap self.old self.new) }
-        ensures full { IfErr result (λ refused. refused.why ≡ RoomFault.HeapFull → LacksCellsFor self.old.table (nursery_space worker.nursery) 1 worker.name name) }
+        requires { MayMake self.old worker name }
+        ensures done { MakesVertexFor self.old self.new worker name label draft result }
+        ensures place { TellsPlace self.old self.new name result }
     {
+        let subject = self.active(worker);
         // It tells what holds of all spaces (`IsSpaceTable`).
         let _ = self.cells.spaces.blocks();
         self.cells.new_vertex(
             &mut self.rows,
-            worker.nursery,
-            worker.place,
+            subject.nursery,
+            subject.place,
             name,
             label.rights(),
             draft,
@@ -395,8 +346,7 @@ impl<P: Payload> Heap<P> {
         ensures refused { OnErr result (IsUnchangedHeap self.old self.new) }
         ensures full { IfErr result (λ refused. refused.why ≡ RoomFault.HeapFull → LacksCellsFor self.old.table (nursery_space (nursery_of self.old worker)) 1 worker name) }
     {
-        let subject = self.active(worker);
-        let place = self.new_vertex_as(subject, name, label, draft)?;
+        let place = self.make_vertex(worker, name, label, draft)?;
         self.subjects.add(name, place);
         Ok(())
     }

@@ -1,15 +1,12 @@
 //! What there is in a heap.
-ghost use Rattle.std.specs.Prelude.{◌≡◌, ◌==◌, length, map, slice_set};
+ghost use Rattle.std.specs.Prelude.{◌≡◌, ◌==◌, length, slice_set};
 ghost use Rattle.std.specs.List.{IsDistinct};
-ghost use Rattle.tg_space.specs.SpaceTable.{IsSpaceTable};
 ghost use Rattle.tg_graph.specs.Heap.{content_of};
-ghost use Rattle.tg_rows.specs.Rows.{name_at, objects_of};
 ghost use Rattle.tg_graph.specs.Shown.{shown_in};
 
 use crate::heap::Heap;
 use tg_block::{NAME, OBJECT_TAG};
 use tg_payload::Payload;
-use tg_space::Spaces;
 
 impl<P: Payload> Heap<P> {
     /// The names of the vertices that the heap has, in the order of the places of their objects, each once: the first
@@ -20,25 +17,17 @@ impl<P: Payload> Heap<P> {
         ensures shown { into.new ≡ shown_in (content_of self.now).names into.old }
         ensures once { IsDistinct (λ a b. a == b) (content_of self.now).names }
     {
-        names_in(&self.cells.spaces, into)
-    }
-}
-
-// The names of all objects, in the order of their cells: the first that fit go to `into`. Answers how many there are.
-fn names_in(spaces: &Spaces, into: &mut [u64]) -> u64
-    ensures number { result ≡ length (map (name_at spaces.now.spaces) (objects_of spaces.now.spaces)) }
-    ensures shown { into.new ≡ shown_in (map (name_at spaces.now.spaces) (objects_of spaces.now.spaces)) into.old }
-    ensures table { IsSpaceTable spaces.now }
-{
-    let mut count: usize = 0;
-    for number in 0..spaces.cells() {
-        let words = spaces.numbered_words(number);
-        if words[0] == OBJECT_TAG {
-            put_at(into, count, words[NAME]);
-            count += 1;
+        let spaces = &self.cells.spaces;
+        let mut count: usize = 0;
+        for number in 0..spaces.cells() {
+            let words = spaces.numbered_words(number);
+            if words[0] == OBJECT_TAG {
+                put_at(into, count, words[NAME]);
+                count += 1;
+            }
         }
+        count as u64
     }
-    count as u64
 }
 
 // Sets a number of a slice, where there is one.

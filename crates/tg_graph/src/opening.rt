@@ -3,31 +3,30 @@ ghost use Rattle.std.specs.Prelude.{[], ◌≡◌, ◌≢◌, ◌↔◌, ◌<◌
 ghost use Rattle.std.specs.List.{All, range_with_len};
 ghost use Rattle.tg_rights.specs.RightSet.{is_none_held, no_rights, union};
 ghost use Rattle.tg_model.specs.Graph.{with_rights};
-ghost use Rattle.tg_model.specs.Opened.{IsPlan, JoinsWorkers, label_in};
+ghost use Rattle.tg_model.specs.Opened.{JoinsWorkers, label_in, start_of};
 ghost use Rattle.tg_word.specs.Word.{nursery_space};
 ghost use Rattle.tg_word.specs.declared.Place.{Place};
-ghost use Rattle.tg_word.specs.declared.TheConstants.{MAX_NURSERIES, SPACES};
-ghost use Rattle.tg_subjects.specs.Subjects.{AreSubjects, names_of, nurseries_of, places_of};
+ghost use Rattle.tg_word.specs.declared.TheConstants.{MAX_NURSERIES};
+ghost use Rattle.tg_subjects.specs.Subjects.{names_of, nurseries_of, places_of};
 ghost use Rattle.tg_block.specs.declared.CellKind.TheVariants.{Object};
-ghost use Rattle.tg_space.specs.SpaceList.{space_of};
-ghost use Rattle.tg_space.specs.SpaceTable.{AreLimits, IsSpaceTable, no_blocks, used_of};
+ghost use Rattle.tg_space.specs.SpaceList.{block_count, space_of};
+ghost use Rattle.tg_space.specs.SpaceTable.{no_blocks, used_of};
 ghost use Rattle.tg_space.specs.Soundness.{IsKindAt};
-ghost use Rattle.tg_space.specs.Generations.{AreRemembered};
 ghost use Rattle.tg_nursery.specs.Allocation.{HasLeft};
-ghost use Rattle.tg_rows.specs.Content.{IsNamed};
-ghost use Rattle.tg_graph.specs.Heap.{AreAtHome};
-ghost use Rattle.tg_rows.specs.Graph.{IsGraph, content_in};
+ghost use Rattle.tg_graph.specs.Heap.{AreAtHome, content_of, subject_names};
+ghost use Rattle.tg_rows.specs.Graph.{IsGraph};
 ghost use Rattle.tg_rows.specs.Rows.{name_at};
-ghost use Rattle.tg_rows.specs.Steps.{ChangesTo, TakesOneCell};
-ghost use Rattle.tg_graph.specs.Opened.{HasBlocks, HasNoBlocks, IsOpened, no_labels, with_row, AreFewWorkers, AreWorkers, IsRoomFor, KeepsBlocks};
+ghost use Rattle.tg_rows.specs.Steps.{TakesOneCell};
+ghost use Rattle.tg_graph.specs.Opened.{AreFewWorkers, AreWorkers, CanGetBlocks, HasBlocks, IsOpened, IsReadyFor, IsRoomFor, IsUnjoined, Relabels, labels_in, no_labels, with_row};
+ghost use Rattle.tg_graph.specs.Standing.{IsContentOf};
 
-use crate::heap::HeapRefused;
+use crate::heap::{Heap, HeapRefused};
 use std::alloc::{AllocError, Global};
 use tg_model::{Edge, Opening};
 use tg_payload::{Draft, Payload, PayloadTable};
 use tg_remember::Remembered;
 use tg_rights::Rights;
-use tg_rows::{Cells, find_spot};
+use tg_rows::{Cells, LongRows, find_spot};
 use tg_space::{Limits, RoomFault, Spaces};
 use tg_subjects::{Subject, Subjects};
 use tg_word::{MAX_NURSERIES, Place, nursery_space};
@@ -41,45 +40,53 @@ struct Room<P: Payload> {
     row: Vec<Rights>,
 }
 
-/// The cells of the graph that an opening starts from, and its workers as the active subjects. See 'Growth comes first'
-/// in docs/ARCHITECTURE.md.
-pub(crate) fn opened<P: Payload>(
-    alloc: Global,
-    opening: &Opening,
-    limits: Limits,
-    drafts: Vec<Draft<P>>,
-) -> Result<(Cells<P>, Subjects), HeapRefused<P>>
-    requires { drafts.items ≡ opening.now.values }
-    ensures opened { IfOk result (λ parts. IsOpened parts.0.spaces parts.0.payloads (places_of parts.1) opening.now.workers limits (label_in opening.now.edges) opening.now.values) }
-    ensures names { IfOk result (λ parts. names_of parts.1 ≡ range_with_len 0 opening.now.workers) }
-    ensures numbers { IfOk result (λ parts. nurseries_of parts.1 ≡ range_with_len 0 opening.now.workers) }
-    ensures subjects { IfOk result (λ parts. AreSubjects parts.1) }
-    ensures nurseries { IfOk result (λ parts. AreAtHome parts.1) }
-    ensures remembered { IfOk result (λ parts. AreRemembered parts.0.spaces.spaces parts.0.remembered.places) }
-    ensures plan { IsPlan opening.now }
-    ensures handed_back { IfErr result (λ refused. refused.drafts.items ≡ drafts.items) }
-    ensures full { IsErrAnd result (λ refused. refused.why ≡ RoomFault.HeapFull) ↔ (limits.max_blocks < opening.now.workers) }
-{
-    let mut room = match with_room(alloc, opening.workers(), limits) {
-        Ok(room) => room,
-        Err(why) => return Err(HeapRefused { drafts, why }),
-    };
-    place_workers(&mut room.cells, &mut room.subjects, drafts);
-    add_edges(
-        &mut room.cells,
-        room.subjects.as_slice(),
-        &mut room.row,
-        opening.edges(),
-    );
-    Ok((room.cells, room.subjects))
+impl<P: Payload> Heap<P> {
+    /// The heap of the graph that an opening starts from. The drafts are those of the workers, by rising name, with the
+    /// opening's values. The active subjects are the workers, and each holds the nursery whose number is its name. Its
+    /// object lies there, and so do the chunks of its row. The heap takes a block for each worker and no more.
+    ///
+    /// It is refused where there may be fewer blocks than there are workers (`HeapFull`, exactly then), and where
+    /// memory is (`OutOfMemory`). Then the drafts come back as they were. See 'Growth comes first' in
+    /// docs/ARCHITECTURE.md.
+    pub fn open(
+        alloc: Global,
+        opening: &Opening,
+        limits: Limits,
+        drafts: Vec<Draft<P>>,
+    ) -> Result<Heap<P>, HeapRefused<P>>
+        requires { drafts.items ≡ opening.now.values }
+        ensures stands { IfOk result (λ heap. IsContentOf (content_of heap) (start_of opening.now)) }
+        ensures subjects { IfOk result (λ heap. subject_names heap ≡ range_with_len 0 opening.now.workers) }
+        ensures numbers { IfOk result (λ heap. nurseries_of heap.subjects ≡ range_with_len 0 opening.now.workers) }
+        ensures nurseries { IfOk result (λ heap. AreAtHome heap.subjects) }
+        ensures limits { IfOk result (λ heap. heap.table.limits ≡ limits) }
+        ensures blocks { IfOk result (λ heap. block_count heap.table.spaces ≡ opening.now.workers) }
+        ensures handed_back { IfErr result (λ refused. refused.drafts.items ≡ drafts.items) }
+        ensures full { IsErrAnd result (λ refused. refused.why ≡ RoomFault.HeapFull) ↔ (limits.max_blocks < opening.now.workers) }
+    {
+        let mut room = match with_room(alloc, opening.workers(), limits) {
+            Ok(room) => room,
+            Err(why) => return Err(HeapRefused { drafts, why }),
+        };
+        place_workers(&mut room.cells, &mut room.subjects, drafts);
+        add_edges(
+            &mut room.cells,
+            room.subjects.as_slice(),
+            &mut room.row,
+            opening.edges(),
+        );
+        Ok(Heap {
+            cells: room.cells,
+            subjects: room.subjects,
+            rows: LongRows::new(alloc),
+        })
+    }
 }
 
 // Room for the graph of so many workers: cells with no vertex, where the nursery of each has a block.
 fn with_room<P: Payload>(alloc: Global, workers: u64, limits: Limits) -> Result<Room<P>, RoomFault>
     requires { AreFewWorkers workers }
-    ensures room { IfOk result (IsRoomFor workers) }
-    ensures ready { IfOk result (λ room. HasBlocks room.cells.spaces workers limits) }
-    ensures table { IfOk result (λ room. IsSpaceTable room.cells.spaces) }
+    ensures ready { IfOk result (IsReadyFor workers limits) }
     ensures full { IsErrAnd result (λ why. why ≡ RoomFault.HeapFull) ↔ (limits.max_blocks < workers) }
 {
     if limits.max_blocks() < workers {
@@ -98,13 +105,21 @@ fn empty_room<P: Payload>(
     workers: u64,
     limits: Limits,
 ) -> Result<Room<P>, AllocError>
-    requires { AreFewWorkers workers }
+    requires { workers ≤ MAX_NURSERIES }
     ensures room { IfOk result (IsRoomFor workers) }
     ensures spaces { IfOk result (λ room. room.cells.spaces ≡ no_blocks MAX_NURSERIES limits) }
 {
     let subjects = Subjects::new(alloc)?;
     let row = vec![in alloc; Rights::empty(); workers as usize]?;
-    let cells = empty_cells(alloc, workers, limits)?;
+    let spaces = Spaces::new(alloc, MAX_NURSERIES, limits)?;
+    let mut payloads = PayloadTable::new(alloc);
+    payloads.reserve(workers)?;
+    let cells = Cells {
+        alloc,
+        spaces,
+        payloads,
+        remembered: Remembered::new(alloc),
+    };
     Ok(Room {
         cells,
         subjects,
@@ -112,38 +127,10 @@ fn empty_room<P: Payload>(
     })
 }
 
-// Cells with no block, and room for so many payloads.
-fn empty_cells<P: Payload>(
-    alloc: Global,
-    workers: u64,
-    limits: Limits,
-) -> Result<Cells<P>, AllocError>
-    requires { AreFewWorkers workers }
-    ensures spaces { IfOk result (λ cells. cells.spaces ≡ no_blocks MAX_NURSERIES limits) }
-    ensures payloads { IfOk result (λ cells. cells.payloads.entries ≡ []) }
-    ensures spare { IfOk result (λ cells. workers ≤ cells.payloads.spare) }
-    ensures remembered { IfOk result (λ cells. cells.remembered.places ≡ []) }
-{
-    let spaces = Spaces::new(alloc, MAX_NURSERIES, limits)?;
-    let mut payloads = PayloadTable::new(alloc);
-    payloads.reserve(workers)?;
-    Ok(Cells {
-        alloc,
-        spaces,
-        payloads,
-        remembered: Remembered::new(alloc),
-    })
-}
-
 // Gives the nursery of each worker its first block.
 fn add_blocks(spaces: &mut Spaces, workers: u64) -> Result<(), RoomFault>
-    requires workers { AreFewWorkers workers }
-    requires limits { AreLimits spaces.old.limits }
-    requires empty { HasNoBlocks spaces.old }
-    requires spaces { SPACES ≤ length spaces.old.spaces }
-    requires allowed { workers ≤ spaces.old.limits.max_blocks }
+    requires { CanGetBlocks spaces.old workers }
     ensures blocks { OnOk result (HasBlocks spaces.new workers spaces.old.limits) }
-    ensures table { OnOk result (IsSpaceTable spaces.new) }
     ensures full { result ≢ Err RoomFault.HeapFull }
 {
     for worker in 0..workers {
@@ -155,7 +142,6 @@ fn add_blocks(spaces: &mut Spaces, workers: u64) -> Result<(), RoomFault>
 // Puts the object of each worker into the nursery with its number, and makes it a subject.
 fn place_workers<P: Payload>(cells: &mut Cells<P>, subjects: &mut Subjects, drafts: Vec<Draft<P>>)
     requires blocks { HasBlocks cells.old.spaces (length drafts.items) cells.old.spaces.limits }
-    requires table { IsSpaceTable cells.old.spaces }
     requires few { length drafts.items ≤ MAX_NURSERIES }
     requires payloads { cells.old.payloads.entries ≡ [] }
     requires spare { length drafts.items ≤ cells.old.payloads.spare }
@@ -184,12 +170,10 @@ fn add_edges<P: Payload>(
     requires workers { AreWorkers cells.old subjects.now }
     requires row { length row.old ≡ length subjects.now }
     requires edges { All (JoinsWorkers (length subjects.now)) edges.now }
-    requires labels { (x y : ℕ) → (content_in cells.old.spaces.spaces cells.old.payloads).label x y ≡ no_rights }
+    requires labels { (x y : ℕ) → labels_in cells.old x y ≡ no_rights }
     requires unused { (x : ℕ) → used_of cells.old.spaces (nursery_space x) ≤ 1 }
     requires blocks { (x : ℕ) → x < length subjects.now → 1 ≤ length (space_of cells.old.spaces.spaces (nursery_space x)) }
-    ensures kept { KeepsBlocks cells.old cells.new }
-    ensures added { let content = content_in cells.old.spaces.spaces cells.old.payloads in
-        ChangesTo cells.old.spaces cells.new.spaces cells.old.payloads (IsNamed content) (label_in edges.now) content.value }
+    ensures { Relabels cells.old cells.new (label_in edges.now) }
 {
     for from in 0..subjects.len() as u64 {
         read_row(edges, from, row);
@@ -221,16 +205,10 @@ fn unite(row: &mut [Rights], to: u64, rights: Rights)
 
 // Adds the edges of one worker, in whose nursery only its object is.
 fn add_row<P: Payload>(cells: &mut Cells<P>, from: u64, subjects: &[Subject], row: &[Rights])
-    requires workers { AreWorkers cells.old subjects.now }
-    requires from { from < length subjects.now }
+    requires worker { IsUnjoined cells.old subjects.now from }
     requires row { length row.now ≡ length subjects.now }
     requires no_loop { slice_index_or row.now from no_rights ≡ no_rights }
-    requires labels { (y : ℕ) → (content_in cells.old.spaces.spaces cells.old.payloads).label from y ≡ no_rights }
-    requires unused { used_of cells.old.spaces (nursery_space from) ≤ 1 }
-    requires block { 1 ≤ length (space_of cells.old.spaces.spaces (nursery_space from)) }
-    ensures kept { KeepsBlocks cells.old cells.new }
-    ensures added { let content = content_in cells.old.spaces.spaces cells.old.payloads in
-        ChangesTo cells.old.spaces cells.new.spaces cells.old.payloads (IsNamed content) (with_row content.label from row.now) content.value }
+    ensures added { Relabels cells.old cells.new (with_row (labels_in cells.old) from row.now) }
     ensures others { (space : ℕ) → space ≢ nursery_space from → used_of cells.new.spaces space ≡ used_of cells.old.spaces space }
 {
     for (to, rights) in row.iter().enumerate() {
@@ -247,10 +225,7 @@ fn add_some<P: Payload>(cells: &mut Cells<P>, nursery: u64, from: Place, to: Pla
     requires to { IsKindAt cells.old.spaces.spaces Object to }
     requires room { is_none_held rights ≡ false → HasLeft cells.old.spaces (nursery_space nursery) 1 }
     requires old { length (space_of cells.old.spaces.spaces 0) ≡ 0 }
-    ensures kept { KeepsBlocks cells.old cells.new }
-    ensures added { let content = content_in cells.old.spaces.spaces cells.old.payloads in
-        ChangesTo cells.old.spaces cells.new.spaces cells.old.payloads (IsNamed content)
-        (with_rights content.label (name_at cells.old.spaces.spaces from) (name_at cells.old.spaces.spaces to) rights) content.value }
+    ensures added { Relabels cells.old cells.new (with_rights (labels_in cells.old) (name_at cells.old.spaces.spaces from) (name_at cells.old.spaces.spaces to) rights) }
     ensures one_cell { TakesOneCell cells.old.spaces cells.new.spaces (nursery_space nursery) }
     ensures nothing { is_none_held rights ≡ true → cells.new.spaces ≡ cells.old.spaces }
 {

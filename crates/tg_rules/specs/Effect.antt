@@ -1,11 +1,11 @@
 -- What a command does that is served, and how a refused growth is told.
-use Rattle.std.specs.Prelude.{◌≡◌, ◌↔◌, ℕ, ◌<◌, None, Result, IfOk, OnErr, OnOk}
+use Rattle.std.specs.Prelude.{◌≡◌, ◌↔◌, ℕ, ◌<◌, Result, IfOk, OnErr, OnOk}
 use Rattle.std.specs.List.{All, Contains}
-use Rattle.tg_rights.specs.RightSet.{no_rights}
 use Rattle.tg_model.specs.declared.command.Command.{Command}
 use Rattle.tg_model.specs.declared.command.Command.TheVariants.{Take, Grant}
 use Rattle.tg_model.specs.declared.reply.Reply.{Reply}
 use Rattle.tg_model.specs.declared.reply.Reply.TheVariants.{Done, Values, Edges}
+use Rattle.tg_model.specs.Near.{reply_on_none}
 use Rattle.tg_model.specs.Rules.{labels_after, values_after, reply_of}
 use Rattle.tg_word.specs.Word.{nursery_space}
 use Rattle.tg_space.specs.SpaceTable.{SpaceTable}
@@ -37,7 +37,7 @@ ShowsSomething reply = ⊥
 
 -- The command changes nothing where it is served: it is one whose reply shows something, on whatever graph, so on one without edges.
 abbrev pub OnlyLooks : Command → Type 0
-OnlyLooks command = ShowsSomething (reply_of (λ x y. no_rights) (λ x. None) 0 0 command)
+OnlyLooks command = ShowsSomething (reply_on_none command)
 
 -- What a command that is to be served leaves as it was: where it is served the vertices stay, one that only looks changes nothing, and
 -- nor does one that is refused.

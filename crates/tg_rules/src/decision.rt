@@ -58,8 +58,8 @@ pub fn find_parties<P: Payload>(
             target,
             rights,
         } => {
-            let same = are_two_the_same(worker.name, via, target);
-            let via = check_first(heap, Rule::Take, same, worker, via, Rights::of(Right::T))?;
+            check_distinct(Rule::Take, are_two_the_same(worker.name, via, target))?;
+            let via = check_held(heap, Rule::Take, worker, via, Rights::of(Right::T))?;
             let target = check_held(heap, Rule::Take, via, target, rights.rights())?;
             Ok(Parties {
                 from: worker,
@@ -71,8 +71,8 @@ pub fn find_parties<P: Payload>(
             target,
             rights,
         } => {
-            let same = are_two_the_same(worker.name, via, target);
-            let receiver = check_first(heap, Rule::Grant, same, worker, via, Rights::of(Right::G))?;
+            check_distinct(Rule::Grant, are_two_the_same(worker.name, via, target))?;
+            let receiver = check_held(heap, Rule::Grant, worker, via, Rights::of(Right::G))?;
             let target = check_held(heap, Rule::Grant, worker, target, rights.rights())?;
             Ok(Parties {
                 from: receiver,
@@ -121,7 +121,8 @@ fn check_use<P: Payload>(
     ensures from { IfOk result (λ parties. parties.from ≡ worker) }
     ensures target { IfOk result (λ parties. HasVertex heap.now parties.target × (parties.target.name ≡ target)) }
 {
-    let target = check_first(heap, rule, worker.name == target, worker, target, rights)?;
+    check_distinct(rule, worker.name == target)?;
+    let target = check_held(heap, rule, worker, target, rights)?;
     Ok(Parties {
         from: worker,
         target,
@@ -136,20 +137,10 @@ fn are_two_the_same(worker: u64, via: u64, target: u64) -> bool
     worker == via || via == target || worker == target
 }
 
-// The first checks of a command: that its vertices differ, and that the worker holds the rights to use the rule over
-// another vertex. Answers that other.
+// Denies a command two of whose vertices are one.
 #[inline(always)]
-fn check_first<P: Payload>(
-    heap: &Heap<P>,
-    rule: Rule,
-    same: bool,
-    worker: Vertex,
-    to: u64,
-    rights: Rights,
-) -> Result<Vertex, Denial>
-    requires checkable { MayCheck heap.now worker rights }
-    ensures denial { result_err result ≡ option_or (unless_distinct rule same) (unless_held (content_of heap.now).label rule worker.name to rights) }
-    ensures found { IfOk result (IsVertexNamed heap.now to) }
+fn check_distinct(rule: Rule, same: bool) -> Result<(), Denial>
+    ensures { result_err result ≡ unless_distinct rule same }
 {
     if same {
         return Err(Denial {
@@ -157,7 +148,7 @@ fn check_first<P: Payload>(
             cause: Cause::NotDistinct,
         });
     }
-    check_held(heap, rule, worker, to, rights)
+    Ok(())
 }
 
 // Denies a command that wants rights of one vertex over another, where they are missing. Else it answers that other.

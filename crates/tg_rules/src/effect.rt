@@ -1,13 +1,12 @@
 //! What a command does that is served.
-ghost use Rattle.std.specs.Prelude.{◌≡◌, ◌≢◌, ◌<◌, ◌↔◌, ℕ, None, Some, Err, IfOk, IfSome, IsSome, OnOk, IsTrue};
-ghost use Rattle.std.specs.List.{All};
-ghost use Rattle.tg_model.specs.Graph.{with_rights, without_rights, without_subject, listing_of};
-ghost use Rattle.tg_model.specs.Rules.{denial_of, state_of, subjects_after, written_at};
+ghost use Rattle.std.specs.Prelude.{◌≡◌, ◌≢◌, ◌<◌, ◌↔◌, None, Some, Err, IfOk, IfSome, IsSome, OnOk, IsTrue};
+ghost use Rattle.tg_model.specs.Graph.{with_rights};
+ghost use Rattle.tg_model.specs.Rules.{denial_of, subjects_after};
 ghost use Rattle.tg_word.specs.Word.{nursery_space};
-ghost use Rattle.tg_graph.specs.Heap.{content_of, IsActive, KeepsIndexes, KeepsPlaces, nursery_of, subject_names};
+ghost use Rattle.tg_graph.specs.Heap.{content_of, IsActive, KeepsIndexes, nursery_of, subject_names};
 ghost use Rattle.tg_rows.specs.Content.{IsContent, IsNamed};
 ghost use Rattle.tg_rows.specs.Spots.{LacksCellsFor};
-ghost use Rattle.tg_rules.specs.Effect.{IndexesAfter, IsReplyOn, IsContentAfter, IsDoneInPlace, KeepsVertices, LeavesHeap, AddsEdge, LacksCellsToServe, OnlyLooks, SameIndexes};
+ghost use Rattle.tg_rules.specs.Effect.{IndexesAfter, IsReplyOn, IsContentAfter, IsDoneInPlace, LeavesHeap, AddsEdge, LacksCellsToServe, OnlyLooks};
 ghost use Rattle.tg_rules.specs.Parties.{AreParties};
 ghost use Rattle.tg_rules.specs.Verdict.{HasSubject, HasVertex};
 
@@ -74,8 +73,8 @@ pub fn look_between<P: Payload>(
     ensures room { result ≢ Err RoomFault.HeapFull }
 {
     match *command {
-        Command::Read { .. } => read(heap, parties.target),
-        Command::List | Command::Inspect { .. } => list(heap, parties.from),
+        Command::Read { .. } => Ok(Reply::Values(heap.state(parties.target.place)?)),
+        Command::List | Command::Inspect { .. } => Ok(Reply::Edges(heap.row(parties.from.place)?)),
         _ => unreachable!(),
     }
 }
@@ -107,9 +106,18 @@ pub fn change_between<P: Payload>(
         Command::Remove {
             target: name,
             rights,
-        } => Ok(remove(heap, from, name, rights)),
-        Command::Write { value, .. } | Command::Append { value, .. } => write(heap, target, value),
-        Command::Retire => Ok(retire(heap, subject.name)),
+        } => {
+            heap.drop_rights(from.place, name, rights);
+            Ok(Reply::Done)
+        }
+        Command::Write { value, .. } | Command::Append { value, .. } => {
+            heap.write(target.place, value)?;
+            Ok(Reply::Done)
+        }
+        Command::Retire => {
+            heap.retire(subject.name);
+            Ok(Reply::Done)
+        }
         _ => unreachable!(),
     }
 }
@@ -148,65 +156,4 @@ fn add<P: Payload>(
 {
     heap.add_edge_as(subject, from.place, target.place, rights)?;
     Ok(Reply::Done)
-}
-
-// Rights of a vertex are given up.
-#[inline(always)]
-fn remove<P: Payload>(heap: &mut Heap<P>, from: Vertex, name: u64, rights: Label) -> Reply
-    requires { HasVertex heap.old from }
-    ensures reply { result ≡ Reply.Done }
-    ensures content { IsContent (content_of heap.new) (IsNamed (content_of heap.old))
-        (without_rights (content_of heap.old).label from.name name rights) (content_of heap.old).value }
-    ensures kept { KeepsPlaces heap.old heap.new }
-    ensures indexed { SameIndexes heap.old heap.new }
-{
-    heap.drop_rights(from.place, name, rights);
-    Reply::Done
-}
-
-// The state of a vertex.
-#[inline(always)]
-fn read<P: Payload>(heap: &Heap<P>, target: Vertex) -> Result<Reply, RoomFault>
-    requires { HasVertex heap.now target }
-    ensures reply { IfOk result (λ reply. reply ≡ Reply.Values (state_of ((content_of heap.now).value target.name))) }
-    ensures room { result ≢ Err RoomFault.HeapFull }
-{
-    Ok(Reply::Values(heap.state(target.place)?))
-}
-
-// The state of a vertex becomes that after a number is written or appended.
-#[inline(always)]
-fn write<P: Payload>(heap: &mut Heap<P>, target: Vertex, number: u64) -> Result<Reply, RoomFault>
-    requires { HasVertex heap.old target }
-    ensures content { OnOk result (IsContent (content_of heap.new) (IsNamed (content_of heap.old)) (content_of heap.old).label
-        (written_at (content_of heap.old).value target.name number)) }
-    ensures indexed { OnOk result (heap.new.indexed ≡ heap.old.indexed) }
-    ensures done { IsDoneInPlace heap.old heap.new result }
-    ensures room { result ≢ Err RoomFault.HeapFull }
-{
-    heap.write(target.place, number)?;
-    Ok(Reply::Done)
-}
-
-// A subject is none any more.
-#[inline(always)]
-fn retire<P: Payload>(heap: &mut Heap<P>, name: u64) -> Reply
-    ensures reply { result ≡ Reply.Done }
-    ensures content { content_of heap.new ≡ content_of heap.old }
-    ensures kept { KeepsVertices heap.old heap.new }
-    ensures subjects { subject_names heap.new ≡ without_subject (subject_names heap.old) name }
-    ensures indexed { heap.new.indexed ≡ heap.old.indexed }
-{
-    heap.retire(name);
-    Reply::Done
-}
-
-// The edges of a vertex.
-#[inline(always)]
-fn list<P: Payload>(heap: &Heap<P>, from: Vertex) -> Result<Reply, RoomFault>
-    requires { HasVertex heap.now from }
-    ensures reply { IfOk result (λ reply. (n : ℕ) → All (λ name. name < n) (content_of heap.now).names → reply ≡ Reply.Edges (listing_of (content_of heap.now).label n from.name)) }
-    ensures room { result ≢ Err RoomFault.HeapFull }
-{
-    Ok(Reply::Edges(heap.row(from.place)?))
 }

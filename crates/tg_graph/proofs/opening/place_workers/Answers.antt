@@ -39,12 +39,12 @@ loop-draft-init g c =
     record {
       left = c.into_iter-draft-iterator.ensures.into_iter_gives.0;
       opened = subst (λ (subjects : List Subject). IsOpened t payloads (places_of subjects) workers t.limits no_labels []) (sym c.requires.subjects)
-          (nothing_opened t payloads workers t.limits c.requires.few c.requires.blocks c.requires.table c.requires.payloads);
+          (nothing_opened t payloads workers t.limits c.requires.few c.requires.blocks c.requires.blocks.table c.requires.payloads);
       names = ap names_of c.requires.subjects;
       numbers = ap nurseries_of c.requires.subjects;
       home = subst AreAtHome (sym c.requires.subjects) (All-nil (λ (x : Subject). x.place.space ≡ nursery_space x.nursery));
       count = ap (λ (subjects : List Subject). length subjects) c.requires.subjects;
-      table = c.requires.table;
+      table = c.requires.blocks.table;
       used = λ x. let e = c.requires.blocks.unused (nursery_space x) in omega arith;
       unused = λ x high. c.requires.blocks.unused (nursery_space x);
       spare = let e = c.requires.spare in omega arith;

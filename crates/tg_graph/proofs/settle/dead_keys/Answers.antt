@@ -4,7 +4,7 @@ use Rattle.tg_space.specs.SpaceList.{cells_of, space_of}
 use Rattle.tg_space.specs.declared.kind.Kind.TheVariants.{Nursery}
 use Rattle.tg_space.proofs.Tables.{table_list}
 use Rattle.tg_graph.proofs.KeptDropped.{AreKeysBelow, dead_keys_are, keys_more, keys_none, keys_same, young_begin}
-use Rattle.tg_graph.proofs.settle.dead_keys.Goals.{in-Some+in_ok-push, in_default}
+use Rattle.tg_graph.proofs.settle.dead_keys.Goals.{else-word-eq0, then-word-eq0+in-Some+in_ok-push, then-word-eq0+in_default}
 use Rattle.tg_graph.proofs.settle.dead_keys.Goals as goal
 
 pub loop-number-init : goal.loop-number-init
@@ -27,13 +27,16 @@ loop-number-preserved c =
     let whole = table_list c.args.spaces.now c.cells-cells.ensures.table in
     record {
       high = let high = c.loop-number.invariant.high in omega arith;
-      keys = elim c.match-dead_key.branch [
-        | in-Some+in_ok-push w ↦
+      keys = elim c.if-word-eq0.branch [
+        | then-word-eq0+in-Some+in_ok-push w ↦
             subst (AreKeysBelow h forward first (n + 1)) (sym (ap (λ (v : Vec ℕ Global). v.items) w.keys-is ∙ w.in_ok-push.ensures.items))
-            (keys_more h whole forward first n c.loop-number.keys.items c.loop-number.invariant.keys c.requires.apart c.loop-number.invariant.high w.in-Some.key w.in-Some.ensures.some)
-        | in_default w ↦
+            (keys_more h whole forward first n c.loop-number.keys.items c.loop-number.invariant.keys c.requires.apart c.loop-number.invariant.high w.in-Some.key (w.in-Some.ensures.some forward (sym c.word.ensures ∙ w.if-word-eq0.true)))
+        | then-word-eq0+in_default w ↦
             subst (AreKeysBelow h forward first (n + 1)) (sym (ap (λ (v : Vec ℕ Global). v.items) w.keys-is))
-            (keys_same h whole forward first n c.loop-number.keys.items c.loop-number.invariant.keys (w.in_default.ensures.none refl))
+            (keys_same h whole forward first n c.loop-number.keys.items c.loop-number.invariant.keys (λ key. w.in_default.ensures.none refl forward key))
+        | else-word-eq0 w ↦
+            subst (AreKeysBelow h forward first (n + 1)) (sym (ap (λ (v : Vec ℕ Global). v.items) w.keys-is))
+            (keys_same h whole forward first n c.loop-number.keys.items c.loop-number.invariant.keys (λ key dead. w.if-word-eq0.false (c.word.ensures ∙ dead.uncopied)))
       ];
     }
 
@@ -53,5 +56,5 @@ returns-clause-keys c key =
 pub returns-clause-each_once : goal.returns-clause-each_once
 returns-clause-each_once c = c.loop-number.invariant.keys.once
 
-pub dead_key-requires-clause-cell : goal.dead_key-requires-clause-cell
-dead_key-requires-clause-cell c = record { table = c.cells-cells.ensures.table; inside = omega (arith, c.loop-number-test.true, c.cells-cells.ensures.cells) }
+pub object_key-requires : goal.object_key-requires
+object_key-requires c = record { table = c.cells-cells.ensures.table; inside = omega (arith, c.loop-number-test.true, c.cells-cells.ensures.cells) }

@@ -51,8 +51,8 @@ loop-number-preserved g c =
           (λ key. below_skip h whole forward 0 (n + 1) next.result key next.ensures.behind next.ensures.moved);
     }
 
-pub returns-clause-dropped : goal.returns-clause-dropped
-returns-clause-dropped g c =
+pub returns : goal.returns
+returns g c =
     let h = c.args.spaces.now.spaces in
     let forward = c.args.forward.now.words in
     let whole = table_list c.args.spaces.now c.cells-cells.ensures.table in

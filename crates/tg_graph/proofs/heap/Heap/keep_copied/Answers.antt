@@ -22,10 +22,10 @@ left g c =
     let inside = c.self.inside in
     let forward = c.args.forward.now.words in
     let s : HeapState = record { table = inside.cells.spaces; payloads = inside.cells.payloads; subjects = inside.subjects; remembered = inside.cells.remembered.places; indexed = names_indexed inside.cells.spaces.spaces inside.rows.entries } in
-    full_left s c.args.self.now c.self.view_is c.self.invariant.0 c.drop_uncopied.ensures.table forward c.args.adoption.aged c.args.adoption.old c.args.remembered.places c.requires (now g c)
+    full_left s c.args.self.now c.self.view_is c.self.invariant.0 c.of-numbering.ensures.table forward c.args.adoption.aged c.args.adoption.old c.args.remembered.places c.requires (now g c)
     (rw c.unwrap.ensures at c.adopt.ensures.adopted)
     (rw c.unwrap.ensures at c.adopt.ensures.table)
-    c.drop_uncopied.ensures.dropped
+    c.drop_uncopied.ensures
     c.follow_subjects.ensures
     refl
     c.follow.new.self.entries

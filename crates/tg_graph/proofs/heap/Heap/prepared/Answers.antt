@@ -17,8 +17,8 @@ use Rattle.tg_graph.proofs.KeptReached.{subject_objects}
 use Rattle.tg_graph.proofs.KeptSettled.{items_mapped, words_in_range}
 use Rattle.tg_graph.proofs.heap.Heap.prepared.Goals as goal
 
-pub returns-clause-prepared : goal.returns-clause-prepared
-returns-clause-prepared g c =
+pub returns : goal.returns
+returns g c =
     let inside = c.self.inside in
     let forward = c.args.forward.now.words in
     let s : HeapState = record { table = inside.cells.spaces; payloads = inside.cells.payloads; subjects = inside.subjects; remembered = inside.cells.remembered.places; indexed = names_indexed inside.cells.spaces.spaces inside.rows.entries } in
@@ -33,6 +33,12 @@ returns-clause-prepared g c =
       places = items_mapped c.in_ok-places.places f c.follow.new.places moved ∙ ap (map f) copied;
     })
 
+pub dead_keys-requires : goal.dead_keys-requires
+dead_keys-requires g c = record {
+  apart = c.self.invariant.0.graph.keys;
+  whole = collected_words Nursery c.self.inside.cells.spaces.spaces c.args.self.now c.args.forward.now.words c.args.adoption.now.aged c.args.adoption.now.old c.args.noted.now.places (ap (λ (heap : HeapState). heap.table.spaces) c.self.view_is) c.requires;
+}
+
 pub rewritten_cells-requires : goal.rewritten_cells-requires
 rewritten_cells-requires g c =
     let inside = c.self.inside in
@@ -40,7 +46,7 @@ rewritten_cells-requires g c =
     record {
       sound = c.self.invariant.0.graph.sound;
       whole = collected_words Nursery c.self.inside.cells.spaces.spaces c.args.self.now c.args.forward.now.words c.args.adoption.now.aged c.args.adoption.now.old c.args.noted.now.places (ap (λ (heap : HeapState). heap.table.spaces) c.self.view_is) c.requires;
-      places = words_in_range s c.args.self.now c.self.view_is c.self.invariant.0 c.in_ok-dead.ensures.table c.args.forward.now.words c.args.adoption.now.aged c.args.adoption.now.old c.args.noted.now.places c.requires c.len.ensures.whole.0;
+      places = words_in_range s c.args.self.now c.self.view_is c.self.invariant.0 c.blocks-2.ensures.table c.args.forward.now.words c.args.adoption.now.aged c.args.adoption.now.old c.args.noted.now.places c.requires c.len.ensures.whole.0;
       held = remembered_cells s c.self.invariant.0;
     }
 

@@ -25,7 +25,7 @@ pub put_prepared-requires-clause-held : goal.put_prepared-requires-clause-held
 put_prepared-requires-clause-held g c =
     let inside = c.self.inside in
     let s : HeapState = record { table = inside.cells.spaces; payloads = inside.cells.payloads; subjects = inside.subjects; remembered = inside.cells.remembered.places; indexed = names_indexed inside.cells.spaces.spaces inside.rows.entries } in
-    let table : IsSpaceTable s.table = subst (λ (heap : HeapState). IsSpaceTable heap.table) (sym c.self.view_is) c.requires.table in
+    let table : IsSpaceTable s.table = c.of-numbering.ensures.table in
     let prepared : IsPrepared s c.args.forward.now.words c.args.prepared = subst (λ (heap : HeapState). IsPrepared heap c.args.forward.now.words c.args.prepared) (sym c.self.view_is) c.requires.prepared in
     cells_there s c.args.self.now c.self.view_is c.self.invariant.0 table c.args.forward.now.words c.args.adoption.aged c.args.adoption.old c.args.noted.places
     c.adopt.new.self c.args.prepared.cells.items c.in_ok-adopt.ensures.adopted prepared.cells
@@ -41,7 +41,7 @@ pub put_prepared-requires-clause-there : goal.put_prepared-requires-clause-there
 put_prepared-requires-clause-there g c =
     let inside = c.self.inside in
     let s : HeapState = record { table = inside.cells.spaces; payloads = inside.cells.payloads; subjects = inside.subjects; remembered = inside.cells.remembered.places; indexed = names_indexed inside.cells.spaces.spaces inside.rows.entries } in
-    let table : IsSpaceTable s.table = subst (λ (heap : HeapState). IsSpaceTable heap.table) (sym c.self.view_is) c.requires.table in
+    let table : IsSpaceTable s.table = c.of-numbering.ensures.table in
     let prepared : IsPrepared s c.args.forward.now.words c.args.prepared = subst (λ (heap : HeapState). IsPrepared heap c.args.forward.now.words c.args.prepared) (sym c.self.view_is) c.requires.prepared in
     payloads_there s c.args.self.now c.self.view_is c.self.invariant.0 table c.args.forward.now.words c.args.adoption.aged c.args.adoption.old c.args.noted.places
     c.args.prepared.dead.items prepared.keys
@@ -49,7 +49,7 @@ put_prepared-requires-clause-there g c =
 -- the heap as its parts are at the end
 abbrev now : (g : Over) → After-drop-self-inside-4 g → HeapState
 now g c =
-    record { table = c.put_prepared.new.cells.spaces; payloads = c.put_prepared.new.cells.payloads; subjects = c.put_prepared.new.subjects; remembered = c.args.noted.places; indexed = names_indexed c.put_prepared.new.cells.spaces.spaces c.follow.new.self.entries }
+    record { table = c.put_prepared.new.spaces; payloads = c.put_prepared.new.payloads; subjects = c.put_prepared.new.subjects; remembered = c.args.noted.places; indexed = names_indexed c.put_prepared.new.spaces.spaces c.follow.new.self.entries }
 
 -- the indexes stand beside the new notes
 beside : (g : Over) (c : After-drop-self-inside-4 g) → AreIndexed c.self.inside.cells.spaces.spaces c.args.noted.places c.self.inside.rows.entries
@@ -65,11 +65,11 @@ left g c =
     let inside = c.self.inside in
     let forward = c.args.forward.now.words in
     let s : HeapState = record { table = inside.cells.spaces; payloads = inside.cells.payloads; subjects = inside.subjects; remembered = inside.cells.remembered.places; indexed = names_indexed inside.cells.spaces.spaces inside.rows.entries } in
-    let table : IsSpaceTable s.table = subst (λ (heap : HeapState). IsSpaceTable heap.table) (sym c.self.view_is) c.requires.table in
+    let table : IsSpaceTable s.table = c.of-numbering.ensures.table in
     let prepared : IsPrepared s forward c.args.prepared = subst (λ (heap : HeapState). IsPrepared heap forward c.args.prepared) (sym c.self.view_is) c.requires.prepared in
     nursery_left s c.args.self.now c.self.view_is c.self.invariant.0 table forward c.args.adoption.aged c.args.adoption.old c.args.noted.places c.requires.collection (now g c)
     c.adopt.new.self c.args.prepared.cells.items c.args.prepared.dead.items c.in_ok-adopt.ensures.adopted prepared.cells
-    c.put_prepared.ensures.written c.put_prepared.ensures.table
+    c.put_prepared.ensures.written.written c.put_prepared.ensures.written.table
     prepared.keys
     c.put_prepared.ensures.dropped
     (let at = c.put_prepared.ensures.subjects in record { names = at.names; nurseries = at.nurseries; places_are = at.places_are ∙ prepared.places; subjects = at.subjects })
@@ -113,8 +113,8 @@ returns g c =
     let s : HeapState = record { table = inside.cells.spaces; payloads = inside.cells.payloads; subjects = inside.subjects; remembered = inside.cells.remembered.places; indexed = names_indexed inside.cells.spaces.spaces inside.rows.entries } in
     let prepared : IsPrepared s c.args.forward.now.words c.args.prepared = subst (λ (heap : HeapState). IsPrepared heap c.args.forward.now.words c.args.prepared) (sym c.self.view_is) c.requires.prepared in
     record {
-      written = nursery_written s c.args.self.now c.args.forward.now.words c.args.adoption.aged c.args.adoption.old c.put_prepared.new.cells.spaces c.adopt.new.self c.args.prepared.cells.items c.self.view_is c.in_ok-adopt.ensures.adopted prepared.cells
-          c.put_prepared.ensures.written;
+      written = nursery_written s c.args.self.now c.args.forward.now.words c.args.adoption.aged c.args.adoption.old c.put_prepared.new.spaces c.adopt.new.self c.args.prepared.cells.items c.self.view_is c.in_ok-adopt.ensures.adopted prepared.cells
+          c.put_prepared.ensures.written.written;
       settled = (left g c).settled;
       refused = tt;
     }

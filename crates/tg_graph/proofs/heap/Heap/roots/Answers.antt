@@ -1,19 +1,19 @@
-use Rattle.std.proofs.Common.{◌≡◌, ◌∙◌, List, [], ◌∷◌, map, refl, ap, subst, sym}
-use Rattle.std.specs.Prelude.{IfOk}
+-- What the collections from the roots reach, and that they are sound.
+use Rattle.std.proofs.Common.{◌≡◌, ◌∙◌, ◌++◌, List, Vec, Global, [], ◌∷◌, map, refl, ap, subst, sym}
 use Rattle.std.proofs.lemmas.Result.{IfOk-weaker}
 use Rattle.tg_word.specs.declared.Place.{Place}
 use Rattle.tg_subjects.specs.Subjects.{places_of}
 use Rattle.tg_subjects.specs.declared.subject.Subject.{Subject}
-use Rattle.tg_space.specs.Collection.{IsCollection}
 use Rattle.tg_space.specs.Soundness.{AreSound}
-use Rattle.tg_space.specs.Targets.{all_root_targets, from_space}
+use Rattle.tg_space.specs.Targets.{all_root_targets, from_space, young_spaces}
 use Rattle.tg_space.specs.declared.kind.Kind.{Kind}
-use Rattle.tg_space.specs.declared.kind.Kind.TheVariants.{Full}
+use Rattle.tg_space.specs.declared.kind.Kind.TheVariants.{Full, Nursery}
 use Rattle.tg_space.specs.declared.root.Root.{Root}
-use Rattle.tg_space.specs.declared.root.Root.TheVariants.{Row}
+use Rattle.tg_space.specs.declared.root.Root.TheVariants.{Remembered, Row}
 use Rattle.tg_rows.specs.Index.{names_indexed}
-use Rattle.tg_graph.specs.Heap.{CollectAlike, HeapState, roots_of}
+use Rattle.tg_graph.specs.Heap.{AddsRoots, CollectAlike, HeapState, IsWellFormed, roots_of}
 use Rattle.tg_graph.proofs.KeptHeap.{roots_sound}
+use Rattle.tg_graph.proofs.Starts.{all_same, starts_collect, starts_sound}
 use Rattle.tg_graph.proofs.heap.Heap.roots.Goals as goal
 
 -- the rows of subjects are those at their places
@@ -21,43 +21,42 @@ at_places : (xs : List Subject) → map (λ (x : Subject). Row x.place) xs ≡ m
 at_places [] = refl
 at_places (x ∷ xs) = ap (λ (roots : List Root). Row x.place ∷ roots) (at_places xs)
 
-pub returns-in-Full-clause-roots : goal.returns-in-Full-clause-roots
-returns-in-Full-clause-roots g c =
-    let now = c.args.self.now in
-    let rows : List Subject → List Root = λ xs. map (λ (x : Subject). Row x.place) xs in
-    let same : rows c.as_slice.result.now ≡ roots_of c.args.kind now = ap rows (c.as_slice.ensures.value ∙ ap (λ (heap : HeapState). heap.subjects) c.self.view_is) ∙ at_places now.subjects ∙ ap (λ (kind : Kind). roots_of kind now) (sym c.in-Full.is) in
-    IfOk-weaker c.rows.result (λ roots. roots.items ≡ rows c.as_slice.result.now) (λ roots. CollectAlike c.args.kind now.table.spaces (roots_of c.args.kind now) roots.items)
-    (λ roots is forward aged old notes. (
-      subst (λ (rs : List Root). IsCollection c.args.kind now.table.spaces rs forward aged old notes) (sym (is ∙ same)),
-      subst (λ (rs : List Root). IsCollection c.args.kind now.table.spaces rs forward aged old notes) (is ∙ same),
-    )) c.rows.ensures
+-- what is asked of the roots of a heap
+record StandFor (kind : Kind) (s : HeapState) (roots : List Root) : Type 0 where
+  alike : CollectAlike kind s.table.spaces (roots_of kind s) roots
+  targets : all_root_targets (from_space kind) s.table.spaces roots ≡ all_root_targets (from_space kind) s.table.spaces (roots_of kind s)
+  sound : AreSound s.table.spaces roots
 
-pub returns-in-Full-clause-sound : goal.returns-in-Full-clause-sound
-returns-in-Full-clause-sound g c =
+rows_stand : (s : HeapState) → IsWellFormed s → StandFor Full s (map (λ (x : Subject). Row x.place) s.subjects)
+rows_stand s formed = subst (StandFor Full s) (sym (at_places s.subjects)) (record { alike = λ forward aged old notes. (λ is. is, λ is. is); targets = refl; sound = roots_sound s formed Full })
+
+noted_stand : (s : HeapState) → IsWellFormed s → (roots : List Root) → AddsRoots s.table.spaces (all_root_targets young_spaces s.table.spaces (map (λ p. Row p) (places_of s.subjects))) [] roots → StandFor Nursery s (roots ++ map (λ p. Remembered p) s.remembered)
+noted_stand s formed roots are = record { alike = starts_collect s formed roots are; targets = all_same s formed roots are; sound = starts_sound s formed roots are }
+
+pub returns-in-Full : goal.returns-in-Full
+returns-in-Full g c =
     let inside = c.self.inside in
     let s : HeapState = record { table = inside.cells.spaces; payloads = inside.cells.payloads; subjects = inside.subjects; remembered = inside.cells.remembered.places; indexed = names_indexed inside.cells.spaces.spaces inside.rows.entries } in
     let now = c.args.self.now in
+    let kind = c.args.kind in
     let rows : List Subject → List Root = λ xs. map (λ (x : Subject). Row x.place) xs in
-    let sound : AreSound now.table.spaces (rows now.subjects) = subst (λ (heap : HeapState). AreSound heap.table.spaces (rows heap.subjects)) c.self.view_is (subst (AreSound s.table.spaces) (sym (at_places s.subjects)) (roots_sound s c.self.invariant.0 Full)) in
-    let same : rows c.as_slice.result.now ≡ rows now.subjects = ap rows (c.as_slice.ensures.value ∙ ap (λ (heap : HeapState). heap.subjects) c.self.view_is) in
-    IfOk-weaker c.rows.result (λ roots. roots.items ≡ rows c.as_slice.result.now) (λ roots. AreSound now.table.spaces roots.items)
-    (λ roots is. subst (λ (rs : List Root). AreSound now.table.spaces rs) (sym (is ∙ same)) sound) c.rows.ensures
+    let stand : StandFor kind now (rows s.subjects) = subst (λ (k : Kind). StandFor k now (rows s.subjects)) (sym c.in-Full.is) (subst (λ (heap : HeapState). StandFor Full heap (rows s.subjects)) c.self.view_is (rows_stand s c.self.invariant.0)) in
+    let Are : Vec Root Global → Type 0 = λ roots. roots.items ≡ rows c.as_slice.result.now in
+    let here : (roots : Vec Root Global) → Are roots → StandFor kind now roots.items = λ roots is. subst (StandFor kind now) (sym (is ∙ ap rows c.as_slice.ensures.value)) stand in
+    let h = now.table.spaces in
+    record {
+      roots = IfOk-weaker c.rows.result Are (λ roots. CollectAlike kind h (roots_of kind now) roots.items) (λ roots is. (here roots is).alike) c.rows.ensures;
+      targets = IfOk-weaker c.rows.result Are (λ roots. all_root_targets (from_space kind) h roots.items ≡ all_root_targets (from_space kind) h (roots_of kind now)) (λ roots is. (here roots is).targets) c.rows.ensures;
+      sound = IfOk-weaker c.rows.result Are (λ roots. AreSound h roots.items) (λ roots is. (here roots is).sound) c.rows.ensures;
+    }
 
-pub returns-in-Nursery-clause-roots : goal.returns-in-Nursery-clause-roots
-returns-in-Nursery-clause-roots g c =
+pub returns-in_ok-add_remembered-in-Nursery : goal.returns-in_ok-add_remembered-in-Nursery
+returns-in_ok-add_remembered-in-Nursery g c =
+    let inside = c.self.inside in
+    let s : HeapState = record { table = inside.cells.spaces; payloads = inside.cells.payloads; subjects = inside.subjects; remembered = inside.cells.remembered.places; indexed = names_indexed inside.cells.spaces.spaces inside.rows.entries } in
     let now = c.args.self.now in
-    subst (λ (kind : Kind). IfOk c.nursery_roots.result (λ roots. CollectAlike kind now.table.spaces (roots_of kind now) roots.items)) (sym c.in-Nursery.is) c.nursery_roots.ensures.roots
-
-pub returns-in-Full-clause-targets : goal.returns-in-Full-clause-targets
-returns-in-Full-clause-targets g c =
-    let now = c.args.self.now in
-    let rows : List Subject → List Root = λ xs. map (λ (x : Subject). Row x.place) xs in
-    let targets = all_root_targets (from_space c.args.kind) now.table.spaces in
-    let same : rows c.as_slice.result.now ≡ roots_of c.args.kind now = ap rows (c.as_slice.ensures.value ∙ ap (λ (heap : HeapState). heap.subjects) c.self.view_is) ∙ at_places now.subjects ∙ ap (λ (kind : Kind). roots_of kind now) (sym c.in-Full.is) in
-    IfOk-weaker c.rows.result (λ roots. roots.items ≡ rows c.as_slice.result.now) (λ roots. targets roots.items ≡ targets (roots_of c.args.kind now))
-    (λ roots is. ap targets (is ∙ same)) c.rows.ensures
-
-pub returns-in-Nursery-clause-targets : goal.returns-in-Nursery-clause-targets
-returns-in-Nursery-clause-targets g c =
-    let now = c.args.self.now in
-    subst (λ (kind : Kind). IfOk c.nursery_roots.result (λ roots. all_root_targets (from_space kind) now.table.spaces roots.items ≡ all_root_targets (from_space kind) now.table.spaces (roots_of kind now))) (sym c.in-Nursery.is) c.nursery_roots.ensures.targets
+    let rows = c.in_ok-roots-in-Nursery.roots.items in
+    let are = subst (λ (heap : HeapState). AddsRoots heap.table.spaces (all_root_targets young_spaces heap.table.spaces (map (λ p. Row p) (places_of heap.subjects))) [] rows) (sym c.self.view_is) c.in_ok-roots-in-Nursery.ensures in
+    let noted : StandFor Nursery now (rows ++ map (λ p. Remembered p) s.remembered) = subst (λ (heap : HeapState). StandFor Nursery heap (rows ++ map (λ p. Remembered p) s.remembered)) c.self.view_is (noted_stand s c.self.invariant.0 rows are) in
+    let stand : StandFor c.args.kind now c.add_remembered.new.roots.items = subst (λ (k : Kind). StandFor k now c.add_remembered.new.roots.items) (sym c.in-Nursery.is) (subst (StandFor Nursery now) (sym c.in_ok-add_remembered-in-Nursery.ensures) noted) in
+    record { roots = stand.alike; targets = stand.targets; sound = stand.sound }

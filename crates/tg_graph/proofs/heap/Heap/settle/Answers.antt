@@ -7,7 +7,7 @@ use Rattle.tg_graph.specs.Kept.{AreWritten, IsSettled, rewritten_at}
 use Rattle.tg_space.specs.Collection.{IsCollection}
 use Rattle.tg_graph.proofs.Heaps.{full_or_nursery}
 use Rattle.tg_graph.proofs.heap.Heap.settle.Given.{Over}
-use Rattle.tg_graph.proofs.heap.Heap.settle.Goals.{in-Full, in-Nursery+in_ok-keep_old_and_copied-in-Nursery}
+use Rattle.tg_graph.proofs.heap.Heap.settle.Goals.{in-Full, in-Nursery+in_ok-prepared-in-Nursery+in_ok-put_in_place-in-Nursery}
 use Rattle.tg_graph.proofs.heap.Heap.settle.Goals as goal
 
 -- what either collection left; the words that are kept are no part of the heap that is seen
@@ -16,8 +16,8 @@ settled g c =
     let Settled : Kind → HeapState → Type 0 = λ kind heap. IsSettled kind c.args.self.now heap in
     let left : Settled c.args.kind c.match-kind.self = elim c.match-kind.branch [
       | in-Full w ↦ subst (Settled c.args.kind) (sym w.self-is) (subst (λ (kind : Kind). Settled kind w.keep_copied.new.self) (sym w.in-Full.is) w.keep_copied.ensures.settled)
-      | in-Nursery+in_ok-keep_old_and_copied-in-Nursery w ↦
-          subst (Settled c.args.kind) (sym w.self-is) (subst (λ (kind : Kind). Settled kind w.keep_old_and_copied.new.self) (sym w.in-Nursery.is) w.in_ok-keep_old_and_copied-in-Nursery.ensures.settled)
+      | in-Nursery+in_ok-prepared-in-Nursery+in_ok-put_in_place-in-Nursery w ↦
+          subst (Settled c.args.kind) (sym w.self-is) (subst (λ (kind : Kind). Settled kind w.put_in_place.new.self) (sym w.in-Nursery.is) w.in_ok-put_in_place-in-Nursery.ensures.settled)
     ] in
     subst (Settled c.args.kind) (sym c.keep_words.ensures) left
 
@@ -36,7 +36,7 @@ returns-clause-written g c =
     let Written : HeapState → Type 0 = λ heap. AreWritten (with_adopted old.table Nursery c.args.adoption.aged c.args.adoption.old) heap.table (map (rewritten_at old.table.spaces c.args.forward.words) old.remembered) in
     let written : c.args.kind ≡ Nursery → Written c.match-kind.self = elim c.match-kind.branch [
       | in-Full w ↦ λ nursery. absurd (full_or_nursery (sym w.in-Full.is ∙ nursery))
-      | in-Nursery+in_ok-keep_old_and_copied-in-Nursery w ↦ λ nursery. subst Written (sym w.self-is) w.in_ok-keep_old_and_copied-in-Nursery.ensures.written
+      | in-Nursery+in_ok-prepared-in-Nursery+in_ok-put_in_place-in-Nursery w ↦ λ nursery. subst Written (sym w.self-is) w.in_ok-put_in_place-in-Nursery.ensures.written
     ] in
     λ nursery. subst Written (sym c.keep_words.ensures) (written nursery)
 
@@ -45,7 +45,7 @@ returns-clause-blocks g c =
     let Adopted : HeapState → Type 0 = λ heap. heap.table ≡ with_adopted c.args.self.now.table Full c.args.adoption.aged c.args.adoption.old in
     let adopted : c.args.kind ≡ Full → Adopted c.match-kind.self = elim c.match-kind.branch [
       | in-Full w ↦ λ full. subst Adopted (sym w.self-is) w.keep_copied.ensures.blocks
-      | in-Nursery+in_ok-keep_old_and_copied-in-Nursery w ↦ λ full. absurd (full_or_nursery (sym full ∙ w.in-Nursery.is))
+      | in-Nursery+in_ok-prepared-in-Nursery+in_ok-put_in_place-in-Nursery w ↦ λ full. absurd (full_or_nursery (sym full ∙ w.in-Nursery.is))
     ] in
     λ full. subst Adopted (sym c.keep_words.ensures) (adopted full)
 
@@ -79,5 +79,8 @@ returns-clause-indexed g c = (settled g c).indexed
 pub keep_copied-requires : goal.keep_copied-requires
 keep_copied-requires g c = subst (λ (kind : Kind). IsCollection kind c.args.self.now.table.spaces (roots_of kind c.args.self.now) c.args.forward.words c.args.adoption.aged c.args.adoption.old c.args.remembered.places) c.in-Full.is c.requires
 
-pub keep_old_and_copied-requires : goal.keep_old_and_copied-requires
-keep_old_and_copied-requires g c = subst (λ (kind : Kind). IsCollection kind c.args.self.now.table.spaces (roots_of kind c.args.self.now) c.args.forward.words c.args.adoption.aged c.args.adoption.old c.args.remembered.places) c.in-Nursery.is c.requires
+pub prepared-requires : goal.prepared-requires
+prepared-requires g c = subst (λ (kind : Kind). IsCollection kind c.args.self.now.table.spaces (roots_of kind c.args.self.now) c.args.forward.words c.args.adoption.aged c.args.adoption.old c.args.remembered.places) c.in-Nursery.is c.requires
+
+pub put_in_place-requires-clause-collection : goal.put_in_place-requires-clause-collection
+put_in_place-requires-clause-collection g c = subst (λ (kind : Kind). IsCollection kind c.args.self.now.table.spaces (roots_of kind c.args.self.now) c.args.forward.words c.args.adoption.aged c.args.adoption.old c.args.remembered.places) c.in-Nursery.is c.requires
