@@ -17,3 +17,4 @@ pub mod OneCell
 pub mod Moved
 pub mod Passing
 pub mod Scanning
+pub mod Along

@@ -8,8 +8,8 @@ ghost use Rattle.tg_word.specs.Word.{place_in};
 ghost use Rattle.tg_evac.specs.declared.copies.TheConstants.{FAR, NEAR};
 ghost use Rattle.tg_evac.specs.Claims.{win_at, won_in};
 ghost use Rattle.tg_evac.specs.Copies.{HoldCells};
-ghost use Rattle.tg_evac.specs.Claimers.{AddsCopy, AreRead};
-ghost use Rattle.tg_evac.specs.Inner.Reads.{HasRead};
+ghost use Rattle.tg_evac.specs.Claimers.{AddsCopy};
+ghost use Rattle.tg_evac.specs.Inner.Reads.{HasRead, MayAskFor};
 ghost use Rattle.tg_evac.specs.Walks.{ClaimsAll, IsUnderWay, MayMove, Scans};
 
 use crate::both::Both;
@@ -163,8 +163,12 @@ impl Ahead {
         if k - self.first < self.count {
             return;
         }
+        let count = (claimer.len() - k).min(NEAR);
+        for i in 0..count {
+            self.words[i] = *spaces.words_near(claimer.won_cell(k + i), near);
+        }
         self.first = k;
-        self.count = read_some(claimer, spaces, k, &mut self.words, near);
+        self.count = count;
     }
 
     // The words of the k-th won cell, which was read.
@@ -177,29 +181,6 @@ impl Ahead {
     {
         &self.words[k - self.first]
     }
-}
-
-// Reads the won cells from the k-th on, as many as there is room for, and answers how many. Each is looked for from the
-// space of the one before it (`near`).
-#[inline(always)]
-fn read_some<C: Claimer>(
-    claimer: &C,
-    spaces: &Spaces,
-    k: usize,
-    words: &mut [[u64; WORDS]; NEAR],
-    near: &mut u64,
-) -> usize
-    requires whole { (C.walked claimer.now).cells ≡ length (cells_of spaces.now.spaces) }
-    requires next { k < length (C.walked claimer.now).won }
-    ensures some { 0 < result }
-    ensures few { result ≤ NEAR }
-    ensures read { AreRead spaces.now.spaces (C.walked claimer.now).won k result words.new }
-{
-    let count = (claimer.len() - k).min(NEAR);
-    for i in 0..count {
-        words[i] = *spaces.words_near(claimer.won_cell(k + i), near);
-    }
-    count
 }
 
 impl Walk<'_> {
@@ -262,8 +243,7 @@ impl Walk<'_> {
 // there.
 #[inline(always)]
 fn is_in_old<C: Claimer>(claimer: &C, kind: Kind, k: usize) -> bool
-    requires next { k < length (C.walked claimer.now).won }
-    requires full { kind ≡ Kind.Full → (place_in (win_at (C.walked claimer.now).won k).word).space ≡ 0 }
+    requires { MayAskFor kind k (C.walked claimer.now) }
     ensures space { result ≡ ((place_in (win_at (C.walked claimer.now).won k).word).space == 0) }
     ensures two { (place_in (win_at (C.walked claimer.now).won k).word).space < 2 }
 {

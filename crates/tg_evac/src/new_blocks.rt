@@ -1,12 +1,13 @@
 //! New blocks of a space, filled cell after cell.
-ghost use Rattle.std.specs.Prelude.{◌≡◌, ◌<◌, ◌≤◌, ◌-◌, ◌++◌, ◌∷◌, [], length, replicate, vec_capacity, IfOk, OnOk};
+ghost use Rattle.std.specs.Prelude.{◌≡◌, ◌<◌, ◌≤◌, ◌-◌, ◌++◌, [], length, replicate, vec_capacity, IfOk, OnOk};
 ghost use Rattle.std.specs.List.{flat_map};
-ghost use Rattle.tg_word.specs.declared.TheConstants.{CELLS, MOST_SPACE_BLOCKS, MOST_SPACE_CELLS};
+ghost use Rattle.tg_word.specs.declared.TheConstants.{CELLS, MOST_SPACE_CELLS};
 ghost use Rattle.tg_block.specs.Cells.{IsBlock, free_cell};
 ghost use Rattle.tg_space.specs.SpaceList.{IsSpace};
 ghost use Rattle.tg_space.specs.Targets.{from_space, named_by, pointers_of};
 ghost use Rattle.tg_evac.specs.Claimers.{AddsCopy};
 ghost use Rattle.tg_evac.specs.Copies.{HaveOpenBlock, HoldCells, IsOpenBlock};
+ghost use Rattle.tg_evac.specs.Inner.Blocks.{HasClosed, MayClose};
 ghost use Rattle.tg_evac.specs.Walks.{ClaimsAll, MayMove};
 
 use crate::claimer::Claimer;
@@ -129,12 +130,8 @@ fn close(
     full: &mut Space,
     last: &mut Vec<[u64; WORDS]>,
 ) -> Result<(), AllocError>
-    requires whole { IsBlock last.old.items }
-    requires open { HaveOpenBlock full.old last.old }
-    requires room { length full.old < MOST_SPACE_BLOCKS }
-    ensures open { HaveOpenBlock full.new last.new }
-    ensures full { OnOk result (full.new ≡ full.old ++ last.old.items ∷ []) }
-    ensures empty { OnOk result (last.new.items ≡ []) }
+    requires { MayClose full.old last.old }
+    ensures { HasClosed full.old last.old full.new last.new result }
 {
     let cells = mem::replace(last, open_cells(alloc, spare)?);
     full.push(Block::of(cells))

@@ -1,5 +1,5 @@
 //! The cells of Old that will name young ones.
-ghost use Rattle.std.specs.Prelude.{◌≡◌, ◌<◌, ◌≤◌, ◌+◌, ◌↔◌, ◌⊎◌, length, IfOk, IsTrue, OnOk};
+ghost use Rattle.std.specs.Prelude.{◌≡◌, ◌≤◌, ◌+◌, ◌↔◌, ◌⊎◌, length, IfOk, IsTrue, OnOk};
 ghost use Rattle.std.specs.List.{All, Contains};
 ghost use Rattle.tg_word.specs.declared.TheConstants.{MOST_SPACE_BLOCKS};
 ghost use Rattle.tg_word.specs.declared.Place.{Place as PlaceOf};
@@ -7,7 +7,7 @@ ghost use Rattle.tg_space.specs.Generations.{NamesYoung};
 ghost use Rattle.tg_space.specs.Soundness.{IsRootIn};
 ghost use Rattle.tg_space.specs.declared.root.Root.TheVariants.{Remembered as RememberedAt};
 ghost use Rattle.tg_evac.specs.Copies.{AreForwarded, IsPlaceIn, moved_cell, new_cell};
-ghost use Rattle.tg_evac.specs.Inner.Steps.{MayNoteRoot, MayNoteRoots};
+ghost use Rattle.tg_evac.specs.Inner.Steps.{MayNoteBlock, MayNoteRoot, MayNoteRoots};
 
 use std::alloc::{AllocError, Global};
 use tg_block::WORDS;
@@ -101,8 +101,7 @@ fn note_block(
     block: u64,
     kept: u64,
 ) -> Result<(), AllocError>
-    requires few { kept + length blocks.now ≤ MOST_SPACE_BLOCKS }
-    requires inside { block < length blocks.now }
+    requires { MayNoteBlock kept blocks.now block }
     ensures { OnOk result ((p : PlaceOf) → Contains remembered.new.places p ↔ (Contains remembered.old.places p ⊎ (IsPlaceIn 0 kept blocks.now p × (p.block ≡ kept + block) × NamesYoung (new_cell kept blocks.now p)))) }
 {
     for cell in 0..CELLS {

@@ -1,12 +1,11 @@
 //! The targets of roots.
-ghost use Rattle.std.specs.Prelude.{◌≡◌, false, length};
-ghost use Rattle.tg_space.specs.Soundness.{IsPointer, IsRootIn};
-ghost use Rattle.tg_space.specs.SpaceList.{Holds, cells_of};
+ghost use Rattle.std.specs.Prelude.{length};
+ghost use Rattle.tg_space.specs.SpaceList.{cells_of};
 ghost use Rattle.tg_space.specs.Targets.{from_space, root_targets_of, targets_at};
 ghost use Rattle.tg_space.specs.declared.root.Root.TheVariants.{Row};
 ghost use Rattle.tg_evac.specs.Claims.{chunk_targets, is_straight as straight_from};
-ghost use Rattle.tg_evac.specs.Inner.Steps.{MayClaimRow};
-ghost use Rattle.tg_evac.specs.Walks.{ClaimsAll, MayWalk};
+ghost use Rattle.tg_evac.specs.Inner.Steps.{MayClaimAt, MayClaimChunks, MayClaimKept, MayClaimRoot};
+ghost use Rattle.tg_evac.specs.Walks.{ClaimsAll};
 
 use crate::claimer::Claimer;
 use crate::plan::{is_straight, space_for};
@@ -21,8 +20,7 @@ impl Walk<'_> {
     /// It is refused as a claim is. What was claimed till then stays so.
     #[inline(always)]
     pub fn claim_root<C: Claimer>(self, claimer: &mut C, root: Root) -> Result<(), RoomFault>
-        requires walk { MayWalk self.kind self.spaces.now.spaces (C.walked claimer.old) }
-        requires root { IsRootIn self.spaces.now.spaces root }
+        requires { MayClaimRoot self.kind self.spaces.now.spaces root (C.walked claimer.old) }
         ensures { ClaimsAll C.walked C.knows C.is_full self.entry.spaces.now.spaces (straight_from (C.walked claimer.old).kind root) (root_targets_of (from_space (C.walked claimer.old).kind) self.entry.spaces.now.spaces root) claimer.old claimer.new result }
     {
         let straight = is_straight(self.kind, root);
@@ -41,7 +39,7 @@ impl Walk<'_> {
         object: Place,
         straight: bool,
     ) -> Result<(), RoomFault>
-        requires { MayClaimRow self.kind self.spaces.now.spaces object (C.walked claimer.old) }
+        requires { MayClaimAt self.kind self.spaces.now.spaces object (C.walked claimer.old) }
         ensures { ClaimsAll C.walked C.knows C.is_full self.entry.spaces.now.spaces straight (root_targets_of (from_space (C.walked claimer.old).kind) self.entry.spaces.now.spaces (Row object)) claimer.old claimer.new result }
     {
         if self.kind.moves(object.space) {
@@ -59,8 +57,7 @@ impl Walk<'_> {
         object: Place,
         straight: bool,
     ) -> Result<(), RoomFault>
-        requires row { MayClaimRow self.kind self.spaces.now.spaces object (C.walked claimer.old) }
-        requires kept { from_space self.kind object.space ≡ false }
+        requires { MayClaimKept self.kind self.spaces.now.spaces object (C.walked claimer.old) }
         ensures { ClaimsAll C.walked C.knows C.is_full self.entry.spaces.now.spaces straight (root_targets_of (from_space (C.walked claimer.old).kind) self.entry.spaces.now.spaces (Row object)) claimer.old claimer.new result }
     {
         self.claim_targets(claimer, object, straight)?;
@@ -74,8 +71,7 @@ impl Walk<'_> {
         first: u64,
         straight: bool,
     ) -> Result<(), RoomFault>
-        requires walk { MayWalk self.kind self.spaces.now.spaces (C.walked claimer.old) }
-        requires link { IsPointer self.spaces.now.spaces first }
+        requires { MayClaimChunks self.kind self.spaces.now.spaces first (C.walked claimer.old) }
         ensures { ClaimsAll C.walked C.knows C.is_full self.entry.spaces.now.spaces straight (chunk_targets (from_space (C.walked claimer.old).kind) self.entry.spaces.now.spaces (length (cells_of self.entry.spaces.now.spaces)) first) claimer.old claimer.new result }
     {
         let mut link = first;
@@ -101,8 +97,7 @@ impl Walk<'_> {
         place: Place,
         straight: bool,
     ) -> Result<(), RoomFault>
-        requires walk { MayWalk self.kind self.spaces.now.spaces (C.walked claimer.old) }
-        requires held { Holds self.spaces.now.spaces place }
+        requires { MayClaimAt self.kind self.spaces.now.spaces place (C.walked claimer.old) }
         ensures { ClaimsAll C.walked C.knows C.is_full self.entry.spaces.now.spaces straight (targets_at (from_space (C.walked claimer.old).kind) self.entry.spaces.now.spaces place) claimer.old claimer.new result }
     {
         let mut words = *self.spaces.words(place);

@@ -1,5 +1,5 @@
 //! Collections by a helper at a table, and by several on threads.
-ghost use Rattle.std.specs.Prelude.{◌≡◌, ◌≢◌, ℕ, ◌+◌, ◌≤◌, ◌^◌, ◌↔◌, ◌⊎◌, All, Contains, IfErr, IfOk, List, OnOk, length};
+ghost use Rattle.std.specs.Prelude.{◌≡◌, ◌≢◌, ℕ, ◌+◌, ◌-◌, ◌≤◌, ◌^◌, ◌↔◌, ◌⊎◌, All, Contains, IfErr, IfOk, List, OnOk, length};
 ghost use Rattle.tg_word.specs.declared.TheConstants.{MOST_SPACE_BLOCKS};
 ghost use Rattle.tg_word.specs.declared.Place.{Place as PlaceOf};
 ghost use Rattle.tg_space.specs.Generations.{NamesYoung};
@@ -15,7 +15,7 @@ ghost use Rattle.tg_evac.specs.Collects.{Collects};
 ghost use Rattle.tg_evac.specs.Copies.{IsPlaceIn, moved_cell, new_cell};
 ghost use Rattle.tg_parallel.specs.declared.many.TheConstants.{MOST_HELPERS};
 ghost use Rattle.tg_parallel.specs.Faults.{IsNotStarted};
-ghost use Rattle.tg_parallel.specs.Inner.Tasks.{MayCollectBy};
+ghost use Rattle.tg_parallel.specs.Inner.Tasks.{MayCollectBy, MayStartAll, StandsFor};
 ghost use Rattle.tg_parallel.specs.Helping.{AllHelped, IsHelped, IsNew};
 ghost use Rattle.tg_parallel.specs.Jobs.{AllDone, IsCollected, IsDone, IsOpen, MayCollect, MayHelp};
 ghost use Rattle.tg_parallel.specs.Merged.{AreMerged};
@@ -197,12 +197,9 @@ fn work_all<R: Threads + Wait + Sync, G: Gate>(
     newcomer: Newcomer,
 ) -> Result<Helped, HelpersFault>
     requires table { IsOpen job.now }
-    requires own { newcomer.helper.table ≡ job.now.table.now.table }
-    requires fresh { newcomer.helper.done ≡ empty helpers }
-    requires some { 1 ≤ helpers }
+    requires all { StandsFor helpers job.now.table.now newcomer.helper }
     ensures helped { IfOk result (IsDone job.now helpers) }
-    ensures refused { IfErr result (λ fault. fault ≢ HelpersFault.HeapFull) }
-    ensures alone { helpers ≡ 1 → IfErr result (λ fault. fault ≢ HelpersFault.NoThread) }
+    ensures refused { IfErr result (IsNotStarted (helpers - 1)) }
 {
     let Newcomer {
         mut helper,
@@ -281,8 +278,7 @@ fn start_all<'s, E, G: Gate>(
     others: Vec<Helper>,
     spare: &mut Spare,
 ) -> Result<Vec<PromisedHandle<Helped, Job<'s, G>>>, HelpersFault>
-    requires table { IsOpen job.now }
-    requires new { All (IsNew job.now.table.now) others.items }
+    requires { MayStartAll job.now others.items }
     ensures promises { IfOk result (λ children. All (λ child. child.promise ≡ job.now) children.items) }
     ensures many { IfOk result (λ children. length children.items ≡ length others.items) }
     ensures refused { IfErr result (IsNotStarted (length others.items)) }
@@ -381,9 +377,7 @@ fn split_all(
     helper: &mut Helper,
     helpers: u32,
 ) -> Result<Vec<Helper>, AllocError>
-    requires own { helper.old.table ≡ table.now.table }
-    requires fresh { helper.old.done ≡ empty helpers }
-    requires some { 1 ≤ helpers }
+    requires { StandsFor helpers table.now helper.old }
     ensures kept { OnOk result ((helper.new.table ≡ helper.old.table) × (helper.new.done ≡ empty 1)) }
     ensures made { IfOk result (λ others. All (IsNew table.now) others.items) }
     ensures many { IfOk result (λ others. length others.items + 1 ≡ helpers) }

@@ -70,6 +70,9 @@ impl OwnBlocks {
     }
 
     // Claims a block, where no place is left.
+    //
+    // It is small, and refers to nothing that stands in the seat but by a call that is laid out here: so the seat is
+    // kept in registers.
     #[inline(always)]
     fn make_ready(
         &mut self,
@@ -83,19 +86,6 @@ impl OwnBlocks {
         if self.next != self.end {
             return Ok(());
         }
-        self.open(winner, table, limit)
-    }
-
-    // Claims a block. No place is left.
-    //
-    // It is small, and refers to nothing that stands in the seat but by a call that is laid out here: so the seat is
-    // kept in registers.
-    #[inline(always)]
-    fn open(&mut self, winner: &mut Winner, table: &RaceTable, limit: u64) -> Result<(), RoomFault>
-        requires ready { MayMakeReady limit table.now winner.old self.now }
-        requires none { self.now.next ≡ self.now.end }
-        ensures { AreReady limit self.entry.now winner.old self.exit.now winner.new result }
-    {
         if self.is_past {
             return Err(RoomFault::HeapFull);
         }

@@ -6,9 +6,9 @@ ghost use Rattle.tg_race.specs.Seats.{IsWordIn};
 ghost use Rattle.tg_race.specs.Race.{with_seen};
 ghost use Rattle.tg_evac.specs.Claims.{win_at};
 ghost use Rattle.tg_evac.specs.Claimers.{IsLink};
-ghost use Rattle.tg_parallel.specs.Inner.Places.{DrawsBlock, DrawsRoots, HasWonAt, MayDrawBlock, MayDrawRoots};
+ghost use Rattle.tg_parallel.specs.Inner.Places.{DrawsBlock, DrawsRoots, HasWonAt, MayDrawBlock, MayDrawRoots, MayFindNext};
 ghost use Rattle.tg_parallel.specs.Parts.{wins_of};
-ghost use Rattle.tg_parallel.specs.Seats.{FindsNext, HasRoomFor, IsHeldBy, IsReady, used_of};
+ghost use Rattle.tg_parallel.specs.Seats.{FindsNext};
 
 use crate::own_blocks::OwnBlocks;
 use std::marker::Model;
@@ -110,11 +110,7 @@ impl Winner {
     /// first, and answers the word of the place that it has.
     #[inline(always)]
     pub fn claim_next(&mut self, table: &RaceTable, at: CellWord, blocks: &mut OwnBlocks) -> u64
-        requires held { IsHeldBy table.now self.old blocks.old }
-        requires word { IsWordIn table.now at }
-        requires room { HasRoomFor table.now at.cell self.old }
-        requires ready { IsReady (used_of blocks.old.aged self.old.done) blocks.old }
-        requires some { blocks.old.next ≢ blocks.old.end }
+        requires { MayFindNext table.now at self.old blocks.old }
         ensures { FindsNext at.cell blocks.old self.old blocks.new self.new result }
     {
         let word = blocks.next;

@@ -1,18 +1,40 @@
--- What is asked for before a row is claimed, and before a root is noted.
-use Rattle.std.specs.Prelude.{ℕ, List}
+-- What is asked for before a root is claimed, and before it is noted.
+use Rattle.std.specs.Prelude.{◌≡◌, ℕ, ◌+◌, ◌<◌, ◌≤◌, false, List, length}
 use Rattle.std.specs.List.{All}
+use Rattle.tg_word.specs.declared.TheConstants.{MOST_SPACE_BLOCKS}
 use Rattle.tg_word.specs.declared.Place.{Place}
-use Rattle.tg_space.specs.SpaceList.{SpaceList, Holds}
-use Rattle.tg_space.specs.Soundness.{IsRootIn}
+use Rattle.tg_space.specs.SpaceList.{SpaceList, BlockList, Holds}
+use Rattle.tg_space.specs.Soundness.{IsPointer, IsRootIn}
+use Rattle.tg_space.specs.Targets.{from_space}
 use Rattle.tg_space.specs.declared.kind.Kind.{Kind}
 use Rattle.tg_space.specs.declared.root.Root.{Root}
 use Rattle.tg_evac.specs.Claimers.{Walked}
 use Rattle.tg_evac.specs.Copies.{AreForwarded}
 use Rattle.tg_evac.specs.Walks.{MayWalk}
 
-pub record MayClaimRow {Fixed : Type 0} (kind : Kind) (h : SpaceList) (object : Place) (w : Walked Fixed) : Type 0 where
+-- ---- the claims of what a root names
+
+pub record MayClaimRoot {Fixed : Type 0} (kind : Kind) (h : SpaceList) (one : Root) (w : Walked Fixed) : Type 0 where
   pub walk : MayWalk kind h w
-  pub held : Holds h object
+  pub root : IsRootIn h one
+
+-- of a cell that is held
+pub record MayClaimAt {Fixed : Type 0} (kind : Kind) (h : SpaceList) (place : Place) (w : Walked Fixed) : Type 0 where
+  pub walk : MayWalk kind h w
+  pub held : Holds h place
+
+-- which isn't moved
+pub record MayClaimKept {Fixed : Type 0} (kind : Kind) (h : SpaceList) (place : Place) (w : Walked Fixed) : Type 0 where
+  pub walk : MayWalk kind h w
+  pub held : Holds h place
+  pub kept : from_space kind place.space ≡ false
+
+-- of the chunks to which a link leads
+pub record MayClaimChunks {Fixed : Type 0} (kind : Kind) (h : SpaceList) (first : ℕ) (w : Walked Fixed) : Type 0 where
+  pub walk : MayWalk kind h w
+  pub link : IsPointer h first
+
+-- ---- the notes
 
 pub record MayNoteRoots (h : SpaceList) (words : List ℕ) (all : List Root) : Type 0 where
   pub forward : AreForwarded h words
@@ -21,3 +43,8 @@ pub record MayNoteRoots (h : SpaceList) (words : List ℕ) (all : List Root) : T
 pub record MayNoteRoot (h : SpaceList) (words : List ℕ) (one : Root) : Type 0 where
   pub forward : AreForwarded h words
   pub root : IsRootIn h one
+
+-- one of these blocks of Old, behind as many other ones
+pub record MayNoteBlock (kept : ℕ) (blocks : BlockList) (block : ℕ) : Type 0 where
+  pub few : kept + length blocks ≤ MOST_SPACE_BLOCKS
+  pub inside : block < length blocks

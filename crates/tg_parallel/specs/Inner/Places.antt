@@ -1,12 +1,13 @@
 -- What a helper is asked for before it claims a chunk of roots, a block or a place, and what it then has.
-use Rattle.std.specs.Prelude.{◌≡◌, ◌+◌, ◌*◌, ◌<◌, ◌≤◌, ℕ, Bool, All, IsTrue, length}
+use Rattle.std.specs.Prelude.{◌≡◌, ◌≢◌, ◌+◌, ◌*◌, ◌<◌, ◌≤◌, ℕ, Bool, All, IsTrue, length}
 use Rattle.tg_word.specs.declared.TheConstants.{CELLS, MOST_SPACE_BLOCKS}
 use Rattle.tg_word.specs.Word.{IsPlace}
 use Rattle.tg_race.specs.Conditions.{blocks_of, can_claim_block, can_claim_roots}
 use Rattle.tg_race.specs.Race.{with_chunk, with_claimed_block}
-use Rattle.tg_race.specs.Seats.{Board, Seated}
+use Rattle.tg_race.specs.declared.race_table.CellWord.{CellWord}
+use Rattle.tg_race.specs.Seats.{Board, IsWordIn, Seated}
 use Rattle.tg_parallel.specs.declared.own_blocks.OwnBlocks.{OwnBlocks}
-use Rattle.tg_parallel.specs.Seats.{IsHeldBy, KnowsNext, used_of}
+use Rattle.tg_parallel.specs.Seats.{HasRoomFor, IsHeldBy, IsReady, KnowsNext, used_of}
 
 -- so many cells were won, and more, each for a place of Old or of Aged
 pub record HasWonAt (k : ℕ) (helper : Seated) : Type 0 where
@@ -47,3 +48,11 @@ pub record MayMakeReady (limit : ℕ) (board : Board) (helper : Seated) (b : Own
   pub room : length helper.done.won + 3 < board.table.id.words
   pub few : limit ≤ MOST_SPACE_BLOCKS
   pub next : KnowsNext limit helper.done b
+
+-- a cell isn't won yet, and the next place is ready for it
+pub record MayFindNext (board : Board) (at : CellWord) (helper : Seated) (b : OwnBlocks) : Type 0 where
+  pub held : IsHeldBy board helper b
+  pub word : IsWordIn board at
+  pub room : HasRoomFor board at.cell helper
+  pub ready : IsReady (used_of b.aged helper.done) b
+  pub some : b.next ≢ b.end

@@ -45,8 +45,11 @@ returns-then-moves g c =
       full = tt;
     }
 
-pub claim_targets-requires-clause-walk : goal.claim_targets-requires-clause-walk
-claim_targets-requires-clause-walk g c = walk_still c.loop.invariant.added c.requires.walk
+pub claim_targets-requires : goal.claim_targets-requires
+claim_targets-requires g c = record {
+  walk = walk_still c.loop.invariant.added c.requires.walk;
+  held = subst (Holds c.args.self.spaces.now.spaces) (sym c.place_of-chunk.ensures) (⊎_elim (λ none. absurd (c.if-link-eq0.false none)) (λ (names : NamesCell c.args.self.spaces.now.spaces c.loop.link). names.held) c.loop.invariant.pointer);
+}
 
 pub returns-in_err-claim_targets : goal.returns-in_err-claim_targets
 returns-in_err-claim_targets g c =

@@ -1,5 +1,6 @@
-use Rattle.std.proofs.Common.{ap, ◌∙◌}
+use Rattle.std.proofs.Common.{ℕ, ap, subst, sym, ◌∙◌}
 use Rattle.std.proofs.lemmas.Result.{on_ok_weaker}
+use Rattle.tg_space.specs.Soundness.{IsPointer}
 use Rattle.tg_space.specs.Targets.{from_space}
 use Rattle.tg_space.specs.declared.kind.Kind.{Kind}
 use Rattle.tg_evac.proofs.Passing.{claims_refused, walk_still}
@@ -9,17 +10,17 @@ use Rattle.tg_evac.proofs.walk.Walk.claim_from_row.Goals as goal
 pub returns-in_err-claim_targets : goal.returns-in_err-claim_targets
 returns-in_err-claim_targets g c =
     let m = g.C.Claimer in
-    let kept = ap (λ (k : Kind). from_space k c.args.object.space) c.requires.row.walk.table.same ∙ c.requires.kept in
+    let kept = ap (λ (k : Kind). from_space k c.args.object.space) c.requires.walk.table.same ∙ c.requires.kept in
     claims_refused m.walked m.knows m.is_full c.from_residual.result _ c.from_residual.ensures.1 (row_first c.args.self.spaces.now.spaces c.args.straight c.args.object kept c.claim_targets.ensures.added)
     c.claim_targets.ensures.grows c.in_err-claim_targets.ensures.full
 
-pub claim_chunks-requires-clause-walk : goal.claim_chunks-requires-clause-walk
-claim_chunks-requires-clause-walk g c = walk_still c.claim_targets.ensures.added c.requires.row.walk
+pub claim_chunks-requires : goal.claim_chunks-requires
+claim_chunks-requires g c = record { walk = walk_still c.claim_targets.ensures.added c.requires.walk; link = subst (λ (n : ℕ). IsPointer c.args.self.spaces.now.spaces n) (sym c.read.ensures) (c.requires.walk.pointers.links c.args.object c.requires.held) }
 
 pub returns : goal.returns
 returns g c =
     let h = c.args.self.spaces.now.spaces in
-    let kept = ap (λ (k : Kind). from_space k c.args.object.space) c.requires.row.walk.table.same ∙ c.requires.kept in
+    let kept = ap (λ (k : Kind). from_space k c.args.object.space) c.requires.walk.table.same ∙ c.requires.kept in
     let two = rw c.read.ensures at c.claim_chunks.ensures.added in
     let rest = rw c.read.ensures at c.claim_chunks.ensures.met in
     record {

@@ -44,11 +44,15 @@ push_copy-requires-clause-aged_room g c isnt =
     let other = straight_aged h n w straight source so c.requires.next refl is_old c.requires.words isnt in
     scan_room h n w straight source so c.requires.next refl is_old c.requires.words 1 (2 ^ 26) c.args.copies.now.aged so.aged_long (c.requires.room 1 (lit< tt)) (omega arith)
 
-pub is_in_old-straight-requires-clause-full : goal.is_in_old-straight-requires-clause-full
-is_in_old-straight-requires-clause-full g c full =
+pub is_in_old-straight-requires : goal.is_in_old-straight-requires
+is_in_old-straight-requires g c =
     let h = c.args.self.spaces.now.spaces in let won = (g.C.Claimer.walked c.args.claimer.now).won in let n = c.args.k in
-    let traced = subst (λ (k : Kind). AreTraced k h c.requires.walk.traced.0 won) (c.requires.walk.walk.table.same ∙ full) c.requires.walk.traced.1 in
-    all_in_old h c.requires.walk.traced.0 won traced (win_at won n) (Contains-get_or won n (win_at [] 0) c.requires.next)
+    record {
+      next = c.requires.next;
+      full = λ full.
+          let traced = subst (λ (k : Kind). AreTraced k h c.requires.walk.traced.0 won) (c.requires.walk.walk.table.same ∙ full) c.requires.walk.traced.1 in
+          all_in_old h c.requires.walk.traced.0 won traced (win_at won n) (Contains-get_or won n (win_at [] 0) c.requires.next);
+    }
 
 -- what stands behind the last cell has no words
 pointers_numbered : (h : SpaceList) → HavePointers h → (n : ℕ) → All (IsPointer h) (pointers_of (cell_numbered h n))
