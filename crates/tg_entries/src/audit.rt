@@ -143,43 +143,20 @@ fn opening_line<L: Ledger>(
 {
     let mut head = head;
     if line.starts_with(b"worker ") {
-        worker_line(alloc, again, &mut head, line)?;
+        let value = next_value(alloc, again, line)?;
+        add_value(&mut head, value)?;
         return Ok(Stage::Opening(head));
     }
     if line.starts_with(b"edge ") {
-        edge_line(again, &mut head, line)?;
+        let edge = next_edge(again, &head, line)?;
+        add_edge(&mut head, edge)?;
         return Ok(Stage::Opening(head));
     }
-    first_line(alloc, again, head, line)
-}
-
-// The first line behind an opening.
-fn first_line<L: Ledger>(
-    alloc: Global,
-    again: &mut Written<L>,
-    head: Head,
-    line: &[u8],
-) -> Result<Stage, LineFault>
-    ensures { (text : List ℕ) → HasHead text head → IfOk result (HasRead (text ++ line.now)) }
-{
     let entered = open(alloc, head)?;
     entries_line(alloc, again, entered, line)
 }
 
-// The line of the next worker.
-fn worker_line<L: Ledger>(
-    alloc: Global,
-    again: &mut Written<L>,
-    head: &mut Head,
-    line: &[u8],
-) -> Result<(), LineFault>
-    ensures { (text : List ℕ) → HasHead text head.old → OnOk result (HasHead (text ++ line.now) head.new) }
-{
-    let value = next_value(alloc, again, line)?;
-    add_value(head, value)
-}
-
-// The value that the line tells.
+// The value of the next worker, which the line tells.
 fn next_value<L: Ledger>(
     alloc: Global,
     again: &mut Written<L>,
@@ -215,15 +192,10 @@ fn may_have_value(head: &Head) -> bool
     head.edges.is_empty() && (head.values.len() as u64) < head.workers
 }
 
-// An edge between two workers.
-fn edge_line<L: Ledger>(
-    again: &mut Written<L>,
-    head: &mut Head,
-    line: &[u8],
-) -> Result<(), LineFault>
-    ensures { (text : List ℕ) → HasHead text head.old → OnOk result (HasHead (text ++ line.now) head.new) }
+// The edge behind the others.
+fn add_edge(head: &mut Head, edge: Edge) -> Result<(), LineFault>
+    ensures { (text : List ℕ) → HasHead text head.old → OnOk result (HasHead (text ++ edge_text edge) head.new) }
 {
-    let edge = next_edge(again, head, line)?;
     match head.edges.push(edge) {
         Ok(()) => Ok(()),
         Err(_) => Err(LineFault::OutOfMemory),
@@ -309,7 +281,14 @@ fn entry_line<L: Ledger>(
     ensures { (text : List ℕ) → HasEntered text entered.old → OnOk result (HasEntered (text ++ line.now) entered.new) }
 {
     let (worker, deed) = next_deed(alloc, again, line)?;
-    replay_deed(again, entered, worker, &deed, line)
+    let Some(next) = entered.count.checked_add(1) else {
+        return Err(LineFault::BadLine);
+    };
+    if !is_next(again, &mut entered.auditor, worker, &deed, line)? {
+        return Err(LineFault::BadEntry { at: entered.count });
+    }
+    entered.count = next;
+    Ok(())
 }
 
 // Who asks, and for what, where the line is spelled as that is.
@@ -330,27 +309,6 @@ fn next_deed<L: Ledger>(
     };
     check_part(again, &told, part.as_bytes())?;
     Ok((worker, deed))
-}
-
-// The next entry, whose deed was written again.
-fn replay_deed<L: Ledger>(
-    again: &mut Written<L>,
-    entered: &mut Entered,
-    worker: u64,
-    deed: &Deed,
-    line: &[u8],
-) -> Result<(), LineFault>
-    requires { again.old.bytes.items ≡ deed_text worker deed.now }
-    ensures { (text : List ℕ) → HasEntered text entered.old → OnOk result (HasEntered (text ++ line.now) entered.new) }
-{
-    let Some(next) = entered.count.checked_add(1) else {
-        return Err(LineFault::BadLine);
-    };
-    if !is_next(again, &mut entered.auditor, worker, deed, line)? {
-        return Err(LineFault::BadEntry { at: entered.count });
-    }
-    entered.count = next;
-    Ok(())
 }
 
 // Whether the line is that of the deed, which was written again, with the reply that the rules give it. Fails only when

@@ -1,3 +1,5 @@
 -- What private calls ask for and promise. No public clause cites it: who wants to believe the store needn't read it.
+pub mod Counting
+pub mod Spelling
 pub mod StockWords
 pub mod Words

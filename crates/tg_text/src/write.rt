@@ -1,11 +1,12 @@
 //! Lines, written as text.
-ghost use Rattle.std.specs.Prelude.{◌≡◌, ◌<◌, ◌∷◌, ◌++◌, [], IfOk, decimal};
+ghost use Rattle.std.specs.Prelude.{◌≡◌, ◌∷◌, ◌++◌, [], IfOk, decimal};
 ghost use Rattle.std.specs.List.{join_with_byte};
 ghost use Rattle.tg_rights.specs.RightSet.{text_of};
 ghost use Rattle.tg_text.specs.declared.line.Line.TheVariants as Line;
 ghost use Rattle.tg_text.specs.Deeds.{deed_line};
 ghost use Rattle.tg_text.specs.Grammar.{line_text, words_of_arguments};
 ghost use Rattle.tg_text.specs.Sinks.{Writes};
+ghost use Rattle.tg_text.specs.Inner.Counting.{MayCount};
 ghost use Rattle.tg_text.specs.Inner.Words.{words_behind};
 
 use crate::count::Count;
@@ -63,9 +64,7 @@ pub fn line_bytes(alloc: Global, line: Line) -> Result<Vec<u8>, AllocError>
 
 // The ledger counts how often memory is wanting.
 fn bytes_counted<L: Ledger>(alloc: Global, blank: Blank, line: Line) -> Result<Vec<u8>, AllocError>
-    requires name { blank.name ≡ L.name }
-    requires parts { blank.parts ≡ L.parts }
-    requires some { 0 < blank.parts }
+    requires { MayCount L.name L.parts blank }
     ensures { IfOk result (λ text. text.items ≡ line_text line) }
 {
     let mut sink = Written::new(alloc, Count::<L>::new(blank));

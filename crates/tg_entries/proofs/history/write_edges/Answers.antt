@@ -3,13 +3,7 @@ use Rattle.tg_entries.proofs.WriteLaws.{sofar_more, cut_more}
 use Rattle.tg_entries.proofs.history.write_edges.Goals as goal
 
 pub loop-edge-preserved : goal.loop-edge-preserved
-loop-edge-preserved g c =
-    let s = g.K.Sink in
-    sofar_more edge_text c.args.edges.now c.loop-edge.edge-index c.edge-item.result (s.taken c.args.sink.now) (s.taken c.loop-edge.sink) (s.taken c.write_edge.new.sink)
-    (s.failures c.args.sink.now) (s.failures c.loop-edge.sink) (s.failures c.write_edge.new.sink) c.loop-edge-test.true c.edge-item.is c.loop-edge.invariant c.in_ok-write_edge.ensures
+loop-edge-preserved g c = sofar_more edge_text c.args.edges.now c.loop-edge.edge-index c.edge-item.result _ _ _ _ _ _ c.loop-edge-test.true c.edge-item.is c.loop-edge.invariant c.in_ok-write_edge.ensures
 
 pub returns-in_err-write_edge : goal.returns-in_err-write_edge
-returns-in_err-write_edge g c =
-    let s = g.K.Sink in
-    cut_more edge_text c.args.edges.now c.loop-edge.edge-index c.edge-item.result (s.taken c.args.sink.now) (s.taken c.loop-edge.sink) (s.taken c.write_edge.new.sink)
-    (s.failures c.args.sink.now) (s.failures c.loop-edge.sink) (s.failures c.write_edge.new.sink) c.from_residual.result c.loop-edge-test.true c.edge-item.is c.from_residual.ensures.0 c.loop-edge.invariant c.in_err-write_edge.ensures
+returns-in_err-write_edge g c = cut_more edge_text c.args.edges.now c.loop-edge.edge-index c.edge-item.result _ _ _ _ _ _ _ c.loop-edge-test.true c.edge-item.is c.from_residual.ensures.0 c.loop-edge.invariant c.in_err-write_edge.ensures

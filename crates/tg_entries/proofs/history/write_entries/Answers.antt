@@ -3,13 +3,7 @@ use Rattle.tg_entries.proofs.WriteLaws.{sofar_more, cut_more}
 use Rattle.tg_entries.proofs.history.write_entries.Goals as goal
 
 pub loop-entry-preserved : goal.loop-entry-preserved
-loop-entry-preserved g c =
-    let s = g.K.Sink in
-    sofar_more entry_text c.args.entries.now c.loop-entry.entry-index c.entry-item.result (s.taken c.args.sink.now) (s.taken c.loop-entry.sink) (s.taken c.write_entry.new.sink)
-    (s.failures c.args.sink.now) (s.failures c.loop-entry.sink) (s.failures c.write_entry.new.sink) c.loop-entry-test.true c.entry-item.is c.loop-entry.invariant c.in_ok-write_entry.ensures
+loop-entry-preserved g c = sofar_more entry_text c.args.entries.now c.loop-entry.entry-index c.entry-item.result _ _ _ _ _ _ c.loop-entry-test.true c.entry-item.is c.loop-entry.invariant c.in_ok-write_entry.ensures
 
 pub returns-in_err-write_entry : goal.returns-in_err-write_entry
-returns-in_err-write_entry g c =
-    let s = g.K.Sink in
-    cut_more entry_text c.args.entries.now c.loop-entry.entry-index c.entry-item.result (s.taken c.args.sink.now) (s.taken c.loop-entry.sink) (s.taken c.write_entry.new.sink)
-    (s.failures c.args.sink.now) (s.failures c.loop-entry.sink) (s.failures c.write_entry.new.sink) c.from_residual.result c.loop-entry-test.true c.entry-item.is c.from_residual.ensures.0 c.loop-entry.invariant c.in_err-write_entry.ensures
+returns-in_err-write_entry g c = cut_more entry_text c.args.entries.now c.loop-entry.entry-index c.entry-item.result _ _ _ _ _ _ _ c.loop-entry-test.true c.entry-item.is c.from_residual.ensures.0 c.loop-entry.invariant c.in_err-write_entry.ensures

@@ -1,8 +1,6 @@
-use Rattle.std.proofs.Common.{◌++◌, List, ℕ, refl, subst}
-use Rattle.std.specs.List.{flat_map}
+use Rattle.std.proofs.Common.{List, ℕ, refl, subst}
 use Rattle.tg_text.specs.Sinks.{Writes}
 use Rattle.tg_text.proofs.SinkLaws.{writes_then, writes_cut_first}
-use Rattle.tg_entries.specs.Texts.{edge_text, limits_text, version_text, worker_text}
 use Rattle.tg_entries.proofs.WriteLaws.{opening_same}
 use Rattle.tg_entries.proofs.history.write_opening.Goals as goal
 
@@ -13,9 +11,7 @@ returns g c =
     subst (λ (text : List ℕ). Writes (s.taken c.args.sink.now) (s.failures c.args.sink.now) text c.write_edges.result (s.taken c.write_edges.new.sink) (s.failures c.write_edges.new.sink))
     (opening_same c.workers.result now.workers c.max_vertices.result now.limit c.values.result.now now.values c.edges.result.now now.edges
     c.workers.ensures.number c.max_vertices.ensures c.values.ensures c.edges.ensures)
-    (writes_then (s.taken c.args.sink.now) (s.taken c.write_valued.new.sink) (s.taken c.write_edges.new.sink) (s.failures c.args.sink.now) (s.failures c.write_valued.new.sink) (s.failures c.write_edges.new.sink)
-    ((version_text ++ limits_text c.workers.result c.max_vertices.result) ++ flat_map worker_text c.values.result.now) (flat_map edge_text c.edges.result.now)
-    c.write_edges.result c.in_ok-write_valued.ensures c.write_edges.ensures)
+    (writes_then _ _ _ _ _ _ _ _ _ c.in_ok-write_valued.ensures c.write_edges.ensures)
 
 pub returns-in_err-write_valued : goal.returns-in_err-write_valued
 returns-in_err-write_valued g c =
@@ -24,6 +20,4 @@ returns-in_err-write_valued g c =
     subst (λ (text : List ℕ). Writes (s.taken c.args.sink.now) (s.failures c.args.sink.now) text c.from_residual.result (s.taken c.write_valued.new.sink) (s.failures c.write_valued.new.sink))
     (opening_same c.workers.result now.workers c.max_vertices.result now.limit c.values.result.now now.values now.edges now.edges
     c.workers.ensures.number c.max_vertices.ensures c.values.ensures refl)
-    (writes_cut_first (s.taken c.args.sink.now) (s.taken c.write_valued.new.sink) (s.failures c.args.sink.now) (s.failures c.write_valued.new.sink)
-    ((version_text ++ limits_text c.workers.result c.max_vertices.result) ++ flat_map worker_text c.values.result.now) (flat_map edge_text now.edges)
-    c.from_residual.result c.from_residual.ensures.0 c.in_err-write_valued.ensures)
+    (writes_cut_first _ _ _ _ _ _ _ c.from_residual.ensures.0 c.in_err-write_valued.ensures)

@@ -4,7 +4,4 @@ use Rattle.tg_entries.specs.Texts.{more_text}
 use Rattle.tg_entries.proofs.write.write_more.Goals as goal
 
 pub returns-in_err-write_number : goal.returns-in_err-write_number
-returns-in_err-write_number g c =
-    let s = g.K.Sink in
-    writes_cut_at more_text c.args.numbers.now c.loop-number.number-index 0 [] (s.taken c.args.sink.now) (s.taken c.loop-number.sink) (s.taken c.write_number.new.sink)
-    (s.failures c.args.sink.now) (s.failures c.loop-number.sink) (s.failures c.write_number.new.sink) c.from_residual.result c.loop-number-test.true c.from_residual.ensures.0 c.loop-number.invariant c.in_err-write_number.ensures
+returns-in_err-write_number g c = writes_cut_at more_text c.args.numbers.now c.loop-number.number-index 0 [] _ _ _ _ _ _ _ c.loop-number-test.true c.from_residual.ensures.0 c.loop-number.invariant c.in_err-write_number.ensures

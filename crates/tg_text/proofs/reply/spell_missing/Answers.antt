@@ -25,27 +25,27 @@ with_space bytes at some within =
     drop-set bytes (at - 1) 32 (omega (arith, some, within)) ∙ ap (λ (n : ℕ). 32 ∷ drop n bytes) one
 
 pub overflow_sub-space : goal.overflow_sub-space
-overflow_sub-space c = omega (arith, c.spell_rights-space.ensures.short)
+overflow_sub-space c = omega (arith, c.spell_rights-space.ensures.taken.short)
 
 pub write_digits-arrow-requires : goal.write_digits-arrow-requires
 write_digits-arrow-requires c =
     let rights = c.spell_rights-space in (
-      omega (arith, short_decimal c.args.to c.ranges.to.fits, rights.ensures.short),
-      omega (arith, rights.ensures.within, rights.ensures.long, c.told-text, length-set rights.new.text (rights.result - 1) 32),
+      omega (arith, short_decimal c.args.to c.ranges.to.fits, rights.ensures.taken.short),
+      omega (arith, rights.ensures.taken.within, rights.ensures.taken.long, c.told-text, length-set rights.new.text (rights.result - 1) 32),
     )
 
 pub overflow_sub-arrow : goal.overflow_sub-arrow
-overflow_sub-arrow c = omega (arith, short_decimal c.args.to c.ranges.to.fits, c.spell_rights-space.ensures.short, c.write_digits-arrow.ensures.start)
+overflow_sub-arrow c = omega (arith, short_decimal c.args.to c.ranges.to.fits, c.spell_rights-space.ensures.taken.short, c.write_digits-arrow.ensures.start)
 
 pub write_digits-requires : goal.write_digits-requires
 write_digits-requires c =
     let rights = c.spell_rights-space in
     let digits = c.write_digits-arrow in (
-      omega (arith, short_decimal c.args.from c.ranges.from.fits, short_decimal c.args.to c.ranges.to.fits, rights.ensures.short, digits.ensures.start),
+      omega (arith, short_decimal c.args.from c.ranges.from.fits, short_decimal c.args.to c.ranges.to.fits, rights.ensures.taken.short, digits.ensures.start),
       omega (
         arith,
-        rights.ensures.within,
-        rights.ensures.long,
+        rights.ensures.taken.within,
+        rights.ensures.taken.long,
         digits.ensures.start,
         digits.auto.buf,
         c.told-text,
@@ -62,9 +62,9 @@ returns-clause-spelt c =
     let letters : drop rights.result rights.new.text ≡ text_of c.args.rights =
     rights.ensures.spelt ∙ ap (λ (x : List ℕ). text_of c.args.rights ++ x) (drop_all 51 c.args.text.now (omega (arith, c.told-text))) ∙ append-nil (text_of c.args.rights) in
     let first = short_decimal c.args.to c.ranges.to.fits in
-    let space = with_space rights.new.text rights.result (omega (arith, rights.ensures.short)) (omega (arith, rights.ensures.within, rights.ensures.long, c.told-text)) in
-    let arrow = with_arrow digits.new.buf digits.result (omega (arith, first, rights.ensures.short, digits.ensures.start))
-    (omega (arith, rights.ensures.within, rights.ensures.long, digits.ensures.start, digits.auto.buf, c.told-text, length-set rights.new.text (rights.result - 1) 32)) in
+    let space = with_space rights.new.text rights.result (omega (arith, rights.ensures.taken.short)) (omega (arith, rights.ensures.taken.within, rights.ensures.taken.long, c.told-text)) in
+    let arrow = with_arrow digits.new.buf digits.result (omega (arith, first, rights.ensures.taken.short, digits.ensures.start))
+    (omega (arith, rights.ensures.taken.within, rights.ensures.taken.long, digits.ensures.start, digits.auto.buf, c.told-text, length-set rights.new.text (rights.result - 1) 32)) in
     c.write_digits.ensures.written
     ∙ ap (λ (x : List ℕ). decimal c.args.from ++ x) (arrow ∙ ap (λ (x : List ℕ). 45 ∷ 62 ∷ x) (digits.ensures.written ∙ ap (λ (x : List ℕ). decimal c.args.to ++ x) (space ∙ ap (λ (x : List ℕ). 32 ∷ x) letters)))
     ∙ joined (decimal c.args.from) (decimal c.args.to) (text_of c.args.rights)

@@ -1,5 +1,5 @@
 use Rattle.std.proofs.Common.{◌≡◌, ◌∙◌, ◌∷◌, ◌+◌, ◌-◌, ◌≤◌, List, ℕ, arith, ap, drop}
-use Rattle.std.proofs.lemmas.List.{drop-set}
+use Rattle.std.proofs.lemmas.List.{drop-set, length-set}
 use Rattle.tg_text.proofs.NumberLaws.{short_decimal}
 use Rattle.tg_text.proofs.reply.spell_value.Goals as goal
 
@@ -8,6 +8,15 @@ write_digits-start-requires c = (omega (arith, short_decimal c.args.value c.rang
 
 pub overflow_sub-start : goal.overflow_sub-start
 overflow_sub-start c = omega (arith, short_decimal c.args.value c.ranges.value.fits, c.requires.room, c.write_digits-start.ensures.start)
+
+pub returns-clause-taken : goal.returns-clause-taken
+returns-clause-taken c =
+    let digits = c.write_digits-start in
+    record {
+      short = omega (arith, short_decimal c.args.value c.ranges.value.fits, digits.ensures.start);
+      within = omega (arith, digits.ensures.start);
+      long = length-set digits.new.buf (digits.result - 1) 32 ∙ digits.auto.buf;
+    }
 
 pub returns-clause-spelt : goal.returns-clause-spelt
 returns-clause-spelt c =

@@ -23,13 +23,11 @@ returns g c =
     let s = g.K.Sink in
     subst (λ (text : List ℕ). Writes (s.taken c.args.sink.now) (s.failures c.args.sink.now) text c.write_arguments.result (s.taken c.write_arguments.new.sink) (s.failures c.write_arguments.new.sink))
     (same_text c.args.worker c.word.result.now c.parts-verb.result (parts_of c.args.command) c.parts-verb.ensures c.word.ensures)
-    (writes_then (s.taken c.args.sink.now) (s.taken c.write_front.new.sink) (s.taken c.write_arguments.new.sink) (s.failures c.args.sink.now) (s.failures c.write_front.new.sink) (s.failures c.write_arguments.new.sink)
-    (decimal c.args.worker ++ 32 ∷ c.word.result.now) (words_behind (words_of_arguments c.parts-verb.result.1)) c.write_arguments.result c.in_ok-write_front.ensures c.write_arguments.ensures)
+    (writes_then _ _ _ _ _ _ _ _ _ c.in_ok-write_front.ensures c.write_arguments.ensures)
 
 pub returns-in_err-write_front : goal.returns-in_err-write_front
 returns-in_err-write_front g c =
     let s = g.K.Sink in
     subst (λ (text : List ℕ). Writes (s.taken c.args.sink.now) (s.failures c.args.sink.now) text c.from_residual.result (s.taken c.write_front.new.sink) (s.failures c.write_front.new.sink))
     (same_text c.args.worker c.word.result.now c.parts-verb.result (parts_of c.args.command) c.parts-verb.ensures c.word.ensures)
-    (writes_cut_first (s.taken c.args.sink.now) (s.taken c.write_front.new.sink) (s.failures c.args.sink.now) (s.failures c.write_front.new.sink)
-    (decimal c.args.worker ++ 32 ∷ c.word.result.now) (words_behind (words_of_arguments c.parts-verb.result.1)) c.from_residual.result c.from_residual.ensures.0 c.in_err-write_front.ensures)
+    (writes_cut_first _ _ _ _ _ _ _ c.from_residual.ensures.0 c.in_err-write_front.ensures)

@@ -1,16 +1,8 @@
-use Rattle.std.proofs.Common.{◌∷◌}
-use Rattle.std.specs.Prelude.{decimal}
 use Rattle.tg_text.proofs.SinkLaws.{writes_then, writes_cut_first}
 use Rattle.tg_text.proofs.write.write_value.Goals as goal
 
 pub returns : goal.returns
-returns g c =
-    let s = g.K.Sink in
-    writes_then (s.taken c.args.sink.now) (s.taken c.write_number.new.sink) (s.taken c.write_number-2.new.sink) (s.failures c.args.sink.now) (s.failures c.write_number.new.sink) (s.failures c.write_number-2.new.sink)
-    (32 ∷ decimal c.args.target) (32 ∷ decimal c.args.value) c.write_number-2.result c.in_ok-write_number.ensures c.write_number-2.ensures
+returns g c = writes_then _ _ _ _ _ _ _ _ _ c.in_ok-write_number.ensures c.write_number-2.ensures
 
 pub returns-in_err-write_number : goal.returns-in_err-write_number
-returns-in_err-write_number g c =
-    let s = g.K.Sink in
-    writes_cut_first (s.taken c.args.sink.now) (s.taken c.write_number.new.sink) (s.failures c.args.sink.now) (s.failures c.write_number.new.sink)
-    (32 ∷ decimal c.args.target) (32 ∷ decimal c.args.value) c.from_residual.result c.from_residual.ensures.0 c.in_err-write_number.ensures
+returns-in_err-write_number g c = writes_cut_first _ _ _ _ _ _ _ c.from_residual.ensures.0 c.in_err-write_number.ensures
