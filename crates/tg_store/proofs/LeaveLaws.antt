@@ -4,15 +4,12 @@ use Rattle.std.proofs.Common.{◌≡◌, ◌≢◌, ℕ, zero, suc, ◌+◌, ◌
 use Rattle.std.specs.List.{All, Contains, filter, range_with_len}
 use Rattle.std.specs.Prelude.{Option, Some, None}
 use Rattle.tg_model.specs.declared.reply.Denial.{Denial}
-use Rattle.tg_subjects.specs.declared.subject.Subject.{Subject}
 use Rattle.tg_model.specs.Opened.{IsPlan, start_of}
-use Rattle.tg_graph.specs.Heap.{HeapState, KeepsPlaces, content_of, subject_names}
+use Rattle.tg_graph.specs.Heap.{content_of, subject_names}
 use Rattle.tg_rows.specs.Content.{Content}
 use Rattle.tg_graph.specs.Standing.{IsContentOf}
 use Rattle.tg_store.proofs.AnswerLaws.{reply-served}
 use Rattle.tg_store.specs.Store.{StoreState, IsFaithful, IsStore, graph_of_store}
-use Rattle.tg_subjects.specs.Subjects.{nursery_held}
-use Rattle.tg_rules.specs.Verdict.{HasSubject}
 use Rattle.std.proofs.lemmas.Bool.{eqb-true, eqb-false, eq-eqb, ne_eqb, ltb-true, ltb-false}
 use Rattle.tg_rights.specs.RightSet.{RightSet, no_rights, is_none_held, minus, holds_all}
 use Rattle.tg_rights.specs.RightLaws.{none_held-same}
@@ -231,24 +228,17 @@ module _ (g : ProtectionGraph) (x : ℕ) (sound : IsSound g) (subject : IsSubjec
 -- ---- on the heap
 
 -- the row that the heap lists is the graph's
-pub listed : (c : Content) (g : ProtectionGraph) (w : ℕ) (row : List (ℕ × RightSet)) → IsContentOf c g → IsSubject g w
-    → ((n : ℕ) → All (λ name. name < n) c.names → row ≡ listing_of c.label n w) → row ≡ listing_of g.label g.made w
-listed c g w row stands subject is =
-    let told : Edges row ≡ Edges (listing_of g.label g.made w) = reply-served c g stands w Listing subject refl (Edges row) (λ n below. ap (λ (es : List (ℕ × RightSet)). Edges es) (is n below)) in
+pub listed : (c : Content) (g : ProtectionGraph) (x w : ℕ) (row : List (ℕ × RightSet)) → IsContentOf c g → IsSubject g w → x ≡ w
+    → ((n : ℕ) → All (λ name. name < n) c.names → row ≡ listing_of c.label n x) → row ≡ listing_of g.label g.made w
+listed c g x w row stands subject named is =
+    let told : Edges row ≡ Edges (listing_of g.label g.made w) = reply-served c g stands w Listing subject refl (Edges row)
+    (λ n below. ap (λ (es : List (ℕ × RightSet)). Edges es) (is n below ∙ ap (λ y. listing_of c.label n y) named)) in
     cc told
 
 -- what is answered that it is done isn't denied
 pub served : (o : Option Denial) → Done ≡ denied_or o Done → o ≡ None
 served None e = refl
 served (Some denial) e = let no : ⊥ = cc e in absurd no
-
--- a subject stays one where all places stay
-pub HasSubject-kept : (old new : HeapState) (subject : Subject) → KeepsPlaces old new → HasSubject old subject → HasSubject new subject
-HasSubject-kept old new subject kept is = record {
-  there = subst (λ (subjects : List Subject). Contains subjects subject) (sym kept.subjects) is.there;
-  nursery = is.nursery ∙ ap (λ (subjects : List Subject). nursery_held subjects subject.name) (sym kept.subjects);
-  vertex = kept.vertices subject.name subject.place is.vertex;
-}
 
 lost_either : (o : Option Denial) (g : ProtectionGraph) (x y : ℕ) (rights : RightSet) → (unless_denied o g (effect g x (Remove rights y))).subjects ≡ g.subjects
 lost_either None g x y rights = refl

@@ -178,9 +178,6 @@ module _ (old : StoreState) (made : ℕ) (is : IsStore old made) (x : ℕ) (acti
     pub answer-name : answer_of (graph_of_store old) x (deed_making kind label value) ≡ Name made
     answer-name = answer_made (graph_of_store old) x label value kind room ∙ ap Name (sym is.is_made)
 
-    pub allowed : IsAllowed (graph_of_store old) x (deed_making kind label value)
-    allowed = is_allowed (graph_of_store old) x label value kind room
-
     pub IsStore-made : (new : StoreState) → ValueFits value → new.opening ≡ old.opening → Enters old new x (deed_making kind label value) (Name made) → IsCreated (content_of old.heap) (content_of new.heap) x made label value → subject_names new.heap ≡ subjects_making kind (subject_names old.heap) made → IsStore new (made + 1)
     IsStore-made new fits opening entry created names =
         let graph = graph_of_store old in

@@ -20,7 +20,7 @@ use Rattle.tg_rows.specs.Rows.{IsVertexAt}
 use Rattle.tg_graph.specs.Standing.{IsReached}
 use Rattle.tg_rows.proofs.Listing.{listed, listed_from}
 use Rattle.tg_rows.proofs.Members.{Contains-cases, Contains-from_map, Contains-map, Contains-none}
-use Rattle.tg_store.specs.Inner.Reaching.{FindsMore, IsEdgeOf, IsFoundIn, IsReachedEdgeOf, names_found}
+use Rattle.tg_store.specs.Inner.Reaching.{FindsIn, FindsMore, IsEdgeOf, IsFoundIn, IsReachedEdgeOf, names_found}
 use Rattle.tg_store.specs.declared.store.picture.Found.{Found}
 
 -- ---- one vertex more
@@ -32,38 +32,43 @@ module _ (h : SpaceList) (old new : Found) (name : ℕ) (place : Place) (is : Is
   now_found : Contains (names_found new.vertices.items) name
   now_found = subst (λ (xs : List ℕ). Contains xs name) (sym names_pushed) (Contains-push (names_found old.vertices.items) name)
 
-  pub found_added : name < old.made → list_any (nat_eq name) old.names.keys ≡ false → IsVertexAt h name place → new.names.keys ≡ insert_key nat_eq old.names.keys name → new.made ≡ old.made → IsFoundIn h new
-  found_added low none vertex keys made =
+  pub finds_added : name < old.made → list_any (nat_eq name) old.names.keys ≡ false → IsVertexAt h name place → new.names.keys ≡ insert_key nat_eq old.names.keys name → new.made ≡ old.made → FindsIn h old new (λ x. x ≡ name)
+  finds_added low none vertex keys made =
       let names = names_found old.vertices.items in
       record {
-        named =
-            keys
-            ∙ ap (λ (b : Bool). if b then old.names.keys else old.names.keys ++ name ∷ []) none
-            ∙ ap (λ (xs : List ℕ). xs ++ name ∷ []) is.named
-            ∙ sym names_pushed;
-        below = subst (λ (n : ℕ). All (λ x. x < n) (names_found new.vertices.items)) (sym made)
-            (subst (All (λ x. x < old.made)) (sym names_pushed) (All-push (λ x. x < old.made) names name is.below low));
-        once = subst (IsDistinct (λ a b. a == b)) (sym names_pushed)
-            (IsDistinct-push nat_eq_equiv names name is.once (subst (λ (xs : List ℕ). list_any (nat_eq name) xs ≡ false) is.named none));
-        placed = subst (All (λ (v : ℕ × Place). IsVertexAt h v.0 v.1)) (sym vertices) (All-push (λ (v : ℕ × Place). IsVertexAt h v.0 v.1) old.vertices.items (name, place) is.placed vertex);
+        found = record {
+          named =
+              keys
+              ∙ ap (λ (b : Bool). if b then old.names.keys else old.names.keys ++ name ∷ []) none
+              ∙ ap (λ (xs : List ℕ). xs ++ name ∷ []) is.named
+              ∙ sym names_pushed;
+          below = subst (λ (n : ℕ). All (λ x. x < n) (names_found new.vertices.items)) (sym made)
+              (subst (All (λ x. x < old.made)) (sym names_pushed) (All-push (λ x. x < old.made) names name is.below low));
+          once = subst (IsDistinct (λ a b. a == b)) (sym names_pushed)
+              (IsDistinct-push nat_eq_equiv names name is.once (subst (λ (xs : List ℕ). list_any (nat_eq name) xs ≡ false) is.named none));
+          placed = subst (All (λ (v : ℕ × Place). IsVertexAt h v.0 v.1)) (sym vertices) (All-push (λ (v : ℕ × Place). IsVertexAt h v.0 v.1) old.vertices.items (name, place) is.placed vertex);
+        };
+        made = made;
+        more = record {
+          more = (name, place) ∷ [];
+          behind = vertices;
+          only = λ x has. ⊎_elim (λ (at : name ≡ x). sym at) (λ none. absurd (Contains-none x none)) (Contains-cases name [] x has);
+          all = λ x at. subst (Contains (names_found new.vertices.items)) (sym at) now_found;
+        };
       }
 
-  pub finds_added : FindsMore old new (λ x. x ≡ name)
-  finds_added = record {
-    more = (name, place) ∷ [];
-    behind = vertices;
-    only = λ x has. ⊎_elim (λ (at : name ≡ x). sym at) (λ none. absurd (Contains-none x none)) (Contains-cases name [] x has);
-    all = λ x at. subst (Contains (names_found new.vertices.items)) (sym at) now_found;
-  }
-
 -- where it was found before
-pub finds_none : (h : SpaceList) (found : Found) (name : ℕ) → IsFoundIn h found → list_any (nat_eq name) found.names.keys ≡ true → FindsMore found found (λ x. x ≡ name)
+pub finds_none : (h : SpaceList) (found : Found) (name : ℕ) → IsFoundIn h found → list_any (nat_eq name) found.names.keys ≡ true → FindsIn h found found (λ x. x ≡ name)
 finds_none h found name is any = record {
-  more = [];
-  behind = sym (append-nil found.vertices.items);
-  only = λ x none. absurd (Contains-none x none);
-  all = λ x at. subst (Contains (names_found found.vertices.items)) (sym at)
-      (Contains-from_any exact_unsigned_eq name (names_found found.vertices.items) (subst (λ (xs : List ℕ). list_any (nat_eq name) xs ≡ true) is.named any));
+  found = is;
+  made = refl;
+  more = record {
+    more = [];
+    behind = sym (append-nil found.vertices.items);
+    only = λ x none. absurd (Contains-none x none);
+    all = λ x at. subst (Contains (names_found found.vertices.items)) (sym at)
+        (Contains-from_any exact_unsigned_eq name (names_found found.vertices.items) (subst (λ (xs : List ℕ). list_any (nat_eq name) xs ≡ true) is.named any));
+  };
 }
 
 -- nothing is found yet

@@ -1,5 +1,5 @@
 -- What becomes of the journal and of the graph of a store by each call.
-use Rattle.std.proofs.Common.{refl, ◌≡◌, ℕ, ◌++◌, ◌∷◌, [], List, sym, ap, subst, ◌∙◌}
+use Rattle.std.proofs.Common.{◌≡◌, ℕ, ◌++◌, ◌∷◌, [], List, sym, ap, subst, ◌∙◌}
 use Rattle.std.specs.List.{Contains}
 use Rattle.tg_model.specs.declared.command.Deed.{Deed}
 use Rattle.tg_model.specs.declared.reply.Reply.{Reply}
@@ -83,9 +83,20 @@ module _ (s : StoreState) (faithful : IsFaithful s) where
   pub subject_here : (g : ProtectionGraph) (x : ℕ) → StandsFor s g → IsActive s.heap x → IsSubject g x
   subject_here g x stands active = subst (λ (names : List ℕ). Contains names x) (subjects_of g stands) active
 
-  -- an active one is a subject, under whatever name it is known
-  pub subject_named : (x name : ℕ) → name ≡ x → IsActive s.heap x → IsSubject (graph_of_store s) name
-  subject_named x name named active = subst (λ (y : ℕ). IsSubject (graph_of_store s) y) (sym named) (subject_here (graph_of_store s) x refl active)
-
   pub active_here : (g : ProtectionGraph) (x : ℕ) → StandsFor s g → IsSubject g x → IsActive s.heap x
   active_here g x stands subject = subst (λ (names : List ℕ). Contains names x) (sym (subjects_of g stands)) subject
+
+-- ---- a store as it is inside, and as its callers see it
+
+module _ {inside now : StoreState} {made : ℕ} (is : IsStore inside made) (same : inside ≡ now) {g : ProtectionGraph} (stands : StandsFor now g) where
+  pub stands_inside : StandsFor inside g
+  stands_inside = ap graph_of_store same ∙ stands
+
+  pub content_seen : standing.IsContentOf (content_of inside.heap) g
+  content_seen = subst (standing.IsContentOf (content_of inside.heap)) stands_inside is.faithful.stands
+
+  pub subject_seen : (x : ℕ) → IsActive inside.heap x → IsSubject g x
+  subject_seen x active = subject_here inside is.faithful g x stands_inside active
+
+  pub active_seen : (x : ℕ) → IsSubject g x → IsActive inside.heap x
+  active_seen x subject = active_here inside is.faithful g x stands_inside subject

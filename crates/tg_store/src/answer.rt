@@ -1,10 +1,11 @@
 //! How a command is answered on the heap, and entered in the journal with its reply.
-ghost use Rattle.std.specs.Prelude.{◌≡◌, ◌≢◌, ◌↔◌, ◌<◌, ◌++◌, ◌∷◌, [], None, Err, Some, IsTrue};
+ghost use Rattle.std.specs.Prelude.{◌≡◌, ◌≢◌, ◌<◌, None, Err, Some};
 ghost use Rattle.tg_model.specs.Rules.{denial_of};
 ghost use Rattle.tg_graph.specs.Heap.{content_of};
 ghost use Rattle.tg_rules.specs.Effect.{AddsEdge, LacksCellsToServe, OnlyLooks};
 ghost use Rattle.tg_rules.specs.Verdict.{HasSubject};
 ghost use Rattle.tg_store.specs.Inner.Answering.{AnswersCommand, EntersAnswer, IsToServe, entry_answered};
+ghost use Rattle.tg_store.specs.Inner.Entering.{Adds};
 
 use crate::census::Refusal;
 use crate::fault::ApplyFault;
@@ -51,11 +52,12 @@ pub(crate) fn answer_command<P: Payload>(
 fn deny(journal: &mut TalliedJournal, subject: Subject, command: &Command, denial: &Denial) -> Reply
     requires room { 0 < journal.old.spare }
     ensures reply { result ≡ Reply.Denied denial.now }
-    ensures entries { journal.new.entries ≡ journal.old.entries ++ entry_answered subject command.now result ∷ [] }
-    ensures start { journal.new.start ≡ journal.old.start }
+    ensures entered { Adds (entry_answered subject command.now result) journal.old journal.new }
 {
-    let entry = entry_of(subject, command, Reply::Denied(*denial));
-    journal.push_refusal(entry, Refusal::Denied);
+    journal.push_refusal(
+        entry_of(subject, command, Reply::Denied(*denial)),
+        Refusal::Denied,
+    );
     Reply::Denied(*denial)
 }
 
@@ -69,9 +71,8 @@ fn look<P: Payload>(
     command: &Command,
     parties: Parties,
 ) -> Result<Reply, ApplyFault>
-    requires to_serve { IsToServe subject command.now parties heap.now }
+    requires to_serve { IsToServe subject command.now parties heap.now journal.old }
     requires looks { OnlyLooks command.now }
-    requires room { 0 < journal.old.spare }
     ensures answered { AnswersCommand subject command.now heap.now heap.now result }
     ensures entered { EntersAnswer subject command.now journal.old journal.new result }
     ensures full { result ≢ Err ApplyFault.HeapFull }
@@ -91,9 +92,8 @@ fn change<P: Payload>(
     command: &Command,
     parties: Parties,
 ) -> Result<Reply, ApplyFault>
-    requires to_serve { IsToServe subject command.now parties heap.old }
+    requires to_serve { IsToServe subject command.now parties heap.old journal.old }
     requires changes { ¬ OnlyLooks command.now }
-    requires room { 0 < journal.old.spare }
     ensures answered { AnswersCommand subject command.now heap.old heap.new result }
     ensures entered { EntersAnswer subject command.now journal.old journal.new result }
     ensures full { result ≡ Err ApplyFault.HeapFull → AddsEdge command.now × LacksCellsToServe heap.old.table subject.nursery subject.name command.now }

@@ -1,11 +1,11 @@
 //! How a worker leaves, on the heap and in the journal.
-ghost use Rattle.std.specs.Prelude.{◌≡◌, ◌<◌, ◌≤◌, ◌+◌, ◌∷◌, ◌++◌, [], length, map};
+ghost use Rattle.std.specs.Prelude.{◌≡◌, ◌<◌, ◌∷◌, ◌++◌, [], length, map};
 ghost use Rattle.tg_model.specs.declared.command.Command.{Command};
 ghost use Rattle.tg_model.specs.declared.command.Deed.{Deed};
 ghost use Rattle.tg_model.specs.Graph.{ProtectionGraph, IsSubject, without_subject};
 ghost use Rattle.tg_model.specs.Rules.{step};
-ghost use Rattle.tg_journal.specs.History.{IsLegal, IsLegalEntry, graph_after};
-ghost use Rattle.tg_graph.specs.Heap.{KeepsPlaces, content_of, subject_names};
+ghost use Rattle.tg_journal.specs.History.{IsLegal, graph_after};
+ghost use Rattle.tg_graph.specs.Heap.{content_of, subject_names};
 ghost use Rattle.tg_graph.specs.Standing.{IsContentOf};
 ghost use Rattle.tg_rules.specs.Verdict.{HasSubject};
 ghost use Rattle.tg_store.specs.Leaving.{removal, retiring};
@@ -15,7 +15,6 @@ use tg_graph::Heap;
 use tg_journal::Entry;
 use tg_model::{Command, Deed, EdgeList, Reply};
 use tg_payload::Payload;
-use tg_rights::Label;
 use tg_subjects::Subject;
 
 /// A subject gives up the edges of its row, in the order of the list, and retires; each deed has its entry, for which
@@ -35,60 +34,21 @@ pub(crate) fn leave_heap<P: Payload>(
     ensures stands { (g : ProtectionGraph) → IsContentOf (content_of heap.old) g → IsSubject g subject.name → IsLegal g (map (removal subject.name) row.now) →
         IsContentOf (content_of heap.new) (step (graph_after g (map (removal subject.name) row.now)) subject.name (Deed.Plain Command.Retire)) }
 {
-    give_up_row(heap, journal, subject, row);
+    for edge in row.as_slice() {
+        heap.drop_rights(subject.place, edge.0, edge.1);
+        journal.push(Entry {
+            worker: subject.name,
+            deed: Deed::Plain(Command::Remove {
+                target: edge.0,
+                rights: edge.1,
+            }),
+            reply: Reply::Done,
+        });
+    }
     heap.retire(subject.name);
     journal.push(Entry {
         worker: subject.name,
         deed: Deed::Plain(Command::Retire),
-        reply: Reply::Done,
-    });
-}
-
-// A subject gives up these edges, one after the other.
-fn give_up_row<P: Payload>(
-    heap: &mut Heap<P>,
-    journal: &mut TalliedJournal,
-    subject: Subject,
-    row: &EdgeList,
-)
-    requires subject { HasSubject heap.old subject }
-    requires room { length row.now ≤ journal.old.spare }
-    ensures entries { journal.new.entries ≡ journal.old.entries ++ map (removal subject.name) row.now }
-    ensures start { journal.new.start ≡ journal.old.start }
-    ensures spare { journal.new.spare + length row.now ≡ journal.old.spare }
-    ensures kept { KeepsPlaces heap.old heap.new }
-    ensures stands { (g : ProtectionGraph) → IsContentOf (content_of heap.old) g → IsLegal g (map (removal subject.name) row.now) →
-        IsContentOf (content_of heap.new) (graph_after g (map (removal subject.name) row.now)) }
-{
-    for edge in row.as_slice() {
-        give_up(heap, journal, subject, edge.0, edge.1);
-    }
-}
-
-// A subject gives up rights over the vertex with a name.
-fn give_up<P: Payload>(
-    heap: &mut Heap<P>,
-    journal: &mut TalliedJournal,
-    subject: Subject,
-    name: u64,
-    rights: Label,
-)
-    requires subject { HasSubject heap.old subject }
-    requires room { 0 < journal.old.spare }
-    ensures entries { journal.new.entries ≡ journal.old.entries ++ removal subject.name (name, rights) ∷ [] }
-    ensures start { journal.new.start ≡ journal.old.start }
-    ensures spare { journal.new.spare + 1 ≡ journal.old.spare }
-    ensures kept { KeepsPlaces heap.old heap.new }
-    ensures stands { (g : ProtectionGraph) → IsContentOf (content_of heap.old) g → IsLegalEntry g (removal subject.name (name, rights)) →
-        IsContentOf (content_of heap.new) (step g subject.name (Deed.Plain (Command.Remove rights name))) }
-{
-    heap.drop_rights(subject.place, name, rights);
-    journal.push(Entry {
-        worker: subject.name,
-        deed: Deed::Plain(Command::Remove {
-            target: name,
-            rights,
-        }),
         reply: Reply::Done,
     });
 }

@@ -8,6 +8,7 @@ ghost use Rattle.tg_graph.specs.Heap.{IsActive, IsUnchangedHeap, content_of, nur
 ghost use Rattle.tg_rows.specs.Spots.{IsMadeInRow, LacksCellsFor};
 ghost use Rattle.tg_store.specs.Counts.{refusal_told};
 ghost use Rattle.tg_model.specs.Making.{deed_making, subjects_making};
+ghost use Rattle.tg_store.specs.Inner.Entering.{MakesRoom};
 ghost use Rattle.tg_store.specs.Making.{IsCreated, fault_at, reply_at};
 
 use crate::census::Refusal;
@@ -70,9 +71,7 @@ pub(crate) fn deed_to_enter(
     value: &Value,
 ) -> Result<Deed, AllocError>
     ensures deed { IfOk result (λ deed. deed ≡ deed_making kind label value.now) }
-    ensures room { OnOk result (0 < journal.new.spare) }
-    ensures entries { journal.new.entries ≡ journal.old.entries }
-    ensures start { journal.new.start ≡ journal.old.start }
+    ensures room { MakesRoom 1 journal.old journal.new result }
 {
     journal.reserve()?;
     Ok(kind.deed(label, value.copy(alloc)?))

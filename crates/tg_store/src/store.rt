@@ -103,7 +103,11 @@ impl<P: Payload> Store<P> {
     {
         if let Some(at) = first_difference(opening.values(), drafts.as_slice()) {
             let why = OpenFault::PayloadMismatch { at };
-            return open_refused(opening, drafts, why);
+            return Err(OpenRefused {
+                opening,
+                drafts,
+                why,
+            });
         }
         match Heap::open(alloc, &opening, limits, drafts) {
             Ok(heap) => Ok(Store {
@@ -119,7 +123,11 @@ impl<P: Payload> Store<P> {
             }),
             Err(refused) => {
                 let HeapRefused { drafts, why } = refused;
-                open_refused(opening, drafts, OpenFault::from(why))
+                Err(OpenRefused {
+                    opening,
+                    drafts,
+                    why: OpenFault::from(why),
+                })
             }
         }
     }
@@ -328,12 +336,18 @@ impl<P: Payload> Store<P> {
         ensures refused { IfErr result (λ refused. refused.why ≢ CreateFault.VerticesFull → refused.why ≢ CreateFault.WorkersFull → IsUnchanged self.old self.new) }
     {
         let Some(_) = self.heap.subject(worker) else {
-            return create_refused(draft, CreateFault::NoSuchWorker);
+            return Err(CreateRefused {
+                draft,
+                why: CreateFault::NoSuchWorker,
+            });
         };
         let met = self.limit_met(kind);
         let Ok(deed) = deed_to_enter(self.alloc, &mut self.journal, kind, label, draft.value())
         else {
-            return create_refused(draft, CreateFault::OutOfMemory);
+            return Err(CreateRefused {
+                draft,
+                why: CreateFault::OutOfMemory,
+            });
         };
         if let Some(limit) = met {
             let entry = Entry {
@@ -342,7 +356,10 @@ impl<P: Payload> Store<P> {
                 reply: limit.reply(),
             };
             self.journal.push_refusal(entry, limit.refusal());
-            return create_refused(draft, limit.fault());
+            return Err(CreateRefused {
+                draft,
+                why: limit.fault(),
+            });
         }
         let name = self.made;
         add_vertex(&mut self.heap, worker, kind, name, label, draft)?;
@@ -357,8 +374,7 @@ impl<P: Payload> Store<P> {
 
     // The first limit that stands in the way of one more vertex of the kind.
     fn limit_met(&self, kind: Making) -> Option<Limit>
-        ensures met { IsLimitMet (graph_of_store self.now) kind result }
-        ensures range { (graph_of_store self.now).limit < 2 ^ 64 }
+        ensures { IsLimitMet (graph_of_store self.now) kind result }
     {
         if self.made >= self.opening.max_vertices() {
             return Some(Limit::Vertices);
@@ -538,26 +554,4 @@ fn first_difference<P: Payload>(values: &[Value], drafts: &[Draft<P>]) -> Option
     } else {
         None
     }
-}
-
-// No store was opened, and what was handed in goes back.
-fn open_refused<P: Payload>(
-    opening: Opening,
-    drafts: Vec<Draft<P>>,
-    why: OpenFault,
-) -> Result<Store<P>, OpenRefused<P>>
-    ensures { result ≡ Err (record { opening = opening; drafts = drafts; why = why }) }
-{
-    Err(OpenRefused {
-        opening,
-        drafts,
-        why,
-    })
-}
-
-// No vertex was made, and the draft goes back.
-fn create_refused<P: Payload>(draft: Draft<P>, why: CreateFault) -> Result<u64, CreateRefused<P>>
-    ensures { result ≡ Err (record { draft = draft; why = why }) }
-{
-    Err(CreateRefused { draft, why })
 }

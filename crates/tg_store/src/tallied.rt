@@ -1,6 +1,7 @@
 //! A journal that counts the refusals that are entered.
-ghost use Rattle.std.specs.Prelude.{◌≡◌, ◌+◌, ◌<◌, ◌≤◌, [], ◌∷◌, ◌++◌, length, None, Some, OnErr, OnOk};
-ghost use Rattle.tg_store.specs.Counts.{refusal_told, refusals_in};
+ghost use Rattle.std.specs.Prelude.{◌≡◌, ◌≤◌, [], length, None, Some};
+ghost use Rattle.tg_store.specs.Counts.{refusals_in};
+ghost use Rattle.tg_store.specs.Inner.Entering.{Adds, HoldsFromPlace, MakesRoom, MayBeAdded};
 
 use crate::census::{Refusal, Refusals};
 use std::alloc::{AllocError, Global};
@@ -59,20 +60,14 @@ impl TalliedJournal {
     /// Makes room for one entry, as [`Journal::reserve`] does.
     #[inline(always)]
     pub(crate) fn reserve(&mut self) -> Result<(), AllocError>
-        ensures room { OnOk result (0 < self.new.spare) }
-        ensures entries { self.new.entries ≡ self.old.entries }
-        ensures start { self.new.start ≡ self.old.start }
-        ensures refused { OnErr result (self.new ≡ self.old) }
+        ensures { MakesRoom 1 self.old self.new result }
     {
         self.journal.reserve()
     }
 
     /// Makes room for so many entries, as [`Journal::reserve_many`] does.
     pub(crate) fn reserve_many(&mut self, more: usize) -> Result<(), AllocError>
-        ensures room { OnOk result (more ≤ self.new.spare) }
-        ensures entries { self.new.entries ≡ self.old.entries }
-        ensures start { self.new.start ≡ self.old.start }
-        ensures refused { OnErr result (self.new ≡ self.old) }
+        ensures { MakesRoom more self.old self.new result }
     {
         self.journal.reserve_many(more)
     }
@@ -80,11 +75,8 @@ impl TalliedJournal {
     /// Adds an entry that tells of no refusal, for which there has to be room. Takes no memory, and looks at no reply.
     #[inline(always)]
     pub(crate) fn push(&mut self, entry: Entry)
-        requires room { 0 < self.old.spare }
-        requires told { refusal_told entry.reply ≡ None }
-        ensures entries { self.new.entries ≡ self.old.entries ++ entry ∷ [] }
-        ensures start { self.new.start ≡ self.old.start }
-        ensures spare { self.new.spare + 1 ≡ self.old.spare }
+        requires { MayBeAdded entry None self.old }
+        ensures { Adds entry self.old self.new }
     {
         self.journal.push(entry);
     }
@@ -93,11 +85,8 @@ impl TalliedJournal {
     #[cold]
     #[inline(never)]
     pub(crate) fn push_refusal(&mut self, entry: Entry, refusal: Refusal)
-        requires room { 0 < self.old.spare }
-        requires told { refusal_told entry.reply ≡ Some refusal }
-        ensures entries { self.new.entries ≡ self.old.entries ++ entry ∷ [] }
-        ensures start { self.new.start ≡ self.old.start }
-        ensures spare { self.new.spare + 1 ≡ self.old.spare }
+        requires { MayBeAdded entry (Some refusal) self.old }
+        ensures { Adds entry self.old self.new }
     {
         self.journal.push(entry);
         // It tells that the entries have a number, and so their refusals have.
@@ -108,8 +97,7 @@ impl TalliedJournal {
     /// Hands out what it holds, as [`Journal::take`] does. Takes no memory.
     pub(crate) fn take(&mut self, alloc: Global) -> Journal
         ensures part { result ≡ self.old }
-        ensures entries { self.new.entries ≡ self.old.entries }
-        ensures start { self.new.start ≡ length self.old.entries }
+        ensures rest { HoldsFromPlace (length self.old.entries) self.old self.new }
     {
         self.journal.take(alloc)
     }
@@ -117,8 +105,7 @@ impl TalliedJournal {
     /// Gives up the entries before a place, as [`Journal::forget`] does. Takes no memory.
     pub(crate) fn forget(&mut self, upto: u64)
         requires { (self.old.start ≤ upto) × (upto ≤ length self.old.entries) }
-        ensures entries { self.new.entries ≡ self.old.entries }
-        ensures start { self.new.start ≡ upto }
+        ensures { HoldsFromPlace upto self.old self.new }
     {
         self.journal.forget(upto);
     }

@@ -1,5 +1,5 @@
 -- What comes of a command on the heap, and what is entered of it.
-use Rattle.std.specs.Prelude.{◌≡◌, ◌≢◌, ◌++◌, ◌∷◌, [], Result, None, Err, IfOk, OnErr}
+use Rattle.std.specs.Prelude.{◌≡◌, ◌≢◌, ◌<◌, ◌++◌, ◌∷◌, [], ℕ, Result, None, Err, IfOk, OnErr}
 use Rattle.tg_model.specs.declared.command.Command.{Command}
 use Rattle.tg_model.specs.declared.command.Deed.TheVariants.{Plain}
 use Rattle.tg_model.specs.declared.reply.Reply.{Reply}
@@ -16,19 +16,21 @@ use Rattle.tg_rules.specs.declared.vertex.Parties.{Parties}
 use Rattle.tg_store.specs.declared.fault.ApplyFault.{ApplyFault}
 use Rattle.tg_store.specs.declared.fault.ApplyFault.TheVariants.{NoSuchWorker}
 
--- A command of one who asks is to be served between these vertices: they are those that its checks met, and it isn't denied.
-pub record IsToServe (asker : Subject) (command : Command) (between : Parties) (heap : HeapState) : Type 0 where
+-- A command of one who asks is to be served between these vertices, which its checks met: it isn't denied, and there is room for its
+-- entry.
+pub record IsToServe (asker : Subject) (command : Command) (between : Parties) (heap : HeapState) (journal : Entries) : Type 0 where
   pub subject : HasSubject heap asker
   pub parties : AreParties heap asker.name command between
   pub served : denial_of (content_of heap).label (content_of heap).value asker.name command ≡ None
+  pub room : 0 < journal.spare
 
--- A command of a subject was served or denied. For each graph that the heap stood for the reply is that graph's, and the heap stands
--- for the next one.
-pub record IsReplied (subject : Subject) (command : Command) (old new : HeapState) (reply : Reply) : Type 0 where
-  pub answered : (g : ProtectionGraph) → IsContentOf (content_of old) g → IsSubject g subject.name → reply ≡ answer_of g subject.name (Plain command)
-  pub subjects : (g : ProtectionGraph) → IsContentOf (content_of old) g → IsSubject g subject.name → subject_names old ≡ g.subjects →
-      subject_names new ≡ (step g subject.name (Plain command)).subjects
-  pub step : (g : ProtectionGraph) → IsContentOf (content_of old) g → IsSubject g subject.name → IsContentOf (content_of new) (step g subject.name (Plain command))
+-- A command of x was served or denied. For each graph that the heap stood for the reply is that graph's, and the heap stands for the
+-- next one.
+pub record IsReplied (x : ℕ) (command : Command) (old new : HeapState) (reply : Reply) : Type 0 where
+  pub answered : (g : ProtectionGraph) → IsContentOf (content_of old) g → IsSubject g x → reply ≡ answer_of g x (Plain command)
+  pub subjects : (g : ProtectionGraph) → IsContentOf (content_of old) g → IsSubject g x → subject_names old ≡ g.subjects →
+      subject_names new ≡ (step g x (Plain command)).subjects
+  pub step : (g : ProtectionGraph) → IsContentOf (content_of old) g → IsSubject g x → IsContentOf (content_of new) (step g x (Plain command))
 
 -- What stays whatever comes of a command, and what is never told.
 pub record KeepsHeap {T : Type 0} (old new : HeapState) (result : Result T ApplyFault) : Type 0 where
@@ -38,7 +40,7 @@ pub record KeepsHeap {T : Type 0} (old new : HeapState) (result : Result T Apply
 
 -- A command of a subject was answered: served or denied, or refused; and the heap stays as far as it has to.
 pub record AnswersCommand (asker : Subject) (command : Command) (old new : HeapState) (result : Result Reply ApplyFault) : Type 0 where
-  pub replied : IfOk result (IsReplied asker command old new)
+  pub replied : IfOk result (IsReplied asker.name command old new)
   pub kept : KeepsHeap old new result
 
 -- the entry of a command of a subject with its reply

@@ -34,6 +34,12 @@ pub record FindsMore (old new : Found) (these : ℕ → Type 0) : Type 0 where
   pub only : (x : ℕ) → Contains (names_found more) x → these x
   pub all : (x : ℕ) → these x → Contains (names_found new.vertices.items) x
 
+-- The same in a heap, where those were found; and so are all of them then.
+pub record FindsIn (h : SpaceList) (old new : Found) (these : ℕ → Type 0) : Type 0 where
+  pub found : IsFoundIn h new
+  pub made : new.made ≡ old.made
+  pub more : FindsMore old new these
+
 -- it is an edge, with all of its rights
 pub record IsEdgeOf (label : ℕ → ℕ → RightSet) (edge : Edge) : Type 0 where
   pub there : HasEdge label edge.from edge.to

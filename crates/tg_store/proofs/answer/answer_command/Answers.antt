@@ -1,26 +1,15 @@
 -- The denial is the graph's, which stays.
-use Rattle.std.proofs.Common.{◌∙◌, refl, sym}
-use Rattle.tg_graph.specs.Heap.{content_of}
-use Rattle.tg_store.proofs.AnswerLaws.{reply-denied, step-denied_stands, subjects-denied}
+use Rattle.std.proofs.Common.{refl, subst, sym}
+use Rattle.tg_store.specs.Inner.Answering.{IsReplied}
+use Rattle.tg_store.proofs.AnswerLaws.{replied-denied}
 use Rattle.tg_store.proofs.answer.answer_command.Goals as goal
 
 pub returns-in-Err-clause-answered : goal.returns-in-Err-clause-answered
-returns-in-Err-clause-answered g c =
-    record {
-      replied = record {
-        answered = (λ graph stands subject.
-            c.deny.ensures.reply ∙ reply-denied (content_of c.args.heap.now) graph stands c.args.subject.name c.args.command.now subject c.in-Err.denial (sym c.in-Err.ensures.denial));
-        step = (λ graph stands subject.
-            step-denied_stands (content_of c.args.heap.now) graph stands c.args.subject.name c.args.command.now subject c.in-Err.denial (sym c.in-Err.ensures.denial));
-        subjects = (λ graph stands subject names.
-            names ∙ sym (subjects-denied (content_of c.args.heap.now) graph stands c.args.subject.name c.args.command.now subject c.in-Err.denial (sym c.in-Err.ensures.denial)));
-      };
-      kept = record {
-        limits = refl;
-        refused = tt;
-        worker = (λ e. let f : ⊥ = cc e in absurd f);
-      };
-    }
+returns-in-Err-clause-answered g c = record {
+  replied = subst (IsReplied c.args.subject.name c.args.command.now c.args.heap.now c.args.heap.now) (sym c.deny.ensures.reply)
+      (replied-denied c.args.heap.now c.args.subject.name c.args.command.now c.in-Err.denial (sym c.in-Err.ensures.denial));
+  kept = record { limits = refl; refused = tt; worker = (λ e. let f : ⊥ = cc e in absurd f) };
+}
 
 pub returns-in-Err-clause-denied : goal.returns-in-Err-clause-denied
 returns-in-Err-clause-denied g c = λ _ _. refl

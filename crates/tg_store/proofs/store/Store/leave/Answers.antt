@@ -12,9 +12,9 @@ use Rattle.tg_journal.specs.History.{IsLegal, graph_after}
 use Rattle.tg_graph.specs.Heap.{content_of, subject_names}
 use Rattle.tg_graph.specs.Standing.{IsContentOf}
 use Rattle.tg_store.specs.Leaving.{HasLeft, leaving, removal, retiring}
-use Rattle.tg_store.specs.Store.{StoreState, StandsFor, graph_of_store}
+use Rattle.tg_store.specs.Store.{StoreState, graph_of_store}
 use Rattle.tg_store.proofs.LeaveLaws.{IsStore-left, graph_of_left, legal_removals, listed, sound_before}
-use Rattle.tg_store.proofs.StandLaws.{subject_here}
+use Rattle.tg_store.proofs.StandLaws.{content_seen, subject_here, subject_seen}
 use Rattle.tg_store.proofs.store.Store.leave.Goals as goal
 
 -- what was entered, told of the worker's name and of the graph's listing
@@ -44,7 +44,7 @@ invariant_of-self-2 g c =
     let faithful = c.self.invariant.faithful in
     let subject : IsSubject graph w = subject_here old faithful graph w refl (c.in-Some.ensures.active.0 refl) in
     let row : c.in_ok-row.row ≡ listing_of graph.label graph.made w =
-    listed (content_of old.heap) graph w c.in_ok-row.row faithful.stands subject (λ n below. c.in_ok-row.ensures n below ∙ ap (λ y. listing_of (content_of old.heap).label n y) c.in-Some.ensures.vertex.named) in
+    listed (content_of old.heap) graph _ w c.in_ok-row.row faithful.stands subject c.in-Some.ensures.vertex.named c.in_ok-row.ensures in
     let entries : new.entries ≡ old.entries ++ leaving graph w =
     left_entries old.entries c.reserve_many.new.self.entries new.entries x w c.in_ok-row.row (listing_of graph.label graph.made w) c.leave_heap.ensures.entries c.reserve_many.ensures.entries named row in
     IsStore-left old new w faithful subject refl entries c.self.inside.made c.self.invariant.is_made
@@ -61,7 +61,7 @@ returns-clause-left g c =
     let faithful = c.self.invariant.faithful in
     let subject : IsSubject graph w = subject_here old faithful graph w refl (c.in-Some.ensures.active.0 refl) in
     let row : c.in_ok-row.row ≡ listing_of graph.label graph.made w =
-    listed (content_of old.heap) graph w c.in_ok-row.row faithful.stands subject (λ n below. c.in_ok-row.ensures n below ∙ ap (λ y. listing_of (content_of old.heap).label n y) c.in-Some.ensures.vertex.named) in
+    listed (content_of old.heap) graph _ w c.in_ok-row.row faithful.stands subject c.in-Some.ensures.vertex.named c.in_ok-row.ensures in
     let entries : new.entries ≡ old.entries ++ leaving graph w =
     left_entries old.entries c.reserve_many.new.self.entries new.entries x w c.in_ok-row.row (listing_of graph.label graph.made w) c.leave_heap.ensures.entries c.reserve_many.ensures.entries c.in-Some.ensures.there.named row in
     let left : HasLeft w old new = record {
@@ -75,11 +75,6 @@ returns-clause-left g c =
     subst (λ (s : StoreState). HasLeft w s new) c.self.view_is left
 
 pub returns-clause-count : goal.returns-clause-count
-returns-clause-count g c = λ other stands.
-    let old : StoreState = record { opening = c.self.inside.opening; entries = c.self.inside.journal.entries; handed = c.self.inside.journal.start; heap = c.self.inside.heap; collections = c.self.inside.collections } in
-    let here : StandsFor old other = ap graph_of_store c.self.view_is ∙ stands in
-    let w = c.args.worker in
-    let faithful = c.self.invariant.faithful in
-    let standing : IsContentOf (content_of old.heap) other = subst (λ (h : ProtectionGraph). IsContentOf (content_of old.heap) h) here faithful.stands in
-    let row = listed (content_of old.heap) other w c.in_ok-row.row standing (subject_here old faithful other w here (c.in-Some.ensures.active.0 refl)) (λ n below. c.in_ok-row.ensures n below ∙ ap (λ y. listing_of (content_of old.heap).label n y) c.in-Some.ensures.vertex.named) in
+returns-clause-count g c = λ graph stands.
+    let row = listed (content_of c.self.inside.heap) graph _ c.args.worker c.in_ok-row.row (content_seen c.self.invariant c.self.view_is stands) (subject_seen c.self.invariant c.self.view_is stands c.args.worker (c.in-Some.ensures.active.0 refl)) c.in-Some.ensures.vertex.named c.in_ok-row.ensures in
     ap (λ es. length es) (c.as_slice-count.ensures ∙ row)

@@ -1,5 +1,5 @@
 -- The new vertex is the graph's next, and exactly what is answered is entered.
-use Rattle.std.proofs.Common.{ℕ, ◌≡◌, ◌^◌, ◌<◌, ◌≤◌, ◌∙◌, ◌++◌, ◌∷◌, [], None, Some, length, refl, sym, ap, subst, inl, inr, arith}
+use Rattle.std.proofs.Common.{ℕ, ◌≡◌, ◌<◌, ◌≤◌, ◌∙◌, ◌++◌, ◌∷◌, [], None, Some, length, refl, sym, ap, subst, inl, inr, arith}
 use Rattle.std.proofs.lemmas.Result.{err_from_is_err_and}
 use Rattle.tg_model.specs.declared.value.Value.{Value}
 use Rattle.tg_model.specs.declared.command.Deed.{Deed}
@@ -20,7 +20,7 @@ use Rattle.tg_model.specs.declared.making.Making.{Making}
 use Rattle.tg_model.specs.Making.{deed_making}
 use Rattle.tg_store.specs.Making.{IsLimitMet, reply_at}
 use Rattle.tg_store.proofs.MakingLaws as making
-use Rattle.tg_store.proofs.StandLaws.{IsStore-unchanged, StandsFor-entered, subject_here, active_here}
+use Rattle.tg_store.proofs.StandLaws.{IsStore-unchanged, StandsFor-entered, active_seen, limit_of, stands_inside, subject_seen}
 use Rattle.tg_store.proofs.store.Store.make.Goals as goal
 use Rattle.tg_store.proofs.store.Store.make.Goals.{After-push_refusal, In_default-met}
 
@@ -35,8 +35,8 @@ is_limited g c =
     let entries = c.self.inside.journal.entries in
     let deed : c.in-Ok.deed ≡ deed_making c.args.kind c.args.label c.args.draft = c.in-Ok.ensures.deed ∙ ap (λ (v : Value). deed_making c.args.kind c.args.label v) c.value.ensures.same in
     record {
-      met = subst (λ (s : StoreState). IsLimitMet (graph_of_store s) c.args.kind (Some c.in-Some-met.limit)) (sym c.self.view_is) c.in-Some-met.ensures.met;
-      entry = c.push_refusal.ensures.entries ∙ ap (λ es. es ++ (record { worker = c.args.worker; deed = c.in-Ok.deed; reply = c.reply.result }) ∷ []) c.deed_to_enter.ensures.entries
+      met = subst (λ (s : StoreState). IsLimitMet (graph_of_store s) c.args.kind (Some c.in-Some-met.limit)) (sym c.self.view_is) c.in-Some-met.ensures;
+      entry = c.push_refusal.ensures.entries ∙ ap (λ es. es ++ (record { worker = c.args.worker; deed = c.in-Ok.deed; reply = c.reply.result }) ∷ []) c.deed_to_enter.ensures.room.entries
           ∙ ap (λ (r : Reply). entries ++ (record { worker = c.args.worker; deed = c.in-Ok.deed; reply = r }) ∷ []) c.reply.ensures
           ∙ ap (λ (d : Deed). entries ++ (record { worker = c.args.worker; deed = d; reply = reply_at c.in-Some-met.limit }) ∷ []) deed;
     }
@@ -48,28 +48,22 @@ only_enters g c reply is =
     let new : StoreState = record { opening = c.self.inside.opening; entries = c.push_refusal.new.self.entries; handed = c.push_refusal.new.self.start; heap = c.self.inside.heap; collections = c.self.inside.collections } in
     let deed : Deed = deed_making c.args.kind c.args.label c.args.draft in
     subst (λ (s : StoreState). OnlyEnters s new c.args.worker deed reply) c.self.view_is
-    (record { entry = (is_limited g c).entry ∙ ap (λ (r : Reply). c.self.inside.journal.entries ++ (record { worker = c.args.worker; deed = deed; reply = r }) ∷ []) is; opening = refl; handed = c.push_refusal.ensures.start ∙ c.deed_to_enter.ensures.start; heap = refl; collections = refl })
+    (record { entry = (is_limited g c).entry ∙ ap (λ (r : Reply). c.self.inside.journal.entries ++ (record { worker = c.args.worker; deed = deed; reply = r }) ∷ []) is; opening = refl; handed = c.push_refusal.ensures.start ∙ c.deed_to_enter.ensures.room.start; heap = refl; collections = refl })
 
 -- no limit is met
 has_room : (g : _) (c : In_default-met g) → IsLimitMet (graph_of_store (record { opening = c.self.inside.opening; entries = c.self.inside.journal.entries; handed = c.self.inside.journal.start; heap = c.self.inside.heap; collections = c.self.inside.collections })) c.args.kind None
-has_room g c = subst (λ (s : StoreState). IsLimitMet (graph_of_store s) c.args.kind None) (sym c.self.view_is) c.in_default-met.ensures.met
+has_room g c = subst (λ (s : StoreState). IsLimitMet (graph_of_store s) c.args.kind None) (sym c.self.view_is) c.in_default-met.ensures
 
 pub returns-in_default-clause-refusals : goal.returns-in_default-clause-refusals
 returns-in_default-clause-refusals g c =
-    let old : StoreState = record { opening = c.self.inside.opening; entries = c.self.inside.journal.entries; handed = c.self.inside.journal.start; heap = c.self.inside.heap; collections = c.self.inside.collections } in
-    let none : IsActive old.heap c.args.worker → ⊥ = λ is. let f : ⊥ = cc (c.in_default.ensures.active.1 is) in f in
+    let none : IsActive c.self.inside.heap c.args.worker → ⊥ = λ is. let f : ⊥ = cc (c.in_default.ensures.active.1 is) in f in
     record {
-      no_such_worker = (λ graph stands.
-          let here : StandsFor old graph = ap graph_of_store c.self.view_is ∙ stands in
-          rw c.create_refused.ensures
-          (λ _ subject. none (active_here old c.self.invariant.faithful graph c.args.worker here subject), λ _. refl));
-      no_more = (λ _ _. rw c.create_refused.ensures (λ e. let f : ⊥ = cc e in absurd f));
-      exhausted = (λ graph stands subject _.
-          let here : StandsFor old graph = ap graph_of_store c.self.view_is ∙ stands in
-          absurd (none (active_here old c.self.invariant.faithful graph c.args.worker here subject)));
-      full = (λ _ _. rw c.create_refused.ensures (λ e. let f : ⊥ = cc e in absurd f));
-      same_graph = (λ _ stands. rw c.create_refused.ensures stands);
-      handed_back = rw c.create_refused.ensures refl;
+      no_such_worker = (λ graph stands. (λ _ subject. none (active_seen c.self.invariant c.self.view_is stands c.args.worker subject), λ _. refl));
+      no_more = (λ _ _. (λ e. let f : ⊥ = cc e in absurd f));
+      exhausted = (λ graph stands subject _. absurd (none (active_seen c.self.invariant c.self.view_is stands c.args.worker subject)));
+      full = (λ _ _. (λ e. let f : ⊥ = cc e in absurd f));
+      same_graph = (λ _ stands. stands);
+      handed_back = refl;
       opening = refl;
       handed = refl;
       limits = refl;
@@ -90,24 +84,21 @@ returns-in-Some-met-clause-refusals g c =
     let new : StoreState = record { opening = c.self.inside.opening; entries = c.push_refusal.new.self.entries; handed = c.push_refusal.new.self.start; heap = c.self.inside.heap; collections = c.self.inside.collections } in
     record {
       no_such_worker = (λ graph stands.
-          let here : StandsFor old graph = ap graph_of_store c.self.view_is ∙ stands in
-          rw (c.create_refused-in-Some-met.ensures, c.fault.ensures)
-          (λ e _. making.no_limit_such _ e, λ none. absurd (none (subject_here old c.self.invariant.faithful graph c.args.worker here (c.in-Some.ensures.active.0 refl)))));
+          rw c.fault.ensures
+          (λ e _. making.no_limit_such _ e, λ none. absurd (none (subject_seen c.self.invariant c.self.view_is stands c.args.worker (c.in-Some.ensures.active.0 refl)))));
       no_more = (λ graph stands.
-          let here : StandsFor old graph = ap graph_of_store c.self.view_is ∙ stands in
-          rw (c.create_refused-in-Some-met.ensures, c.fault.ensures)
-          (λ e. (subject_here old c.self.invariant.faithful graph c.args.worker here (c.in-Some.ensures.active.0 refl), subst (λ (h : ProtectionGraph). h.limit ≤ h.made) here (making.vertices_full (graph_of_store old) c.args.kind c.in-Some-met.limit limited.met e))));
+          rw c.fault.ensures
+          (λ e. (subject_seen c.self.invariant c.self.view_is stands c.args.worker (c.in-Some.ensures.active.0 refl), subst (λ (h : ProtectionGraph). h.limit ≤ h.made) stands (making.vertices_full (graph_of_store c.args.self.now) c.args.kind c.in-Some-met.limit c.in-Some-met.ensures e))));
       exhausted = (λ graph stands subject all.
-          let here : StandsFor old graph = ap graph_of_store c.self.view_is ∙ stands in
-          rw (c.create_refused-in-Some-met.ensures, c.fault.ensures) (making.told_vertices (graph_of_store old) c.args.kind c.in-Some-met.limit limited.met (subst (λ (h : ProtectionGraph). h.limit ≤ h.made) (sym here) all)));
-      full = (λ _ _. rw (c.create_refused-in-Some-met.ensures, c.fault.ensures) (λ e. absurd (making.no_limit_heap _ e)));
+          rw c.fault.ensures
+          (making.told_vertices (graph_of_store c.args.self.now) c.args.kind c.in-Some-met.limit c.in-Some-met.ensures (subst (λ (h : ProtectionGraph). h.limit ≤ h.made) (sym stands) all)));
+      full = (λ _ _. rw c.fault.ensures (λ e. absurd (making.no_limit_heap _ e)));
       same_graph = (λ graph stands.
-          let here : StandsFor old graph = ap graph_of_store c.self.view_is ∙ stands in
-          let after : StandsFor new graph = making.StandsFor-limited old c.self.inside.made c.self.invariant c.args.worker (c.in-Some.ensures.active.0 refl) c.args.kind c.args.label c.args.draft c.in-Some-met.limit limited.met new graph refl limited.entry here in
-          rw c.create_refused-in-Some-met.ensures after);
-      handed_back = rw c.create_refused-in-Some-met.ensures refl;
+          let after : StandsFor new graph = making.StandsFor-limited old c.self.inside.made c.self.invariant c.args.worker (c.in-Some.ensures.active.0 refl) c.args.kind c.args.label c.args.draft c.in-Some-met.limit limited.met new graph refl limited.entry (stands_inside c.self.invariant c.self.view_is stands) in
+          after);
+      handed_back = refl;
       opening = ap (λ (s : StoreState). s.opening) c.self.view_is;
-      handed = c.push_refusal.ensures.start ∙ c.deed_to_enter.ensures.start ∙ ap (λ (s : StoreState). s.handed) c.self.view_is;
+      handed = c.push_refusal.ensures.start ∙ c.deed_to_enter.ensures.room.start ∙ ap (λ (s : StoreState). s.handed) c.self.view_is;
       limits = ap (λ (s : StoreState). s.heap.table.limits) c.self.view_is;
       collections = ap (λ (s : StoreState). s.collections) c.self.view_is;
     }
@@ -119,37 +110,32 @@ pub invariant_of-self-in_err-add_vertex : goal.invariant_of-self-in_err-add_vert
 invariant_of-self-in_err-add_vertex g c =
     let old : StoreState = record { opening = c.self.inside.opening; entries = c.self.inside.journal.entries; handed = c.self.inside.journal.start; heap = c.self.inside.heap; collections = c.self.inside.collections } in
     let new : StoreState = record { opening = c.self.inside.opening; entries = c.deed_to_enter.new.journal.entries; handed = c.deed_to_enter.new.journal.start; heap = c.add_vertex.new.heap; collections = c.self.inside.collections } in
-    let unchanged : IsUnchanged old new = record { opening = refl; entries = c.deed_to_enter.ensures.entries; handed = c.deed_to_enter.ensures.start; heap = c.in_err-add_vertex.ensures.refused; collections = refl } in
+    let unchanged : IsUnchanged old new = record { opening = refl; entries = c.deed_to_enter.ensures.room.entries; handed = c.deed_to_enter.ensures.room.start; heap = c.in_err-add_vertex.ensures.refused; collections = refl } in
     IsStore-unchanged old new c.self.inside.made c.self.invariant unchanged
 
 pub returns-in_err-add_vertex-clause-refusals : goal.returns-in_err-add_vertex-clause-refusals
 returns-in_err-add_vertex-clause-refusals g c =
-    let old : StoreState = record { opening = c.self.inside.opening; entries = c.self.inside.journal.entries; handed = c.self.inside.journal.start; heap = c.self.inside.heap; collections = c.self.inside.collections } in
-    let active : IsActive old.heap c.args.worker = c.in-Some.ensures.active.0 refl in
     let given = err_from_is_err_and c.from_residual.result c.from_residual.ensures.1 in
-    let room = has_room g (goal.at.returns-in_err-add_vertex-clause-refusals g c).In_default-met in
+    let room = c.in_default-met.ensures in
     record {
       no_such_worker = (λ graph stands.
-          let here : StandsFor old graph = ap graph_of_store c.self.view_is ∙ stands in
           rw (given.1, given.2)
-          (λ e _. making.no_such_create_fault _ e, λ none. absurd (none (subject_here old c.self.invariant.faithful graph c.args.worker here active))));
+          (λ e _. making.no_such_create_fault _ e, λ none. absurd (none (subject_seen c.self.invariant c.self.view_is stands c.args.worker (c.in-Some.ensures.active.0 refl)))));
       no_more = (λ _ _. rw (given.1, given.2) (λ e. absurd (making.no_limit_fault _ (inl e))));
       exhausted = (λ graph stands subject all.
-          let here : StandsFor old graph = ap graph_of_store c.self.view_is ∙ stands in
-          let low = subst (λ (h : ProtectionGraph). h.made < h.limit) here room.0 in absurd (omega (arith, low, all)));
+          let low = subst (λ (h : ProtectionGraph). h.made < h.limit) stands room.0 in absurd (omega (arith, low, all)));
       full = (λ graph stands.
-          let here : StandsFor old graph = ap graph_of_store c.self.view_is ∙ stands in
           rw (given.1, given.2)
           (λ e. (
-            subst (λ (h : ProtectionGraph). IsAllowed h c.args.worker (deed_making c.args.kind c.args.label c.args.draft)) here (making.allowed old c.self.inside.made c.self.invariant c.args.worker active c.args.kind c.args.label c.args.draft room),
-            subst (λ (h : ProtectionGraph). LacksCellsFor c.args.self.now.heap.table (nursery_space (nursery_of c.args.self.now.heap c.args.worker)) 1 c.args.worker h.made) here
+            subst (λ (h : ProtectionGraph). IsAllowed h c.args.worker (deed_making c.args.kind c.args.label c.args.draft)) stands (making.is_allowed (graph_of_store c.args.self.now) c.args.worker c.args.label c.args.draft c.args.kind room),
+            subst (λ (h : ProtectionGraph). LacksCellsFor c.args.self.now.heap.table (nursery_space (nursery_of c.args.self.now.heap c.args.worker)) 1 c.args.worker h.made) (stands_inside c.self.invariant c.self.view_is stands)
                 (subst (λ n. LacksCellsFor c.args.self.now.heap.table (nursery_space (nursery_of c.args.self.now.heap c.args.worker)) 1 c.args.worker n) c.self.invariant.is_made
                 (subst (λ (s : StoreState). LacksCellsFor s.heap.table (nursery_space (nursery_of s.heap c.args.worker)) 1 c.args.worker c.self.inside.made) c.self.view_is (c.in_err-add_vertex.ensures.full (making.heap_full _ e)))),
           )));
-      same_graph = (λ graph stands. rw given.1 (ap (λ es. graph_after (start_of c.self.inside.opening) es) c.deed_to_enter.ensures.entries ∙ (ap graph_of_store c.self.view_is ∙ stands)));
+      same_graph = (λ graph stands. rw given.1 (ap (λ es. graph_after (start_of c.self.inside.opening) es) c.deed_to_enter.ensures.room.entries ∙ stands_inside c.self.invariant c.self.view_is stands));
       handed_back = rw (given.1, given.2) c.in_err-add_vertex.ensures.handed_back;
       opening = ap (λ (s : StoreState). s.opening) c.self.view_is;
-      handed = c.deed_to_enter.ensures.start ∙ ap (λ (s : StoreState). s.handed) c.self.view_is;
+      handed = c.deed_to_enter.ensures.room.start ∙ ap (λ (s : StoreState). s.handed) c.self.view_is;
       limits = ap (λ (t : SpaceTable). t.limits) c.in_err-add_vertex.ensures.refused.table ∙ ap (λ (s : StoreState). s.heap.table.limits) c.self.view_is;
       collections = ap (λ (s : StoreState). s.collections) c.self.view_is;
     }
@@ -158,7 +144,7 @@ pub invariant_of-self-2 : goal.invariant_of-self-2
 invariant_of-self-2 g c =
     let old : StoreState = record { opening = c.self.inside.opening; entries = c.self.inside.journal.entries; handed = c.self.inside.journal.start; heap = c.self.inside.heap; collections = c.self.inside.collections } in
     let new : StoreState = record { opening = c.self.inside.opening; entries = c.push.new.self.entries; handed = c.push.new.self.start; heap = c.add_vertex.new.heap; collections = c.self.inside.collections } in
-    let entry = making.enters c.self.inside.journal.entries _ c.push.new.self.entries c.args.worker c.args.kind c.args.label c.args.draft _ _ (Name c.self.inside.made) c.in-Ok.ensures.deed c.value.ensures.same c.deed_to_enter.ensures.entries c.push.ensures.entries in
+    let entry = making.enters c.self.inside.journal.entries _ c.push.new.self.entries c.args.worker c.args.kind c.args.label c.args.draft _ _ (Name c.self.inside.made) c.in-Ok.ensures.deed c.value.ensures.same c.deed_to_enter.ensures.room.entries c.push.ensures.entries in
     making.IsStore-made old c.self.inside.made c.self.invariant c.args.worker (c.in-Some.ensures.active.0 refl) c.args.kind c.args.label c.args.draft (has_room g (goal.at.invariant_of-self-2 g c).In_default-met) new c.value.ensures.fits refl entry
     c.in_ok-add_vertex.ensures.made c.in_ok-add_vertex.ensures.subjects
 
@@ -166,123 +152,77 @@ pub returns-clause-made : goal.returns-clause-made
 returns-clause-made g c =
     let old : StoreState = record { opening = c.self.inside.opening; entries = c.self.inside.journal.entries; handed = c.self.inside.journal.start; heap = c.self.inside.heap; collections = c.self.inside.collections } in
     let new : StoreState = record { opening = c.self.inside.opening; entries = c.push.new.self.entries; handed = c.push.new.self.start; heap = c.add_vertex.new.heap; collections = c.self.inside.collections } in
-    let entry = making.enters c.self.inside.journal.entries _ c.push.new.self.entries c.args.worker c.args.kind c.args.label c.args.draft _ _ (Name c.self.inside.made) c.in-Ok.ensures.deed c.value.ensures.same c.deed_to_enter.ensures.entries c.push.ensures.entries in
+    let entry = making.enters c.self.inside.journal.entries _ c.push.new.self.entries c.args.worker c.args.kind c.args.label c.args.draft _ _ (Name c.self.inside.made) c.in-Ok.ensures.deed c.value.ensures.same c.deed_to_enter.ensures.room.entries c.push.ensures.entries in
     record {
       name = (λ graph stands.
-          let here : StandsFor old graph = ap graph_of_store c.self.view_is ∙ stands in
-          ap (λ h. answer_of h c.args.worker (deed_making c.args.kind c.args.label c.args.draft)) (sym here)
+          ap (λ h. answer_of h c.args.worker (deed_making c.args.kind c.args.label c.args.draft)) (sym (stands_inside c.self.invariant c.self.view_is stands))
           ∙ making.answer-name old c.self.inside.made c.self.invariant c.args.worker (c.in-Some.ensures.active.0 refl) c.args.kind c.args.label c.args.draft (has_room g (goal.at.returns-clause-made g c).In_default-met));
       step = (λ graph stands.
-          let here : StandsFor old graph = ap graph_of_store c.self.view_is ∙ stands in
-          StandsFor-entered old new c.args.worker (deed_making c.args.kind c.args.label c.args.draft) (Name c.self.inside.made) refl entry graph here);
+          StandsFor-entered old new c.args.worker (deed_making c.args.kind c.args.label c.args.draft) (Name c.self.inside.made) refl entry graph (stands_inside c.self.invariant c.self.view_is stands));
       stored = making.stored (content_of c.self.inside.heap) (content_of c.add_vertex.new.heap) c.args.worker c.self.inside.made c.args.label c.args.draft c.in_ok-add_vertex.ensures.made;
       placed = subst (λ (s : StoreState). IsMadeInRow s.heap.table c.add_vertex.new.heap.table s.heap.remembered c.add_vertex.new.heap.remembered (nursery_space (nursery_of s.heap c.args.worker)) c.args.worker c.self.inside.made c.args.label) c.self.view_is c.in_ok-add_vertex.ensures.placed;
     }
 
 pub returns-clause-refusals : goal.returns-clause-refusals
 returns-clause-refusals g c =
-    let old : StoreState = record { opening = c.self.inside.opening; entries = c.self.inside.journal.entries; handed = c.self.inside.journal.start; heap = c.self.inside.heap; collections = c.self.inside.collections } in
-    let active : IsActive old.heap c.args.worker = c.in-Some.ensures.active.0 refl in
-    let room = has_room g (goal.at.returns-clause-refusals g c).In_default-met in
     record {
-      no_such_worker = (λ graph stands.
-          let here : StandsFor old graph = ap graph_of_store c.self.view_is ∙ stands in
-          (λ e. absurd e, λ none. absurd (none (subject_here old c.self.invariant.faithful graph c.args.worker here active))));
+      no_such_worker = (λ graph stands. (λ e. absurd e, λ none. absurd (none (subject_seen c.self.invariant c.self.view_is stands c.args.worker (c.in-Some.ensures.active.0 refl)))));
       no_more = λ _ _. tt;
       exhausted = (λ graph stands subject all.
-          let here : StandsFor old graph = ap graph_of_store c.self.view_is ∙ stands in
-          let low = subst (λ (h : ProtectionGraph). h.made < h.limit) here room.0 in absurd (omega (arith, low, all)));
+          let low = subst (λ (h : ProtectionGraph). h.made < h.limit) stands c.in_default-met.ensures.0 in absurd (omega (arith, low, all)));
       full = λ _ _. tt;
       same_graph = λ _ _. tt;
       handed_back = tt;
       opening = ap (λ (s : StoreState). s.opening) c.self.view_is;
-      handed = c.push.ensures.start ∙ c.deed_to_enter.ensures.start ∙ ap (λ (s : StoreState). s.handed) c.self.view_is;
+      handed = c.push.ensures.start ∙ c.deed_to_enter.ensures.room.start ∙ ap (λ (s : StoreState). s.handed) c.self.view_is;
       limits = c.in_ok-add_vertex.ensures.limits ∙ ap (λ (s : StoreState). s.heap.table.limits) c.self.view_is;
       collections = ap (λ (s : StoreState). s.collections) c.self.view_is;
     }
 
-pub returns-in_default-clause-entry : goal.returns-in_default-clause-entry
-returns-in_default-clause-entry g c = rw c.create_refused.ensures tt
-
-pub returns-in_default-clause-made : goal.returns-in_default-clause-made
-returns-in_default-clause-made g c = rw c.create_refused.ensures tt
-
-pub returns-in_default-clause-no_more_entry : goal.returns-in_default-clause-no_more_entry
-returns-in_default-clause-no_more_entry g c = rw c.create_refused.ensures (λ e. let f : ⊥ = cc e in absurd f)
-
-pub returns-in-Some-met-clause-entry : goal.returns-in-Some-met-clause-entry
-returns-in-Some-met-clause-entry g c = rw c.create_refused-in-Some-met.ensures tt
-
-pub returns-in-Some-met-clause-made : goal.returns-in-Some-met-clause-made
-returns-in-Some-met-clause-made g c = rw c.create_refused-in-Some-met.ensures tt
-
 pub returns-in-Some-met-clause-refused : goal.returns-in-Some-met-clause-refused
 returns-in-Some-met-clause-refused g c =
-    rw (c.create_refused-in-Some-met.ensures, c.fault.ensures) (λ first second. making.one_limit _ first second)
+    rw c.fault.ensures (λ first second. making.one_limit _ first second)
 
 pub returns-in_default-deed_to_enter-clause-refusals : goal.returns-in_default-deed_to_enter-clause-refusals
 returns-in_default-deed_to_enter-clause-refusals g c =
-    let old : StoreState = record { opening = c.self.inside.opening; entries = c.self.inside.journal.entries; handed = c.self.inside.journal.start; heap = c.self.inside.heap; collections = c.self.inside.collections } in
-    let active : IsActive old.heap c.args.worker = c.in-Some.ensures.active.0 refl in
     record {
       no_such_worker = (λ graph stands.
-          let here : StandsFor old graph = ap graph_of_store c.self.view_is ∙ stands in
-          rw c.create_refused-in_default-deed_to_enter.ensures
-          (λ e _. let f : ⊥ = cc e in f, λ none. absurd (none (subject_here old c.self.invariant.faithful graph c.args.worker here active))));
-      no_more = (λ _ _. rw c.create_refused-in_default-deed_to_enter.ensures (λ e. let f : ⊥ = cc e in absurd f));
-      exhausted = (λ graph stands subject _. rw c.create_refused-in_default-deed_to_enter.ensures (inr refl));
-      full = (λ _ _. rw c.create_refused-in_default-deed_to_enter.ensures (λ e. let f : ⊥ = cc e in absurd f));
-      same_graph = (λ graph stands. rw c.create_refused-in_default-deed_to_enter.ensures (ap (λ es. graph_after (start_of c.self.inside.opening) es) c.deed_to_enter.ensures.entries ∙ (ap graph_of_store c.self.view_is ∙ stands)));
-      handed_back = rw c.create_refused-in_default-deed_to_enter.ensures refl;
+          (λ e _. let f : ⊥ = cc e in f, λ none. absurd (none (subject_seen c.self.invariant c.self.view_is stands c.args.worker (c.in-Some.ensures.active.0 refl)))));
+      no_more = (λ _ _. (λ e. let f : ⊥ = cc e in absurd f));
+      exhausted = (λ graph stands subject _. (inr refl));
+      full = (λ _ _. (λ e. let f : ⊥ = cc e in absurd f));
+      same_graph = (λ graph stands. (ap (λ es. graph_after (start_of c.self.inside.opening) es) c.deed_to_enter.ensures.room.entries ∙ stands_inside c.self.invariant c.self.view_is stands));
+      handed_back = refl;
       opening = ap (λ (s : StoreState). s.opening) c.self.view_is;
-      handed = c.deed_to_enter.ensures.start ∙ ap (λ (s : StoreState). s.handed) c.self.view_is;
+      handed = c.deed_to_enter.ensures.room.start ∙ ap (λ (s : StoreState). s.handed) c.self.view_is;
       limits = ap (λ (s : StoreState). s.heap.table.limits) c.self.view_is;
       collections = ap (λ (s : StoreState). s.collections) c.self.view_is;
     }
 
-pub returns-in_default-deed_to_enter-clause-entry : goal.returns-in_default-deed_to_enter-clause-entry
-returns-in_default-deed_to_enter-clause-entry g c = rw c.create_refused-in_default-deed_to_enter.ensures tt
-
-pub returns-in_default-deed_to_enter-clause-made : goal.returns-in_default-deed_to_enter-clause-made
-returns-in_default-deed_to_enter-clause-made g c = rw c.create_refused-in_default-deed_to_enter.ensures tt
-
-pub returns-in_default-deed_to_enter-clause-no_more_entry : goal.returns-in_default-deed_to_enter-clause-no_more_entry
-returns-in_default-deed_to_enter-clause-no_more_entry g c = rw c.create_refused-in_default-deed_to_enter.ensures (λ e. let f : ⊥ = cc e in absurd f)
-
 pub returns-in-Some-met-clause-no_more_entry : goal.returns-in-Some-met-clause-no_more_entry
 returns-in-Some-met-clause-no_more_entry g c =
-    rw (c.create_refused-in-Some-met.ensures, c.fault.ensures) (λ e. only_enters g (goal.at.returns-in-Some-met-clause-no_more_entry g c).After-push_refusal VerticesFull (making.reply_vertices c.in-Some-met.limit e))
+    rw c.fault.ensures (λ e. only_enters g (goal.at.returns-in-Some-met-clause-no_more_entry g c).After-push_refusal VerticesFull (making.reply_vertices c.in-Some-met.limit e))
 
 pub returns-in-Some-met-clause-too_many_entry : goal.returns-in-Some-met-clause-too_many_entry
 returns-in-Some-met-clause-too_many_entry g c =
-    rw (c.create_refused-in-Some-met.ensures, c.fault.ensures) (λ e. only_enters g (goal.at.returns-in-Some-met-clause-too_many_entry g c).After-push_refusal WorkersFull (making.reply_workers c.in-Some-met.limit e))
+    rw c.fault.ensures (λ e. only_enters g (goal.at.returns-in-Some-met-clause-too_many_entry g c).After-push_refusal WorkersFull (making.reply_workers c.in-Some-met.limit e))
 
 pub returns-in-Some-met-clause-too_many : goal.returns-in-Some-met-clause-too_many
 returns-in-Some-met-clause-too_many g c =
-    let old : StoreState = record { opening = c.self.inside.opening; entries = c.self.inside.journal.entries; handed = c.self.inside.journal.start; heap = c.self.inside.heap; collections = c.self.inside.collections } in
-    let limited = is_limited g (goal.at.returns-in-Some-met-clause-too_many g c).After-push_refusal in
     λ graph stands.
-    let here : StandsFor old graph = ap graph_of_store c.self.view_is ∙ stands in
-    rw (c.create_refused-in-Some-met.ensures, c.fault.ensures)
-    (λ e. let full = making.workers_full (graph_of_store old) c.args.kind c.in-Some-met.limit limited.met e in
-    (full.0, subject_here old c.self.invariant.faithful graph c.args.worker here (c.in-Some.ensures.active.0 refl), subst (λ (h : ProtectionGraph). h.made < h.limit) here full.1, subst (λ (h : ProtectionGraph). MAX_WORKERS ≤ length h.subjects) here full.2))
+    rw c.fault.ensures
+    (λ e. let full = making.workers_full (graph_of_store c.args.self.now) c.args.kind c.in-Some-met.limit c.in-Some-met.ensures e in
+    (full.0, subject_seen c.self.invariant c.self.view_is stands c.args.worker (c.in-Some.ensures.active.0 refl), subst (λ (h : ProtectionGraph). h.made < h.limit) stands full.1, subst (λ (h : ProtectionGraph). MAX_WORKERS ≤ length h.subjects) stands full.2))
 
 pub returns-in-Some-met-clause-crowded : goal.returns-in-Some-met-clause-crowded
 returns-in-Some-met-clause-crowded g c =
-    let old : StoreState = record { opening = c.self.inside.opening; entries = c.self.inside.journal.entries; handed = c.self.inside.journal.start; heap = c.self.inside.heap; collections = c.self.inside.collections } in
-    let limited = is_limited g (goal.at.returns-in-Some-met-clause-crowded g c).After-push_refusal in
     λ is graph stands subject low many.
-    let here : StandsFor old graph = ap graph_of_store c.self.view_is ∙ stands in
-    rw (c.create_refused-in-Some-met.ensures, c.fault.ensures) (making.told_workers (graph_of_store old) c.args.kind c.in-Some-met.limit limited.met (subst (λ (h : ProtectionGraph). h.made < h.limit) (sym here) low))
+    rw c.fault.ensures (making.told_workers (graph_of_store c.args.self.now) c.args.kind c.in-Some-met.limit c.in-Some-met.ensures (subst (λ (h : ProtectionGraph). h.made < h.limit) (sym stands) low))
 
 pub returns-in_err-add_vertex-clause-crowded : goal.returns-in_err-add_vertex-clause-crowded
 returns-in_err-add_vertex-clause-crowded g c =
-    let old : StoreState = record { opening = c.self.inside.opening; entries = c.self.inside.journal.entries; handed = c.self.inside.journal.start; heap = c.self.inside.heap; collections = c.self.inside.collections } in
-    let active : IsActive old.heap c.args.worker = c.in-Some.ensures.active.0 refl in
-    let room = has_room g (goal.at.returns-in_err-add_vertex-clause-crowded g c).In_default-met in
     λ is graph stands subject low many.
-    let here : StandsFor old graph = ap graph_of_store c.self.view_is ∙ stands in
-    let few = subst (λ (h : ProtectionGraph). length h.subjects < MAX_WORKERS) here (room.1 is) in absurd (omega (arith, few, many))
+    let few = subst (λ (h : ProtectionGraph). length h.subjects < MAX_WORKERS) stands (c.in_default-met.ensures.1 is) in absurd (omega (arith, few, many))
 
 pub returns-in_err-add_vertex-clause-too_many : goal.returns-in_err-add_vertex-clause-too_many
 returns-in_err-add_vertex-clause-too_many g c =
@@ -301,54 +241,24 @@ returns-in_err-add_vertex-clause-no_more_entry g c =
 
 pub returns-clause-crowded : goal.returns-clause-crowded
 returns-clause-crowded g c =
-    let old : StoreState = record { opening = c.self.inside.opening; entries = c.self.inside.journal.entries; handed = c.self.inside.journal.start; heap = c.self.inside.heap; collections = c.self.inside.collections } in
-    let active : IsActive old.heap c.args.worker = c.in-Some.ensures.active.0 refl in
-    let room = has_room g (goal.at.returns-clause-crowded g c).In_default-met in
     λ is graph stands subject low many.
-    let here : StandsFor old graph = ap graph_of_store c.self.view_is ∙ stands in
-    let few = subst (λ (h : ProtectionGraph). length h.subjects < MAX_WORKERS) here (room.1 is) in absurd (omega (arith, few, many))
+    let few = subst (λ (h : ProtectionGraph). length h.subjects < MAX_WORKERS) stands (c.in_default-met.ensures.1 is) in absurd (omega (arith, few, many))
 
 pub add_vertex-requires-clause-above : goal.add_vertex-requires-clause-above
 add_vertex-requires-clause-above g c = making.above _ c.self.inside.made c.self.invariant c.args.worker (c.in-Some.ensures.active.0 refl) c.args.kind c.args.label c.args.draft
 
 pub add_vertex-requires-clause-few : goal.add_vertex-requires-clause-few
 add_vertex-requires-clause-few g c =
-    let old : StoreState = record { opening = c.self.inside.opening; entries = c.self.inside.journal.entries; handed = c.self.inside.journal.start; heap = c.self.inside.heap; collections = c.self.inside.collections } in
-    let active : IsActive old.heap c.args.worker = c.in-Some.ensures.active.0 refl in
-    let room = has_room g (goal.at.add_vertex-requires-clause-few g c).In_default-met in
-    making.few old c.self.inside.made c.self.invariant c.args.worker active c.args.kind c.args.label c.args.draft room
+    making.few _ c.self.inside.made c.self.invariant c.args.worker (c.in-Some.ensures.active.0 refl) c.args.kind c.args.label c.args.draft (has_room g (goal.at.add_vertex-requires-clause-few g c).In_default-met)
 
 pub returns-in_default-clause-crowded : goal.returns-in_default-clause-crowded
 returns-in_default-clause-crowded g c =
-    let old : StoreState = record { opening = c.self.inside.opening; entries = c.self.inside.journal.entries; handed = c.self.inside.journal.start; heap = c.self.inside.heap; collections = c.self.inside.collections } in
-    let none : IsActive old.heap c.args.worker → ⊥ = λ is. let f : ⊥ = cc (c.in_default.ensures.active.1 is) in f in
+    let none : IsActive c.self.inside.heap c.args.worker → ⊥ = λ is. let f : ⊥ = cc (c.in_default.ensures.active.1 is) in f in
     λ _ graph stands subject _ _.
-    let here : StandsFor old graph = ap graph_of_store c.self.view_is ∙ stands in
-    absurd (none (active_here old c.self.invariant.faithful graph c.args.worker here subject))
-
-pub returns-in_default-clause-too_many : goal.returns-in_default-clause-too_many
-returns-in_default-clause-too_many g c =
-    λ _ _. rw c.create_refused.ensures (λ e. let f : ⊥ = cc e in absurd f)
-
-pub returns-in_default-clause-too_many_entry : goal.returns-in_default-clause-too_many_entry
-returns-in_default-clause-too_many_entry g c =
-    rw c.create_refused.ensures (λ e. let f : ⊥ = cc e in absurd f)
-
-pub returns-in_default-deed_to_enter-clause-crowded : goal.returns-in_default-deed_to_enter-clause-crowded
-returns-in_default-deed_to_enter-clause-crowded g c =
-    λ _ graph stands subject _ _. rw c.create_refused-in_default-deed_to_enter.ensures (inr refl)
-
-pub returns-in_default-deed_to_enter-clause-too_many : goal.returns-in_default-deed_to_enter-clause-too_many
-returns-in_default-deed_to_enter-clause-too_many g c =
-    λ _ _. rw c.create_refused-in_default-deed_to_enter.ensures (λ e. let f : ⊥ = cc e in absurd f)
-
-pub returns-in_default-deed_to_enter-clause-too_many_entry : goal.returns-in_default-deed_to_enter-clause-too_many_entry
-returns-in_default-deed_to_enter-clause-too_many_entry g c =
-    rw c.create_refused-in_default-deed_to_enter.ensures (λ e. let f : ⊥ = cc e in absurd f)
+    absurd (none (active_seen c.self.invariant c.self.view_is stands c.args.worker subject))
 
 pub overflow_add-self : goal.overflow_add-self
 overflow_add-self g c =
-    let old : StoreState = record { opening = c.self.inside.opening; entries = c.self.inside.journal.entries; handed = c.self.inside.journal.start; heap = c.self.inside.heap; collections = c.self.inside.collections } in
     let room = has_room g (goal.at.overflow_add-self g c).In_default-met in
-    let range : (graph_of_store old).limit < 2 ^ 64 = subst (λ (s : StoreState). (graph_of_store s).limit < 2 ^ 64) (sym c.self.view_is) c.limit_met-met.ensures.range in
-    omega (arith, room.0, range, c.self.invariant.is_made)
+    let faithful = c.self.invariant.faithful in
+    omega (arith, room.0, limit_of _ faithful, faithful.plan.limits.1, c.self.invariant.is_made)

@@ -9,7 +9,7 @@ pub invariant_of-self : goal.invariant_of-self
 invariant_of-self g c =
     let old : StoreState = record { opening = c.self.inside.opening; entries = c.self.inside.journal.entries; handed = c.self.inside.journal.start; heap = c.self.inside.heap; collections = c.self.inside.collections } in
     let new : StoreState = record { opening = c.self.inside.opening; entries = c.take.new.self.entries; handed = c.take.new.self.start; heap = c.self.inside.heap; collections = c.self.inside.collections } in
-    IsStore-handed (length c.self.inside.journal.entries) old new c.self.inside.made c.self.invariant (record { entries = c.take.ensures.entries; handed = c.take.ensures.start; opening = refl; heap = refl; collections = refl })
+    IsStore-handed (length c.self.inside.journal.entries) old new c.self.inside.made c.self.invariant (record { entries = c.take.ensures.rest.entries; handed = c.take.ensures.rest.start; opening = refl; heap = refl; collections = refl })
 
 pub returns-clause-entries : goal.returns-clause-entries
 returns-clause-entries g c = ap (λ (j : Entries). j.entries) c.take.ensures.part ∙ ap (λ (s : StoreState). s.entries) c.self.view_is
@@ -20,4 +20,4 @@ returns-clause-start g c = ap (λ (j : Entries). j.start) c.take.ensures.part �
 pub returns-clause-handed_out : goal.returns-clause-handed_out
 returns-clause-handed_out g c =
     let new : StoreState = record { opening = c.self.inside.opening; entries = c.take.new.self.entries; handed = c.take.new.self.start; heap = c.self.inside.heap; collections = c.self.inside.collections } in
-    subst (λ (s : StoreState). HandsOut s new) c.self.view_is (record { entries = c.take.ensures.entries; handed = c.take.ensures.start; opening = refl; heap = refl; collections = refl })
+    subst (λ (s : StoreState). HandsOut s new) c.self.view_is (record { entries = c.take.ensures.rest.entries; handed = c.take.ensures.rest.start; opening = refl; heap = refl; collections = refl })
