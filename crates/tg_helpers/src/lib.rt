@@ -9,6 +9,7 @@ ghost use Rattle.std.specs.Prelude.{◌≡◌, ◌≢◌, Err, IfOk, OnOk};
 ghost use Rattle.tg_store.specs.Collecting.{AreHelpers, IsSwept, KeepsHistory};
 ghost use Rattle.tg_store.specs.Room.{LacksRoomToCollect};
 ghost use Rattle.tg_store.specs.Store.{HasFewBlocks};
+ghost use Rattle.tg_helpers.specs.Helping.{CollectsBy};
 
 use std::alloc::Global;
 use std::sync::Wait;
@@ -37,24 +38,47 @@ pub fn collect_with<P: Payload, R: Threads + Wait + Sync, G: Gate>(
     gate: &G,
 ) -> Result<u64, HelpersFault>
     requires helpers { AreHelpers helpers }
-    ensures swept { IfOk result (IsSwept kind store.old store.new) }
-    ensures blocks { OnOk result (HasFewBlocks kind helpers store.old.heap.table store.new.heap.table) }
-    ensures full { result ≡ Err HelpersFault.HeapFull →
-        LacksRoomToCollect kind helpers store.old.heap }
-    ensures alone { helpers ≡ 1 → result ≢ Err HelpersFault.NoThread }
-    ensures history { KeepsHistory store.old store.new result }
+    ensures { CollectsBy kind helpers store.old store.new result }
 {
-    let spare = store.take_spare();
-    let roots = store.roots(kind)?;
-    let copied = collect_many(
-        rt,
-        alloc,
-        store.spaces(),
-        &roots,
-        kind,
-        helpers,
-        gate,
-        spare,
-    )?;
-    Ok(store.settle(kind, copied)?)
+    Team { rt, gate }.gather(alloc, store, kind, helpers)
+}
+
+// What starts helpers, and the gate that they pass.
+#[derive(Clone, Copy)]
+struct Team<'a, R, G> {
+    rt: &'a R,
+    gate: &'a G,
+}
+
+impl<R: Threads + Wait + Sync, G: Gate> Team<'_, R, G> {
+    // What `collect_with` says.
+    fn gather<P: Payload>(
+        self,
+        alloc: Global,
+        store: &mut Store<P>,
+        kind: Kind,
+        helpers: u32,
+    ) -> Result<u64, HelpersFault>
+        requires { AreHelpers helpers }
+        ensures swept { IfOk result (IsSwept kind store.old store.new) }
+        ensures blocks { OnOk result (HasFewBlocks kind helpers store.old.heap.table store.new.heap.table) }
+        ensures full { result ≡ Err HelpersFault.HeapFull → LacksRoomToCollect kind helpers store.old.heap }
+        ensures alone { helpers ≡ 1 → result ≢ Err HelpersFault.NoThread }
+        ensures history { KeepsHistory store.old store.new result }
+    {
+        let Team { rt, gate } = self;
+        let spare = store.take_spare();
+        let roots = store.roots(kind)?;
+        let copied = collect_many(
+            rt,
+            alloc,
+            store.spaces(),
+            &roots,
+            kind,
+            helpers,
+            gate,
+            spare,
+        )?;
+        Ok(store.settle(kind, copied)?)
+    }
 }
