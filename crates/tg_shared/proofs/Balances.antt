@@ -1,6 +1,6 @@
 -- What an entry makes of the balance behind the lock.
-use Rattle.std.proofs.Common.{◌≡◌, ℕ, ◌+◌, ◌≤◌, Bool, true, false, cond, List, ◌∷◌, ◌++◌, [], length, length-append, drop, refl, sym, subst, ap, ◌∙◌, arith}
-use Rattle.std.specs.Prelude.{Result, take}
+use Rattle.std.proofs.Common.{◌≡◌, ℕ, ◌+◌, ◌^◌, ◌<◌, ◌≤◌, Bool, true, false, cond, List, ◌∷◌, ◌++◌, [], length, length-append, drop, refl, sym, subst, ap, ◌∙◌, arith}
+use Rattle.std.specs.Prelude.{Result, IfOk, OnOk, take}
 use Rattle.std.proofs.lemmas.List.{length-take, take-append-le, drop-append-le, drop_all}
 use Rattle.std.proofs.lemmas.List.Sums.{sum_by-append, sum_by-cons}
 use Rattle.std.proofs.lemmas.Result.{on_err_weaker}
@@ -19,10 +19,12 @@ use Rattle.tg_model.proofs.SubjectLaws.{few_from_rising, made-spawned}
 use Rattle.tg_journal.specs.declared.entry.Entry.{Entry}
 use Rattle.tg_journal.specs.History.{graph_after}
 use Rattle.tg_journal.proofs.HistoryLaws.{IsSound-opened, made-opened}
-use Rattle.tg_store.specs.Collecting.{KeepsHistory}
-use Rattle.tg_store.specs.Store.{StoreState, Enters, IsFaithful, graph_of_store}
+use Rattle.tg_space.specs.declared.kind.Kind.{Kind}
+use Rattle.tg_store.specs.Collecting.{IsSwept, KeepsHistory}
+use Rattle.tg_store.specs.Store.{StoreState, Enters, HasFewBlocks, IsFaithful, graph_of_store}
 use Rattle.tg_store.proofs.StandLaws.{graph-entered}
-use Rattle.tg_shared.specs.Sessions.{GoesOn, IsBalanced, KeepsLocked, LockedState, SharedStart, is_spawn, made_subject, sessions_made, shared_as, spawned, subjects_at}
+use Rattle.tg_shared.specs.Serving.{Collects}
+use Rattle.tg_shared.specs.Sessions.{GoesOn, IsBalanced, LockedState, SharedStart, is_spawn, made_subject, sessions_made, shared_as, spawned, subjects_at}
 
 -- ---- how many sessions were made
 
@@ -56,29 +58,41 @@ module _ (start : SharedStart) (old new : StoreState) (worker : ℕ) (deed : Dee
 
 -- ---- the balance
 
--- one entry more, which is counted
+-- so many entries more, which are counted
+pub balanced_more : (old new : StoreState) (start sessions owed total next rest left parts more : ℕ) → IsBalanced old start sessions total rest parts → length new.entries ≡ length old.entries + more → next ≡ total + more
+    → new.opening ≡ old.opening → owed + left ≡ sessions + rest → owed ≤ (graph_of_store new).made → IsBalanced new start owed next left parts
+balanced_more old new start sessions owed total next rest left parts more held longer counts opening cut made =
+    let count = held.counted in
+    record {
+      counted = omega (arith, count, longer, counts);
+      cut = cut ∙ held.cut;
+      enough = held.enough ∙ ap (λ (p : Plan). p.limit + 1) (sym opening);
+      made = made;
+    }
+
+one_longer : (old new : StoreState) (e : Entry) → new.entries ≡ old.entries ++ e ∷ [] → length new.entries ≡ length old.entries + 1
+one_longer old new e entry = ap (λ (es : List Entry). length es) entry ∙ length-append old.entries (e ∷ [])
+
 pub balanced_entered : (old new : StoreState) (start sessions total next rest parts worker : ℕ) (deed : Deed) (reply : Reply) → IsBalanced old start sessions total rest parts
     → Enters old new worker deed reply → new.opening ≡ old.opening → next ≡ total + 1 → IsBalanced new start sessions next rest parts
 balanced_entered old new start sessions total next rest parts worker deed reply held entry opening counts =
-    let e : Entry = record { worker = worker; deed = deed; reply = reply } in
-    let count = held.counted in
-    let more = ap (λ (es : List Entry). length es) entry in
-    let graph : ProtectionGraph = graph_of_store old in
     let grows = ap (λ (g : ProtectionGraph). g.made) (graph-entered old new worker deed reply opening entry) in
-    let least = le-step-made graph worker deed in
+    let least = le-step-made (graph_of_store old) worker deed in
     let made = held.made in
-    record {
-      counted = omega (arith, length-append old.entries (e ∷ []));
-      cut = held.cut;
-      enough = held.enough ∙ ap (λ (p : Plan). p.limit + 1) (sym opening);
-      made = omega arith;
-    }
+    balanced_more old new start sessions sessions total next rest rest parts 1 held (one_longer old new _ entry) counts opening refl (omega (arith, grows, least, made))
+
+-- a ledger's parts are a 64-bit number
+pub within_word : (limit parts : ℕ) → limit ≤ 281474976710656 → parts ≡ limit + 1 → parts < 2 ^ 64
+within_word limit parts within are = omega (arith, within, are)
 
 -- there is a part left for one more session
 pub part_left : (s : StoreState) (start sessions total rest parts : ℕ) → IsBalanced s start sessions total rest parts → IsFaithful s → 1 ≤ rest
 part_left s start sessions total rest parts held faithful =
     let most = made-opened s.opening s.entries faithful.plan in
     omega (arith, most, held.cut, held.enough, held.made)
+
+pub some_part : (rest : ℕ) → 1 ≤ rest → 0 < rest
+some_part rest least = omega arith
 
 -- and where it made a subject, one more than that
 pub parts_left : (old new : StoreState) (start sessions total rest parts worker name : ℕ) (label : RightSet) (law : Law) (state : List ℕ) → IsBalanced old start sessions total rest parts → IsFaithful old
@@ -95,20 +109,10 @@ pub balanced_spawned : (old new : StoreState) (start sessions total next rest le
     → Enters old new worker (Spawn label law state) (Name name) → answer_of (graph_of_store old) worker (Spawn label law state) ≡ Name name → new.opening ≡ old.opening → next ≡ total + 1 → left + 1 ≡ rest
     → IsBalanced new start (sessions + 1) next left parts
 balanced_spawned old new start sessions total next rest left parts worker name label law state held entry answer opening counts gone =
-    let deed : Deed = Spawn label law state in
-    let e : Entry = record { worker = worker; deed = deed; reply = Name name } in
-    let count = held.counted in
-    let more = ap (λ (es : List Entry). length es) entry in
-    let grows = ap (λ (g : ProtectionGraph). g.made) (graph-entered old new worker deed (Name name) opening entry) in
+    let grows = ap (λ (g : ProtectionGraph). g.made) (graph-entered old new worker (Spawn label law state) (Name name) opening entry) in
     let one_more = made-spawned (graph_of_store old) worker label law state name answer in
     let made = held.made in
-    let cut = held.cut in
-    record {
-      counted = omega (arith, length-append old.entries (e ∷ []));
-      cut = omega arith;
-      enough = held.enough ∙ ap (λ (p : Plan). p.limit + 1) (sym opening);
-      made = omega arith;
-    }
+    balanced_more old new start sessions (sessions + 1) total next rest left parts 1 held (one_longer old new _ entry) counts opening (omega (arith, gone)) (omega (arith, grows, one_more, made))
 
 -- the same opening and the same entries make the same graph
 pub graph_same : (old new : StoreState) → new.entries ≡ old.entries → new.opening ≡ old.opening → graph_of_store new ≡ graph_of_store old
@@ -122,6 +126,9 @@ balanced_same old new start sessions total rest parts held entries opening = rec
   enough = held.enough ∙ ap (λ (p : Plan). p.limit + 1) (sym opening);
   made = subst (λ (g : ProtectionGraph). sessions ≤ g.made) (sym (graph_same old new entries opening)) held.made;
 }
+
+as_many : (sessions made next : ℕ) → sessions ≡ made → next ≡ made + 0 → sessions ≡ next
+as_many sessions made next is same = omega arith
 
 -- the same entries make the same number of sessions
 pub made_same : (start : SharedStart) (sessions : ℕ) (old new : List Entry) → sessions ≡ sessions_made start old → new ≡ old → sessions ≡ sessions_made start new
@@ -140,18 +147,20 @@ not_both b is isnt = cc
 still_whole : (start : SharedStart) (old new : StoreState) → GoesOn start old → new.handed ≡ old.handed → start.in_parts ≡ false → new.handed ≡ start.handed
 still_whole start old new on handed is_whole = handed ∙ on.whole is_whole
 
+-- as long as before at least
+pub grown : (start : SharedStart) (s : StoreState) → GoesOn start s → length start.entries ≤ length s.entries
+grown start s on =
+    let long = ap (λ (es : List Entry). length es) on.earlier in
+    omega (arith, length-take (length start.entries) s.entries)
+
 -- the shared store goes on: with an entry more, and with the same entries
 pub goes_on_entered : (start : SharedStart) (old new : StoreState) (worker : ℕ) (deed : Deed) (reply : Reply) → GoesOn start old
     → Enters old new worker deed reply → new.opening ≡ old.opening → new.heap.table.limits ≡ old.heap.table.limits → new.handed ≡ old.handed → GoesOn start new
 goes_on_entered start old new worker deed reply on entry opening limits handed =
-    let n = length start.entries in
-    let earlier : take n old.entries ≡ start.entries = on.earlier in
-    let long = ap (λ (es : List Entry). length es) earlier in
-    let few : n ≤ length old.entries = omega (arith, length-take n old.entries) in
     let e : Entry = record { worker = worker; deed = deed; reply = reply } in
     record {
       opening = opening ∙ on.opening;
-      earlier = ap (take n) entry ∙ (take-append-le n old.entries (e ∷ []) few ∙ earlier);
+      earlier = ap (take (length start.entries)) entry ∙ (take-append-le (length start.entries) old.entries (e ∷ []) (grown start old on) ∙ on.earlier);
       limits = limits ∙ on.limits;
       within = on.within;
       whole = still_whole start old new on handed;
@@ -178,17 +187,31 @@ goes_on_handed start old new on entries opening limits in_parts = record {
   whole = λ is_whole. absurd (not_both start.in_parts in_parts is_whole);
 }
 
--- a collection keeps all that is so of a store behind a lock
+-- What is so behind the lock stays so with the same entries, where the store goes on; so where a collection was made, and all the more
+-- where nothing was.
+pub locked_alike : {P Q : Type 0} (start : SharedStart) (old new : StoreState) (first sessions total rest parts : ℕ) → IsBalanced old first sessions total rest parts × P × Q × GoesOn start old × (sessions ≡ sessions_made start old.entries)
+    → new.entries ≡ old.entries → new.opening ≡ old.opening → GoesOn start new → IsBalanced new first sessions total rest parts × P × Q × GoesOn start new × (sessions ≡ sessions_made start new.entries)
+locked_alike start old new first sessions total rest parts held entries opening on =
+    (balanced_same old new first sessions total rest parts held.0 entries opening, held.1, held.2, on, made_same start sessions old.entries new.entries held.4 entries)
+
 pub locked_same : {P Q : Type 0} (start : SharedStart) (old new : StoreState) (first sessions total rest parts : ℕ) → IsBalanced old first sessions total rest parts × P × Q × GoesOn start old × (sessions ≡ sessions_made start old.entries)
     → new.entries ≡ old.entries → new.opening ≡ old.opening → new.heap.table.limits ≡ old.heap.table.limits → new.handed ≡ old.handed → IsBalanced new first sessions total rest parts × P × Q × GoesOn start new × (sessions ≡ sessions_made start new.entries)
 locked_same start old new first sessions total rest parts held entries opening limits handed =
-    (balanced_same old new first sessions total rest parts held.0 entries opening, held.1, held.2, goes_on_same start old new held.3 entries opening limits handed, made_same start sessions old.entries new.entries held.4 entries)
+    locked_alike start old new first sessions total rest parts held entries opening (goes_on_same start old new held.3 entries opening limits handed)
 
--- as long as before at least
-pub grown : (start : SharedStart) (s : StoreState) → GoesOn start s → length start.entries ≤ length s.entries
-grown start s on =
-    let long = ap (λ (es : List Entry). length es) on.earlier in
-    omega (arith, length-take (length start.entries) s.entries)
+-- with an entry more that made no subject
+pub locked_entered : {P Q : Type 0} (start : SharedStart) (old new : StoreState) (first sessions total next rest parts worker : ℕ) (deed : Deed) (reply : Reply) → made_subject deed reply ≡ false
+    → IsBalanced old first sessions total rest parts × P × Q × GoesOn start old × (sessions ≡ sessions_made start old.entries)
+    → Enters old new worker deed reply → new.opening ≡ old.opening → new.heap.table.limits ≡ old.heap.table.limits → new.handed ≡ old.handed → next ≡ total + 1
+    → IsBalanced new first sessions next rest parts × P × Q × GoesOn start new × (sessions ≡ sessions_made start new.entries)
+locked_entered start old new first sessions total next rest parts worker deed reply object held entry opening limits handed counts =
+    let more = made_more start old new worker deed reply entry (grown start old held.3) in (
+      balanced_entered old new first sessions total next rest parts worker deed reply held.0 entry opening counts,
+      held.1,
+      held.2,
+      goes_on_entered start old new worker deed reply held.3 entry opening limits handed,
+      as_many sessions _ _ held.4 (rw object at more),
+    )
 
 -- a store that was just shared goes on
 pub goes_on_start : (start : SharedStart) (s : StoreState) → shared_as start.in_parts start.may_end s ≡ start → s.handed ≤ length s.entries → GoesOn start s
@@ -205,13 +228,14 @@ goes_on_start start s is within = record {
 abbrev pub locked_as : StoreState → ℕ → ℕ → LockedState
 locked_as store sessions entered = record { store = store; sessions = sessions; entered = entered }
 
-pub kept_locked : {T E : Type 0} (old new : StoreState) (sessions entered : ℕ) (before : LockedState) (result : Result T E) → locked_as old sessions entered ≡ before → KeepsHistory old new result
-    → KeepsLocked before (locked_as new sessions entered) result
-kept_locked old new sessions entered before result same history =
-    subst (λ (b : LockedState). KeepsLocked b (locked_as new sessions entered) result) same
+pub collected : {E : Type 0} (kind : Kind) (more : ℕ) (old new : StoreState) (sessions entered : ℕ) (before : LockedState) (result : Result ℕ E) → locked_as old sessions entered ≡ before → IfOk result (IsSwept kind old new)
+    → OnOk result (HasFewBlocks kind more old.heap.table new.heap.table) → KeepsHistory old new result → Collects kind more before (locked_as new sessions entered) result
+collected kind more old new sessions entered before result same swept blocks history =
+    subst (λ (b : LockedState). Collects kind more b (locked_as new sessions entered) result) same
     (record {
+      swept = swept;
+      blocks = blocks;
       history = history;
       refused = on_err_weaker result (λ (is : new ≡ old). ap (λ (s : StoreState). locked_as s sessions entered) is) history.refused;
-      sessions = refl;
-      entered = refl;
+      numbers = record { sessions = refl; entered = refl };
     })

@@ -1,7 +1,7 @@
 -- The entries by which a worker leaves: their receipts, and what they make of the balance behind the lock.
-use Rattle.std.proofs.Common.{◌≡◌, ◌∙◌, ℕ, ◌+◌, ◌<◌, ◌≤◌, Bool, true, cond, List, [], ◌∷◌, ◌++◌, length, length-append, map, append_assoc, drop, refl, sym, ap, subst, arith}
+use Rattle.std.proofs.Common.{◌≡◌, ◌∙◌, ℕ, ◌+◌, ◌<◌, ◌≤◌, Bool, true, List, [], ◌∷◌, ◌++◌, length, length-append, map, append_assoc, drop, refl, sym, ap, subst, arith}
 use Rattle.std.specs.Prelude.{take}
-use Rattle.std.proofs.lemmas.List.{length-map, length-take, take-append-le, drop-append-le}
+use Rattle.std.proofs.lemmas.List.{length-map, take-append-le, drop-append-le}
 use Rattle.std.proofs.lemmas.List.Sums.{sum_by-append, sum_by-cons}
 use Rattle.tg_rights.specs.RightSet.{RightSet}
 use Rattle.tg_model.specs.Graph.{ProtectionGraph, IsSound, IsSubject, listing_of}
@@ -14,6 +14,7 @@ use Rattle.tg_store.specs.Leaving.{HasLeft, leaving, removal, retiring}
 use Rattle.tg_store.specs.Store.{StoreState, IsFaithful, graph_of_store}
 use Rattle.tg_shared.specs.Receipts.{receipt_of, receipts_from}
 use Rattle.tg_shared.specs.Sessions.{AddsReceipt, AddsReceipts, GoesOn, IsBalanced, SessionState, SharedStart, is_spawn, retired_behind, retired_by, sessions_made, spawned}
+use Rattle.tg_shared.proofs.Balances.{balanced_more, grown, one}
 
 -- ---- receipts
 
@@ -74,9 +75,6 @@ length_leaving g x =
     let each = length-map row (removal x) in
     omega (arith, all, each)
 
-abbrev one : Bool → ℕ
-one b = cond b 1 0
-
 none_spawned : (x : ℕ) (row : List (ℕ × RightSet)) → spawned (map (removal x) row ++ retiring x ∷ []) ≡ 0
 none_spawned x [] = let last = sum_by-cons (λ e. one (is_spawn e)) (retiring x) [] in omega (arith, last)
 none_spawned x (e ∷ row) =
@@ -104,28 +102,26 @@ module _ (old new : StoreState) (x : ℕ) (left : HasLeft x old new) where
   pub balanced_left : (start sessions total next rest parts : ℕ) → IsBalanced old start sessions total rest parts
       → next ≡ total + (length (listing_of (graph_of_store old).label (graph_of_store old).made x) + 1) → IsBalanced new start sessions next rest parts
   balanced_left start sessions total next rest parts held counts =
-      let count = held.counted in
-      let more = longer in
-      record {
-        counted = omega (arith, count, more, counts);
-        cut = held.cut;
-        enough = held.enough ∙ ap (λ (p : Plan). p.limit + 1) (sym left.opening);
-        made = subst (λ (g : ProtectionGraph). sessions ≤ g.made) (sym left.graph) held.made;
-      }
+      balanced_more old new start sessions sessions total next rest rest parts _ held longer counts left.opening refl (subst (λ (g : ProtectionGraph). sessions ≤ g.made) (sym left.graph) held.made)
 
   pub goes_on_left : (start : SharedStart) → GoesOn start old → GoesOn start new
   goes_on_left start on =
       let n = length start.entries in
-      let long = ap (λ (es : List Entry). length es) on.earlier in
-      let few : n ≤ length old.entries = omega (arith, long, length-take n old.entries) in
       record {
         opening = left.opening ∙ on.opening;
-        earlier = ap (take n) left.entries ∙ (take-append-le n old.entries (leaving (graph_of_store old) x) few ∙ on.earlier);
+        earlier = ap (take n) left.entries ∙ (take-append-le n old.entries (leaving (graph_of_store old) x) (grown start old on) ∙ on.earlier);
         limits = left.limits ∙ on.limits;
         within = on.within;
         whole = λ is_whole. left.handed ∙ on.whole is_whole;
       }
 
-  pub made_left : (start : SharedStart) (sessions : ℕ) → length start.entries ≤ length old.entries → sessions ≡ sessions_made start old.entries → sessions ≡ sessions_made start new.entries
-  made_left start sessions few made =
-      made ∙ sym (ap (sessions_made start) left.entries ∙ sessions_left start old.entries (graph_of_store old) x few)
+  -- what is so behind the lock stays so, but for one part, which its caller tells
+  pub locked_left : {P Q R : Type 0} (start : SharedStart) (first sessions total next rest parts : ℕ) → IsBalanced old first sessions total rest parts × P × Q × GoesOn start old × (sessions ≡ sessions_made start old.entries)
+      → next ≡ total + (length (listing_of (graph_of_store old).label (graph_of_store old).made x) + 1) → R → IsBalanced new first sessions next rest parts × P × R × GoesOn start new × (sessions ≡ sessions_made start new.entries)
+  locked_left start first sessions total next rest parts held counts told = (
+    balanced_left first sessions total next rest parts held.0 counts,
+    held.1,
+    told,
+    goes_on_left start held.3,
+    held.4 ∙ sym (ap (sessions_made start) left.entries ∙ sessions_left start old.entries (graph_of_store old) x (grown start old held.3)),
+  )

@@ -1,15 +1,19 @@
 -- What the answer of a make tells of its entry, and what is behind the lock then.
 use Rattle.std.specs.Prelude.{IfOk, IfErr}
-use Rattle.std.proofs.Common.{◌≡◌, ◌≢◌, ℕ, ◌+◌, false, Option, Some, None, Result, Ok, Err, arith, refl, subst, sym}
+use Rattle.std.proofs.Common.{◌≡◌, ◌≢◌, ℕ, ◌+◌, false, Option, Some, None, Result, Ok, Err, ap, refl, subst, sym}
+use Rattle.tg_rights.specs.RightSet.{RightSet}
 use Rattle.tg_model.specs.declared.command.Deed.{Deed}
 use Rattle.tg_model.specs.declared.reply.Reply.{Reply}
 use Rattle.tg_model.specs.declared.reply.Reply.TheVariants.{Name, VerticesFull, WorkersFull}
+use Rattle.tg_model.specs.declared.value.Value.{Value}
+use Rattle.tg_store.specs.Made.{IsMadeFor}
 use Rattle.tg_store.specs.declared.fault.CreateFault.{CreateFault}
 use Rattle.tg_store.specs.declared.fault.CreateFault.TheVariants as fault
 use Rattle.tg_store.specs.declared.fault.CreateRefused.{CreateRefused}
-use Rattle.tg_store.specs.Store.{StoreState, Enters}
+use Rattle.tg_store.specs.Store.{StoreState}
+use Rattle.tg_shared.specs.Serving.{IsMadeAndNoted, NotesRefusal}
 use Rattle.tg_shared.specs.Sessions.{GoesOn, IsBalanced, Records, RecordsNothing, SessionState, SharedStart, made_subject, reply_entered, reply_made, sessions_made}
-use Rattle.tg_shared.proofs.Balances.{balanced_entered, goes_on_entered, grown, locked_same, made_more}
+use Rattle.tg_shared.proofs.Balances.{locked_entered, locked_same}
 
 -- a refusal that makes an entry has one of two replies
 pub entered_as : (E : Reply → Type 0) (why : CreateFault) (reply : Reply) → reply_entered why ≡ Some reply → (why ≡ fault.VerticesFull → E VerticesFull) → (why ≡ fault.WorkersFull → E WorkersFull) → E reply
@@ -32,14 +36,24 @@ entered_none fault.WorkersFull v w = absurd (w refl)
 entered_none fault.HeapFull v w = refl
 entered_none fault.OutOfMemory v w = refl
 
--- a refusal that makes no entry, where no subject was to be made
-pub refused_made : {P N : Type 0} (answer : Result ℕ (CreateRefused P)) → (reply_made answer ≡ None → N) → IfErr answer (λ refused. refused.why ≢ fault.WorkersFull)
-    → IfErr answer (λ refused. refused.why ≢ fault.VerticesFull → N)
-refused_made (Ok name) nothing not_full = tt
-refused_made (Err refused) nothing not_full = λ some. nothing (entered_none refused.why some not_full)
+-- what is noted of a refusal, and what of a vertex that was made
+pub refused_noted : {P T N : Type 0} (deed : Deed) (old new : StoreState) (before after : SessionState) (refused : CreateRefused P) → ((reply : Reply) → reply_entered refused.why ≡ Some reply → Records old new before after deed reply × N)
+    → ((reply : Reply) → reply_entered refused.why ≡ Some reply → new.heap ≡ old.heap) → (reply_entered refused.why ≡ None → RecordsNothing old new before after) → NotesRefusal {T = T} deed old new before after (Err refused)
+refused_noted deed old new before after refused noted same nothing = record {
+  no_more_entry = λ why. let is = ap reply_entered why in ((noted VerticesFull is).0, same VerticesFull is);
+  too_many_entry = λ why. let is = ap reply_entered why in ((noted WorkersFull is).0, same WorkersFull is);
+  refused = λ some few. nothing (entered_none refused.why some few);
+}
 
-as_many : (sessions made next : ℕ) → sessions ≡ made → next ≡ made + 0 → sessions ≡ next
-as_many sessions made next is same = omega arith
+pub refusal_noted : {P N : Type 0} (deed : Deed) (old new : StoreState) (before after : SessionState) (answer : Result ℕ (CreateRefused P)) → ((reply : Reply) → reply_made answer ≡ Some reply → Records old new before after deed reply × N)
+    → IfErr answer (λ refused. (reply : Reply) → reply_entered refused.why ≡ Some reply → new.heap ≡ old.heap) → (reply_made answer ≡ None → RecordsNothing old new before after) → NotesRefusal deed old new before after answer
+refusal_noted deed old new before after (Ok name) noted same nothing = record { no_more_entry = tt; too_many_entry = tt; refused = tt }
+refusal_noted deed old new before after (Err refused) noted same nothing = refused_noted deed old new before after refused noted same nothing
+
+pub made_noted : {P N : Type 0} (deed : Deed) (label : RightSet) (value : Value) (old new : StoreState) (before after : SessionState) (answer : Result ℕ (CreateRefused P)) → ((reply : Reply) → reply_made answer ≡ Some reply → Records old new before after deed reply × N)
+    → IfOk answer (IsMadeFor deed before.worker label value old new) → IfOk answer (IsMadeAndNoted deed label value old new before after)
+made_noted deed label value old new before after (Ok name) noted made = record { entry = (noted (Name name) refl).0; made = made }
+made_noted deed label value old new before after (Err refused) noted made = tt
 
 -- What is so behind the lock stays so where what was entered of a make is noted, and it made no subject.
 pub locked_noted : {P Q : Type 0} (start : SharedStart) (old new : StoreState) (before after : SessionState) (first sessions total next rest parts : ℕ) (deed : Deed) (noted : Option Reply)
@@ -49,14 +63,7 @@ pub locked_noted : {P Q : Type 0} (start : SharedStart) (old new : StoreState) (
     → IsBalanced new first sessions next rest parts × P × Q × GoesOn start new × (sessions ≡ sessions_made start new.entries)
 locked_noted start old new before after first sessions total next rest parts deed (Some reply) some none object opening limits handed held =
     let told = some reply refl in
-    let entry : Enters old new before.worker deed reply = told.0.entry in
-    let more = made_more start old new before.worker deed reply entry (grown start old held.3) in (
-      balanced_entered old new first sessions total next rest parts before.worker deed reply held.0 entry opening told.1,
-      held.1,
-      held.2,
-      goes_on_entered start old new before.worker deed reply held.3 entry opening limits handed,
-      as_many sessions _ _ held.4 (rw (object reply refl) at more),
-    )
+    locked_entered start old new first sessions total next rest parts before.worker deed reply (object reply refl) held told.0.entry opening limits handed told.1
 locked_noted start old new before after first sessions total next rest parts deed None some none object opening limits handed held =
     let told = none refl in
     let same = locked_same start old new first sessions total rest parts held told.0.0.entries opening limits handed in

@@ -1,19 +1,16 @@
 -- Receipts of a journal that was handed out in parts.
-use Rattle.std.proofs.Common.{◌≡◌, ◌≢◌, ◌∙◌, ℕ, ◌+◌, ◌≤◌, false, List, [], ◌∷◌, ◌++◌, length, take, drop, Some, slice_get, refl, sym, ap, subst, arith}
-use Rattle.std.specs.List.{All, AllPairs}
+use Rattle.std.proofs.Common.{◌≡◌, ◌∙◌, ℕ, ◌+◌, ◌≤◌, List, [], ◌∷◌, ◌++◌, length, take, Some, slice_get, refl, sym, ap, subst, arith}
+use Rattle.std.specs.List.{All}
 use Rattle.std.proofs.lemmas.List.{get_or-take, length-take}
-use Rattle.std.proofs.lemmas.List.Elements.{All-head, All-tail, All-weaker}
+use Rattle.std.proofs.lemmas.List.Elements.{All-head, All-tail}
 use Rattle.std.proofs.lemmas.List.Sums.{sum_by-cons}
 use Rattle.std.proofs.lemmas.Option.{get_or_from_slice_get, slice_get-get_or, slice_get_within}
-use Rattle.std.proofs.Math.Nat.{le-max_left, max-le}
 use Rattle.tg_journal.specs.declared.entry.Entry.{Entry}
 use Rattle.tg_journal.specs.Journal.{Entries}
-use Rattle.tg_store.specs.Store.{StoreState}
 use Rattle.tg_shared.specs.declared.receipt.Receipt.{Receipt}
 use Rattle.tg_shared.specs.Receipts.{AreParts, MatchParts, ReceiptsMatch, Stands, all_receipts}
-use Rattle.tg_shared.specs.Sessions.{AreSharedOut, GoesOn, KeptInParts, MatchesSince, SessionState, SharedStart, count_of, held_from, parts_of}
+use Rattle.tg_shared.specs.Sessions.{KeptInParts, MatchesSince, SessionState, parts_of}
 use Rattle.tg_shared.proofs.Matching.{MatchFrom, held-is_from}
-use Rattle.tg_shared.proofs.Sharing.{shared_out}
 
 -- an entry at a place of a front stands there in the whole
 in_whole : (entries : List Entry) (n at : ℕ) (e : Entry) → slice_get (take n entries) at ≡ Some e → slice_get entries at ≡ Some e
@@ -49,25 +46,10 @@ parts_match entries parts worker first lists are match = (held-is_from entries w
 
 -- ---- sessions that have all their receipts, part by part
 
-since_kept : (entries : List Entry) (first : ℕ) (parts : List Entries) (s : SessionState) → AreParts first entries parts → KeptInParts parts s → MatchesSince entries first s
+pub since_kept : (entries : List Entry) (first : ℕ) (parts : List Entries) (s : SessionState) → AreParts first entries parts → KeptInParts parts s → MatchesSince entries first s
 unfolding MatchesSince
 since_kept entries first parts s are kept =
     subst (λ (rs : List Receipt). ReceiptsMatch entries s.worker rs × All (λ r. first ≤ r.at) rs) (sym kept.all) (parts_match entries parts s.worker first kept.lists are kept.each)
-
-pub kept_share_out : (entries : List Entry) (first : ℕ) (parts : List Entries) (ss : List SessionState) → AreParts first entries parts → All (KeptInParts parts) ss → AllPairs (λ s t. s.worker ≢ t.worker) ss → length entries ≡ first + count_of ss →
-    AreSharedOut (drop first entries) ss
-kept_share_out entries first parts ss are kept apart count =
-    shared_out entries first ss (record { matching = All-weaker (KeptInParts parts) (MatchesSince entries first) (λ s. since_kept entries first parts s are) ss kept; apart = apart }) count
-
--- ---- the place from which on a store holds its entries
-
-pub whole_held : (start : SharedStart) (s : StoreState) → GoesOn start s → start.in_parts ≡ false → held_from start s ≡ length start.entries
-whole_held start s on is_whole =
-    let same = on.whole is_whole in
-    let few : s.handed ≤ length start.entries = (let within = on.within in omega (arith, same, within)) in
-    let least : length start.entries ≤ held_from start s = le-max_left (length start.entries) s.handed in
-    let most : held_from start s ≤ length start.entries = max-le {a = length start.entries} {b = s.handed} {k = length start.entries} (omega arith) few in
-    omega (arith, least, most)
 
 -- sessions that took none over
 pub ones : (ss : List SessionState) → All (λ s. s.parts ≡ 1) ss → parts_of ss ≡ length ss

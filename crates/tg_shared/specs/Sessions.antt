@@ -1,5 +1,5 @@
 -- What contracts see of a session and of the value behind the lock, and what a call does to them.
-use Rattle.std.specs.Prelude.{◌≡◌, ◌≢◌, ℕ, ◌+◌, ◌<◌, ◌≤◌, ◌==◌, max, Bool, true, false, Option, Some, None, List, [], ◌∷◌, ◌++◌, Result, Ok, Err, IfErr, OnErr, length, map, take, drop}
+use Rattle.std.specs.Prelude.{◌≡◌, ◌≢◌, ℕ, ◌+◌, ◌<◌, ◌≤◌, ◌==◌, max, Bool, true, false, Option, Some, None, List, [], ◌∷◌, ◌++◌, Result, Ok, Err, IfErr, OnOk, length, map, take, drop}
 use Rattle.std.specs.declared.sync.ledger.Blank.{Blank}
 use Rattle.std.specs.List.{All, AllPairs, count_by, filter, sum_by}
 use Rattle.tg_model.specs.declared.command.Deed.{Deed}
@@ -19,7 +19,7 @@ use Rattle.tg_journal.specs.Journal.{Entries}
 use Rattle.tg_graph.specs.Heap.{nursery_of}
 use Rattle.tg_rows.specs.Spots.{LacksCellsFor}
 use Rattle.tg_space.specs.declared.kind.Kind.{Kind}
-use Rattle.tg_store.specs.Collecting.{IsSwept, KeepsHistory}
+use Rattle.tg_store.specs.Collecting.{IsSwept}
 use Rattle.tg_store.specs.Leaving.{HasLeft, leaving}
 use Rattle.tg_store.specs.declared.fault.CreateFault.{CreateFault}
 use Rattle.tg_store.specs.declared.fault.CreateFault.TheVariants as fault
@@ -146,6 +146,11 @@ abbrev pub retired_by : Bool → Deed → Bool
 retired_by retired (Plain Retire) = true
 retired_by retired deed = retired
 
+-- Room for so many more receipts was made, where memory was not refused. The receipts are the same.
+pub record MakesRoom {T E : Type 0} (more : ℕ) (old new : SessionState) (result : Result T E) : Type 0 where
+  pub receipts : KeepsReceipts old new
+  pub spare : OnOk result (more ≤ new.spare)
+
 -- exactly one receipt more: at this place, with the session's worker, this deed and this reply
 abbrev pub AddsReceipt : SessionState → SessionState → ℕ → Deed → Reply → Type 0
 AddsReceipt old new at deed reply =
@@ -210,13 +215,6 @@ pub record MayRefuseAtSome {P T : Type 0} (start : SharedStart) (deed : Deed) (v
   pub heap_full : IfErr result (λ refused. refused.why ≡ fault.HeapFull → AtSome start (λ s.
       IsAllowed (graph_of_store s) old.worker deed × LacksCellsFor s.heap.table (nursery_space (nursery_of s.heap old.worker)) 1 old.worker (graph_of_store s).made))
   pub handed_back : IfErr result (λ refused. refused.draft ≡ value)
-
--- What a collection leaves behind the lock: what it leaves of the store, both numbers, and where it is refused, all.
-pub record KeepsLocked {T E : Type 0} (old new : LockedState) (result : Result T E) : Type 0 where
-  pub history : KeepsHistory old.store new.store result
-  pub refused : OnErr result (new ≡ old)
-  pub sessions : new.sessions ≡ old.sessions
-  pub entered : new.entered ≡ old.entered
 
 -- a session as it is made: it never had a receipt, took no other over, and entered no retire
 abbrev pub IsFresh : SessionState → Type 0

@@ -206,9 +206,9 @@ impl<L: Round> Session<L> {
         let mut locked = store.locked.lock(rt);
         // for what is told of it: the shared store, gone on
         let _ = locked.store();
-        let left = locked.collect(kind)?;
+        let left = locked.collect(kind);
         // and of the one that is left
         let _ = locked.store();
-        Ok(left)
+        left
     }
 }

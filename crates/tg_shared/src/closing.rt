@@ -1,5 +1,5 @@
 //! The end of a round.
-ghost use Rattle.std.specs.Prelude.{◌≡◌, ◌≢◌, ◌↔◌, ◌<◌, ◌≤◌, ◌+◌, IsTrue, IfOk, IfErr, IsErr, IsErrAnd, OnErr, OnOk, length, drop};
+ghost use Rattle.std.specs.Prelude.{◌≡◌, ◌≢◌, ◌↔◌, ◌<◌, ◌≤◌, ◌+◌, IsTrue, IfErr, IsErr, IsErrAnd, OnErr, OnOk, length, drop};
 ghost use Rattle.std.specs.List.{All, AllPairs};
 ghost use Rattle.tg_shared.specs.Sessions.{MatchesSince, MayClose};
 
@@ -33,7 +33,8 @@ pub struct LockedRefused<L: Round, P: Payload> {
 }
 
 impl<L: Round, P: Payload> Locked<L, P> {
-    ghost use Rattle.tg_shared.specs.Sessions.{AddsUp, AreSharedOut, GoesOn, MayClose, count_of, handed_of, held_from, parts_of};
+    ghost use Rattle.tg_shared.specs.Closing.{EndsRound};
+    ghost use Rattle.tg_shared.specs.Sessions.{AddsUp, AreSharedOut, MayClose, count_of, handed_of, held_from, parts_of};
 
     /// Ends a round: hands out the store, where all sessions are given back and their receipts are right. Then the
     /// journal has grown by as many entries as there are receipts, and they are shared out among the sessions. What the
@@ -43,19 +44,16 @@ impl<L: Round, P: Payload> Locked<L, P> {
     /// `ReceiptMismatch` exactly where they stand for as many, and may not close. What was handed in then comes back.
     /// Takes no memory.
     pub fn close(self, sessions: Vec<Session<L>>) -> Result<Store<P>, LockedRefused<L, P>>
-        ensures store { IfOk result (λ store. store ≡ self.store) }
-        ensures matching { OnOk result (MayClose self.store.entries (held_from L.start self.store) sessions.items) }
+        ensures ends { EndsRound L.start self sessions.items result }
         ensures all { OnOk result (parts_of sessions.items ≡ self.sessions) }
         ensures count { OnOk result (length self.store.entries ≡ length L.start.entries + self.entered + handed_of sessions.items + count_of sessions.items) }
         ensures shared_out { self.entered ≡ 0 → OnOk result (length L.start.entries + handed_of sessions.items ≡ held_from L.start self.store →
             AreSharedOut (drop (held_from L.start self.store) self.store.entries) sessions.items) }
         ensures none_handed { self.entered ≡ 0 → OnOk result (handed_of sessions.items ≡ 0 → held_from L.start self.store ≡ length L.start.entries) }
-        ensures gone_on { GoesOn L.start self.store }
         ensures missing { IsErrAnd result (λ refused. refused.why ≡ CloseFault.SessionsMissing) ↔ (parts_of sessions.items < self.sessions) }
         ensures mismatch { IsErrAnd result (λ refused. refused.why ≡ CloseFault.ReceiptMismatch) ↔
             ((self.sessions ≤ parts_of sessions.items) × (¬ MayClose self.store.entries (held_from L.start self.store) sessions.items)) }
         ensures counted { IfErr result (λ refused. refused.why ≡ CloseFault.ReceiptMismatch → length L.start.entries + self.entered + count_of sessions.items ≤ length self.store.entries) }
-        ensures handed_back { IfErr result (λ refused. (refused.locked ≡ self) × (refused.sessions.items ≡ sessions.items)) }
     {
         if still_owed(self.sessions, sessions.as_slice()) > 0 {
             return Err(LockedRefused {
@@ -74,17 +72,14 @@ impl<L: Round, P: Payload> Locked<L, P> {
     /// `ReceiptMismatch` is answered exactly where the sessions that are there may not close, and nothing else. What
     /// was handed in then comes back. Takes no memory.
     pub fn reclaim(mut self, mut sessions: Vec<Session<L>>) -> Result<Store<P>, LockedRefused<L, P>>
-        ensures store { IfOk result (λ store. store ≡ self.store) }
-        ensures matching { OnOk result (MayClose self.store.entries (held_from L.start self.store) sessions.items) }
+        ensures ends { EndsRound L.start self sessions.items result }
         ensures adds_up { OnOk result (AddsUp (length L.start.entries) (length self.store.entries) self.sessions self.entered sessions.items) }
         ensures shared_out { self.entered ≡ 0 → OnOk result (parts_of sessions.items ≡ self.sessions → length L.start.entries + handed_of sessions.items ≡ held_from L.start self.store →
             AreSharedOut (drop (held_from L.start self.store) self.store.entries) sessions.items) }
         ensures none_handed { self.entered ≡ 0 → OnOk result (parts_of sessions.items ≡ self.sessions → handed_of sessions.items ≡ 0 → held_from L.start self.store ≡ length L.start.entries) }
-        ensures gone_on { GoesOn L.start self.store }
         ensures mismatch { IsErr result ↔ (¬ MayClose self.store.entries (held_from L.start self.store) sessions.items) }
         ensures only { IfErr result (λ refused. refused.why ≡ CloseFault.ReceiptMismatch) }
         ensures counted { OnErr result (length L.start.entries + self.entered + count_of sessions.items ≤ length self.store.entries) }
-        ensures handed_back { IfErr result (λ refused. (refused.locked ≡ self) × (refused.sessions.items ≡ sessions.items)) }
     {
         let since = self.start.max(self.store.journal().start());
         if !may_close(self.store.journal(), since, sessions.as_slice()) {

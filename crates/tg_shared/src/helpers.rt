@@ -1,9 +1,9 @@
 //! Collections of the shared store by several helpers.
-ghost use Rattle.std.specs.Prelude.{◌≡◌, ◌≢◌, Err, IfOk, IfErr, OnOk};
-ghost use Rattle.tg_store.specs.Collecting.{AreHelpers, IsSwept};
+ghost use Rattle.std.specs.Prelude.{◌≡◌, ◌≢◌, Err, IfOk, IfErr};
+ghost use Rattle.tg_store.specs.Collecting.{AreHelpers};
 ghost use Rattle.tg_store.specs.Room.{LacksRoomToCollect};
-ghost use Rattle.tg_store.specs.Store.{HasFewBlocks};
-ghost use Rattle.tg_shared.specs.Sessions.{AtSome, KeepsLocked, LeavesAtSome};
+ghost use Rattle.tg_shared.specs.Sessions.{AtSome, LeavesAtSome};
+ghost use Rattle.tg_shared.specs.Serving.{Collects};
 
 use crate::locked::Locked;
 use crate::round::Round;
@@ -28,9 +28,7 @@ impl<L: Round, P: Payload> Locked<L, P> {
         gate: &G,
     ) -> Result<u64, HelpersFault>
         requires helpers { AreHelpers helpers }
-        ensures swept { IfOk result (IsSwept kind self.old.store self.new.store) }
-        ensures blocks { OnOk result (HasFewBlocks kind helpers self.old.store.heap.table self.new.store.heap.table) }
-        ensures kept { KeepsLocked self.old self.new result }
+        ensures collected { Collects kind helpers self.old self.new result }
         ensures full { result ≡ Err HelpersFault.HeapFull →
             LacksRoomToCollect kind helpers self.old.store.heap }
         ensures alone { helpers ≡ 1 → result ≢ Err HelpersFault.NoThread }
@@ -65,9 +63,9 @@ impl<L: Round> Session<L> {
         let mut locked = store.locked.lock(rt);
         // for what is told of it: the shared store, gone on
         let _ = locked.store();
-        let left = locked.collect_with(rt, self.alloc(), kind, helpers, gate)?;
+        let left = locked.collect_with(rt, self.alloc(), kind, helpers, gate);
         // and of the one that is left
         let _ = locked.store();
-        Ok(left)
+        left
     }
 }

@@ -1,5 +1,5 @@
 //! The value behind the lock, and what each call does to it.
-ghost use Rattle.std.specs.Prelude.{◌≡◌, ◌≢◌, ◌↔◌, ◌⊎◌, ◌<◌, ◌≤◌, ◌+◌, ◌^◌, Err, Some, false, true, IfOk, IfErr, IsErrAnd, OnOk, OnErr, length};
+ghost use Rattle.std.specs.Prelude.{◌≡◌, ◌≢◌, ◌⊎◌, ◌<◌, ◌≤◌, ◌+◌, ◌^◌, Err, false, true, IfOk, IfErr, IsErrAnd, OnOk, OnErr, length};
 ghost use Rattle.tg_subjects.specs.Subjects.{names_of};
 ghost use Rattle.tg_shared.specs.Sessions.{AreFresh};
 
@@ -45,21 +45,15 @@ impl<L: Round, P: Payload> Model for Locked<L, P> {
 }
 
 impl<L: Round, P: Payload> Locked<L, P> {
-    ghost use Rattle.tg_model.specs.Graph.{ProtectionGraph, IsSubject, listing_of};
-    ghost use Rattle.tg_model.specs.Rules.{IsAllowed, step, answer_of};
+    ghost use Rattle.tg_model.specs.Graph.{ProtectionGraph, IsSubject};
     ghost use Rattle.tg_model.specs.declared.opening.TheConstants.{MAX_WORKERS};
-    ghost use Rattle.tg_model.specs.declared.reply.Denial.{Denial};
-    ghost use Rattle.tg_model.specs.declared.reply.Reply.TheVariants as Reply;
-    ghost use Rattle.tg_graph.specs.Heap.{nursery_of};
-    ghost use Rattle.tg_rules.specs.Effect.{AddsEdge, LacksCellsToServe};
     ghost use Rattle.tg_could.specs.Reached.{IsReachedPicture};
-    ghost use Rattle.tg_store.specs.Collecting.{IsSwept};
     ghost use Rattle.tg_store.specs.Held.{IsHeldOver};
-    ghost use Rattle.tg_store.specs.Leaving.{HasLeft, leaving};
-    ghost use Rattle.tg_store.specs.Made.{IsMadeFor, MayRefuse};
+    ghost use Rattle.tg_store.specs.Made.{MayRefuse};
     ghost use Rattle.tg_store.specs.Room.{LacksRoomToCollect};
-    ghost use Rattle.tg_store.specs.Store.{HandsOut, HasFewBlocks, IsFaithful, IsUnchanged, StandsFor, graph_of_store};
-    ghost use Rattle.tg_shared.specs.Sessions.{AddsReceipts, AreFresh, GoesOn, IsFresh, KeepsLocked, MayNote, MayShare, Records, RecordsNothing, sessions_made, subjects_at};
+    ghost use Rattle.tg_store.specs.Store.{IsFaithful, StandsFor};
+    ghost use Rattle.tg_shared.specs.Serving.{Collects, EndsWorker, IsMadeAndNoted, KeepsNumbers, KeepsRound, NotesLeaving, NotesRefusal, ServesCommand};
+    ghost use Rattle.tg_shared.specs.Sessions.{AreFresh, GoesOn, IsFresh, MayNote, MayShare, sessions_made, subjects_at};
 
     /// The store. What holds whenever the lock is free is told here: the store's own promise, that its journal is a
     /// legal history of its opening and its heap stands for the graph after it; and it is the store that was shared,
@@ -130,18 +124,8 @@ impl<L: Round, P: Payload> Locked<L, P> {
     /// the store and the receipts as they were. There has to be room for the receipt.
     pub fn apply(&mut self, session: &mut Session<L>, command: Command) -> Result<(), ApplyFault>
         requires room { 0 < session.old.spare }
-        ensures entry { (g : ProtectionGraph) → StandsFor self.old.store g → OnOk result (Records self.old.store self.new.store session.old session.new (Deed.Plain command) (answer_of g session.old.worker (Deed.Plain command))) }
-        ensures step { (g : ProtectionGraph) → StandsFor self.old.store g → OnOk result (StandsFor self.new.store (step g session.old.worker (Deed.Plain command))) }
-        ensures denied { (g : ProtectionGraph) (denial : Denial) → StandsFor self.old.store g → answer_of g session.old.worker (Deed.Plain command) ≡ Reply.Denied denial → OnOk result (self.new.store.heap ≡ self.old.store.heap) }
-        ensures no_such_worker { (g : ProtectionGraph) → StandsFor self.old.store g → (result ≡ Err ApplyFault.NoSuchWorker) ↔ (¬ IsSubject g session.old.worker) }
-        ensures full { (g : ProtectionGraph) → StandsFor self.old.store g → result ≡ Err ApplyFault.HeapFull →
-            IsAllowed g session.old.worker (Deed.Plain command) × AddsEdge command × LacksCellsToServe self.old.store.heap.table (nursery_of self.old.store.heap session.old.worker) session.old.worker command }
-        ensures refused { OnErr result (RecordsNothing self.old.store self.new.store session.old session.new) }
-        ensures opening { self.new.store.opening ≡ self.old.store.opening }
-        ensures handed { self.new.store.handed ≡ self.old.store.handed }
-        ensures limits { self.new.store.heap.table.limits ≡ self.old.store.heap.table.limits }
-        ensures sessions { self.new.sessions ≡ self.old.sessions }
-        ensures entered { self.new.entered ≡ self.old.entered }
+        ensures served { ServesCommand command self.old.store self.new.store session.old session.new result }
+        ensures kept { KeepsRound self.old self.new }
     {
         let at = self.store.journal().len();
         let worker = session.worker();
@@ -168,15 +152,11 @@ impl<L: Round, P: Payload> Locked<L, P> {
         draft: Draft<P>,
     ) -> Result<u64, CreateRefused<P>>
         requires notable { MayNote session.old draft.state }
-        ensures entry { IfOk result (λ name. Records self.old.store self.new.store session.old session.new (Deed.Create label draft.law draft.state) (Reply.Name name)) }
-        ensures made { IfOk result (IsMadeFor (Deed.Create label draft.law draft.state) session.old.worker label draft self.old.store self.new.store) }
+        ensures served { IfOk result (IsMadeAndNoted (Deed.Create label draft.law draft.state) label draft self.old.store self.new.store session.old session.new) }
         ensures refusals { MayRefuse (Deed.Create label draft.law draft.state) session.old.worker draft self.old.store self.new.store result }
-        ensures no_more_entry { IfErr result (λ refused. refused.why ≡ CreateFault.VerticesFull →
-            Records self.old.store self.new.store session.old session.new (Deed.Create label draft.law draft.state) Reply.VerticesFull × (self.new.store.heap ≡ self.old.store.heap)) }
+        ensures noted { NotesRefusal (Deed.Create label draft.law draft.state) self.old.store self.new.store session.old session.new result }
         ensures no_workers_full { IfErr result (λ refused. refused.why ≢ CreateFault.WorkersFull) }
-        ensures refused { IfErr result (λ refused. refused.why ≢ CreateFault.VerticesFull → RecordsNothing self.old.store self.new.store session.old session.new) }
-        ensures sessions { self.new.sessions ≡ self.old.sessions }
-        ensures entered { self.new.entered ≡ self.old.entered }
+        ensures numbers { KeepsNumbers self.old self.new }
     {
         make(
             &mut self.store,
@@ -200,19 +180,13 @@ impl<L: Round, P: Payload> Locked<L, P> {
         draft: Draft<P>,
     ) -> Result<Session<L>, CreateRefused<P>>
         requires notable { MayNote session.old draft.state }
-        ensures entry { IfOk result (λ fresh. Records self.old.store self.new.store session.old session.new (Deed.Spawn label draft.law draft.state) (Reply.Name fresh.worker)) }
-        ensures fresh { IfOk result IsFresh }
-        ensures made { IfOk result (λ fresh. IsMadeFor (Deed.Spawn label draft.law draft.state) session.old.worker label draft self.old.store self.new.store fresh.worker) }
+        ensures served { IfOk result (λ fresh. IsFresh fresh × IsMadeAndNoted (Deed.Spawn label draft.law draft.state) label draft self.old.store self.new.store session.old session.new fresh.worker) }
         ensures refusals { MayRefuse (Deed.Spawn label draft.law draft.state) session.old.worker draft self.old.store self.new.store result }
-        ensures no_more_entry { IfErr result (λ refused. refused.why ≡ CreateFault.VerticesFull →
-            Records self.old.store self.new.store session.old session.new (Deed.Spawn label draft.law draft.state) Reply.VerticesFull × (self.new.store.heap ≡ self.old.store.heap)) }
+        ensures noted { NotesRefusal (Deed.Spawn label draft.law draft.state) self.old.store self.new.store session.old session.new result }
         ensures too_many { (g : ProtectionGraph) → StandsFor self.old.store g → IfErr result (λ refused. refused.why ≡ CreateFault.WorkersFull →
             IsSubject g session.old.worker × (g.made < g.limit) × (MAX_WORKERS ≤ length g.subjects)) }
         ensures crowded { (g : ProtectionGraph) → StandsFor self.old.store g → IsSubject g session.old.worker → g.made < g.limit → MAX_WORKERS ≤ length g.subjects →
             IsErrAnd result (λ refused. (refused.why ≡ CreateFault.WorkersFull) ⊎ (refused.why ≡ CreateFault.OutOfMemory)) }
-        ensures too_many_entry { IfErr result (λ refused. refused.why ≡ CreateFault.WorkersFull →
-            Records self.old.store self.new.store session.old session.new (Deed.Spawn label draft.law draft.state) Reply.WorkersFull × (self.new.store.heap ≡ self.old.store.heap)) }
-        ensures refused { IfErr result (λ refused. refused.why ≢ CreateFault.VerticesFull → refused.why ≢ CreateFault.WorkersFull → RecordsNothing self.old.store self.new.store session.old session.new) }
         ensures one_more { OnOk result (self.new.sessions ≡ self.old.sessions + 1) }
         ensures no_more_sessions { OnErr result (self.new.sessions ≡ self.old.sessions) }
         ensures entered { self.new.entered ≡ self.old.entered }
@@ -240,14 +214,9 @@ impl<L: Round, P: Payload> Locked<L, P> {
     /// any more; else `OutOfMemory` alone. The store and the receipts are then as they were, and nothing is refused on
     /// the way.
     pub fn leave(&mut self, session: &mut Session<L>) -> Result<u64, ApplyFault>
-        ensures left { OnOk result (HasLeft session.old.worker self.old.store self.new.store) }
-        ensures receipts { OnOk result (AddsReceipts session.old session.new (length self.old.store.entries) (leaving (graph_of_store self.old.store) session.old.worker)) }
-        ensures count { (g : ProtectionGraph) → StandsFor self.old.store g → IfOk result (λ count. count ≡ length (listing_of g.label g.made session.old.worker)) }
-        ensures no_such_worker { (g : ProtectionGraph) → StandsFor self.old.store g → (result ≡ Err ApplyFault.NoSuchWorker) ↔ (¬ IsSubject g session.old.worker) }
-        ensures never_full { result ≢ Err ApplyFault.HeapFull }
-        ensures refused { OnErr result (RecordsNothing self.old.store self.new.store session.old session.new) }
-        ensures sessions { self.new.sessions ≡ self.old.sessions }
-        ensures entered { self.new.entered ≡ self.old.entered }
+        ensures ended { EndsWorker session.old.worker self.old.store self.new.store result }
+        ensures noted { NotesLeaving self.old.store session.old session.new result }
+        ensures numbers { KeepsNumbers self.old self.new }
     {
         let at = self.store.journal().len();
         let worker = session.worker();
@@ -269,12 +238,9 @@ impl<L: Round, P: Payload> Locked<L, P> {
     /// nothing is refused on the way.
     pub fn end(&mut self, worker: u64) -> Result<u64, ApplyFault>
         requires may_end { L.start.may_end ≡ true }
-        ensures left { OnOk result (HasLeft worker self.old.store self.new.store) }
-        ensures count { (g : ProtectionGraph) → StandsFor self.old.store g → IfOk result (λ count. count ≡ length (listing_of g.label g.made worker)) }
+        ensures ended { EndsWorker worker self.old.store self.new.store result }
         ensures entered { IfOk result (λ count. self.new.entered ≡ self.old.entered + (count + 1)) }
-        ensures no_such_worker { (g : ProtectionGraph) → StandsFor self.old.store g → (result ≡ Err ApplyFault.NoSuchWorker) ↔ (¬ IsSubject g worker) }
-        ensures never_full { result ≢ Err ApplyFault.HeapFull }
-        ensures refused { OnErr result (IsUnchanged self.old.store self.new.store × (self.new.entered ≡ self.old.entered)) }
+        ensures none_entered { OnErr result (self.new.entered ≡ self.old.entered) }
         ensures sessions { self.new.sessions ≡ self.old.sessions }
     {
         let count = self.store.leave(worker)?;
@@ -311,18 +277,14 @@ impl<L: Round, P: Payload> Locked<L, P> {
         requires in_parts { L.start.in_parts ≡ true }
         ensures entries { result.entries ≡ self.old.store.entries }
         ensures start { result.start ≡ self.old.store.handed }
-        ensures handed_out { HandsOut self.old.store self.new.store }
-        ensures sessions { self.new.sessions ≡ self.old.sessions }
-        ensures entered { self.new.entered ≡ self.old.entered }
+        ensures handed_out { self.new ≡ record self.old { store = record self.old.store { handed = length self.old.store.entries } } }
     {
         self.store.take_journal()
     }
 
     /// Collects the heap, by one call of the store. The journal stays as it is, and no session is touched.
     pub fn collect(&mut self, kind: Kind) -> Result<u64, RoomFault>
-        ensures swept { IfOk result (IsSwept kind self.old.store self.new.store) }
-        ensures blocks { OnOk result (HasFewBlocks kind 0 self.old.store.heap.table self.new.store.heap.table) }
-        ensures kept { KeepsLocked self.old self.new result }
+        ensures collected { Collects kind 0 self.old self.new result }
         ensures full { result ≡ Err RoomFault.HeapFull →
             LacksRoomToCollect kind 1 self.old.store.heap }
     {

@@ -1,6 +1,7 @@
 //! The store behind its lock, from sharing it to closing it.
 ghost use Rattle.std.specs.Prelude.{◌≡◌, ◌<◌, ◌≤◌, ◌+◌, false, IfOk, IfErr, IsErrAnd, drop, length};
 ghost use Rattle.tg_store.specs.Store.{IsFaithful};
+ghost use Rattle.tg_shared.specs.Closing.{IsGivenBack};
 ghost use Rattle.tg_shared.specs.Sessions.{AreFresh, AreSharedOut, AtSome, GoesOn, MayClose, count_of, handed_of, held_from, parts_of, sessions_made, subjects_at};
 
 use crate::closing::{CloseFault, LockedRefused};
@@ -111,14 +112,11 @@ pub fn close<L: Round, P: Payload>(
     store: SharedStore<L, P>,
     sessions: Vec<Session<L>>,
 ) -> Result<Store<P>, CloseRefused<L, P>>
-    ensures matching { IfOk result (λ store. MayClose store.entries (held_from L.start store) sessions.items) }
-    ensures at_least { IfOk result (λ store. length L.start.entries + handed_of sessions.items + count_of sessions.items ≤ length store.entries) }
+    ensures back { IfOk result (IsGivenBack L.start sessions.items) }
     ensures count { L.start.may_end ≡ false → IfOk result (λ store. length store.entries ≡ length L.start.entries + handed_of sessions.items + count_of sessions.items) }
     ensures shared_out { L.start.may_end ≡ false → IfOk result (λ store. length L.start.entries + handed_of sessions.items ≡ held_from L.start store →
         AreSharedOut (drop (held_from L.start store) store.entries) sessions.items) }
     ensures none_handed { L.start.may_end ≡ false → IfOk result (λ store. handed_of sessions.items ≡ 0 → held_from L.start store ≡ length L.start.entries) }
-    ensures faithful { IfOk result IsFaithful }
-    ensures gone_on { IfOk result (GoesOn L.start) }
     ensures all { IfOk result (λ store. parts_of sessions.items ≡ sessions_made L.start store.entries) }
     ensures missing { IfErr result (λ refused. refused.why ≡ CloseFault.SessionsMissing → AtSome L.start (λ s. parts_of sessions.items < sessions_made L.start s.entries)) }
     ensures too_few { parts_of sessions.items < length (subjects_at L.start) → IsErrAnd result (λ refused. refused.why ≡ CloseFault.SessionsMissing) }
@@ -139,7 +137,7 @@ pub fn close<L: Round, P: Payload>(
 
 /// Takes a store back whose sessions may be lost, where the receipts of those given back are right: each matches the
 /// journal, and no two sessions are of one worker. The journal has then grown by as many entries at least as these have
-/// receipts (`at_least`), and by exactly as many where none is missing and no worker was ended. It is
+/// receipts (`back`), and by exactly as many where none is missing and no worker was ended. It is
 /// [`SharedStore::into_locked`] and [`Locked::reclaim`] in a row, and the store that was shared, gone on.
 ///
 /// `ReceiptMismatch` is answered only where the sessions may not close with some journal that may have been behind the
@@ -149,13 +147,10 @@ pub fn reclaim<L: Round, P: Payload>(
     store: SharedStore<L, P>,
     sessions: Vec<Session<L>>,
 ) -> Result<Store<P>, CloseRefused<L, P>>
-    ensures matching { IfOk result (λ store. MayClose store.entries (held_from L.start store) sessions.items) }
+    ensures back { IfOk result (IsGivenBack L.start sessions.items) }
     ensures within { IfOk result (λ store. parts_of sessions.items ≤ sessions_made L.start store.entries) }
-    ensures at_least { IfOk result (λ store. length L.start.entries + handed_of sessions.items + count_of sessions.items ≤ length store.entries) }
     ensures count { L.start.may_end ≡ false → IfOk result (λ store. parts_of sessions.items ≡ sessions_made L.start store.entries →
         length store.entries ≡ length L.start.entries + handed_of sessions.items + count_of sessions.items) }
-    ensures faithful { IfOk result IsFaithful }
-    ensures gone_on { IfOk result (GoesOn L.start) }
     ensures mismatch { IfErr result (λ refused. (refused.why ≡ CloseFault.ReceiptMismatch) × AtSome L.start (λ s.
         (length L.start.entries + count_of sessions.items ≤ length s.entries) × (¬ MayClose s.entries (held_from L.start s) sessions.items))) }
     ensures handed_back { IfErr result (λ refused. refused.sessions.items ≡ sessions.items) }

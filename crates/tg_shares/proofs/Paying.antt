@@ -11,7 +11,6 @@ use Rattle.tg_model.specs.Rules.{step}
 use Rattle.tg_model.proofs.AllowedLaws.{create_cases, plain_cases, spawn_cases}
 use Rattle.tg_journal.specs.History.{graph_after}
 use Rattle.tg_journal.proofs.HistoryLaws.{graph_after-limit}
-use Rattle.tg_store.specs.Leaving.{HasLeft}
 use Rattle.tg_store.specs.Store.{StoreState, Enters, graph_of_store}
 use Rattle.tg_store.proofs.StandLaws.{graph-entered}
 use Rattle.tg_shared.specs.Sessions.{Records, RecordsNothing, SessionState}
@@ -61,22 +60,8 @@ covered_one left next old new worker deed reply held entry opening paid =
     let limit = limit_kept old new opening in
     omega (arith, grows, one, limit, held, paid)
 
--- who leaves makes none
-pub covered_left : (left : ℕ) (old new : StoreState) (worker : ℕ) → IsCovered left old → HasLeft worker old new → IsCovered left new
-covered_left left old new worker held has =
-    let made = ap (λ (g : ProtectionGraph). g.made) has.graph in
-    let limit = limit_kept old new has.opening in
-    omega (arith, made, limit, held)
-
 -- who has a vertex in its purse finds a name
 pub name_left : (left vertices : ℕ) (s : StoreState) → IsCovered left s → 0 < vertices → vertices ≤ left → (graph_of_store s).limit ≤ (graph_of_store s).made → ⊥
 name_left left vertices s held some within full =
     let limit : (graph_of_store s).limit ≡ s.opening.limit = graph_after-limit (start_of s.opening) s.entries in
     omega (arith, limit, held, some, within, full)
-
--- nor who is refused
-pub covered_graph : (left : ℕ) (old new : StoreState) → IsCovered left old → graph_of_store new ≡ graph_of_store old → new.opening ≡ old.opening → IsCovered left new
-covered_graph left old new held same opening =
-    let made = ap (λ (g : ProtectionGraph). g.made) same in
-    let limit = limit_kept old new opening in
-    omega (arith, made, limit, held)

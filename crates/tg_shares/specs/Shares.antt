@@ -1,5 +1,5 @@
 -- What is paid out of a purse, and what holds behind the lock of a store whose vertices are shared out.
-use Rattle.std.specs.Prelude.{◌≡◌, ◌<◌, ◌≤◌, ◌+◌, ℕ}
+use Rattle.std.specs.Prelude.{◌≡◌, ◌<◌, ◌≤◌, ◌+◌, ℕ, Result, OnErr, OnOk}
 use Rattle.std.specs.declared.sync.ledger.Blank.{Blank}
 use Rattle.tg_store.specs.Store.{StoreState, graph_of_store}
 use Rattle.tg_shares.specs.declared.fault.Lack.{Lack}
@@ -19,6 +19,11 @@ one_vertex = record { vertices = 1; entries = 1 }
 pub record Pays (part old new : Portion) : Type 0 where
   pub vertices : new.vertices + part.vertices ≡ old.vertices
   pub entries : new.entries + part.entries ≡ old.entries
+
+-- exactly this was taken for what was done, and nothing where it is refused
+pub record PaysFor {T E : Type 0} (part old new : Portion) (result : Result T E) : Type 0 where
+  pub paid : OnOk result (Pays part old new)
+  pub unpaid : OnErr result (new ≡ old)
 
 -- A purse has too few of these for a vertex with its entry, and for handing a part on besides. Of vertices it is said first.
 abbrev pub LacksToMake : Portion → Portion → Lack → Type 0

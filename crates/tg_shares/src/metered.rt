@@ -1,5 +1,5 @@
 //! What is behind the lock, and what each call does to it.
-ghost use Rattle.std.specs.Prelude.{◌≡◌, ◌≢◌, ◌↔◌, ◌<◌, Err, IfOk, IfErr, OnOk, OnErr, length};
+ghost use Rattle.std.specs.Prelude.{◌≡◌, ◌≢◌, ◌<◌, Err, IfOk, IfErr, OnOk, OnErr};
 ghost use Rattle.tg_shares.specs.Shares.{IsCovered};
 
 use crate::purse::{Portion, Purse, Till};
@@ -31,17 +31,13 @@ pub struct Opened<L: Round, V: Ledger, P: Payload> {
 }
 
 impl<L: Round, V: Ledger, P: Payload> Metered<L, V, P> {
-    ghost use Rattle.tg_model.specs.Graph.{ProtectionGraph, IsSubject, listing_of};
-    ghost use Rattle.tg_model.specs.Rules.{IsAllowed, answer_of, step};
-    ghost use Rattle.tg_graph.specs.Heap.{nursery_of};
-    ghost use Rattle.tg_rules.specs.Effect.{AddsEdge, LacksCellsToServe};
-    ghost use Rattle.tg_store.specs.Collecting.{IsSwept};
-    ghost use Rattle.tg_store.specs.Leaving.{HasLeft, leaving};
-    ghost use Rattle.tg_store.specs.Made.{IsMadeFor, MayRefuse};
+    ghost use Rattle.tg_model.specs.Graph.{ProtectionGraph};
+    ghost use Rattle.tg_store.specs.Made.{MayRefuse};
     ghost use Rattle.tg_store.specs.Room.{LacksRoomToCollect};
-    ghost use Rattle.tg_store.specs.Store.{StandsFor, graph_of_store};
-    ghost use Rattle.tg_shared.specs.Sessions.{AddsReceipts, AreFresh, IsFresh, KeepsLocked, MayNote, MayShare, Records, RecordsNothing};
-    ghost use Rattle.tg_shares.specs.Shares.{MayShareOut, Pays, one_entry, one_vertex};
+    ghost use Rattle.tg_store.specs.Store.{StandsFor};
+    ghost use Rattle.tg_shared.specs.Serving.{Collects, EndsWorker, IsMadeAndNoted, NotesLeaving, ServesCommand};
+    ghost use Rattle.tg_shared.specs.Sessions.{AreFresh, IsFresh, MayNote, MayShare, Records, RecordsNothing};
+    ghost use Rattle.tg_shares.specs.Shares.{MayShareOut, Pays, PaysFor, one_entry, one_vertex};
 
     /// Shares a store as [`Locked::open`] does, and hands out a purse with so many vertices and entries, which all are
     /// made out of from then on. The first blank is that of the sessions; the second has as many parts as the purse has
@@ -84,14 +80,8 @@ impl<L: Round, V: Ledger, P: Payload> Metered<L, V, P> {
     ) -> Result<(), ApplyFault>
         requires room { 0 < session.old.spare }
         requires share { 0 < purse.old.entries }
-        ensures entry { (g : ProtectionGraph) → StandsFor self.old.locked.store g → OnOk result (Records self.old.locked.store self.new.locked.store session.old session.new (Deed.Plain command) (answer_of g session.old.worker (Deed.Plain command))) }
-        ensures step { (g : ProtectionGraph) → StandsFor self.old.locked.store g → OnOk result (StandsFor self.new.locked.store (step g session.old.worker (Deed.Plain command))) }
-        ensures no_such_worker { (g : ProtectionGraph) → StandsFor self.old.locked.store g → (result ≡ Err ApplyFault.NoSuchWorker) ↔ (¬ IsSubject g session.old.worker) }
-        ensures full { (g : ProtectionGraph) → StandsFor self.old.locked.store g → result ≡ Err ApplyFault.HeapFull →
-            IsAllowed g session.old.worker (Deed.Plain command) × AddsEdge command × LacksCellsToServe self.old.locked.store.heap.table (nursery_of self.old.locked.store.heap session.old.worker) session.old.worker command }
-        ensures refused { OnErr result (RecordsNothing self.old.locked.store self.new.locked.store session.old session.new) }
-        ensures paid { OnOk result (Pays one_entry purse.old purse.new) }
-        ensures unpaid { OnErr result (purse.new ≡ purse.old) }
+        ensures served { ServesCommand command self.old.locked.store self.new.locked.store session.old session.new result }
+        ensures paid { PaysFor one_entry purse.old purse.new result }
     {
         match self.locked.apply(session, command) {
             Ok(()) => {
@@ -114,14 +104,12 @@ impl<L: Round, V: Ledger, P: Payload> Metered<L, V, P> {
     ) -> Result<u64, CreateRefused<P>>
         requires notable { MayNote session.old draft.state }
         requires share { (0 < purse.old.vertices) × (0 < purse.old.entries) }
-        ensures entry { IfOk result (λ name. Records self.old.locked.store self.new.locked.store session.old session.new (Deed.Create label draft.law draft.state) (Reply.Name name)) }
-        ensures made { IfOk result (IsMadeFor (Deed.Create label draft.law draft.state) session.old.worker label draft self.old.locked.store self.new.locked.store) }
+        ensures served { IfOk result (IsMadeAndNoted (Deed.Create label draft.law draft.state) label draft self.old.locked.store self.new.locked.store session.old session.new) }
         ensures refusals { MayRefuse (Deed.Create label draft.law draft.state) session.old.worker draft self.old.locked.store self.new.locked.store result }
         ensures never_full { IfErr result (λ refused. refused.why ≢ CreateFault.VerticesFull) }
         ensures no_workers_full { IfErr result (λ refused. refused.why ≢ CreateFault.WorkersFull) }
         ensures refused { OnErr result (RecordsNothing self.old.locked.store self.new.locked.store session.old session.new) }
-        ensures paid { OnOk result (Pays one_vertex purse.old purse.new) }
-        ensures unpaid { OnErr result (purse.new ≡ purse.old) }
+        ensures paid { PaysFor one_vertex purse.old purse.new result }
     {
         // It tells that what is in the purse is left.
         purse.tell(&mut self.till);
@@ -147,9 +135,7 @@ impl<L: Round, V: Ledger, P: Payload> Metered<L, V, P> {
     ) -> Result<Session<L>, CreateRefused<P>>
         requires notable { MayNote session.old draft.state }
         requires share { (0 < purse.old.vertices) × (0 < purse.old.entries) }
-        ensures entry { IfOk result (λ fresh. Records self.old.locked.store self.new.locked.store session.old session.new (Deed.Spawn label draft.law draft.state) (Reply.Name fresh.worker)) }
-        ensures fresh { IfOk result IsFresh }
-        ensures made { IfOk result (λ fresh. IsMadeFor (Deed.Spawn label draft.law draft.state) session.old.worker label draft self.old.locked.store self.new.locked.store fresh.worker) }
+        ensures served { IfOk result (λ fresh. IsFresh fresh × IsMadeAndNoted (Deed.Spawn label draft.law draft.state) label draft self.old.locked.store self.new.locked.store session.old session.new fresh.worker) }
         ensures refusals { MayRefuse (Deed.Spawn label draft.law draft.state) session.old.worker draft self.old.locked.store self.new.locked.store result }
         ensures never_full { IfErr result (λ refused. refused.why ≢ CreateFault.VerticesFull) }
         ensures too_many_entry { IfErr result (λ refused. refused.why ≡ CreateFault.WorkersFull →
@@ -178,20 +164,15 @@ impl<L: Round, V: Ledger, P: Payload> Metered<L, V, P> {
     /// The session's worker leaves, by one call of [`Locked::leave`]. Nothing is paid for, so nobody is kept by an
     /// empty purse; what is free in its own is for who merges it.
     pub fn leave(&mut self, session: &mut Session<L>) -> Result<u64, ApplyFault>
-        ensures left { OnOk result (HasLeft session.old.worker self.old.locked.store self.new.locked.store) }
-        ensures receipts { OnOk result (AddsReceipts session.old session.new (length self.old.locked.store.entries) (leaving (graph_of_store self.old.locked.store) session.old.worker)) }
-        ensures count { (g : ProtectionGraph) → StandsFor self.old.locked.store g → IfOk result (λ count. count ≡ length (listing_of g.label g.made session.old.worker)) }
-        ensures no_such_worker { (g : ProtectionGraph) → StandsFor self.old.locked.store g → (result ≡ Err ApplyFault.NoSuchWorker) ↔ (¬ IsSubject g session.old.worker) }
-        ensures never_full { result ≢ Err ApplyFault.HeapFull }
-        ensures refused { OnErr result (RecordsNothing self.old.locked.store self.new.locked.store session.old session.new) }
+        ensures ended { EndsWorker session.old.worker self.old.locked.store self.new.locked.store result }
+        ensures noted { NotesLeaving self.old.locked.store session.old session.new result }
     {
         self.locked.leave(session)
     }
 
     /// Collects the heap, by one call of [`Locked::collect`]. Nothing is paid for.
     pub fn collect(&mut self, kind: Kind) -> Result<u64, RoomFault>
-        ensures swept { IfOk result (IsSwept kind self.old.locked.store self.new.locked.store) }
-        ensures kept { KeepsLocked self.old.locked self.new.locked result }
+        ensures collected { Collects kind 0 self.old.locked self.new.locked result }
         ensures full { result ≡ Err RoomFault.HeapFull → LacksRoomToCollect kind 1 self.old.locked.store.heap }
     {
         self.locked.collect(kind)

@@ -1,5 +1,8 @@
-use Rattle.tg_shared.proofs.PartLaws.{kept_share_out}
+use Rattle.std.proofs.lemmas.List.Elements.{All-weaker}
+use Rattle.tg_shared.specs.Sessions.{KeptInParts, MatchesSince}
+use Rattle.tg_shared.proofs.PartLaws.{since_kept}
+use Rattle.tg_shared.proofs.Sharing.{shared_out}
 use Rattle.tg_shared.proofs.laws.kept_parts_share_out.Goals as goal
 
 pub returns : goal.returns
-returns c = kept_share_out
+returns c = λ entries first parts ss are kept apart. shared_out entries first ss (record { matching = All-weaker (KeptInParts parts) (MatchesSince entries first) (λ s. since_kept entries first parts s are) ss kept; apart = apart })

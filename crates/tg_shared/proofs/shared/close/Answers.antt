@@ -1,19 +1,12 @@
 use Rattle.std.proofs.Common.{◌≡◌, ◌<◌, ◌≤◌, ◌+◌, ◌∙◌, ℕ, List, false, length, drop, arith, sym, subst}
 use Rattle.tg_store.specs.Store.{StoreState}
-use Rattle.tg_shared.specs.Sessions.{AreSharedOut, GoesOn, MayClose, SessionState, count_of, handed_of, held_from, parts_of, sessions_made}
+use Rattle.tg_shared.specs.Closing.{IsGivenBack}
+use Rattle.tg_shared.specs.Sessions.{AreSharedOut, SessionState, count_of, handed_of, held_from, parts_of, sessions_made}
+use Rattle.tg_shared.proofs.Sharing.{among, as_counted, still_among}
 use Rattle.tg_shared.proofs.shared.close.Goals as goal
 
 lt-le : {a b d : ℕ} → a < b → b ≤ d → a < d
 lt-le low le = omega (arith, low, le)
-
-no_more : (start entered handed count entries : ℕ) → entries ≡ start + entered + handed + count → start + handed + count ≤ entries
-no_more start entered handed count entries counted = omega arith
-
-as_counted : (start entered handed count entries : ℕ) → entries ≡ start + entered + handed + count → entered ≡ 0 → entries ≡ start + handed + count
-as_counted start entered handed count entries counted none = omega arith
-
-within_all : (start entered count entries : ℕ) → start + entered + count ≤ entries → start + count ≤ entries
-within_all start entered count entries least = omega arith
 
 pub returns-in-Ok : goal.returns-in-Ok
 returns-in-Ok g c =
@@ -22,15 +15,18 @@ returns-in-Ok g c =
     let locked = c.into_locked-locked.result in
     let here : ℕ = length locked.store.entries in
     let none : g.L.Round.start.may_end ≡ false → locked.entered ≡ 0 = c.into_locked-locked.ensures.none_ended in
-    let same : locked.store ≡ c.in-Ok.store = sym c.in-Ok.ensures.store in
+    let ends = c.in-Ok.ensures.ends in
+    let same : locked.store ≡ c.in-Ok.store = sym ends.store in
     record {
-      matching = subst (λ (s : StoreState). MayClose s.entries (held_from g.L.Round.start s) items) same c.in-Ok.ensures.matching;
-      at_least = subst (λ (s : StoreState). start + handed_of items + count_of items ≤ length s.entries) same (no_more start locked.entered (handed_of items) (count_of items) here c.in-Ok.ensures.count);
+      back = subst (IsGivenBack g.L.Round.start items) same (record {
+        matching = ends.matching;
+        at_least = among start locked.entered (handed_of items) (count_of items) here (omega (arith, c.in-Ok.ensures.count));
+        faithful = c.into_locked-locked.ensures.faithful;
+        gone_on = ends.gone_on;
+      });
       count = λ no. subst (λ (s : StoreState). length s.entries ≡ start + handed_of items + count_of items) same (as_counted start locked.entered (handed_of items) (count_of items) here c.in-Ok.ensures.count (none no));
       shared_out = λ no. subst (λ (s : StoreState). start + handed_of items ≡ held_from g.L.Round.start s → AreSharedOut (drop (held_from g.L.Round.start s) s.entries) items) same (c.in-Ok.ensures.shared_out (none no));
       none_handed = λ no. subst (λ (s : StoreState). handed_of items ≡ 0 → held_from g.L.Round.start s ≡ start) same (c.in-Ok.ensures.none_handed (none no));
-      faithful = c.journal.ensures.faithful;
-      gone_on = subst (λ (s : StoreState). GoesOn g.L.Round.start s) same c.in-Ok.ensures.gone_on;
       all = subst (λ (s : StoreState). parts_of items ≡ sessions_made g.L.Round.start s.entries) same (c.in-Ok.ensures.all ∙ c.into_locked-locked.ensures.sessions);
       missing = tt;
       too_few = λ few. c.in-Ok.ensures.missing.1 (lt-le few c.into_locked-locked.ensures.started);
@@ -43,8 +39,7 @@ returns-in-Err g c =
     let locked = c.into_locked-locked.result in
     let why = c.back_behind_its_lock.ensures.1 in
     record {
-      matching = tt;
-      at_least = tt;
+      back = tt;
       count = λ _. tt;
       shared_out = λ _. tt;
       none_handed = λ _. tt;
@@ -59,10 +54,8 @@ returns-in-Err g c =
         locked.store,
         c.into_locked-locked.ensures.gone_on,
         c.into_locked-locked.ensures.faithful,
-        (within_all (length g.L.Round.start.entries) locked.entered (count_of c.args.sessions.items) (length locked.store.entries) (c.in-Err.ensures.counted (sym why ∙ is)), (c.in-Err.ensures.mismatch.0 (sym why ∙ is)).1),
+        (still_among (length g.L.Round.start.entries) locked.entered (count_of c.args.sessions.items) (length locked.store.entries) (c.in-Err.ensures.counted (sym why ∙ is)), (c.in-Err.ensures.mismatch.0 (sym why ∙ is)).1),
       );
-      handed_back = c.back_behind_its_lock.ensures.0 ∙ c.in-Err.ensures.handed_back.1;
-      faithful = tt;
-      gone_on = tt;
+      handed_back = c.back_behind_its_lock.ensures.0 ∙ c.in-Err.ensures.ends.handed_back.1;
       all = tt;
     }

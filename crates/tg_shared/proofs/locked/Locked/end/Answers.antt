@@ -1,15 +1,12 @@
 -- What an end leaves behind the lock.
-use Rattle.std.proofs.Common.{◌≡◌, ◌≤◌, ◌<◌, ◌+◌, ◌∙◌, ℕ, length, arith, refl, subst, sym}
+use Rattle.std.proofs.Common.{◌≡◌, ◌+◌, ◌∙◌, ℕ, length, arith, refl, subst, sym}
 use Rattle.tg_model.specs.Graph.{listing_of}
 use Rattle.tg_store.specs.Leaving.{HasLeft}
 use Rattle.tg_store.specs.Store.{StoreState, graph_of_store}
 use Rattle.tg_shared.specs.Sessions.{IsBalanced}
-use Rattle.tg_shared.proofs.Balances.{grown, not_both, part_left}
-use Rattle.tg_shared.proofs.Leavings.{balanced_left, goes_on_left, made_left}
+use Rattle.tg_shared.proofs.Balances.{not_both, part_left, some_part}
+use Rattle.tg_shared.proofs.Leavings.{balanced_left, locked_left}
 use Rattle.tg_shared.proofs.locked.Locked.end.Goals as goal
-
-some_part : (rest : ℕ) → 1 ≤ rest → 0 < rest
-some_part rest least = omega arith
 
 -- what was counted is what was entered
 counted_all : (before now after count row : ℕ) → now ≡ before + (count + 1) → after ≡ now → count ≡ row → after ≡ before + (row + 1)
@@ -40,13 +37,8 @@ invariant_of-self-2 g c =
     let count : c.in_ok-count.count ≡ row = c.in_ok-count.ensures.count (graph_of_store old) refl in
     let all : c.audit.new.self.total ≡ total + (row + 1) = counted_all total c.add.new.self.total c.audit.new.self.total c.in_ok-count.count row c.add.ensures.total c.audit.ensures.total count in
     let parts : c.self.inside.rest.parts ≡ c.audit.new.share.parts = sym (c.audit.ensures.parts ∙ c.add.ensures.parts) in
-    let before : IsBalanced old start c.self.inside.sessions total c.audit.new.share.parts g.L.Ledger.parts = subst (λ (n : ℕ). IsBalanced old start c.self.inside.sessions total n g.L.Ledger.parts) parts c.self.invariant.0 in (
-      balanced_left old new w left start c.self.inside.sessions total c.audit.new.self.total c.audit.new.share.parts g.L.Ledger.parts before all,
-      c.self.invariant.1,
-      (
-        amount_is c.self.inside.rest.amount c.add.new.share.amount c.audit.new.share.amount c.self.inside.entered c.in_ok-count.count c.add.ensures.amount c.audit.ensures.amount c.self.invariant.2.0,
-        λ never. absurd (not_both g.L.Round.start.may_end c.requires.may_end never),
-      ),
-      goes_on_left old new w left g.L.Round.start c.self.invariant.3,
-      made_left old new w left g.L.Round.start c.self.inside.sessions (grown g.L.Round.start old c.self.invariant.3) c.self.invariant.4,
+    let before : IsBalanced old start c.self.inside.sessions total c.audit.new.share.parts g.L.Ledger.parts = subst (λ (n : ℕ). IsBalanced old start c.self.inside.sessions total n g.L.Ledger.parts) parts c.self.invariant.0 in
+    locked_left old new w left g.L.Round.start start c.self.inside.sessions total c.audit.new.self.total c.audit.new.share.parts g.L.Ledger.parts (before, c.self.invariant.1, c.self.invariant.2, c.self.invariant.3, c.self.invariant.4) all (
+      amount_is c.self.inside.rest.amount c.add.new.share.amount c.audit.new.share.amount c.self.inside.entered c.in_ok-count.count c.add.ensures.amount c.audit.ensures.amount c.self.invariant.2.0,
+      λ never. absurd (not_both g.L.Round.start.may_end c.requires.may_end never),
     )

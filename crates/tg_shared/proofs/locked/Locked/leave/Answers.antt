@@ -1,35 +1,29 @@
 -- What a leave leaves behind the lock, and what its session knows then.
-use Rattle.std.proofs.Common.{◌≡◌, ◌∙◌, ◌+◌, ℕ, List, length, ap, refl, subst, sym}
+use Rattle.std.proofs.Common.{◌≡◌, ◌∙◌, ◌+◌, ℕ, List, length, Err, Ok, ap, refl, subst, sym}
 use Rattle.std.proofs.lemmas.Result.{err_from_is_err_and}
 use Rattle.tg_rights.specs.RightSet.{RightSet}
 use Rattle.tg_model.specs.Graph.{IsSubject, listing_of}
-use Rattle.tg_store.specs.declared.fault.ApplyFault.{ApplyFault}
 use Rattle.tg_store.specs.Leaving.{HasLeft}
-use Rattle.tg_store.specs.Store.{StandsFor, StoreState, graph_of_store}
+use Rattle.tg_store.specs.Store.{StoreState, graph_of_store}
+use Rattle.tg_shared.specs.Serving.{EndsWorker}
 use Rattle.tg_shared.specs.Sessions.{LockedState}
-use Rattle.tg_shared.proofs.Balances.{grown}
-use Rattle.tg_shared.proofs.Calls.{came_as, goes_as, ok_not_err}
-use Rattle.tg_shared.proofs.Leavings.{balanced_left, goes_on_left, gone_left, made_left}
+use Rattle.tg_shared.proofs.Leavings.{goes_on_left, gone_left, locked_left}
+use Rattle.tg_shared.proofs.Replies.{ends}
 use Rattle.tg_shared.proofs.locked.Locked.leave.Goals as goal
 
-pub returns-in_err-count-clause-no_such_worker : goal.returns-in_err-count-clause-no_such_worker
-returns-in_err-count-clause-no_such_worker g c =
+pub returns-in_err-count-clause-ended : goal.returns-in_err-count-clause-ended
+returns-in_err-count-clause-ended g c =
     let given = err_from_is_err_and c.from_residual-in_err-count.result c.from_residual-in_err-count.ensures.1 in
-    let worker : c.worker-worker.result ≡ c.args.session.now.worker = c.worker-worker.ensures in
-    λ graph stands.
-    let here : StandsFor c.self.inside.store graph = ap (λ (b : LockedState). graph_of_store b.store) c.self.view_is ∙ stands in
-    let told = c.in_err-count.ensures.no_such_worker graph here in (
-      (λ same subject. told.0 (came_as given.1 given.2 same) (subst (λ (w : ℕ). IsSubject graph w) (sym worker) subject)),
-      (λ none. let is = told.1 (λ subject. none (subst (λ (w : ℕ). IsSubject graph w) worker subject)) in goes_as given.1 given.2 is),
-    )
+    let told = c.in_err-count.ensures in
+    subst (EndsWorker c.args.session.now.worker c.args.self.now.store c.leave.new.self) (sym (given.1 ∙ ap Err given.2))
+    (subst (λ (b : LockedState). EndsWorker c.args.session.now.worker b.store c.leave.new.self (Err c.in_err-count.field-0.0)) c.self.view_is
+    (ends c.self.inside.store c.leave.new.self c.worker-worker.result c.args.session.now.worker (Err c.in_err-count.field-0.0) c.worker-worker.ensures tt (λ _ _. tt) told.no_such_worker told.never_full told.refused))
 
-pub returns-clause-no_such_worker : goal.returns-clause-no_such_worker
-returns-clause-no_such_worker g c = λ graph stands.
-    let here : StandsFor c.self.inside.store graph = ap (λ (b : LockedState). graph_of_store b.store) c.self.view_is ∙ stands in
-    let told = c.in_ok-count.ensures.no_such_worker graph here in (
-      (λ is. absurd (ok_not_err c.in_ok-count.count ApplyFault.NoSuchWorker is)),
-      (λ none. absurd (ok_not_err c.in_ok-count.count ApplyFault.NoSuchWorker (told.1 (λ subject. none (subst (λ (w : ℕ). IsSubject graph w) c.worker-worker.ensures subject))))),
-    )
+pub returns-clause-ended : goal.returns-clause-ended
+returns-clause-ended g c =
+    let told = c.in_ok-count.ensures in
+    subst (λ (b : LockedState). EndsWorker c.args.session.now.worker b.store c.leave.new.self (Ok c.in_ok-count.count)) c.self.view_is
+    (ends c.self.inside.store c.leave.new.self c.worker-worker.result c.args.session.now.worker (Ok c.in_ok-count.count) c.worker-worker.ensures told.left told.count told.no_such_worker told.never_full tt)
 
 pub note_leaving-requires-clause-gone : goal.note_leaving-requires-clause-gone
 note_leaving-requires-clause-gone g c =
@@ -50,10 +44,5 @@ invariant_of-self-2 g c =
     let w = c.worker-worker.result in
     let left : HasLeft w old new = c.in_ok-count.ensures.left in
     let row : c.in_ok-row.row ≡ listing_of (graph_of_store old).label (graph_of_store old).made w = c.in_ok-row.ensures.edges (graph_of_store old) refl in
-    let counted = c.note_leaving.ensures.book ∙ ap (λ (es : List (ℕ × RightSet)). c.self.inside.book.total + (length es + 1)) row in (
-      balanced_left old new w left (length g.L.Round.start.entries) c.self.inside.sessions c.self.inside.book.total c.note_leaving.new.book.total c.self.inside.rest.parts g.L.Ledger.parts c.self.invariant.0 counted,
-      c.self.invariant.1,
-      c.self.invariant.2,
-      goes_on_left old new w left g.L.Round.start c.self.invariant.3,
-      made_left old new w left g.L.Round.start c.self.inside.sessions (grown g.L.Round.start old c.self.invariant.3) c.self.invariant.4,
-    )
+    locked_left old new w left g.L.Round.start (length g.L.Round.start.entries) c.self.inside.sessions c.self.inside.book.total c.note_leaving.new.book.total c.self.inside.rest.parts g.L.Ledger.parts c.self.invariant
+    (c.note_leaving.ensures.book ∙ ap (λ (es : List (ℕ × RightSet)). c.self.inside.book.total + (length es + 1)) row) c.self.invariant.2

@@ -1,21 +1,17 @@
-use Rattle.std.proofs.Common.{◌≡◌, ◌≤◌, ◌<◌, ◌+◌, ◌^◌, ◌∙◌, List, ℕ, length, map, ap, refl, sym, subst, arith}
+use Rattle.std.proofs.Common.{◌≡◌, ◌≤◌, ◌<◌, ◌+◌, ◌∙◌, List, ℕ, length, map, ap, refl, sym, subst, arith}
 use Rattle.std.proofs.lemmas.List.{length-map}
 use Rattle.tg_subjects.specs.declared.subject.Subject.{Subject}
 use Rattle.tg_journal.proofs.HistoryLaws.{made-opened}
 use Rattle.tg_journal.specs.declared.entry.Entry.{Entry}
 use Rattle.tg_store.specs.Store.{graph_of_store}
 use Rattle.tg_shared.specs.Sessions.{SessionState, SharedStart, AreFresh, sessions_made, subjects_at}
-use Rattle.tg_shared.proofs.Balances.{active_made, goes_on_start, sessions_start}
+use Rattle.tg_shared.proofs.Balances.{active_made, goes_on_start, sessions_start, within_word}
 use Rattle.tg_shared.proofs.locked.Locked.open.Goals as goal
 
 pub returns-clause-sessions : goal.returns-clause-sessions
 returns-clause-sessions g c =
     let ss : List SessionState = c.in-Ok.sessions.items in
     λ graph stands. subst (λ (l : List ℕ). AreFresh l ss) (c.subjects.ensures.names graph stands) c.in-Ok.ensures.fresh
-
--- a ledger's parts are a 64-bit number
-fits : (limit parts ledger : ℕ) → limit ≤ 281474976710656 → parts ≡ limit + 1 → parts ≡ ledger → ledger < 2 ^ 64
-fits limit parts ledger within are same = omega (arith, within, are, same)
 
 few_enough : (subjects made limit parts : ℕ) → subjects ≤ made → made ≤ limit → parts ≡ limit + 1 → subjects < parts
 few_enough subjects made limit parts low within are = omega arith
@@ -27,7 +23,7 @@ sessions_of-requires g c =
     let low : length c.subjects.result.now ≤ (graph_of_store c.args.store).made = (let active = active_made c.args.store faithful in omega (arith, active, names)) in
     let within = made-opened c.args.store.opening c.args.store.entries faithful.plan in
     let parts : c.open-book.result.1.parts ≡ c.args.store.opening.limit + 1 = c.open-book.ensures.parts ∙ (sym c.requires.shareable.parts.0 ∙ c.requires.shareable.parts.1) in
-    (few_enough (length c.subjects.result.now) (graph_of_store c.args.store).made c.args.store.opening.limit c.open-book.result.1.parts low within parts, c.open-book.ensures.amount, fits c.args.store.opening.limit c.open-book.result.1.parts g.L.Ledger.parts faithful.plan.limits.1 parts c.open-book.ensures.parts)
+    (few_enough (length c.subjects.result.now) (graph_of_store c.args.store).made c.args.store.opening.limit c.open-book.result.1.parts low within parts, c.open-book.ensures.amount, within_word c.args.store.opening.limit g.L.Ledger.parts faithful.plan.limits.1 (sym c.requires.shareable.parts.0 ∙ c.requires.shareable.parts.1))
 
 pub invariant_of-locked : goal.invariant_of-locked
 invariant_of-locked g c =

@@ -1,4 +1,4 @@
-use Rattle.std.proofs.Common.{◌≡◌, ◌<◌, ◌≤◌, ◌+◌, ◌∙◌, ◌++◌, ◌∷◌, [], Bool, ℕ, List, true, false, drop, length, take, append_assoc, append-nil, arith, refl, sym, ap, subst}
+use Rattle.std.proofs.Common.{◌≡◌, ◌≤◌, ◌+◌, ◌∙◌, ◌++◌, ◌∷◌, [], ℕ, List, true, false, drop, length, take, append_assoc, append-nil, arith, refl, sym, ap, subst}
 use Rattle.std.proofs.lemmas.List.{nil_from_length, take-append-le}
 use Rattle.std.proofs.Math.Seq.{take-length}
 use Rattle.std.proofs.lemmas.List.Sums.{sum_by-append, sum_by-cons}
@@ -6,16 +6,14 @@ use Rattle.std.proofs.Common.{max, ◌-◌}
 use Rattle.std.proofs.Math.Nat.{le-max_left, le-max_right, max-le}
 use Rattle.tg_journal.specs.declared.entry.Entry.{Entry}
 use Rattle.tg_shared.specs.Sessions.{GoesOn, IsBalanced, LockedState, MayClose, SessionState, count_of, handed_of, held_from, parts_of}
-use Rattle.tg_shared.proofs.Balances.{part_left}
-use Rattle.tg_shared.proofs.Sharing.{held_at_most, shared_out}
+use Rattle.tg_shared.proofs.Balances.{not_both, part_left, some_part}
+use Rattle.tg_shared.proofs.Sharing.{as_counted, held_at_most, shared_out}
+use Rattle.tg_shared.proofs.Calls.{not_refused}
 use Rattle.tg_shared.proofs.locked.Locked.reclaim.Goals as goal
 
 -- what a journal has handed out is not behind the place from which on it is looked at
 held_behind : (start out since since_out journal : ℕ) → since ≡ max start out → out ≡ since_out → journal ≡ since_out → journal ≤ since
 held_behind start out since since_out journal is there here = let most : out ≤ max start out = le-max_right start out in omega arith
-
-some_part : (rest : ℕ) → 1 ≤ rest → 0 < rest
-some_part rest least = omega arith
 
 -- the same sessions close with the same journal
 closes : (es fs : List Entry) (m n : ℕ) (ss ts : List SessionState) → es ≡ fs → m ≡ n → ss ≡ ts → MayClose es m ss → MayClose fs n ts
@@ -35,10 +33,6 @@ counted_once entries start total amount rest entered handed count counted most h
 all_counted : (entries start total amount rest entered handed count : ℕ) → entries ≡ start + total → amount ≡ total → amount ≡ rest + handed + count → rest ≡ entered → entries ≡ start + entered + handed + count
 all_counted entries start total amount rest entered handed count counted whole held is = omega arith
 
--- where no worker was ended
-none_entered : (entries start entered handed count : ℕ) → entries ≡ start + entered + handed + count → entered ≡ 0 → entries ≡ start + handed + count
-none_entered entries start entered handed count counted none = omega arith
-
 -- what is left behind the receipts that were handed out
 held_count : (entries start handed count since : ℕ) → entries ≡ start + handed + count → start + handed ≡ since → entries ≡ since + count
 held_count entries start handed count since counted is = omega arith
@@ -49,12 +43,6 @@ none_gone entries start out handed count since counted fits none is within =
     let most : max start out ≤ entries = max-le {a = start} {b = out} {k = entries} (omega arith) within in
     let least : start ≤ max start out = le-max_left start out in
     omega arith
-
-not_refused : false ≡ true → ⊥
-not_refused is = cc
-
-contrary : (b : Bool) → b ≡ true → b ≡ false → ⊥
-contrary b is isnt = cc
 
 not_yet : (n : ℕ) → n ≡ n + 0
 not_yet n = omega arith
@@ -103,20 +91,22 @@ returns-then-not-may_close g c =
     let here : MayClose c.journal-2.result.now.entries c.max-since.result c.as_slice.result.now =
     closes c.args.self.store.entries c.journal-2.result.now.entries (held_from g.L.Round.start c.args.self.store) c.max-since.result c.args.sessions.items c.as_slice.result.now
     (sym (c.journal-2.ensures.entries ∙ ap (λ (b : LockedState). b.store.entries) c.self.view_is)) (sym since) (sym c.as_slice.ensures.value) may in
-    contrary c.may_close.result (c.may_close.ensures.1 here) c.if-not-may_close.true in
+    not_both c.may_close.result (c.may_close.ensures.1 here) c.if-not-may_close.true in
     record {
-      store = tt;
-      matching = tt;
+      ends = record {
+        gone_on = subst (λ (b : LockedState). GoesOn g.L.Round.start b.store) c.self.view_is c.self.invariant.3;
+        store = tt;
+        matching = tt;
+        handed_back = (c.self.view_is, all_written c.args.sessions.len c.args.sessions.items c.audit_all.new.sessions (c.audit_all.ensures.sessions ∙ c.as_mut_slice.ensures.value) c.args.sessions.ok.0);
+      };
       adds_up = tt;
       shared_out = λ _. tt;
       none_handed = λ _. tt;
-      gone_on = subst (λ (b : LockedState). GoesOn g.L.Round.start b.store) c.self.view_is c.self.invariant.3;
       mismatch = ((λ _. none), (λ _. refl));
       only = refl;
       counted =
           counted_all (length c.args.self.store.entries) (length c.self.inside.store.entries) (length g.L.Round.start.entries) c.self.inside.book.total c.self.inside.rest.amount c.args.self.entered (count_of c.as_mut_slice.result.now) (count_of c.args.sessions.items)
           c.self.invariant.0.counted c.audit_all.ensures.counted (ap count_of c.as_mut_slice.ensures.value) (ap (λ (b : LockedState). length b.store.entries) c.self.view_is) (c.self.invariant.2.0 ∙ ap (λ (b : LockedState). b.entered) c.self.view_is);
-      handed_back = (c.self.view_is, all_written c.args.sessions.len c.args.sessions.items c.audit_all.new.sessions (c.audit_all.ensures.sessions ∙ c.as_mut_slice.ensures.value) c.args.sessions.ok.0);
     }
 
 pub invariant_of-self : goal.invariant_of-self
@@ -178,10 +168,14 @@ returns g c =
     let count : parts ≡ c.args.self.sessions → here ≡ start + c.args.self.entered + handed_of items + count_of items =
     λ as_many. all_counted here start c.self.inside.book.total c.loop-session.whole.amount c.self.inside.rest.amount c.args.self.entered (handed_of items) (count_of items) counted (c.audit.ensures.whole (back as_many)) had amount in
     let own_count : c.args.self.entered ≡ 0 → parts ≡ c.args.self.sessions → here ≡ start + handed_of items + count_of items =
-    λ none as_many. none_entered here start c.args.self.entered (handed_of items) (count_of items) (count as_many) none in
+    λ none as_many. as_counted start c.args.self.entered (handed_of items) (count_of items) here (count as_many) none in
     record {
-      store = ap (λ (b : LockedState). b.store) c.self.view_is;
-      matching = may;
+      ends = record {
+        gone_on = subst (λ (b : LockedState). GoesOn g.L.Round.start b.store) c.self.view_is c.self.invariant.3;
+        store = ap (λ (b : LockedState). b.store) c.self.view_is;
+        matching = may;
+        handed_back = tt;
+      };
       adds_up = record {
         within = subst (λ (n : ℕ). parts ≤ n) made (no_more c.self.inside.sessions c.self.inside.rest.parts g.L.Ledger.parts c.loop-session.whole.parts parts c.self.invariant.0.cut whole c.loop-session.invariant.fits);
         least = counted_once here start c.self.inside.book.total c.loop-session.whole.amount c.self.inside.rest.amount c.args.self.entered (handed_of items) (count_of items) counted c.audit.ensures.bound had amount;
@@ -190,9 +184,7 @@ returns g c =
       shared_out = λ none as_many gone. shared_out c.args.self.store.entries since_then items may (held_count here start (handed_of items) (count_of items) since_then (own_count none as_many) gone);
       none_handed = λ none as_many not_one.
           none_gone here start c.args.self.store.handed (handed_of items) (count_of items) since_then (own_count none as_many) (held_at_most c.args.self.store.entries since_then items may) not_one refl inside;
-      gone_on = subst (λ (b : LockedState). GoesOn g.L.Round.start b.store) c.self.view_is c.self.invariant.3;
       mismatch = ((λ none. absurd (not_refused none)), (λ no. absurd (no may)));
       only = tt;
       counted = tt;
-      handed_back = tt;
     }

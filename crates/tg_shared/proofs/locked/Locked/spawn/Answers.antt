@@ -1,19 +1,16 @@
-use Rattle.std.proofs.Common.{◌≡◌, ◌∙◌, ◌<◌, ◌≤◌, ◌+◌, ◌^◌, ℕ, false, length, Err, ap, arith, refl, subst, sym}
+use Rattle.std.proofs.Common.{◌≡◌, ◌∙◌, ◌≤◌, ◌+◌, ℕ, false, length, Err, ap, arith, refl, subst, sym}
 use Rattle.std.proofs.lemmas.Result.{err_from_is_err_and}
 use Rattle.tg_model.specs.declared.command.Deed.{Deed}
 use Rattle.tg_model.specs.declared.reply.Reply.{Reply}
 use Rattle.tg_store.specs.Made.{MayRefuse}
 use Rattle.tg_store.specs.Store.{Enters, StoreState, graph_of_store}
 use Rattle.tg_shared.specs.declared.session.Session.{Session}
-use Rattle.tg_shared.specs.Sessions.{LockedState, Records, made_subject, reply_made}
-use Rattle.tg_shared.proofs.Balances.{balanced_spawned, goes_on_entered, grown, made_more, part_left, parts_left}
-use Rattle.tg_shared.proofs.Makings.{entered_as, locked_noted}
-use Rattle.tg_shared.proofs.Refusals.{refusals_made, refusals_none, refusals_same}
+use Rattle.tg_shared.specs.Serving.{IsMadeAndNoted, NotesRefusal}
+use Rattle.tg_shared.specs.Sessions.{LockedState, made_subject}
+use Rattle.tg_shared.proofs.Balances.{balanced_spawned, goes_on_entered, grown, made_more, part_left, parts_left, within_word}
+use Rattle.tg_shared.proofs.Makings.{entered_as, locked_noted, refused_noted}
+use Rattle.tg_shared.proofs.Replies.{refusals_made, refusals_none, refusals_same}
 use Rattle.tg_shared.proofs.locked.Locked.spawn.Goals as goal
-
--- a ledger's parts are a 64-bit number
-within_word : (limit parts : ℕ) → limit ≤ 281474976710656 → parts ≡ limit + 1 → parts < 2 ^ 64
-within_word limit parts within are = omega (arith, within, are)
 
 as_before : (new old entered : ℕ) → new + 0 ≡ old → old ≡ entered → new ≡ entered
 as_before new old entered left is = omega arith
@@ -73,11 +70,24 @@ returns-in_err-name-clause-refusals g c =
     refusals_none _ _ _ _ _ _ (refusals_same _ _ _ _ _ _ _ _ (ap (λ (b : LockedState). b.store) c.self.view_is) refl c.in_err-name.ensures.refusals) in
     subst (MayRefuse {P = g.row.P.Denot} {T = Session g.row.L.Denot} deed c.args.session.now.worker c.args.draft c.args.self.now.store c.make.new.store) (sym (given.1 ∙ ap Err given.2)) here
 
-pub returns-clause-entry : goal.returns-clause-entry
-returns-clause-entry g c =
+pub returns-in_err-name-clause-noted : goal.returns-in_err-name-clause-noted
+returns-in_err-name-clause-noted g c =
     let deed : Deed = Deed.Spawn c.args.label c.args.draft.law c.args.draft.state in
-    let noted : StoreState → ℕ → Type 0 = λ s name. Records s c.make.new.store c.args.session.now c.make.new.session deed (Reply.Name name) in
-    subst (noted c.args.self.now.store) (sym c.new.ensures.0) (subst (λ (b : LockedState). noted b.store c.in_ok-name.name) c.self.view_is (c.in_ok-name.ensures.noted (Reply.Name c.in_ok-name.name) refl).0)
+    let given = err_from_is_err_and c.from_residual.result c.from_residual.ensures.1 in
+    let told = c.in_err-name.ensures in
+    subst (NotesRefusal {P = g.row.P.Denot} {T = Session g.row.L.Denot} deed c.args.self.now.store c.make.new.store c.args.session.now c.make.new.session) (sym (given.1 ∙ ap Err given.2))
+    (subst (λ (b : LockedState). NotesRefusal {P = g.row.P.Denot} {T = Session g.row.L.Denot} deed b.store c.make.new.store c.args.session.now c.make.new.session (Err c.in_err-name.field-0.0)) c.self.view_is
+    (refused_noted deed c.self.inside.store c.make.new.store c.args.session.now c.make.new.session c.in_err-name.field-0.0 told.noted told.same_heap (λ none. (told.nothing none).0)))
+
+pub returns-clause-served : goal.returns-clause-served
+returns-clause-served g c =
+    let deed : Deed = Deed.Spawn c.args.label c.args.draft.law c.args.draft.state in
+    let told = c.in_ok-name.ensures in
+    let served : StoreState → ℕ → Type 0 = λ s name. IsMadeAndNoted deed c.args.label c.args.draft s c.make.new.store c.args.session.now c.make.new.session name in (
+      (c.new.ensures.1, c.new.ensures.2, c.new.ensures.3, c.new.ensures.4),
+      subst (served c.args.self.now.store) (sym c.new.ensures.0)
+          (subst (λ (b : LockedState). served b.store c.in_ok-name.name) c.self.view_is (record { entry = (told.noted (Reply.Name c.in_ok-name.name) refl).0; made = told.made })),
+    )
 
 pub returns-clause-refusals : goal.returns-clause-refusals
 returns-clause-refusals g c =

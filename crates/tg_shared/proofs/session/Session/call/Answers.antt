@@ -26,17 +26,17 @@ returns-then-retired g c = (
 pub last_reply-requires : goal.last_reply-requires
 last_reply-requires g c =
     let graph : ProtectionGraph = graph_of_store c.deref_mut.result.now.store in
-    let more = ap (λ (rs : List Receipt). length rs) (c.in_ok-apply.ensures.entry graph refl).receipt.1 in
+    let more = ap (λ (rs : List Receipt). length rs) (c.in_ok-apply.ensures.served.entry graph refl).receipt.1 in
     omega (arith, more, length-append c.make_room.new.self.receipts (receipt_of (length c.deref_mut.result.now.store.entries) (record { worker = c.make_room.new.self.worker; deed = Plain c.args.command; reply = answer_of graph c.make_room.new.self.worker (Plain c.args.command) }) ∷ []))
 
 pub returns : goal.returns
 returns g c =
     let s : StoreState = c.deref_mut.result.now.store in
-    let records = c.in_ok-apply.ensures.entry (graph_of_store s) refl in
+    let records = c.in_ok-apply.ensures.served.entry (graph_of_store s) refl in
     let shown = c.last_reply.ensures _ _ records.receipt.1 in
     let held = found g.L.Round.start c.deref.result.now c.deref_mut.result.now (c.deref.ensures ∙ sym c.deref_mut.ensures.value) c.store.ensures.gone_on c.store.ensures.faithful in
     let after : IsFaithful c.apply.new.self.store = subst (λ (b : LockedState). IsFaithful b.store) c.deref-2.ensures c.store-2.ensures.faithful in (
-      (refl, (λ _. tt), answered g.L.Round.start s c.apply.new.self.store c.args.self.now c.make_room.new.self c.apply.new.session (Plain c.args.command) _ c.last_reply.result.now held.0 held.1 c.in_ok-make_room.ensures.receipts records c.apply.ensures.opening after shown),
+      (refl, (λ _. tt), answered g.L.Round.start s c.apply.new.self.store c.args.self.now c.make_room.new.self c.apply.new.session (Plain c.args.command) _ c.last_reply.result.now held.0 held.1 c.in_ok-make_room.ensures.room.receipts records c.apply.ensures.kept.opening after shown),
       record { receipt = tt; no_such_worker = tt; full = tt; retired = still c.retired.result c.args.self.now.retired c.retired.ensures.is c.if-retired.false },
     )
 
@@ -45,14 +45,14 @@ returns-in_err-apply g c =
     let given = err_from_is_err_and c.from_residual-in_err-apply.result c.from_residual-in_err-apply.ensures.1 in
     let s : StoreState = c.deref_mut.result.now.store in
     let held = found g.L.Round.start c.deref.result.now c.deref_mut.result.now (c.deref.ensures ∙ sym c.deref_mut.ensures.value) c.store.ensures.gone_on c.store.ensures.faithful in
-    let worker : c.make_room.new.self.worker ≡ c.args.self.now.worker = c.in_ok-make_room.ensures.receipts.0 in
-    let keeps = (c.in_err-apply.ensures.refused).1 in
+    let worker : c.make_room.new.self.worker ≡ c.args.self.now.worker = c.in_ok-make_room.ensures.room.receipts.0 in
+    let keeps = c.in_err-apply.ensures.served.refused.1 in
     let answer = c.from_residual-in_err-apply.result in (
-      (refl, (λ _. tt), refused_here answer given.0 _ _ given.1 (kept c.args.self.now c.make_room.new.self c.apply.new.session c.in_ok-make_room.ensures.receipts keeps)),
+      (refl, (λ _. tt), refused_here answer given.0 _ _ given.1 (kept c.args.self.now c.make_room.new.self c.apply.new.session c.in_ok-make_room.ensures.room.receipts keeps)),
       record {
         receipt = tt;
-        no_such_worker = err_here answer given.0 _ given.1 (λ why. (s, held.0, held.1, subst (λ (w : ℕ). ¬ IsSubject (graph_of_store s) w) worker ((c.in_err-apply.ensures.no_such_worker (graph_of_store s) refl).0 (refused_as given.2 why))));
-        full = err_here answer given.0 _ given.1 (λ why. (s, held.0, held.1, subst (λ (w : ℕ). Permits (graph_of_store s).label (graph_of_store s).value w c.args.command × AddsEdge c.args.command × LacksCellsToServe s.heap.table (nursery_of s.heap w) w c.args.command) worker (c.in_err-apply.ensures.full (graph_of_store s) refl (refused_as given.2 why))));
+        no_such_worker = err_here answer given.0 _ given.1 (λ why. (s, held.0, held.1, subst (λ (w : ℕ). ¬ IsSubject (graph_of_store s) w) worker ((c.in_err-apply.ensures.served.no_such_worker (graph_of_store s) refl).0 (refused_as given.2 why))));
+        full = err_here answer given.0 _ given.1 (λ why. (s, held.0, held.1, subst (λ (w : ℕ). Permits (graph_of_store s).label (graph_of_store s).value w c.args.command × AddsEdge c.args.command × LacksCellsToServe s.heap.table (nursery_of s.heap w) w c.args.command) worker (c.in_err-apply.ensures.served.full (graph_of_store s) refl (refused_as given.2 why))));
         retired = still c.retired.result c.args.self.now.retired c.retired.ensures.is c.if-retired.false;
       },
     )

@@ -1,22 +1,17 @@
 use Rattle.std.proofs.Common.{◌∙◌, sym}
-use Rattle.std.proofs.lemmas.Result.{err_from_is_err_and}
-use Rattle.tg_helpers.specs.declared.HelpersFault.{HelpersFault}
-use Rattle.tg_shared.proofs.Calls.{came_as, err_here, found_with, ok_none, ok_not_err, refused_as}
+use Rattle.std.proofs.lemmas.Result.{IfOk-weaker}
+use Rattle.tg_shared.specs.Sessions.{LeavesAtSome}
+use Rattle.tg_shared.proofs.Calls.{err_told, found_with}
 use Rattle.tg_shared.proofs.session.Session.collect_with.Goals as goal
-
-pub returns-in_err-left : goal.returns-in_err-left
-returns-in_err-left g c = let given = err_from_is_err_and c.from_residual.result c.from_residual.ensures.1 in record {
-  number = ok_none c.from_residual.result given.0 _ given.1;
-  full = err_here c.from_residual.result given.0 _ given.1 (λ why. found_with g.L.Round.start _ c.deref.result.now c.deref_mut.result.now (c.deref.ensures ∙ sym c.deref_mut.ensures.value) c.store.ensures.gone_on c.store.ensures.faithful (c.in_err-left.ensures.full (refused_as given.2 why)));
-  alone = λ one is. c.in_err-left.ensures.alone one (came_as given.1 given.2 is);
-}
 
 pub returns : goal.returns
 returns g c =
-    let kept = c.collect_with.ensures.kept.history in
-    let after = found_with g.L.Round.start _ c.deref-2.result.now c.collect_with.new.self c.deref-2.ensures c.store-2.ensures.gone_on c.store-2.ensures.faithful (kept.entries, c.in_ok-left.ensures.swept) in
+    let told = c.collect_with-left.ensures in
+    let same = c.deref.ensures ∙ sym c.deref_mut.ensures.value in
     record {
-      number = found_with g.L.Round.start _ c.deref.result.now c.deref_mut.result.now (c.deref.ensures ∙ sym c.deref_mut.ensures.value) c.store.ensures.gone_on c.store.ensures.faithful after;
-      full = tt;
-      alone = λ one is. ok_not_err c.in_ok-left.left HelpersFault.NoThread is;
+      number = IfOk-weaker c.collect_with-left.result _ (LeavesAtSome g.L.Round.start c.args.kind) (λ n swept.
+          let after = found_with g.L.Round.start _ c.deref-2.result.now c.collect_with-left.new.self c.deref-2.ensures c.store-2.ensures.gone_on c.store-2.ensures.faithful (told.collected.history.entries, swept) in
+          found_with g.L.Round.start _ c.deref.result.now c.deref_mut.result.now same c.store.ensures.gone_on c.store.ensures.faithful after) told.collected.swept;
+      full = err_told c.collect_with-left.result _ _ (λ is. found_with g.L.Round.start _ c.deref.result.now c.deref_mut.result.now same c.store.ensures.gone_on c.store.ensures.faithful (told.full is));
+      alone = told.alone;
     }

@@ -12,9 +12,9 @@ returns-clause-left g c =
     let s : StoreState = c.deref_mut.result.now.store in
     let held = found g.L.Round.start c.deref.result.now c.deref_mut.result.now (c.deref.ensures ∙ sym c.deref_mut.ensures.value) c.store.ensures.gone_on c.store.ensures.faithful in
     let after : IsFaithful c.leave.new.self.store = subst (λ (b : LockedState). IsFaithful b.store) c.deref-2.ensures c.store-2.ensures.faithful in
-    let left = c.in_ok-count.ensures.left in
-    (s, held.0, held.1, (c.in_ok-count.ensures.receipts, legal_more s c.leave.new.self.store (leaving (graph_of_store s) c.args.self.now.worker) left.entries left.opening after, c.in_ok-count.ensures.count (graph_of_store s) refl))
+    let left = c.in_ok-count.ensures.ended.left in
+    (s, held.0, held.1, (c.in_ok-count.ensures.noted.receipts, legal_more s c.leave.new.self.store (leaving (graph_of_store s) c.args.self.now.worker) left.entries left.opening after, c.in_ok-count.ensures.ended.count (graph_of_store s) refl))
 
 pub returns-clause-gone : goal.returns-clause-gone
 returns-clause-gone g c =
-    c.in_ok-count.ensures.receipts.4 ∙ retired_left c.args.self.now.retired (graph_of_store c.deref_mut.result.now.store) c.args.self.now.worker
+    c.in_ok-count.ensures.noted.receipts.4 ∙ retired_left c.args.self.now.retired (graph_of_store c.deref_mut.result.now.store) c.args.self.now.worker

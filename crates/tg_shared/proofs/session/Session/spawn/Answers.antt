@@ -1,41 +1,25 @@
-use Rattle.std.proofs.Common.{◌≡◌, ◌∙◌, Bool, ℕ, refl, sym, subst}
-use Rattle.tg_store.specs.declared.fault.CreateFault.{CreateFault}
-use Rattle.tg_store.specs.Store.{IsFaithful}
+use Rattle.std.proofs.Common.{◌∙◌, refl, sym, subst}
 use Rattle.std.proofs.lemmas.Result.{IfErr-weaker, IfOk-weaker}
+use Rattle.tg_store.specs.Store.{StoreState, IsFaithful}
 use Rattle.tg_shared.specs.Sessions.{LockedState}
-use Rattle.tg_shared.proofs.Calls.{found, kept, still}
-use Rattle.tg_shared.proofs.Refusals.{refusals_at_some}
-use Rattle.tg_shared.proofs.Replies.{answered}
+use Rattle.tg_shared.proofs.Calls.{found, kept}
+use Rattle.tg_shared.proofs.Replies.{answered, refusals_at_some}
 use Rattle.tg_shared.proofs.session.Session.spawn.Goals as goal
 
-pub returns-clause-refused : goal.returns-clause-refused
-returns-clause-refused g c =
-    IfErr-weaker c.spawn-spawned.result _ _
-    (λ refused told why crowded. kept c.args.self.now c.make_ready.new.self c.spawn-spawned.new.session c.make_ready.ensures.receipts (told why crowded).1)
-    c.spawn-spawned.ensures.refused
-
-pub returns-clause-fresh : goal.returns-clause-fresh
-returns-clause-fresh g c = c.spawn-spawned.ensures.fresh
-
-pub returns-clause-receipt : goal.returns-clause-receipt
-returns-clause-receipt g c =
+pub returns : goal.returns
+returns g c =
+    let s : StoreState = c.deref_mut.result.now.store in
+    let next : StoreState = c.spawn-spawned.new.self.store in
+    let told = c.spawn-spawned.ensures in
+    let opening = told.refusals.opening in
+    let keeps = c.make_ready.ensures.receipts in
     let held = found g.L.Round.start c.deref.result.now c.deref_mut.result.now (c.deref.ensures ∙ sym c.deref_mut.ensures.value) c.store.ensures.gone_on c.store.ensures.faithful in
-    let after : IsFaithful c.spawn-spawned.new.self.store = subst (λ (b : LockedState). IsFaithful b.store) c.deref-2.ensures c.store-2.ensures.faithful in
-    IfOk-weaker c.spawn-spawned.result _ _
-    (λ fresh records. answered g.L.Round.start c.deref_mut.result.now.store c.spawn-spawned.new.self.store c.args.self.now c.make_ready.new.self c.spawn-spawned.new.session _ _ _ held.0 held.1 c.make_ready.ensures.receipts records c.spawn-spawned.ensures.refusals.opening after refl)
-    c.spawn-spawned.ensures.entry
-
-pub returns-clause-refusals : goal.returns-clause-refusals
-returns-clause-refusals g c =
-    let held = found g.L.Round.start c.deref.result.now c.deref_mut.result.now (c.deref.ensures ∙ sym c.deref_mut.ensures.value) c.store.ensures.gone_on c.store.ensures.faithful in
-    let after : IsFaithful c.spawn-spawned.new.self.store = subst (λ (b : LockedState). IsFaithful b.store) c.deref-2.ensures c.store-2.ensures.faithful in
-    refusals_at_some g.L.Round.start c.deref_mut.result.now.store c.spawn-spawned.new.self.store c.args.self.now c.make_ready.new.self c.spawn-spawned.new.session _ _ c.spawn-spawned.result held.0 held.1 c.make_ready.ensures.receipts after
-    c.spawn-spawned.ensures.no_more_entry c.spawn-spawned.ensures.refusals
-
-pub returns-clause-workers_full : goal.returns-clause-workers_full
-returns-clause-workers_full g c =
-    let held = found g.L.Round.start c.deref.result.now c.deref_mut.result.now (c.deref.ensures ∙ sym c.deref_mut.ensures.value) c.store.ensures.gone_on c.store.ensures.faithful in
-    let after : IsFaithful c.spawn-spawned.new.self.store = subst (λ (b : LockedState). IsFaithful b.store) c.deref-2.ensures c.store-2.ensures.faithful in
-    IfErr-weaker c.spawn-spawned.result _ _
-    (λ refused told why. answered g.L.Round.start c.deref_mut.result.now.store c.spawn-spawned.new.self.store c.args.self.now c.make_ready.new.self c.spawn-spawned.new.session _ _ _ held.0 held.1 c.make_ready.ensures.receipts (told why).0 c.spawn-spawned.ensures.refusals.opening after refl)
-    c.spawn-spawned.ensures.too_many_entry
+    let after : IsFaithful next = subst (λ (b : LockedState). IsFaithful b.store) c.deref-2.ensures c.store-2.ensures.faithful in
+    record {
+      receipt = IfOk-weaker c.spawn-spawned.result _ _ (λ fresh made. answered g.L.Round.start s next c.args.self.now c.make_ready.new.self c.spawn-spawned.new.session _ _ _ held.0 held.1 keeps made.1.entry opening after refl) told.served;
+      fresh = IfOk-weaker c.spawn-spawned.result _ _ (λ fresh made. made.0) told.served;
+      refusals = refusals_at_some g.L.Round.start s next c.args.self.now c.make_ready.new.self c.spawn-spawned.new.session _ _ c.spawn-spawned.result held.0 held.1 keeps after told.noted.no_more_entry told.refusals;
+      workers_full = IfErr-weaker c.spawn-spawned.result _ _ (λ refused entered why. answered g.L.Round.start s next c.args.self.now c.make_ready.new.self c.spawn-spawned.new.session _ _ _ held.0 held.1 keeps (entered why).0 opening after refl) told.noted.too_many_entry;
+      refused = IfErr-weaker c.spawn-spawned.result _ _ (λ refused nothing some few. kept c.args.self.now c.make_ready.new.self c.spawn-spawned.new.session keeps (nothing some few).1) told.noted.refused;
+      retired = λ is. absurd (c.in_default.not-Err _ (c.make_ready.ensures.retired is));
+    }

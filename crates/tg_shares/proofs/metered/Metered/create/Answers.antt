@@ -6,7 +6,7 @@ use Rattle.tg_shares.proofs.metered.Metered.create.Goals as goal
 pub invariant_of-self : goal.invariant_of-self
 invariant_of-self g c = record {
   covered = covered_one c.args.self.now.till c.pay_vertex.new.till c.args.self.now.locked.store c.create.new.self.store _ _ _
-      c.args.self.now.covered c.in-Ok.ensures.entry.entry c.create.ensures.refusals.opening (c.pay_vertex.ensures.till ∙ c.tell.ensures.till);
+      c.args.self.now.covered c.in-Ok.ensures.served.entry.entry c.create.ensures.refusals.opening (c.pay_vertex.ensures.till ∙ c.tell.ensures.till);
 }
 
 pub returns-in-Err-clause-never_full : goal.returns-in-Err-clause-never_full
@@ -15,6 +15,4 @@ returns-in-Err-clause-never_full g c = λ why.
     (c.in-Err.ensures.refusals.no_more (graph_of_store c.args.self.now.locked.store) refl why).1
 
 pub returns-in-Err-clause-refused : goal.returns-in-Err-clause-refused
-returns-in-Err-clause-refused g c = c.in-Err.ensures.refused (λ why.
-    name_left c.args.self.now.till c.args.purse.now.vertices c.args.self.now.locked.store c.args.self.now.covered c.requires.share.0 c.tell.ensures.left
-    (c.in-Err.ensures.refusals.no_more (graph_of_store c.args.self.now.locked.store) refl why).1)
+returns-in-Err-clause-refused g c = c.in-Err.ensures.noted.refused (returns-in-Err-clause-never_full g c) c.in-Err.ensures.no_workers_full

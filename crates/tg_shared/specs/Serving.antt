@@ -1,0 +1,91 @@
+-- What the calls behind the lock do, each told once: of the call itself, and of whoever makes it for a session.
+use Rattle.std.specs.Prelude.{◌≡◌, ◌≢◌, ◌↔◌, ℕ, Result, Err, IfErr, IfOk, OnErr, OnOk, length}
+use Rattle.tg_rights.specs.RightSet.{RightSet}
+use Rattle.tg_model.specs.declared.command.Command.{Command}
+use Rattle.tg_model.specs.declared.command.Deed.{Deed}
+use Rattle.tg_model.specs.declared.command.Deed.TheVariants.{Plain}
+use Rattle.tg_model.specs.declared.reply.Denial.{Denial}
+use Rattle.tg_model.specs.declared.reply.Reply.TheVariants.{Denied, Name, VerticesFull, WorkersFull}
+use Rattle.tg_model.specs.declared.value.Value.{Value}
+use Rattle.tg_model.specs.Graph.{ProtectionGraph, IsSubject, listing_of}
+use Rattle.tg_model.specs.Rules.{IsAllowed, answer_of, step}
+use Rattle.tg_graph.specs.Heap.{nursery_of}
+use Rattle.tg_rules.specs.Effect.{AddsEdge, LacksCellsToServe}
+use Rattle.tg_space.specs.declared.kind.Kind.{Kind}
+use Rattle.tg_store.specs.Collecting.{IsSwept, KeepsHistory}
+use Rattle.tg_store.specs.Leaving.{HasLeft, leaving}
+use Rattle.tg_store.specs.Made.{IsMadeFor}
+use Rattle.tg_store.specs.declared.fault.ApplyFault.{ApplyFault}
+use Rattle.tg_store.specs.declared.fault.ApplyFault.TheVariants.{HeapFull, NoSuchWorker}
+use Rattle.tg_store.specs.declared.fault.CreateFault.TheVariants as fault
+use Rattle.tg_store.specs.declared.fault.CreateRefused.{CreateRefused}
+use Rattle.tg_store.specs.Store.{StoreState, HasFewBlocks, IsUnchanged, StandsFor, graph_of_store}
+use Rattle.tg_shared.specs.Sessions.{AddsReceipts, KeepsReceipts, LockedState, Records, RecordsNothing, SessionState}
+
+-- ---- what stays behind the lock
+
+-- no session was made, and the keeper made no entry
+pub record KeepsNumbers (old new : LockedState) : Type 0 where
+  pub sessions : new.sessions ≡ old.sessions
+  pub entered : new.entered ≡ old.entered
+
+-- What a session's command leaves, whatever comes of it.
+pub record KeepsRound (old new : LockedState) : Type 0 where
+  pub opening : new.store.opening ≡ old.store.opening
+  pub handed : new.store.handed ≡ old.store.handed
+  pub limits : new.store.heap.table.limits ≡ old.store.heap.table.limits
+  pub numbers : KeepsNumbers old new
+
+-- ---- commands
+
+-- A command of a session's subject. Where it is served, exactly one entry and one receipt are added, with the reply of the rules on
+-- the graph that the store stood for; a denial is a reply that changes nothing else. Where it is refused, nothing is changed.
+pub record ServesCommand {T : Type 0} (command : Command) (old new : StoreState) (before after : SessionState) (result : Result T ApplyFault) : Type 0 where
+  pub entry : (g : ProtectionGraph) → StandsFor old g → OnOk result (Records old new before after (Plain command) (answer_of g before.worker (Plain command)))
+  pub step : (g : ProtectionGraph) → StandsFor old g → OnOk result (StandsFor new (step g before.worker (Plain command)))
+  pub denied : (g : ProtectionGraph) (denial : Denial) → StandsFor old g → answer_of g before.worker (Plain command) ≡ Denied denial → OnOk result (new.heap ≡ old.heap)
+  pub no_such_worker : (g : ProtectionGraph) → StandsFor old g → (result ≡ Err NoSuchWorker) ↔ (¬ IsSubject g before.worker)
+  pub full : (g : ProtectionGraph) → StandsFor old g → result ≡ Err HeapFull →
+      IsAllowed g before.worker (Plain command) × AddsEdge command × LacksCellsToServe old.heap.table (nursery_of old.heap before.worker) before.worker command
+  pub refused : OnErr result (RecordsNothing old new before after)
+
+-- ---- vertices
+
+-- A vertex that was made for a session's subject by a deed: it has an entry, and the session its receipt.
+pub record IsMadeAndNoted (deed : Deed) (label : RightSet) (value : Value) (old new : StoreState) (before after : SessionState) (name : ℕ) : Type 0 where
+  pub entry : Records old new before after deed (Name name)
+  pub made : IsMadeFor deed before.worker label value old new name
+
+-- What is noted of a vertex that was not made: an entry and a receipt where as many were made, or as many are subjects, as may be, and
+-- the heap stays; else nothing.
+pub record NotesRefusal {P T : Type 0} (deed : Deed) (old new : StoreState) (before after : SessionState) (result : Result T (CreateRefused P)) : Type 0 where
+  pub no_more_entry : IfErr result (λ refused. refused.why ≡ fault.VerticesFull → Records old new before after deed VerticesFull × (new.heap ≡ old.heap))
+  pub too_many_entry : IfErr result (λ refused. refused.why ≡ fault.WorkersFull → Records old new before after deed WorkersFull × (new.heap ≡ old.heap))
+  pub refused : IfErr result (λ refused. refused.why ≢ fault.VerticesFull → refused.why ≢ fault.WorkersFull → RecordsNothing old new before after)
+
+-- ---- leaving
+
+-- A worker's end, whether it leaves or is ended: it has left the store, and so many edges were given up; or nothing was changed, since
+-- there was no such worker, or memory was wanting.
+pub record EndsWorker (worker : ℕ) (old new : StoreState) (result : Result ℕ ApplyFault) : Type 0 where
+  pub left : OnOk result (HasLeft worker old new)
+  pub count : (g : ProtectionGraph) → StandsFor old g → IfOk result (λ count. count ≡ length (listing_of g.label g.made worker))
+  pub no_such_worker : (g : ProtectionGraph) → StandsFor old g → (result ≡ Err NoSuchWorker) ↔ (¬ IsSubject g worker)
+  pub never_full : result ≢ Err HeapFull
+  pub unchanged : OnErr result (IsUnchanged old new)
+
+-- What a session's leave notes: the receipts of exactly its entries; where it is refused, none.
+pub record NotesLeaving (old : StoreState) (before after : SessionState) (result : Result ℕ ApplyFault) : Type 0 where
+  pub receipts : OnOk result (AddsReceipts before after (length old.entries) (leaving (graph_of_store old) before.worker))
+  pub refused : OnErr result (KeepsReceipts before after)
+
+-- ---- collecting
+
+-- A collection, where each space may have so many more blocks than one helper leaves: what it leaves of the store, and both numbers;
+-- where it is refused, all stays.
+pub record Collects {E : Type 0} (kind : Kind) (more : ℕ) (old new : LockedState) (result : Result ℕ E) : Type 0 where
+  pub swept : IfOk result (IsSwept kind old.store new.store)
+  pub blocks : OnOk result (HasFewBlocks kind more old.store.heap.table new.store.heap.table)
+  pub history : KeepsHistory old.store new.store result
+  pub refused : OnErr result (new ≡ old)
+  pub numbers : KeepsNumbers old new
