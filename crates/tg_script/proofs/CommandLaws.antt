@@ -36,8 +36,8 @@ pub record Under {P : Type 0} (told : LineText) (start : Script) (bytes : List �
   pub cuts : (lines : List Line) (behind cut : List ℕ) (es : List Entry) → ReadsFrom s rest lines (Some fault.WriteFailed) behind → IsBehind lines rest behind → TellsCut told scene (l ∷ lines) cut es → CutsTold told start bytes t first behind (sofar ++ cut) (made ++ es)
   pub goes_on : (lines : List Line) (end : Option ScriptFault) (behind text : List ℕ) (es : List Entry) → ReadsFrom s rest lines end behind → Tells told scene (l ∷ lines) text es → IsTold told start bytes t first end behind (sofar ++ text) (made ++ es)
 
-pub under_first : {P : Type 0} (told : LineText) (start : Script) (bytes : List ℕ) (t : Scene) (first : Line) (before : List ℕ) (r : Run P) (left taken : Option (List ℕ)) → Shows r t → left ≡ Some bytes → taken ≡ Some before → Under told start bytes t first r.store.entries before start r first left taken
-under_first told start bytes t first before r left taken shows leaves took = record {
+pub under_first : {P : Type 0} {told : LineText} {start : Script} {bytes : List ℕ} {t : Scene} {before : List ℕ} {r : Run P} {left taken : Option (List ℕ)} (first l : Line) → first ≡ l → Shows r t → left ≡ Some bytes → taken ≡ Some before → Under told start bytes t first r.store.entries before start r l left taken
+under_first {told = told} {start = start} {bytes = bytes} {t = t} {before = before} {r = r} first l same shows leaves took = record {
   scene = t;
   rest = bytes;
   sofar = [];
@@ -46,9 +46,13 @@ under_first told start bytes t first before r left taken shows leaves took = rec
   leaves = leaves;
   took = took ∙ ap Some (sym (append-nil before));
   had = sym (append-nil r.store.entries);
-  cuts = λ lines behind cut es reads is_behind is_cut. (lines, reads, is_behind, is_cut);
-  goes_on = λ lines end behind text es reads tells. (lines, reads, tells);
+  cuts = λ lines behind cut es reads is_behind is_cut. (lines, reads, is_behind, subst (λ (x : Line). TellsCut told t (x ∷ lines) cut es) (sym same) is_cut);
+  goes_on = λ lines end behind text es reads tells. (lines, reads, subst (λ (x : Line). Tells told t (x ∷ lines) text es) (sym same) tells);
 }
+
+-- one line came
+pub same_line : (o : Option Line) (l m : Line) → o ≡ Some l → o ≡ Some m → l ≡ m
+same_line o l m a b = let both : Some l ≡ Some m = sym a ∙ b in cc
 
 wrote_known : (taken after : Option (List ℕ)) (known bytes : List ℕ) → taken ≡ Some known → Wrote taken bytes after → after ≡ Some (known ++ bytes)
 wrote_known taken after known bytes is w = let P : Option (List ℕ) → Type 0 = λ x. Wrote x bytes after in subst P is w
@@ -62,8 +66,8 @@ had_more begun made r r' l a stock had is makes =
     makes.entries ∙ ap (λ (x : List Value). r.store.entries ++ entered l a x) is ∙ ap (λ (x : List Entry). x ++ entered l a stock) had ∙ append_assoc begun made (entered l a stock)
 
 -- what is told of a line is written, and nothing more is read
-pub under_end : {P : Type 0} (told : LineText) (start : Script) (bytes : List ℕ) (t : Scene) (first : Line) (begun : List Entry) (before : List ℕ) (s : Script) (r : Run P) (l : Line) (left taken : Option (List ℕ)) (a : Answer) (r' : Run P) (after : Option (List ℕ)) (end : Option ScriptFault) (behind : List ℕ) (h : Under told start bytes t first begun before s r l left taken) → Handles r l a r' → MakesEntry r l a r' → Wrote taken (told l a (values_left r.supply)) after → ReadsFrom s h.rest [] end behind → StandsTold told start bytes t first begun before end behind r'.store.entries after
-under_end told start bytes t first begun before s r l left taken a r' after end behind h handles makes wrote ends =
+pub under_end : {P : Type 0} {told : LineText} {start : Script} {bytes : List ℕ} {t : Scene} {first : Line} {begun : List Entry} {before : List ℕ} {s : Script} {r : Run P} {l : Line} {left taken : Option (List ℕ)} (a : Answer) (r' : Run P) (after : Option (List ℕ)) (end : Option ScriptFault) (behind : List ℕ) (h : Under told start bytes t first begun before s r l left taken) → Handles r l a r' → MakesEntry r l a r' → Wrote taken (told l a (values_left r.supply)) after → ReadsFrom s h.rest [] end behind → StandsTold told start bytes t first begun before end behind r'.store.entries after
+under_end {told = told} {start = start} {bytes = bytes} {t = t} {first = first} {begun = begun} {before = before} {s = s} {r = r} {l = l} {left = left} {taken = taken} a r' after end behind h handles makes wrote ends =
     let v = handles h.scene h.shows in
     let stock = h.scene.stock in
     let W : List Value → Type 0 = λ x. Wrote taken (told l a x) after in (
@@ -75,8 +79,8 @@ under_end told start bytes t first begun before s r l left taken a r' after end 
     )
 
 -- what is told of a line is cut short, and nothing more is read
-pub under_cut : (T : Type 0) {P : Type 0} (told : LineText) (start : Script) (bytes : List ℕ) (t : Scene) (first : Line) (begun : List Entry) (before : List ℕ) (s : Script) (r : Run P) (l : Line) (left taken : Option (List ℕ)) (a : Answer) (r' : Run P) (after : Option (List ℕ)) → Under told start bytes t first begun before s r l left taken → Handles r l a r' → MakesEntry r l a r' → WroteSome taken (told l a (values_left r.supply)) after → (rest : List ℕ) × (left ≡ Some rest) × TellsAll {T = T} told start bytes t first begun before (Err fault.WriteFailed) rest r'.store.entries after
-under_cut T told start bytes t first begun before s r l left taken a r' after h handles makes wrote =
+pub under_cut : (T : Type 0) {P : Type 0} {told : LineText} {start : Script} {bytes : List ℕ} {t : Scene} {first : Line} {begun : List Entry} {before : List ℕ} {s : Script} {r : Run P} {l : Line} {left taken : Option (List ℕ)} (a : Answer) (r' : Run P) (after : Option (List ℕ)) → Under told start bytes t first begun before s r l left taken → Handles r l a r' → MakesEntry r l a r' → WroteSome taken (told l a (values_left r.supply)) after → (rest : List ℕ) × (left ≡ Some rest) × TellsAll {T = T} told start bytes t first begun before (Err fault.WriteFailed) rest r'.store.entries after
+under_cut T {told = told} {start = start} {bytes = bytes} {t = t} {first = first} {begun = begun} {before = before} {s = s} {r = r} {l = l} {left = left} {taken = taken} a r' after h handles makes wrote =
     let v = handles h.scene h.shows in
     let stock = h.scene.stock in
     let W : List Value → Type 0 = λ x. WroteSome taken (told l a x) after in
@@ -93,8 +97,8 @@ under_cut T told start bytes t first begun before s r l left taken a r' after h 
     )
 
 -- what is told of a line is written, and a further line is read
-pub under_next : {P : Type 0} (told : LineText) (start : Script) (bytes : List ℕ) (t : Scene) (first : Line) (begun : List Entry) (before : List ℕ) (s : Script) (r : Run P) (l : Line) (left taken : Option (List ℕ)) (a : Answer) (r' : Run P) (after : Option (List ℕ)) (next : Line) (s' : Script) (left' : Option (List ℕ)) → Under told start bytes t first begun before s r l left taken → Handles r l a r' → MakesEntry r l a r' → Wrote taken (told l a (values_left r.supply)) after → ((rest : List ℕ) → left ≡ Some rest → (rest' : List ℕ) × (left' ≡ Some rest') × Passes s rest next s' rest') → Under told start bytes t first begun before s' r' next left' after
-under_next told start bytes t first begun before s r l left taken a r' after next s' left' h handles makes wrote came =
+pub under_next : {P : Type 0} {told : LineText} {start : Script} {bytes : List ℕ} {t : Scene} {first : Line} {begun : List Entry} {before : List ℕ} {s : Script} {r : Run P} {l : Line} {left taken : Option (List ℕ)} (a : Answer) (r' : Run P) (after : Option (List ℕ)) (next : Line) (s' : Script) (left' : Option (List ℕ)) → Under told start bytes t first begun before s r l left taken → Handles r l a r' → MakesEntry r l a r' → Wrote taken (told l a (values_left r.supply)) after → ((rest : List ℕ) → left ≡ Some rest → (rest' : List ℕ) × (left' ≡ Some rest') × Passes s rest next s' rest') → Under told start bytes t first begun before s' r' next left' after
+under_next {told = told} {start = start} {bytes = bytes} {t = t} {first = first} {begun = begun} {before = before} {s = s} {r = r} {l = l} {left = left} {taken = taken} a r' after next s' left' h handles makes wrote came =
     let v = handles h.scene h.shows in
     let n = came h.rest h.leaves in
     let stock = h.scene.stock in

@@ -1,5 +1,5 @@
 -- What was written for the whole of a script whose entries are written.
-use Rattle.std.specs.Prelude.{IsOk, IfNone, IfSome}
+use Rattle.std.specs.Prelude.{IsOk}
 use Rattle.std.proofs.Common.{◌≡◌, ◌≤◌, ◌+◌, inl, inr, ℕ, List, [], ◌∷◌, ◌++◌, length, drop, true, Option, Some, None, Result, Ok, Err, refl, sym, ap, ◌∙◌, subst, arith, append_assoc, append-nil}
 use Rattle.std.proofs.lemmas.Bool.{false≢true}
 use Rattle.std.proofs.Math.Seq.{drop-append_seam}
@@ -17,13 +17,15 @@ use Rattle.tg_text.specs.Sinks.{KeepsBytes, Wrote, WroteSome}
 use Rattle.tg_entries.specs.Texts.{end_text, entry_text, head_text, history_text}
 use Rattle.tg_script.specs.declared.script.Script.{Script}
 use Rattle.tg_script.specs.Entering.{AreEntered, IsEntered, RanEntering, StandsEntered, plan_of, unended_text}
-use Rattle.tg_script.specs.Lines.{Behind, IsOfReading, ReadsFrom}
-use Rattle.tg_script.specs.Opening.{IsCommand, edge_lines, OpensStore, ReadsEdges, ReadsFirst}
+use Rattle.tg_script.specs.Lines.{IsOfReading, ReadsFrom}
+use Rattle.tg_script.specs.Opening.{edge_lines}
+use Rattle.tg_script.specs.Inner.Beginning.{IsBehindEdges, ReadsFirst, Unbegun, plan_with, scene_with}
+use Rattle.tg_text.specs.declared.fetch.TheConstants.{MOST_BYTES}
 use Rattle.tg_script.specs.Running.{Finishes}
 use Rattle.tg_script.specs.Script.{CanOpen, MayAnswer, Scene, Start, commands_of, edges_of}
 use Rattle.tg_script.specs.Inner.Telling.{AreLegal, EntersAll, ReadsCommands, StandsTold, TellsFirst, entry_of_line}
 use Rattle.tg_script.proofs.LinesLaws.{keeps_known, may_stop_writing, reads_stop}
-use Rattle.tg_script.proofs.RanLaws.{IsFresh, commands_of-edges, commands_of-front, edges_of-front, fresh_reads, ran_edges_fault, ran_keeps, ran_store_fault, scene_with}
+use Rattle.tg_script.proofs.RanLaws.{AreParts, commands_of-edges, parts_of, ran_keeps, ran_unbegun}
 use Rattle.tg_script.proofs.TellLaws.{entries_cut, entries_told}
 
 -- ---- the entries that a line made
@@ -212,49 +214,22 @@ edges_of-edges : (edges : List Edge) → edges_of (edge_lines edges) ≡ edges
 edges_of-edges [] = refl
 edges_of-edges (e ∷ edges) = ap (λ (x : List Edge). e ∷ x) (edges_of-edges edges)
 
--- the opening with these edges
-abbrev pub plan_with : Start → List Edge → Plan
-plan_with start edges = record { workers = start.workers; edges = edges; values = start.values; limit = start.limit }
-
--- the lines of a script are these edge lines, and these behind them
-record AreParts (start : Start) (bytes : List ℕ) (edges : List Edge) (commands : List Line) (end : Option ScriptFault) (left : List ℕ) : Type 0 where
-  pub lines : List Line
-  pub reads : ReadsScript start.workers bytes lines end left
-  pub commands_are : commands_of lines ≡ commands
-  pub edges_are : edges_of lines ≡ edges
-
-edges_alone : (start : Start) (s : Script) (bytes : List ℕ) (edges : List Edge) (end : Option ScriptFault) (left : List ℕ) → IsFresh s start.workers → ReadsFrom s bytes (edge_lines edges) end left → AreParts start bytes edges [] end left
-edges_alone start s bytes edges end left fresh h = record {
-  lines = edge_lines edges;
-  reads = fresh_reads s start.workers bytes (edge_lines edges) end left fresh h;
-  commands_are = commands_of-edges edges;
-  edges_are = edges_of-edges edges;
-}
-
-edges_and_more : (start : Start) (s t : Script) (bytes rest : List ℕ) (edges : List Edge) (l : Line) (more : List Line) (end : Option ScriptFault) (left : List ℕ) → IsFresh s start.workers → IsCommand l → Behind s bytes (edge_lines edges ++ l ∷ []) t rest → ReadsFrom t rest more end left → AreParts start bytes edges (l ∷ more) end left
-edges_and_more start s t bytes rest edges l more end left fresh command behind h =
-    let lines = edge_lines edges ++ l ∷ more in
-    let P : List Line → Type 0 = λ x. ReadsFrom s bytes x end left in
-    record {
-      lines = lines;
-      reads = fresh_reads s start.workers bytes lines end left fresh (subst P (append_assoc (edge_lines edges) (l ∷ []) more) (behind more end left h));
-      commands_are = commands_of-front edges l more command;
-      edges_are = edges_of-front edges l more command;
-    }
+edges_alone : (start : Start) (bytes : List ℕ) (edges : List Edge) (end : Option ScriptFault) (left : List ℕ) → ReadsScript start.workers bytes (edge_lines edges) end left → AreParts start bytes edges [] end left
+edges_alone start bytes edges end left h = record { lines = edge_lines edges; reads = h; commands_are = commands_of-edges edges; edges_are = edges_of-edges edges }
 
 parts_same : (start : Start) (bytes : List ℕ) (edges : List Edge) (commands others : List Line) (end : Option ScriptFault) (left : List ℕ) → commands ≡ others → AreParts start bytes edges commands end left → AreParts start bytes edges others end left
 parts_same start bytes edges commands others end left same h = record { lines = h.lines; reads = h.reads; commands_are = h.commands_are ∙ same; edges_are = h.edges_are }
 
-all_parts : (start : Start) (s t : Script) (bytes rest : List ℕ) (edges : List Edge) (first : Option Line) (commands : List Line) (end : Option ScriptFault) (left : List ℕ) → IsFresh s start.workers → IfSome first IsCommand → ReadsFirst s bytes edges first t rest → ReadsCommands t rest first commands end left → AreParts start bytes edges commands end left
-all_parts start s t bytes rest edges None commands None left fresh command h k =
-    parts_same start bytes edges [] commands None left (sym k.0) (edges_alone start s bytes edges None left fresh (subst (λ (x : List ℕ). ReadsFrom s bytes (edge_lines edges) None x) (sym k.1) h))
-all_parts start s t bytes rest edges None commands (Some f) left fresh command h k =
-    let stopped = reads_stop fault.WriteFailed may_stop_writing (edge_lines edges) s.workers s.lines.room s.count s.opening bytes rest h in
-    let at_left : ReadsFrom s bytes (edge_lines edges) (Some fault.WriteFailed) left = subst (λ (x : List ℕ). ReadsFrom s bytes (edge_lines edges) (Some fault.WriteFailed) x) (sym k.1) stopped in
-    parts_same start bytes edges [] commands (Some f) left (sym k.0) (edges_alone start s bytes edges (Some f) left fresh
-    (subst (λ (x : ScriptFault). ReadsFrom s bytes (edge_lines edges) (Some x) left) (sym k.2) at_left))
-all_parts start s t bytes rest edges (Some l) commands end left fresh command h k =
-    parts_same start bytes edges (l ∷ k.0) commands end left (sym k.1) (edges_and_more start s t bytes rest edges l k.0 end left fresh command h k.2)
+all_parts : (start : Start) (t : Script) (bytes rest : List ℕ) (edges : List Edge) (first : Option Line) (commands : List Line) (end : Option ScriptFault) (left : List ℕ) → IsBehindEdges t first → ReadsFirst start.workers bytes (edge_lines edges) first t rest → ReadsCommands t rest first commands end left → AreParts start bytes edges commands end left
+all_parts start t bytes rest edges None commands None left command h k =
+    parts_same start bytes edges [] commands None left (sym k.0) (edges_alone start bytes edges None left (subst (λ (x : List ℕ). ReadsScript start.workers bytes (edge_lines edges) None x) (sym k.1) h))
+all_parts start t bytes rest edges None commands (Some f) left command h k =
+    let stopped = reads_stop fault.WriteFailed may_stop_writing (edge_lines edges) start.workers MOST_BYTES 0 true bytes rest h in
+    let at_left : ReadsScript start.workers bytes (edge_lines edges) (Some fault.WriteFailed) left = subst (λ (x : List ℕ). ReadsScript start.workers bytes (edge_lines edges) (Some fault.WriteFailed) x) (sym k.1) stopped in
+    parts_same start bytes edges [] commands (Some f) left (sym k.0) (edges_alone start bytes edges (Some f) left
+    (subst (λ (x : ScriptFault). ReadsScript start.workers bytes (edge_lines edges) (Some x) left) (sym k.2) at_left))
+all_parts start t bytes rest edges (Some l) commands end left command h k =
+    parts_same start bytes edges (l ∷ k.0) commands end left (sym k.1) (parts_of start t bytes rest edges l k.0 end left command.0 h k.2)
 
 -- the entries of commands are those of the script's
 is_entered : (start : Start) (lines : List Line) (edges : List Edge) (commands : List Line) (es : List Entry) → edges_of lines ≡ edges → MayAnswer start lines → AreLegal (scene_with start edges) commands es → IsEntered start lines commands es
@@ -275,22 +250,22 @@ stands_entered start bytes before end text edges commands es left after parts ma
 }
 
 -- a fault of reading behind the opening
-ran_reading : (f : ScriptFault) (start : Start) (s t : Script) (bytes rest : List ℕ) (edges : List Edge) (first : Option Line) (before left : List ℕ) (after : Option (List ℕ)) → IsFresh s start.workers → CanOpen start → IfSome first IsCommand → ReadsFirst s bytes edges first t rest →
+ran_reading : (f : ScriptFault) (start : Start) (t : Script) (bytes rest : List ℕ) (edges : List Edge) (first : Option Line) (before left : List ℕ) (after : Option (List ℕ)) → CanOpen start → IsBehindEdges t first → ReadsFirst start.workers bytes (edge_lines edges) first t rest →
     IsOfReading f × (lines : List Line) × (es : List Entry) × ReadsCommands t rest first lines (Some f) left × AreLegal (scene_with start edges) lines es × (after ≡ Some (before ++ unended_text (plan_with start edges) lines es)) →
     StandsEntered start bytes before (Some f) unended_text left after
-ran_reading f start s t bytes rest edges first before left after fresh can command reads h =
-    stands_entered start bytes before (Some f) unended_text edges h.1 h.2 left after (all_parts start s t bytes rest edges first h.1 (Some f) left fresh command reads h.3) (inr can) h.4 h.5
+ran_reading f start t bytes rest edges first before left after can command reads h =
+    stands_entered start bytes before (Some f) unended_text edges h.1 h.2 left after (all_parts start t bytes rest edges first h.1 (Some f) left command reads h.3) (inr can) h.4 h.5
 
-pub ran_entering : {T : Type 0} (r : Result T ScriptFault) (start : Start) (s t : Script) (bytes rest : List ℕ) (edges : List Edge) (first : Option Line) (before left : List ℕ) (after : Option (List ℕ)) → IsFresh s start.workers → CanOpen start → IfSome first IsCommand → ReadsFirst s bytes edges first t rest → EntersAll t rest (scene_with start edges) first (plan_with start edges) before r left after → RanEntering start bytes before r left after
+pub ran_entering : {T : Type 0} (r : Result T ScriptFault) (start : Start) (t : Script) (bytes rest : List ℕ) (edges : List Edge) (first : Option Line) (before left : List ℕ) (after : Option (List ℕ)) → CanOpen start → IsBehindEdges t first → ReadsFirst start.workers bytes (edge_lines edges) first t rest → EntersAll t rest (scene_with start edges) first (plan_with start edges) before r left after → RanEntering start bytes before r left after
 unfolding stands_entered all_parts
-ran_entering (Ok done) start s t bytes rest edges first before left after fresh can command reads h =
-    let parts = all_parts start s t bytes rest edges first h.0 None left fresh command reads h.2 in (
+ran_entering (Ok done) start t bytes rest edges first before left after can command reads h =
+    let parts = all_parts start t bytes rest edges first h.0 None left command reads h.2 in (
       can,
       stands_entered start bytes before None (λ p commands es. history_text p es) edges h.0 h.1 left after parts (inr can) h.3 h.5,
       subst (λ (x : List Edge). IsPlan (plan_with start x)) (sym parts.edges_are) h.4,
     )
-ran_entering (Err fault.WriteFailed) start s t bytes rest edges first before left after fresh can command reads h =
-    let parts = all_parts start s t bytes rest edges first (h.0 ++ h.1) (Some fault.WriteFailed) left fresh command reads h.5 in
+ran_entering (Err fault.WriteFailed) start t bytes rest edges first before left after can command reads h =
+    let parts = all_parts start t bytes rest edges first (h.0 ++ h.1) (Some fault.WriteFailed) left command reads h.5 in
     record {
       lines = parts.lines;
       commands = h.0;
@@ -305,30 +280,29 @@ ran_entering (Err fault.WriteFailed) start s t bytes rest edges first before lef
       cut = subst (λ (x : List Edge). history_text (plan_with start x) h.2 ≡ h.3 ++ h.4) (sym parts.edges_are) h.8;
       stands = h.9;
     }
-ran_entering (Err fault.ReadFailed) start s t bytes rest edges first before left after fresh can command reads h = ran_reading fault.ReadFailed start s t bytes rest edges first before left after fresh can command reads h
-ran_entering (Err fault.InputTooLong) start s t bytes rest edges first before left after fresh can command reads h = ran_reading fault.InputTooLong start s t bytes rest edges first before left after fresh can command reads h
-ran_entering (Err (fault.LineTooLong n)) start s t bytes rest edges first before left after fresh can command reads h = ran_reading (fault.LineTooLong n) start s t bytes rest edges first before left after fresh can command reads h
-ran_entering (Err (fault.BadLine n)) start s t bytes rest edges first before left after fresh can command reads h = ran_reading (fault.BadLine n) start s t bytes rest edges first before left after fresh can command reads h
-ran_entering (Err fault.OutOfMemory) start s t bytes rest edges first before left after fresh can command reads h = absurd h.0
-ran_entering (Err fault.HeapFull) start s t bytes rest edges first before left after fresh can command reads h = absurd h.0
-ran_entering (Err fault.BadLimits) start s t bytes rest edges first before left after fresh can command reads h = absurd h.0
+ran_entering (Err fault.ReadFailed) start t bytes rest edges first before left after can command reads h = ran_reading fault.ReadFailed start t bytes rest edges first before left after can command reads h
+ran_entering (Err fault.InputTooLong) start t bytes rest edges first before left after can command reads h = ran_reading fault.InputTooLong start t bytes rest edges first before left after can command reads h
+ran_entering (Err (fault.LineTooLong n)) start t bytes rest edges first before left after can command reads h = ran_reading (fault.LineTooLong n) start t bytes rest edges first before left after can command reads h
+ran_entering (Err (fault.BadLine n)) start t bytes rest edges first before left after can command reads h = ran_reading (fault.BadLine n) start t bytes rest edges first before left after can command reads h
+ran_entering (Err fault.OutOfMemory) start t bytes rest edges first before left after can command reads h = absurd h.0
+ran_entering (Err fault.HeapFull) start t bytes rest edges first before left after can command reads h = absurd h.0
+ran_entering (Err fault.BadLimits) start t bytes rest edges first before left after can command reads h = absurd h.0
 
 -- ---- the store isn't opened
 
 -- a fault came behind the edge lines
-unopened_stands : (f : ScriptFault) (start : Start) (s : Script) (bytes before : List ℕ) (edges : List Edge) (left : List ℕ) (after : Option (List ℕ)) → IsFresh s start.workers → ReadsFrom s bytes (edge_lines edges) (Some f) left → after ≡ Some before → StandsEntered start bytes before (Some f) unended_text left after
-unopened_stands f start s bytes before edges left after fresh h same =
-    let parts = edges_alone start s bytes edges (Some f) left fresh h in
+unopened_stands : (f : ScriptFault) (start : Start) (bytes before : List ℕ) (edges : List Edge) (left : List ℕ) (after : Option (List ℕ)) → ReadsScript start.workers bytes (edge_lines edges) (Some f) left → after ≡ Some before → StandsEntered start bytes before (Some f) unended_text left after
+unopened_stands f start bytes before edges left after h same =
+    let parts = edges_alone start bytes edges (Some f) left h in
     stands_entered start bytes before (Some f) unended_text edges [] [] left after parts (inl parts.commands_are) (refl, tt) (same ∙ ap Some (sym (append-nil before)))
 
-pub ran_entering_edges : (T : Type 0) (f : ScriptFault) (start : Start) (s t : Script) (bytes before left : List ℕ) (after : Option (List ℕ)) → IsFresh s start.workers → ReadsEdges s bytes (Err f) t left → after ≡ Some before → RanEntering {T = T} start bytes before (Err f) left after
-ran_entering_edges T fault.ReadFailed start s t bytes before left after fresh h same = unopened_stands fault.ReadFailed start s bytes before h.1 left after fresh h.2 same
-ran_entering_edges T fault.InputTooLong start s t bytes before left after fresh h same = unopened_stands fault.InputTooLong start s bytes before h.1 left after fresh h.2 same
-ran_entering_edges T (fault.LineTooLong n) start s t bytes before left after fresh h same = unopened_stands (fault.LineTooLong n) start s bytes before h.1 left after fresh h.2 same
-ran_entering_edges T (fault.BadLine n) start s t bytes before left after fresh h same = unopened_stands (fault.BadLine n) start s bytes before h.1 left after fresh h.2 same
-ran_entering_edges T fault.OutOfMemory start s t bytes before left after fresh h same = ran_edges_fault T fault.OutOfMemory start s t bytes before left after fresh h same
-ran_entering_edges T fault.WriteFailed start s t bytes before left after fresh h same =
-    let parts = edges_alone start s bytes h.1 (Some fault.WriteFailed) left fresh h.2 in
+pub entering_unbegun : (T : Type 0) (f : ScriptFault) (start : Start) (bytes before left : List ℕ) (after : Option (List ℕ)) → Unbegun start bytes f left → after ≡ Some before → RanEntering {T = T} start bytes before (Err f) left after
+entering_unbegun T fault.ReadFailed start bytes before left after h same = unopened_stands fault.ReadFailed start bytes before h.edges left after h.reads same
+entering_unbegun T fault.InputTooLong start bytes before left after h same = unopened_stands fault.InputTooLong start bytes before h.edges left after h.reads same
+entering_unbegun T (fault.LineTooLong n) start bytes before left after h same = unopened_stands (fault.LineTooLong n) start bytes before h.edges left after h.reads same
+entering_unbegun T (fault.BadLine n) start bytes before left after h same = unopened_stands (fault.BadLine n) start bytes before h.edges left after h.reads same
+entering_unbegun T fault.WriteFailed start bytes before left after h same =
+    let parts = edges_alone start bytes h.edges (Some fault.WriteFailed) left h.reads in
     record {
       lines = parts.lines;
       commands = [];
@@ -343,18 +317,9 @@ ran_entering_edges T fault.WriteFailed start s t bytes before left after fresh h
       cut = refl;
       stands = same ∙ ap Some (sym (append-nil before));
     }
-ran_entering_edges T fault.HeapFull start s t bytes before left after fresh h same = absurd h.0
-ran_entering_edges T fault.BadLimits start s t bytes before left after fresh h same = absurd h.0
-
-pub ran_entering_store : (T : Type 0) (p : Plan) (f : ScriptFault) (start : Start) (s t : Script) (bytes before rest : List ℕ) (edges : List Edge) (first : Option Line) (after : Option (List ℕ)) → p.workers ≡ start.workers → p.limit ≡ start.limit → OpensStore p start.blocks (Err f) → IsFresh s start.workers → IfSome first IsCommand → ReadsFirst s bytes edges first t rest → after ≡ Some before → RanEntering {T = T} start bytes before (Err f) rest after
-ran_entering_store T p fault.ReadFailed start s t bytes before rest edges first after workers limit h fresh command reads same = absurd h
-ran_entering_store T p fault.InputTooLong start s t bytes before rest edges first after workers limit h fresh command reads same = absurd h
-ran_entering_store T p (fault.LineTooLong n) start s t bytes before rest edges first after workers limit h fresh command reads same = absurd h
-ran_entering_store T p (fault.BadLine n) start s t bytes before rest edges first after workers limit h fresh command reads same = absurd h
-ran_entering_store T p fault.WriteFailed start s t bytes before rest edges first after workers limit h fresh command reads same = absurd h
-ran_entering_store T p fault.OutOfMemory start s t bytes before rest edges first after workers limit h fresh command reads same = ran_store_fault T p fault.OutOfMemory start s t bytes before rest edges first after workers limit h fresh command reads same
-ran_entering_store T p fault.HeapFull start s t bytes before rest edges first after workers limit h fresh command reads same = ran_store_fault T p fault.HeapFull start s t bytes before rest edges first after workers limit h fresh command reads same
-ran_entering_store T p fault.BadLimits start s t bytes before rest edges first after workers limit h fresh command reads same = ran_store_fault T p fault.BadLimits start s t bytes before rest edges first after workers limit h fresh command reads same
+entering_unbegun T fault.OutOfMemory start bytes before left after h same = ran_unbegun T fault.OutOfMemory start bytes before left after h same
+entering_unbegun T fault.HeapFull start bytes before left after h same = ran_unbegun T fault.HeapFull start bytes before left after h same
+entering_unbegun T fault.BadLimits start bytes before left after h same = ran_unbegun T fault.BadLimits start bytes before left after h same
 
 -- ---- the sink is finished
 
@@ -420,13 +385,6 @@ entering_finished outcome r start bytes before left mid after f g h (keeps, inl 
     subst (λ x. RanEntering start bytes before x left after) (sym same.0) (entering_keeps outcome start bytes before left mid after h keeps)
 entering_finished outcome r start bytes before left mid after f g h (keeps, inr failed) =
     subst (λ x. RanEntering start bytes before x left after) (sym failed.1) (entering_unfinished outcome start bytes before left mid after failed.0 h keeps)
-
--- ---- how often the source was asked
-
--- where no line came the source isn't asked again
-pub asked_first : (first : Option Line) (room more start mid end : ℕ) → IfSome first (λ _. end ≤ mid + room + 1) → IfNone first (end ≡ mid) → mid + room ≤ start + more + 1 → IfSome first (λ _. mid + room ≡ start + more) → end ≤ start + more + 1
-asked_first None room more start mid end some none all line = omega (arith, none, all)
-asked_first (Some l) room more start mid end some none all line = omega (arith, some, line)
 
 -- ---- the history is legal
 

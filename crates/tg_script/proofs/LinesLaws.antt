@@ -1,5 +1,5 @@
 -- How the next line of a script stands to what is read of its bytes.
-use Rattle.std.proofs.Common.{◌≡◌, ◌≢◌, ℕ, ◌+◌, ◌-◌, ◌≤◌, Bool, List, [], ◌∷◌, ◌++◌, length, Option, Some, None, refl, sym, ap, ◌∙◌, subst, arith, length-append, append_assoc}
+use Rattle.std.proofs.Common.{◌≡◌, ◌≢◌, ℕ, ◌+◌, ◌-◌, ◌≤◌, Bool, List, [], ◌∷◌, ◌++◌, length, Option, Some, None, refl, sym, ap, ◌∙◌, subst, arith, length-append, append_assoc, append-nil, Ok}
 use Rattle.tg_text.specs.declared.line.Line.{Line}
 use Rattle.tg_text.specs.declared.fault.ScriptFault.{ScriptFault}
 use Rattle.tg_text.specs.declared.source.Fetched.{Fetched}
@@ -7,12 +7,15 @@ use Rattle.tg_text.specs.declared.source.Fetched.TheVariants as fetched
 use Rattle.tg_script.specs.declared.script.Script.{Script}
 use Rattle.tg_text.specs.Fetching.{IsOneLine, Fetches, FetchesKnown}
 use Rattle.tg_text.specs.Grammar.{line_text}
-use Rattle.tg_text.specs.Reading.{Ends, Reads, opening_after}
+use Rattle.tg_text.specs.declared.fetch.TheConstants.{MOST_BYTES}
+use Rattle.tg_text.specs.Reading.{Ends, Reads, ReadsScript, opening_after}
 use Rattle.std.specs.List.{flat_map}
 use Rattle.std.proofs.lemmas.List.Concat.{flat_map-append}
 use Rattle.tg_text.specs.declared.fault.ScriptFault.TheVariants as fault
 use Rattle.tg_text.specs.Sinks.{KeepsBytes, Wrote}
-use Rattle.tg_script.specs.Lines.{ReadsFrom, Passes, Behind, IsBehind, line_bytes}
+use Rattle.std.specs.Prelude.{IfErr, Result}
+use Rattle.tg_script.specs.Lines.{CountsFailures, IsBehind, IsFresh, NextLine, OnlyReads, Passes, ReadsFrom, line_bytes, read_failures, write_failures}
+use Rattle.tg_script.specs.Inner.Beginning.{ReadsFirst, ReadsFront}
 
 one_more : (text : List ℕ) (byte : ℕ) → IsOneLine text → byte ≢ 10 → IsOneLine (text ++ byte ∷ [])
 one_more [] byte one other = (other, tt)
@@ -34,12 +37,31 @@ fetches_known room before bytes outcome text after known h =
 
 -- ---- many lines
 
-pub behind_none : (s : Script) (bytes : List ℕ) → Behind s bytes [] s bytes
-behind_none s bytes = λ lines end left h. h
+-- what is read from a script of which no line was read is the whole of it
+pub fresh_front : (workers : ℕ) (s : Script) (bytes : List ℕ) → IsFresh s workers → ReadsFront workers bytes [] s bytes
+fresh_front workers s bytes fresh lines end left h =
+    let A : ℕ → Type 0 = λ x. Reads x s.lines.room s.count s.opening bytes lines end left in
+    let B : ℕ → Type 0 = λ x. Reads workers x s.count s.opening bytes lines end left in
+    let C : ℕ → Type 0 = λ x. Reads workers MOST_BYTES x s.opening bytes lines end left in
+    let D : Bool → Type 0 = λ x. Reads workers MOST_BYTES 0 x bytes lines end left in
+    subst D fresh.opening (subst C fresh.count (subst B fresh.room (subst A fresh.workers h)))
 
-pub behind_more : (s t u : Script) (bytes rest after : List ℕ) (front : List Line) (l : Line) → Behind s bytes front t rest → Passes t rest l u after → Behind s bytes (front ++ l ∷ []) u after
-behind_more s t u bytes rest after front l b p =
-    λ lines end left h. subst (λ x. ReadsFrom s bytes x end left) (sym (append_assoc front (l ∷ []) lines)) (b (l ∷ lines) end left (p lines end left h))
+pub front_more : (workers : ℕ) (t u : Script) (bytes rest after : List ℕ) (front : List Line) (l : Line) → ReadsFront workers bytes front t rest → Passes t rest l u after → ReadsFront workers bytes (front ++ l ∷ []) u after
+front_more workers t u bytes rest after front l b p =
+    λ lines end left h. subst (λ x. ReadsScript workers bytes x end left) (sym (append_assoc front (l ∷ []) lines)) (b (l ∷ lines) end left (p lines end left h))
+
+-- nothing more comes
+pub front_all : (workers : ℕ) (t : Script) (bytes rest : List ℕ) (front : List Line) (end : Option ScriptFault) (left : List ℕ) → ReadsFront workers bytes front t rest → ReadsFrom t rest [] end left → ReadsScript workers bytes front end left
+front_all workers t bytes rest front end left b h = subst (λ x. ReadsScript workers bytes x end left) (append-nil front) (b [] end left h)
+
+-- these lines come behind a further one
+pub front_then : (workers : ℕ) (t : Script) (bytes rest : List ℕ) (front : List Line) (l : Line) (more : List Line) (end : Option ScriptFault) (left : List ℕ) → ReadsFront workers bytes (front ++ l ∷ []) t rest → ReadsFrom t rest more end left → ReadsScript workers bytes (front ++ l ∷ more) end left
+front_then workers t bytes rest front l more end left b h = subst (λ x. ReadsScript workers bytes x end left) (append_assoc front (l ∷ []) more) (b more end left h)
+
+-- a further line comes, or none
+pub front_next : (workers : ℕ) (t u : Script) (bytes rest after : List ℕ) (front : List Line) (next : Option Line) → ReadsFront workers bytes front t rest → NextLine t rest (Ok next) u after → ReadsFirst workers bytes front next u after
+front_next workers t u bytes rest after front None b h = front_all workers t bytes rest front None after b h
+front_next workers t u bytes rest after front (Some l) b h = front_more workers t u bytes rest after front l b h
 
 -- ---- what is left behind lines
 
@@ -89,3 +111,26 @@ keeps_known mid after known is keeps = let P : Option (List ℕ) → Type 0 = λ
 pub wrote_keeps : (before mid after : Option (List ℕ)) (bytes : List ℕ) → Wrote before bytes mid → KeepsBytes mid after → Wrote before bytes after
 wrote_keeps None mid after bytes w k = tt
 wrote_keeps (Some xs) mid after bytes w k = keeps_known mid after (xs ++ bytes) w k
+
+-- ---- more lines are read
+
+pub no_failures : {S K : Type 0} (read : S → ℕ) (wrote : K → ℕ) (source : S) (sink : K) → CountsFailures read wrote source source sink sink 0 0
+no_failures read wrote source sink = record { read_failed = omega arith; write_failed = omega arith }
+
+pub reads_none : {S K T : Type 0} {met : ScriptFault → Type 0} {read : S → ℕ} {wrote : K → ℕ} {takes : K → Option (List ℕ)} {source : S} {sink : K} {done : T} → OnlyReads met read wrote takes source source sink sink (Ok done)
+reads_none {read = read} {wrote = wrote} {takes = takes} {source = source} {sink = sink} = record {
+  fault = tt;
+  failures = no_failures read wrote source sink;
+  taken = keeps_same (takes sink);
+}
+
+-- Lines were read with no fault, and then more: this outcome tells their failures, and meets no fault but one of these.
+pub reads_then : {S K T U V : Type 0} {met other : ScriptFault → Type 0} {read : S → ℕ} {wrote : K → ℕ} {takes : K → Option (List ℕ)} {source mid source' : S} {sink between sink' : K} {done : T} {r : Result U ScriptFault} {result : Result V ScriptFault} → OnlyReads met read wrote takes source mid sink between (Ok done) → OnlyReads other read wrote takes mid source' between sink' r → IfErr result met → read_failures r ≡ read_failures result → write_failures r ≡ write_failures result → OnlyReads met read wrote takes source source' sink sink' result
+reads_then {takes = takes} {sink = sink} {between = between} {sink' = sink'} first last fault reads writes = record {
+  fault = fault;
+  failures = record {
+    read_failed = omega (arith, last.failures.read_failed, first.failures.read_failed, reads);
+    write_failed = omega (arith, last.failures.write_failed, first.failures.write_failed, writes);
+  };
+  taken = keeps_then (takes sink) (takes between) (takes sink') first.taken last.taken;
+}

@@ -1,6 +1,6 @@
 -- What is read of the edge lines of a script.
 use mathlib.Core.Bool.{true≢false}
-use Rattle.std.proofs.Common.{◌≡◌, inl, inr, ◌<◌, length, arith, ℕ, true, false, cond, List, [], ◌∷◌, ◌++◌, Option, Some, Result, Ok, Err, refl, sym, ap, ◌∙◌, subst, append-nil}
+use Rattle.std.proofs.Common.{◌≡◌, inl, inr, ◌<◌, length, arith, ℕ, true, false, cond, List, [], ◌∷◌, ◌++◌, Option, Some, Result, Ok, Err, refl, sym, ap, ◌∙◌, subst}
 use Rattle.tg_model.specs.declared.edge.Edge.{Edge}
 use Rattle.tg_text.specs.declared.line.Line.{Line}
 use Rattle.tg_text.specs.declared.line.Line.TheVariants as line
@@ -16,45 +16,40 @@ use Rattle.tg_model.specs.declared.opening.OpeningFault.{OpeningFault}
 use Rattle.tg_model.specs.declared.opening.OpeningFault.TheVariants.{BadWorkers, BadLimits, BadEdge, BadValues}
 use Rattle.tg_model.specs.declared.opening.TheConstants.{MAX_VERTICES}
 use Rattle.tg_model.specs.Opened.{Plan, JoinsWorkers, ValueFits, HasWorkers, HasLimits, HasValues, IsFirstWithout, IsValuesFault, IsFaultTo}
-use Rattle.tg_script.specs.Lines.{ReadsFrom, Passes, Behind, Follows, IsOfReading}
-use Rattle.tg_script.specs.Opening.{edge_lines, ReadsEdges, IsCommand}
-use Rattle.tg_script.proofs.LinesLaws.{behind_more}
+use Rattle.tg_script.specs.Lines.{ReadsFrom, Passes, Follows, IsOfReading}
+use Rattle.tg_script.specs.Opening.{edge_lines, IsCommand}
+use Rattle.tg_script.specs.Inner.Beginning.{ReadsFront, StopsAtEdges}
+use Rattle.tg_script.proofs.LinesLaws.{front_all, front_more}
 
 edge_lines-push : (edges : List Edge) (edge : Edge) → edge_lines (edges ++ edge ∷ []) ≡ edge_lines edges ++ line.Edge edge ∷ []
 edge_lines-push [] edge = refl
 edge_lines-push (e ∷ edges) edge = ap (λ x. line.Edge e ∷ x) (edge_lines-push edges edge)
 
--- nothing more comes
-pub behind_all : (s t : Script) (bytes rest : List ℕ) (front : List Line) (end : Option ScriptFault) (left : List ℕ) → Behind s bytes front t rest → ReadsFrom t rest [] end left → ReadsFrom s bytes front end left
-behind_all s t bytes rest front end left b h = subst (λ x. ReadsFrom s bytes x end left) (append-nil front) (b [] end left h)
+pub edges_more : (workers : ℕ) (t u : Script) (bytes rest after : List ℕ) (edges more : List Edge) (edge : Edge) → more ≡ edges ++ edge ∷ [] → ReadsFront workers bytes (edge_lines edges) t rest → Passes t rest (line.Edge edge) u after → ReadsFront workers bytes (edge_lines more) u after
+edges_more workers t u bytes rest after edges more edge same b p =
+    let P : List Line → Type 0 = λ x. ReadsFront workers bytes x u after in
+    subst P (sym (edge_lines-push edges edge) ∙ ap edge_lines (sym same)) (front_more workers t u bytes rest after (edge_lines edges) (line.Edge edge) b p)
 
-pub edges_more : (s t u : Script) (bytes rest after : List ℕ) (edges more : List Edge) (edge : Edge) → more ≡ edges ++ edge ∷ [] → Behind s bytes (edge_lines edges) t rest → Passes t rest (line.Edge edge) u after → Behind s bytes (edge_lines more) u after
-edges_more s t u bytes rest after edges more edge same b p =
-    let P : List Line → Type 0 = λ x. Behind s bytes x u after in
-    subst P (sym (edge_lines-push edges edge) ∙ ap edge_lines (sym same)) (behind_more s t u bytes rest after (edge_lines edges) (line.Edge edge) b p)
-
-read_fault : (f : ScriptFault) (s u : Script) (bytes : List ℕ) (edges : List Edge) (left : List ℕ) → IsOfReading f → ReadsFrom s bytes (edge_lines edges) (Some f) left → ReadsEdges s bytes (Err f) u left
-read_fault fault.ReadFailed s u bytes edges left r h = (r, edges, h)
-read_fault fault.InputTooLong s u bytes edges left r h = (r, edges, h)
-read_fault (fault.LineTooLong n) s u bytes edges left r h = (r, edges, h)
-read_fault (fault.BadLine n) s u bytes edges left r h = (r, edges, h)
-read_fault fault.WriteFailed s u bytes edges left r h = (r, edges, h)
-read_fault fault.OutOfMemory s u bytes edges left r h = absurd r
-read_fault fault.HeapFull s u bytes edges left r h = absurd r
-read_fault fault.BadLimits s u bytes edges left r h = absurd r
-
-pub edges_fault : (s t u : Script) (bytes rest : List ℕ) (edges : List Edge) (f : ScriptFault) (left : List ℕ) → Behind s bytes (edge_lines edges) t rest → IsOfReading f → ReadsFrom t rest [] (Some f) left → ReadsEdges s bytes (Err f) u left
-edges_fault s t u bytes rest edges f left b of_reading h = read_fault f s u bytes edges left of_reading (behind_all s t bytes rest (edge_lines edges) (Some f) left b h)
+pub edges_fault : (workers : ℕ) (t : Script) (bytes rest : List ℕ) (edges : List Edge) (f : ScriptFault) (left : List ℕ) → ReadsFront workers bytes (edge_lines edges) t rest → IsOfReading f → ReadsFrom t rest [] (Some f) left → StopsAtEdges workers bytes f left
+edges_fault workers t bytes rest edges f left b of_reading h = record {
+  edges = edges;
+  some = λ is. absurd (subst IsOfReading is of_reading);
+  reads = front_all workers t bytes rest (edge_lines edges) (Some f) left b h;
+}
 
 some_edge : (edges : List Edge) (edge : Edge) → edges ++ edge ∷ [] ≡ [] → ⊥
 some_edge [] edge none = cc
 some_edge (e ∷ edges) edge none = cc
 
 -- there was no memory for an edge
-pub edges_unkept : (s t u v : Script) (bytes rest after : List ℕ) (edges : List Edge) (edge : Edge) → Behind s bytes (edge_lines edges) t rest → Passes t rest (line.Edge edge) u after → ReadsEdges s bytes (Err fault.OutOfMemory) v after
-edges_unkept s t u v bytes rest after edges edge b p =
+pub edges_unkept : (workers : ℕ) (t u : Script) (bytes rest after : List ℕ) (edges : List Edge) (edge : Edge) → ReadsFront workers bytes (edge_lines edges) t rest → Passes t rest (line.Edge edge) u after → StopsAtEdges workers bytes fault.OutOfMemory after
+edges_unkept workers t u bytes rest after edges edge b p =
     let more = edges ++ edge ∷ [] in
-    (more, some_edge edges edge, behind_all s u bytes after (edge_lines more) (Some fault.OutOfMemory) after (edges_more s t u bytes rest after edges more edge refl b p) refl)
+    record {
+      edges = more;
+      some = λ is. some_edge edges edge;
+      reads = front_all workers u bytes after (edge_lines more) (Some fault.OutOfMemory) after (edges_more workers t u bytes rest after edges more edge refl b p) refl;
+    }
 
 -- ---- one more line
 

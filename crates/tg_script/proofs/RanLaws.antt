@@ -1,40 +1,26 @@
 -- What was written for the whole of a script.
 use mathlib.Core.Bool.{false≢true}
-use Rattle.std.specs.Prelude.{IsOk, IfSome}
-use Rattle.std.proofs.Common.{◌≡◌, ◌≢◌, inl, inr, ℕ, Bool, true, false, List, [], ◌∷◌, ◌++◌, length, Option, Some, None, Result, Ok, Err, refl, sym, ap, ◌∙◌, subst, arith, append_assoc, append-nil}
+use Rattle.std.specs.Prelude.{IsOk}
+use Rattle.std.proofs.Common.{◌≡◌, ◌≢◌, inl, inr, ℕ, true, List, [], ◌∷◌, ◌++◌, length, Option, Some, None, Result, Ok, Err, refl, sym, ap, ◌∙◌, subst, arith, append_assoc, append-nil}
 use Rattle.tg_model.specs.declared.edge.Edge.{Edge}
-use Rattle.tg_model.specs.Opened.{Plan, HasLimits, start_of}
+use Rattle.tg_model.specs.Opened.{Plan, HasLimits}
 use Rattle.tg_text.specs.declared.line.Line.{Line}
 use Rattle.tg_text.specs.declared.line.Line.TheVariants as line
 use Rattle.tg_text.specs.declared.fault.ScriptFault.{ScriptFault}
 use Rattle.tg_text.specs.declared.fault.ScriptFault.TheVariants as fault
 use Rattle.tg_script.specs.declared.script.Script.{Script}
 use Rattle.tg_text.specs.Sinks.{KeepsBytes}
-use Rattle.tg_text.specs.Reading.{Reads, ReadsScript}
-use Rattle.tg_script.specs.Script.{Scene, IsAdmissible, IsCut, Start, HasRoomForWorkers, CanOpen, edges_of, commands_of, scene_of, IsScriptOutput}
-use Rattle.tg_script.specs.Lines.{ReadsFrom, Behind, IsBehind}
-use Rattle.tg_script.specs.Opening.{IsCommand, edge_lines, ReadsFirst, ReadsEdges, OpensStore}
+use Rattle.tg_text.specs.Reading.{ReadsScript}
+use Rattle.tg_text.specs.declared.fetch.TheConstants.{MOST_BYTES}
+use Rattle.tg_script.specs.Script.{IsAdmissible, IsCut, Start, HasRoomForWorkers, CanOpen, edges_of, commands_of, scene_of}
+use Rattle.tg_script.specs.Lines.{ReadsFrom, IsBehind, IsOfKeeping}
+use Rattle.tg_script.specs.Opening.{IsCommand, edge_lines, OpensStore}
+use Rattle.tg_script.specs.Inner.Beginning.{IsBehindEdges, ReadsFirst, ReadsFront, StopsAtEdges, Unbegun, scene_with}
 use Rattle.tg_journal.specs.declared.entry.Entry.{Entry}
 use Rattle.tg_script.specs.Running.{IsWritten, IsUnopened, IsUnkept, IsCutOff, Ran, Finishes}
-use Rattle.tg_script.specs.Inner.Telling.{IsTold, StandsTold, StandsCut, TellsAll, reply_of_line}
+use Rattle.tg_script.specs.Inner.Telling.{StandsTold, StandsCut, TellsAll, TellsFirst, reply_of_line}
 use Rattle.tg_script.proofs.TellLaws.{replies_admissible, replies_cut}
-use Rattle.tg_script.proofs.LinesLaws.{MayStop, reads_stop, reads_end, reads_behind, behind-append, may_stop_writing, keeps_known}
-use Rattle.tg_script.proofs.OpeningLaws.{behind_all}
-
--- a script of which no line was read, with so many workers
-pub record IsFresh (s : Script) (n : ℕ) : Type 0 where
-  pub workers : s.workers ≡ n
-  pub room : s.lines.room ≡ 1048576
-  pub count : s.count ≡ 0
-  pub opening : s.opening ≡ true
-
-pub fresh_reads : (s : Script) (workers : ℕ) (bytes : List ℕ) (lines : List Line) (end : Option ScriptFault) (left : List ℕ) → IsFresh s workers → ReadsFrom s bytes lines end left → ReadsScript workers bytes lines end left
-fresh_reads s workers bytes lines end left fresh h =
-    let A : ℕ → Type 0 = λ x. Reads x s.lines.room s.count s.opening bytes lines end left in
-    let B : ℕ → Type 0 = λ x. Reads workers x s.count s.opening bytes lines end left in
-    let C : ℕ → Type 0 = λ x. Reads workers 1048576 x s.opening bytes lines end left in
-    let D : Bool → Type 0 = λ x. Reads workers 1048576 0 x bytes lines end left in
-    subst D fresh.opening (subst C fresh.count (subst B fresh.room (subst A fresh.workers h)))
+use Rattle.tg_script.proofs.LinesLaws.{MayStop, front_all, front_then, reads_stop, reads_end, reads_behind, behind-append, may_stop_writing, keeps_known}
 
 -- ---- edge lines alone
 
@@ -42,36 +28,18 @@ pub commands_of-edges : (edges : List Edge) → commands_of (edge_lines edges) �
 commands_of-edges [] = refl
 commands_of-edges (e ∷ edges) = commands_of-edges edges
 
-edges_output : (start : Start) (s : Script) (bytes : List ℕ) (edges : List Edge) (end : Option ScriptFault) (left : List ℕ) → IsFresh s start.workers → ReadsFrom s bytes (edge_lines edges) end left → IsScriptOutput start bytes end left []
-edges_output start s bytes edges end left fresh h =
+edges_written : (start : Start) (bytes before : List ℕ) (edges : List Edge) (end : Option ScriptFault) (left : List ℕ) (after : Option (List ℕ)) → ReadsScript start.workers bytes (edge_lines edges) end left → after ≡ Some before → IsWritten start bytes before end left after
+edges_written start bytes before edges end left after h same =
+    let none = commands_of-edges edges in
     let P : List Line → Type 0 = λ x. IsAdmissible (scene_of start (edge_lines edges)) x 0 [] in
-    (edge_lines edges, 0, fresh_reads s start.workers bytes (edge_lines edges) end left fresh h, inl (commands_of-edges edges), subst P (sym (commands_of-edges edges)) (refl, refl))
-
-edges_written : (start : Start) (s : Script) (bytes before : List ℕ) (edges : List Edge) (end : Option ScriptFault) (left : List ℕ) (after : Option (List ℕ)) → IsFresh s start.workers → ReadsFrom s bytes (edge_lines edges) end left → after ≡ Some before → IsWritten start bytes before end left after
-edges_written start s bytes before edges end left after fresh h same =
-    ([], same ∙ ap Some (sym (append-nil before)), edges_output start s bytes edges end left fresh h)
+    ([], same ∙ ap Some (sym (append-nil before)), (edge_lines edges, 0, h, inl none, subst P (sym none) (refl, refl)))
 
 -- there was no memory for an edge
-edges_unkept_whole : (start : Start) (s : Script) (bytes : List ℕ) (edges : List Edge) (left : List ℕ) → IsFresh s start.workers → edges ≢ [] → ReadsFrom s bytes (edge_lines edges) (Some fault.OutOfMemory) left → IsUnkept start bytes left
-edges_unkept_whole start s bytes [] left fresh some h = absurd (some refl)
-edges_unkept_whole start s bytes (e ∷ edges) left fresh some h =
+edges_unkept_whole : (start : Start) (bytes : List ℕ) (edges : List Edge) (left : List ℕ) → edges ≢ [] → ReadsScript start.workers bytes (edge_lines edges) (Some fault.OutOfMemory) left → IsUnkept start bytes left
+edges_unkept_whole start bytes [] left some h = absurd (some refl)
+edges_unkept_whole start bytes (e ∷ edges) left some h =
     let none : edge_lines (e ∷ edges) ≢ [] = λ same. cc in
-    (edge_lines (e ∷ edges), fresh_reads s start.workers bytes (edge_lines (e ∷ edges)) (Some fault.OutOfMemory) left fresh h, none, commands_of-edges edges)
-
--- the input ended behind the edge lines
-pub ran_edges : {T : Type 0} (done : T) (start : Start) (s : Script) (bytes before : List ℕ) (edges : List Edge) (left : List ℕ) (after : Option (List ℕ)) → IsFresh s start.workers → CanOpen start → ReadsFrom s bytes (edge_lines edges) None left → after ≡ Some before → Ran {T = T} start bytes before (Ok done) left after
-ran_edges done start s bytes before edges left after fresh room h same = (room, edges_written start s bytes before edges None left after fresh h same)
-
--- a fault came behind the edge lines
-pub ran_edges_fault : (T : Type 0) (f : ScriptFault) (start : Start) (s t : Script) (bytes before left : List ℕ) (after : Option (List ℕ)) → IsFresh s start.workers → ReadsEdges s bytes (Err f) t left → after ≡ Some before → Ran {T = T} start bytes before (Err f) left after
-ran_edges_fault T fault.ReadFailed start s t bytes before left after fresh h same = edges_written start s bytes before h.1 (Some fault.ReadFailed) left after fresh h.2 same
-ran_edges_fault T fault.InputTooLong start s t bytes before left after fresh h same = edges_written start s bytes before h.1 (Some fault.InputTooLong) left after fresh h.2 same
-ran_edges_fault T (fault.LineTooLong n) start s t bytes before left after fresh h same = edges_written start s bytes before h.1 (Some (fault.LineTooLong n)) left after fresh h.2 same
-ran_edges_fault T (fault.BadLine n) start s t bytes before left after fresh h same = edges_written start s bytes before h.1 (Some (fault.BadLine n)) left after fresh h.2 same
-ran_edges_fault T fault.OutOfMemory start s t bytes before left after fresh h same = (inl (edges_unkept_whole start s bytes h.0 left fresh h.1 h.2), same)
-ran_edges_fault T fault.WriteFailed start s t bytes before left after fresh h same = inl (edges_written start s bytes before h.1 (Some fault.WriteFailed) left after fresh h.2 same)
-ran_edges_fault T fault.HeapFull start s t bytes before left after fresh h same = absurd h.0
-ran_edges_fault T fault.BadLimits start s t bytes before left after fresh h same = absurd h.0
+    (edge_lines (e ∷ edges), h, none, commands_of-edges edges)
 
 -- ---- edge lines and others
 
@@ -95,101 +63,121 @@ commands_of-front (e ∷ edges) l lines command = commands_of-front edges l line
 
 -- ---- the store is not opened
 
-pub first_command : (first : Option Line) (t : Script) → IfSome first (λ l. IsCommand l × (t.opening ≡ false)) → IfSome first IsCommand
-first_command None t h = tt
-first_command (Some l) t h = h.0
-
-unopened : (start : Start) (s t : Script) (bytes rest : List ℕ) (edges : List Edge) (first : Option Line) (f : ScriptFault) → IsFresh s start.workers → IfSome first IsCommand → ReadsFirst s bytes edges first t rest → MayStop f → IsUnopened start bytes f rest
-unopened start s t bytes rest edges None f fresh command h stop =
-    let lines = edge_lines edges in (
-      lines,
-      fresh_reads s start.workers bytes lines (Some f) rest fresh (reads_stop f stop lines s.workers s.lines.room s.count s.opening bytes rest h),
-      inr (commands_of-edges edges, reads_end lines s.workers s.lines.room s.count s.opening bytes rest h),
-    )
-unopened start s t bytes rest edges (Some l) f fresh command h stop =
+unopened : (start : Start) (t : Script) (bytes rest : List ℕ) (edges : List Edge) (first : Option Line) (f : ScriptFault) → IsBehindEdges t first → ReadsFirst start.workers bytes (edge_lines edges) first t rest → MayStop f → IsUnopened start bytes f rest
+unopened start t bytes rest edges None f command h stop =
+    let lines = edge_lines edges in
+    (lines, reads_stop f stop lines start.workers MOST_BYTES 0 true bytes rest h, inr (commands_of-edges edges, reads_end lines start.workers MOST_BYTES 0 true bytes rest h))
+unopened start t bytes rest edges (Some l) f command h stop =
     let lines = edge_lines edges ++ l ∷ [] in
-    (lines, fresh_reads s start.workers bytes lines (Some f) rest fresh (behind_all s t bytes rest lines (Some f) rest h (stop t.workers t.lines.room t.count t.opening rest)), inl (ap length (commands_of-front edges l [] command)))
+    (lines, front_all start.workers t bytes rest lines (Some f) rest h (stop t.workers t.lines.room t.count t.opening rest), inl (ap length (commands_of-front edges l [] command.0)))
 
 -- whether there is room for the workers is told by the plan
 room_of : (p : Plan) (start : Start) → p.workers ≡ start.workers → p.limit ≡ start.limit → HasLimits p → HasRoomForWorkers start
 room_of p start workers limit h = (omega (arith, h.0, limit), omega (arith, h.1, limit), omega (arith, h.2, workers, limit))
 
-pub ran_store_fault : (T : Type 0) (p : Plan) (f : ScriptFault) (start : Start) (s t : Script) (bytes before rest : List ℕ) (edges : List Edge) (first : Option Line) (after : Option (List ℕ)) → p.workers ≡ start.workers → p.limit ≡ start.limit → OpensStore p start.blocks (Err f) → IsFresh s start.workers → IfSome first IsCommand → ReadsFirst s bytes edges first t rest → after ≡ Some before → Ran {T = T} start bytes before (Err f) rest after
-ran_store_fault T p fault.ReadFailed start s t bytes before rest edges first after workers limit h fresh command reads same = absurd h
-ran_store_fault T p fault.InputTooLong start s t bytes before rest edges first after workers limit h fresh command reads same = absurd h
-ran_store_fault T p (fault.LineTooLong n) start s t bytes before rest edges first after workers limit h fresh command reads same = absurd h
-ran_store_fault T p (fault.BadLine n) start s t bytes before rest edges first after workers limit h fresh command reads same = absurd h
-ran_store_fault T p fault.WriteFailed start s t bytes before rest edges first after workers limit h fresh command reads same = absurd h
-ran_store_fault T p fault.OutOfMemory start s t bytes before rest edges first after workers limit h fresh command reads same =
-    (inr (room_of p start workers limit h, unopened start s t bytes rest edges first fault.OutOfMemory fresh command reads (λ w r c o b. refl)), same)
-ran_store_fault T p fault.HeapFull start s t bytes before rest edges first after workers limit h fresh command reads same =
-    (room_of p start workers limit h.0, omega (arith, h.1, workers), unopened start s t bytes rest edges first fault.HeapFull fresh command reads (λ w r c o b. refl), same)
-ran_store_fault T p fault.BadLimits start s t bytes before rest edges first after workers limit h fresh command reads same =
-    ((λ room. h (omega (arith, room.0, limit), omega (arith, room.1, limit), omega (arith, room.2, workers, limit))), unopened start s t bytes rest edges first fault.BadLimits fresh command reads (λ w r c o b. refl), same)
+-- a fault came at the edge lines
+pub unbegun_edges : (f : ScriptFault) (start : Start) (bytes left : List ℕ) → IsOfKeeping f → StopsAtEdges start.workers bytes f left → Unbegun start bytes f left
+unbegun_edges fault.ReadFailed start bytes left met h = h
+unbegun_edges fault.InputTooLong start bytes left met h = h
+unbegun_edges (fault.LineTooLong n) start bytes left met h = h
+unbegun_edges (fault.BadLine n) start bytes left met h = h
+unbegun_edges fault.WriteFailed start bytes left met h = h
+unbegun_edges fault.OutOfMemory start bytes left met h = inl h
+unbegun_edges fault.HeapFull start bytes left (inl met) h = absurd met
+unbegun_edges fault.HeapFull start bytes left (inr met) h = absurd cc
+unbegun_edges fault.BadLimits start bytes left (inl met) h = absurd met
+unbegun_edges fault.BadLimits start bytes left (inr met) h = absurd cc
+
+-- the store wasn't opened behind them
+pub unbegun_store : (p : Plan) (f : ScriptFault) (start : Start) (t : Script) (bytes rest : List ℕ) (edges : List Edge) (first : Option Line) → p.workers ≡ start.workers → p.limit ≡ start.limit → OpensStore p start.blocks (Err f) → IsBehindEdges t first → ReadsFirst start.workers bytes (edge_lines edges) first t rest → Unbegun start bytes f rest
+unbegun_store p fault.ReadFailed start t bytes rest edges first workers limit h command reads = absurd h
+unbegun_store p fault.InputTooLong start t bytes rest edges first workers limit h command reads = absurd h
+unbegun_store p (fault.LineTooLong n) start t bytes rest edges first workers limit h command reads = absurd h
+unbegun_store p (fault.BadLine n) start t bytes rest edges first workers limit h command reads = absurd h
+unbegun_store p fault.WriteFailed start t bytes rest edges first workers limit h command reads = absurd h
+unbegun_store p fault.OutOfMemory start t bytes rest edges first workers limit h command reads =
+    inr (room_of p start workers limit h, unopened start t bytes rest edges first fault.OutOfMemory command reads (λ w r c o b. refl))
+unbegun_store p fault.HeapFull start t bytes rest edges first workers limit h command reads =
+    (room_of p start workers limit h.0, omega (arith, h.1, workers), unopened start t bytes rest edges first fault.HeapFull command reads (λ w r c o b. refl))
+unbegun_store p fault.BadLimits start t bytes rest edges first workers limit h command reads =
+    ((λ room. h (omega (arith, room.0, limit), omega (arith, room.1, limit), omega (arith, room.2, workers, limit))), unopened start t bytes rest edges first fault.BadLimits command reads (λ w r c o b. refl))
+
+pub ran_unbegun : (T : Type 0) (f : ScriptFault) (start : Start) (bytes before left : List ℕ) (after : Option (List ℕ)) → Unbegun start bytes f left → after ≡ Some before → Ran {T = T} start bytes before (Err f) left after
+ran_unbegun T fault.ReadFailed start bytes before left after h same = edges_written start bytes before h.edges (Some fault.ReadFailed) left after h.reads same
+ran_unbegun T fault.InputTooLong start bytes before left after h same = edges_written start bytes before h.edges (Some fault.InputTooLong) left after h.reads same
+ran_unbegun T (fault.LineTooLong n) start bytes before left after h same = edges_written start bytes before h.edges (Some (fault.LineTooLong n)) left after h.reads same
+ran_unbegun T (fault.BadLine n) start bytes before left after h same = edges_written start bytes before h.edges (Some (fault.BadLine n)) left after h.reads same
+ran_unbegun T fault.WriteFailed start bytes before left after h same = inl (edges_written start bytes before h.edges (Some fault.WriteFailed) left after h.reads same)
+ran_unbegun T fault.OutOfMemory start bytes before left after (inl h) same = (inl (edges_unkept_whole start bytes h.edges left (h.some refl) h.reads), same)
+ran_unbegun T fault.OutOfMemory start bytes before left after (inr h) same = (inr h, same)
+ran_unbegun T fault.HeapFull start bytes before left after h same = (h.0, h.1, h.2, same)
+ran_unbegun T fault.BadLimits start bytes before left after h same = (h.0, h.1, same)
 
 -- ---- the store is opened
 
--- the scene that these edges make
-abbrev pub scene_with : Start → List Edge → Scene
-scene_with start edges = record {
-  graph = start_of (record { workers = start.workers; edges = edges; values = start.values; limit = start.limit });
-  stock = start.stock;
-  helpers = start.helpers;
+-- the lines of a script are these edge lines, and these behind them
+pub record AreParts (start : Start) (bytes : List ℕ) (edges : List Edge) (commands : List Line) (end : Option ScriptFault) (left : List ℕ) : Type 0 where
+  pub lines : List Line
+  pub reads : ReadsScript start.workers bytes lines end left
+  pub commands_are : commands_of lines ≡ commands
+  pub edges_are : edges_of lines ≡ edges
+
+pub parts_of : (start : Start) (t : Script) (bytes rest : List ℕ) (edges : List Edge) (l : Line) (more : List Line) (end : Option ScriptFault) (left : List ℕ) → IsCommand l → ReadsFront start.workers bytes (edge_lines edges ++ l ∷ []) t rest → ReadsFrom t rest more end left → AreParts start bytes edges (l ∷ more) end left
+parts_of start t bytes rest edges l more end left command front h = record {
+  lines = edge_lines edges ++ l ∷ more;
+  reads = front_then start.workers t bytes rest (edge_lines edges) l more end left front h;
+  commands_are = commands_of-front edges l more command;
+  edges_are = edges_of-front edges l more command;
 }
 
-told_output : (start : Start) (s t : Script) (bytes rest : List ℕ) (edges : List Edge) (l : Line) (end : Option ScriptFault) (left text : List ℕ) (es : List Entry) → IsFresh s start.workers → CanOpen start → IsCommand l → Behind s bytes (edge_lines edges ++ l ∷ []) t rest → IsTold reply_of_line t rest (scene_with start edges) l end left text es → IsScriptOutput start bytes end left text
-told_output start s t bytes rest edges l end left text es fresh can command behind h =
-    let lines = edge_lines edges ++ l ∷ h.0 in
-    let told = replies_admissible (l ∷ h.0) (scene_with start edges) text es h.2 in
-    let P : List Line → Type 0 = λ x. ReadsFrom s bytes x end left in
-    let Q : List Edge → Type 0 = λ x. IsAdmissible (scene_with start x) (commands_of lines) told.0 text in
-    let R : List Line → Type 0 = λ x. IsAdmissible (scene_with start edges) x told.0 text in (
-      lines,
-      told.0,
-      fresh_reads s start.workers bytes lines end left fresh (subst P (append_assoc (edge_lines edges) (l ∷ []) h.0) (behind h.0 end left h.1)),
-      inr can,
-      subst Q (sym (edges_of-front edges l h.0 command)) (subst R (sym (commands_of-front edges l h.0 command)) told.1),
-    )
-
-told_written : (start : Start) (s t : Script) (bytes rest : List ℕ) (edges : List Edge) (l : Line) (before : List ℕ) (end : Option ScriptFault) (left : List ℕ) (begun entries : List Entry) (after : Option (List ℕ)) → IsFresh s start.workers → CanOpen start → IsCommand l → Behind s bytes (edge_lines edges ++ l ∷ []) t rest → StandsTold reply_of_line t rest (scene_with start edges) l begun before end left entries after → IsWritten start bytes before end left after
-told_written start s t bytes rest edges l before end left begun entries after fresh can command behind h =
-    (h.0, h.2, told_output start s t bytes rest edges l end left h.0 h.1 fresh can command behind h.4)
+told_written : (start : Start) (t : Script) (bytes rest : List ℕ) (edges : List Edge) (l : Line) (before : List ℕ) (end : Option ScriptFault) (left : List ℕ) (begun entries : List Entry) (after : Option (List ℕ)) → CanOpen start → IsCommand l → ReadsFront start.workers bytes (edge_lines edges ++ l ∷ []) t rest → StandsTold reply_of_line t rest (scene_with start edges) l begun before end left entries after → IsWritten start bytes before end left after
+told_written start t bytes rest edges l before end left begun entries after can command front (text, es, stands, had, (lines, reads, tells)) =
+    let parts = parts_of start t bytes rest edges l lines end left command front reads in
+    let told = replies_admissible (l ∷ lines) (scene_with start edges) text es tells in
+    let Q : List Edge → Type 0 = λ x. IsAdmissible (scene_with start x) (commands_of parts.lines) told.0 text in
+    let R : List Line → Type 0 = λ x. IsAdmissible (scene_with start edges) x told.0 text in
+    (text, stands, (parts.lines, told.0, parts.reads, inr can, subst Q (sym parts.edges_are) (subst R (sym parts.commands_are) told.1)))
 
 -- a reply was cut off
-cut_off : (start : Start) (s t : Script) (bytes rest : List ℕ) (edges : List Edge) (l : Line) (before left : List ℕ) (begun entries : List Entry) (after : Option (List ℕ)) → IsFresh s start.workers → CanOpen start → IsCommand l → Behind s bytes (edge_lines edges ++ l ∷ []) t rest → StandsCut reply_of_line t rest (scene_with start edges) l begun before left entries after → IsCutOff start bytes before left after
-cut_off start s t bytes rest edges l before left begun entries after fresh can command behind h =
-    let front = h.0 in
-    let more = h.4.0 in
-    let lines = edge_lines edges ++ l ∷ more in
+cut_off : (start : Start) (t : Script) (bytes rest : List ℕ) (edges : List Edge) (l : Line) (before left : List ℕ) (begun entries : List Entry) (after : Option (List ℕ)) → CanOpen start → IsCommand l → ReadsFront start.workers bytes (edge_lines edges ++ l ∷ []) t rest → StandsCut reply_of_line t rest (scene_with start edges) l begun before left entries after → IsCutOff start bytes before left after
+unfolding parts_of
+cut_off start t bytes rest edges l before left begun entries after can command reads (front, es, stands, had, (more, more_reads, behind, cuts)) =
+    let parts = parts_of start t bytes rest edges l more (Some fault.WriteFailed) left command reads more_reads in
     let first = edge_lines edges ++ l ∷ [] in
-    let joined : first ++ more ≡ lines = append_assoc (edge_lines edges) (l ∷ []) more in
-    let begins = reads_behind first s.workers s.lines.room s.count s.opening bytes rest (behind_all s t bytes rest first (Some fault.OutOfMemory) rest behind refl) in
-    let P : List Line → Type 0 = λ x. ReadsFrom s bytes x (Some fault.WriteFailed) left in
+    let begins = reads_behind first start.workers MOST_BYTES 0 true bytes rest (front_all start.workers t bytes rest first (Some fault.OutOfMemory) rest reads refl) in
     let B : List Line → Type 0 = λ x. IsBehind x bytes left in
-    let Q : List Edge → Type 0 = λ x. IsCut (scene_with start x) (commands_of lines) front in
+    let Q : List Edge → Type 0 = λ x. IsCut (scene_with start x) (commands_of parts.lines) front in
     let R : List Line → Type 0 = λ x. IsCut (scene_with start edges) x front in (
-      lines,
+      parts.lines,
       front,
-      fresh_reads s start.workers bytes lines (Some fault.WriteFailed) left fresh (subst P joined (behind more (Some fault.WriteFailed) left h.4.1)),
-      subst B joined (behind-append first more bytes rest left begins h.4.2),
+      parts.reads,
+      subst B (append_assoc (edge_lines edges) (l ∷ []) more) (behind-append first more bytes rest left begins behind),
       can,
-      subst Q (sym (edges_of-front edges l more command)) (subst R (sym (commands_of-front edges l more command)) (replies_cut (l ∷ more) (scene_with start edges) front h.1 h.4.3)),
-      h.2,
+      subst Q (sym parts.edges_are) (subst R (sym parts.commands_are) (replies_cut (l ∷ more) (scene_with start edges) front es cuts)),
+      stands,
     )
 
-pub ran_commands : {T : Type 0} (r : Result T ScriptFault) (start : Start) (s t : Script) (bytes rest : List ℕ) (edges : List Edge) (l : Line) (before left : List ℕ) (begun entries : List Entry) (after : Option (List ℕ)) → IsFresh s start.workers → CanOpen start → IsCommand l → Behind s bytes (edge_lines edges ++ l ∷ []) t rest → TellsAll reply_of_line t rest (scene_with start edges) l begun before r left entries after → Ran start bytes before r left after
-ran_commands (Ok done) start s t bytes rest edges l before left begun entries after fresh room command behind h = (room, told_written start s t bytes rest edges l before None left begun entries after fresh room command behind h)
-ran_commands (Err fault.ReadFailed) start s t bytes rest edges l before left begun entries after fresh room command behind h = told_written start s t bytes rest edges l before (Some fault.ReadFailed) left begun entries after fresh room command behind h.1
-ran_commands (Err fault.InputTooLong) start s t bytes rest edges l before left begun entries after fresh room command behind h = told_written start s t bytes rest edges l before (Some fault.InputTooLong) left begun entries after fresh room command behind h.1
-ran_commands (Err (fault.LineTooLong n)) start s t bytes rest edges l before left begun entries after fresh room command behind h = told_written start s t bytes rest edges l before (Some (fault.LineTooLong n)) left begun entries after fresh room command behind h.1
-ran_commands (Err (fault.BadLine n)) start s t bytes rest edges l before left begun entries after fresh room command behind h = told_written start s t bytes rest edges l before (Some (fault.BadLine n)) left begun entries after fresh room command behind h.1
-ran_commands (Err fault.WriteFailed) start s t bytes rest edges l before left begun entries after fresh room command behind (inl h) =
-    inl (told_written start s t bytes rest edges l before (Some fault.WriteFailed) left begun entries after fresh room command behind h)
-ran_commands (Err fault.WriteFailed) start s t bytes rest edges l before left begun entries after fresh room command behind (inr h) =
-    inr (cut_off start s t bytes rest edges l before left begun entries after fresh room command behind h)
-ran_commands (Err fault.OutOfMemory) start s t bytes rest edges l before left begun entries after fresh room command behind h = absurd h.0
-ran_commands (Err fault.HeapFull) start s t bytes rest edges l before left begun entries after fresh room command behind h = absurd h.0
-ran_commands (Err fault.BadLimits) start s t bytes rest edges l before left begun entries after fresh room command behind h = absurd h.0
+ran_commands : {T : Type 0} (r : Result T ScriptFault) (start : Start) (t : Script) (bytes rest : List ℕ) (edges : List Edge) (l : Line) (before left : List ℕ) (begun entries : List Entry) (after : Option (List ℕ)) → CanOpen start → IsCommand l → ReadsFront start.workers bytes (edge_lines edges ++ l ∷ []) t rest → TellsAll reply_of_line t rest (scene_with start edges) l begun before r left entries after → Ran start bytes before r left after
+ran_commands (Ok done) start t bytes rest edges l before left begun entries after can command front h = (can, told_written start t bytes rest edges l before None left begun entries after can command front h)
+ran_commands (Err fault.ReadFailed) start t bytes rest edges l before left begun entries after can command front h = told_written start t bytes rest edges l before (Some fault.ReadFailed) left begun entries after can command front h.1
+ran_commands (Err fault.InputTooLong) start t bytes rest edges l before left begun entries after can command front h = told_written start t bytes rest edges l before (Some fault.InputTooLong) left begun entries after can command front h.1
+ran_commands (Err (fault.LineTooLong n)) start t bytes rest edges l before left begun entries after can command front h = told_written start t bytes rest edges l before (Some (fault.LineTooLong n)) left begun entries after can command front h.1
+ran_commands (Err (fault.BadLine n)) start t bytes rest edges l before left begun entries after can command front h = told_written start t bytes rest edges l before (Some (fault.BadLine n)) left begun entries after can command front h.1
+ran_commands (Err fault.WriteFailed) start t bytes rest edges l before left begun entries after can command front (inl h) =
+    inl (told_written start t bytes rest edges l before (Some fault.WriteFailed) left begun entries after can command front h)
+ran_commands (Err fault.WriteFailed) start t bytes rest edges l before left begun entries after can command front (inr h) =
+    inr (cut_off start t bytes rest edges l before left begun entries after can command front h)
+ran_commands (Err fault.OutOfMemory) start t bytes rest edges l before left begun entries after can command front h = absurd h.0
+ran_commands (Err fault.HeapFull) start t bytes rest edges l before left begun entries after can command front h = absurd h.0
+ran_commands (Err fault.BadLimits) start t bytes rest edges l before left begun entries after can command front h = absurd h.0
+
+-- the lines were run, where there is one behind the edges
+pub ran_first : {T : Type 0} (r : Result T ScriptFault) (start : Start) (t : Script) (bytes rest : List ℕ) (edges : List Edge) (first : Option Line) (before left : List ℕ) (begun entries : List Entry) (after : Option (List ℕ)) → CanOpen start → IsBehindEdges t first → ReadsFirst start.workers bytes (edge_lines edges) first t rest → TellsFirst reply_of_line t rest (scene_with start edges) first begun before r left entries after → Ran start bytes before r left after
+ran_first (Err f) start t bytes rest edges None before left begun entries after can command reads h = absurd (false≢true h.0)
+ran_first (Ok done) start t bytes rest edges None before left begun entries after can command reads h =
+    (can, edges_written start bytes before edges None left after (subst (λ (x : List ℕ). ReadsScript start.workers bytes (edge_lines edges) None x) (sym h.1) reads) h.3)
+ran_first r start t bytes rest edges (Some l) before left begun entries after can command reads h =
+    ran_commands r start t bytes rest edges l before left begun entries after can command.0 reads h
 
 -- ---- the sink is finished
 

@@ -181,15 +181,13 @@ making_refused store helpers new kind x label value left refused makes supply sa
     let some : s.stock ≢ [] = λ none. let e : value ∷ left ≡ [] = shown.1 ∙ none in cc in
     (s, (makes.refusals.same_graph s.graph shown.0, supply ∙ shown.1, same_helpers ∙ shown.2), inr (refusal.Heap, heap kind x label value s subject some (makes.refusals.full s.graph shown.0 why).0, refl, refl))
 
--- a line by which x was to make a vertex, with the value that was taken from the stock; behind it the run has the store that is left
-pub handles_making : {P : Type 0} (store after : StoreState) (helpers : ℕ) (new : Run P) (kind : Making) (x : ℕ) (label : RightSet) (value : Value) (left : List Value) (made : Result ℕ (CreateRefused P)) → Makes store after kind x label value made → new.store ≡ after → values_left new.supply ≡ values_back made ++ left → new.helpers ≡ helpers → HandlesBy store (value ∷ left) helpers (line_making kind x label) (making_answer made) new
-handles_making store after helpers new kind x label value left (Ok name) makes same supply same_helpers s shown =
+-- a line by which x was to make a vertex, with the value that was taken from the stock
+pub handles_making : {P : Type 0} (store : StoreState) (helpers : ℕ) (new : Run P) (kind : Making) (x : ℕ) (label : RightSet) (value : Value) (left : List Value) (made : Result ℕ (CreateRefused P)) → Makes store new.store kind x label value made → values_left new.supply ≡ values_back made ++ left → new.helpers ≡ helpers → HandlesBy store (value ∷ left) helpers (line_making kind x label) (making_answer made) new
+handles_making store helpers new kind x label value left (Ok name) makes supply same_helpers s shown =
     let subject = subject_held s.graph x (λ none. (makes.refusals.no_such_worker s.graph shown.0).1 none) in
-    let stands = subst (λ (t : StoreState). StandsFor t (step s.graph x (deed_making kind label value))) (sym same) (makes.vertex.step s.graph shown.0) in
-    answered s new kind x label value left (reply.Name name) shown.1 subject (makes.vertex.name s.graph shown.0) stands supply (same_helpers ∙ shown.2)
-handles_making store after helpers new kind x label value left (Err refused) makes same supply same_helpers s shown =
-    let makes' = subst (λ (t : StoreState). Makes store t kind x label value (Err refused)) (sym same) makes in
-    making_refused store helpers new kind x label value left refused makes' (supply ∙ ap (λ v. v ∷ left) makes.refusals.handed_back) same_helpers refused.why refl s shown
+    answered s new kind x label value left (reply.Name name) shown.1 subject (makes.vertex.name s.graph shown.0) (makes.vertex.step s.graph shown.0) supply (same_helpers ∙ shown.2)
+handles_making store helpers new kind x label value left (Err refused) makes supply same_helpers s shown =
+    making_refused store helpers new kind x label value left refused makes (supply ∙ ap (λ v. v ∷ left) makes.refusals.handed_back) same_helpers refused.why refl s shown
 
 -- ---- the entry of a line
 
@@ -233,14 +231,9 @@ making_refused_entry store new kind x label value left create.OutOfMemory no_mor
 making_refused_entry store new kind x label value left create.HeapFull no_more too_many others opening =
     makes_refused store new kind x label (value ∷ left) create.HeapFull refusal.Heap (λ e. cc) (λ e. cc) others
 
-making_entry_at : {P : Type 0} (store new : StoreState) (kind : Making) (x : ℕ) (label : RightSet) (value : Value) (left : List Value) (made : Result ℕ (CreateRefused P)) → EntersMade store new x (deed_making kind label value) made → MakesEntryBy store (value ∷ left) (line_making kind x label) (making_answer made) new
-making_entry_at store new kind x label value left (Ok name) enters = makes_one store new kind x label value left (reply.Name name) enters.named enters.opening
-making_entry_at store new kind x label value left (Err refused) enters = making_refused_entry store new kind x label value left refused.why enters.no_more enters.too_many enters.others enters.opening
-
--- behind the line the run has the store that is left
-pub making_entry : {P : Type 0} (store after new : StoreState) (kind : Making) (x : ℕ) (label : RightSet) (value : Value) (left : List Value) (made : Result ℕ (CreateRefused P)) → EntersMade store after x (deed_making kind label value) made → new ≡ after → MakesEntryBy store (value ∷ left) (line_making kind x label) (making_answer made) new
-making_entry store after new kind x label value left made enters same =
-    subst (λ (t : StoreState). MakesEntryBy store (value ∷ left) (line_making kind x label) (making_answer made) t) (sym same) (making_entry_at store after kind x label value left made enters)
+pub making_entry : {P : Type 0} (store new : StoreState) (kind : Making) (x : ℕ) (label : RightSet) (value : Value) (left : List Value) (made : Result ℕ (CreateRefused P)) → EntersMade store new x (deed_making kind label value) made → MakesEntryBy store (value ∷ left) (line_making kind x label) (making_answer made) new
+making_entry store new kind x label value left (Ok name) enters = makes_one store new kind x label value left (reply.Name name) enters.named enters.opening
+making_entry store new kind x label value left (Err refused) enters = making_refused_entry store new kind x label value left refused.why enters.no_more enters.too_many enters.others enters.opening
 
 -- where the stock is empty, the line is refused, and has none
 pub without_stock : {P : Type 0} (old new : Run P) (kind : Making) (x : ℕ) (label : RightSet) → new.store ≡ old.store → values_left old.supply ≡ [] → values_left new.supply ≡ [] → new.helpers ≡ old.helpers → Handles old (line_making kind x label) (told.Refused refusal.Stock) new × MakesEntry old (line_making kind x label) (told.Refused refusal.Stock) new
@@ -253,26 +246,18 @@ without_stock old new kind x label same none left helpers = (
 
 -- ---- entries that are given up
 
--- a line is handled as it was before they were
-pub handles_before : {P : Type 0} (old mid new : Run P) (l : Line) (a : Answer) → IsAsBefore old mid → Handles mid l a new → Handles old l a new
-handles_before old mid new l a before handles s shows =
-    handles s (stands_still old.store mid.store s.graph before.opening before.entries shows.0, before.values ∙ shows.1, before.helpers ∙ shows.2)
+-- a line is handled as it was before they were, and its entry is made
+pub handles_before : {P : Type 0} (old mid : StoreState) (values : List Value) (helpers : ℕ) (l : Line) (a : Answer) (new : Run P) → IsAsBefore old mid → HandlesBy mid values helpers l a new → HandlesBy old values helpers l a new
+handles_before old mid values helpers l a new before handles s shows = handles s (stands_still old mid s.graph before.opening before.entries shows.0, shows.1, shows.2)
 
-pub handles_behind : {P : Type 0} (old mid new : Run P) (l : Line) (a : Answer) → Handles old l a mid → IsAsBefore mid new → Handles old l a new
-handles_behind old mid new l a handles before s shows =
-    let told = handles s shows in
-    let t = told.0 in
-    (t, (stands_still mid.store new.store t.graph before.opening before.entries told.1.0, before.values ∙ told.1.1, before.helpers ∙ told.1.2), told.2)
-
--- and its entry is made
-pub makes_before : {P : Type 0} (old mid new : Run P) (l : Line) (a : Answer) → IsAsBefore old mid → MakesEntry mid l a new → MakesEntry old l a new
-makes_before old mid new l a before makes = record {
-  entries = makes.entries ∙ ap (λ (es : List Entry). es ++ entered l a (values_left mid.supply)) before.entries ∙ ap (λ (values : List Value). old.store.entries ++ entered l a values) before.values;
+pub makes_before : (old mid : StoreState) (values : List Value) (l : Line) (a : Answer) (new : StoreState) → IsAsBefore old mid → MakesEntryBy mid values l a new → MakesEntryBy old values l a new
+makes_before old mid values l a new before makes = record {
+  entries = makes.entries ∙ ap (λ (es : List Entry). es ++ entered l a values) before.entries;
   opening = makes.opening ∙ before.opening;
 }
 
-pub makes_behind : {P : Type 0} (old mid new : Run P) (l : Line) (a : Answer) → MakesEntry old l a mid → IsAsBefore mid new → MakesEntry old l a new
-makes_behind old mid new l a makes before = record {
-  entries = before.entries ∙ makes.entries;
-  opening = before.opening ∙ makes.opening;
-}
+-- so it is where they are given up behind it
+pub handles_behind : {P : Type 0} (old : StoreState) (values : List Value) (helpers : ℕ) (l : Line) (a : Answer) (mid : Run P) (after : StoreState) → HandlesBy old values helpers l a mid → IsAsBefore mid.store after → HandlesBy old values helpers l a (record mid { store = after })
+handles_behind old values helpers l a mid after handles before s shows =
+    let told = handles s shows in
+    (told.0, (stands_still mid.store after told.0.graph before.opening before.entries told.1.0, told.1.1, told.1.2), told.2)

@@ -1,30 +1,23 @@
 -- What is read of a whole script.
-use Rattle.std.proofs.Common.{ℕ, List, [], ◌∷◌, ◌++◌, Option, Some, None, Err, sym, subst, append-nil, append_assoc}
+use Rattle.std.specs.Prelude.{IfSome}
+use Rattle.std.specs.Option.{option_map_or}
+use Rattle.std.proofs.Common.{◌≡◌, ◌<◌, ◌+◌, ◌∙◌, ℕ, false, Option, Some, None, arith}
 use Rattle.tg_text.specs.declared.line.Line.{Line}
-use Rattle.tg_text.specs.declared.fault.ScriptFault.{ScriptFault}
-use Rattle.tg_text.specs.declared.fault.ScriptFault.TheVariants as fault
-use Rattle.tg_text.specs.Reading.{ReadsScript}
 use Rattle.tg_script.specs.declared.script.Script.{Script}
-use Rattle.tg_script.specs.Lines.{ReadsFrom, Behind}
-use Rattle.tg_script.specs.Opening.{edge_lines, ReadsEdges}
-use Rattle.tg_script.proofs.RanLaws.{IsFresh, fresh_reads}
+use Rattle.tg_script.specs.Lines.{Follows}
+use Rattle.tg_script.specs.Inner.Beginning.{IsBehindEdges}
+use Rattle.tg_script.proofs.CommandLaws.{next_command}
 
--- a fault came in the edge lines or right behind them
-pub edges_whole : (f : ScriptFault) (s t : Script) (workers : ℕ) (bytes left : List ℕ) → IsFresh s workers → ReadsEdges s bytes (Err f) t left → (lines : List Line) × ReadsScript workers bytes lines (Some f) left
-edges_whole fault.OutOfMemory s t workers bytes left fresh h = (edge_lines h.0, fresh_reads s workers bytes (edge_lines h.0) (Some fault.OutOfMemory) left fresh h.2)
-edges_whole fault.ReadFailed s t workers bytes left fresh h = (edge_lines h.1, fresh_reads s workers bytes (edge_lines h.1) (Some fault.ReadFailed) left fresh h.2)
-edges_whole fault.InputTooLong s t workers bytes left fresh h = (edge_lines h.1, fresh_reads s workers bytes (edge_lines h.1) (Some fault.InputTooLong) left fresh h.2)
-edges_whole (fault.LineTooLong n) s t workers bytes left fresh h = (edge_lines h.1, fresh_reads s workers bytes (edge_lines h.1) (Some (fault.LineTooLong n)) left fresh h.2)
-edges_whole (fault.BadLine n) s t workers bytes left fresh h = (edge_lines h.1, fresh_reads s workers bytes (edge_lines h.1) (Some (fault.BadLine n)) left fresh h.2)
-edges_whole fault.WriteFailed s t workers bytes left fresh h = (edge_lines h.1, fresh_reads s workers bytes (edge_lines h.1) (Some fault.WriteFailed) left fresh h.2)
-edges_whole fault.HeapFull s t workers bytes left fresh h = (edge_lines h.1, fresh_reads s workers bytes (edge_lines h.1) (Some fault.HeapFull) left fresh h.2)
-edges_whole fault.BadLimits s t workers bytes left fresh h = (edge_lines h.1, fresh_reads s workers bytes (edge_lines h.1) (Some fault.BadLimits) left fresh h.2)
+-- what comes behind a line that is no edge line is none
+pub next_behind : (s t : Script) (next : Option Line) → s.opening ≡ false → IfSome next (λ l. Follows s l t) → IsBehindEdges t next
+next_behind s t None closed follows = tt
+next_behind s t (Some l) closed follows = next_command s l t closed follows
 
--- no line came behind the edge lines
-pub only_edges : (s : Script) (workers : ℕ) (bytes left : List ℕ) (edges : List Line) → IsFresh s workers → ReadsFrom s bytes edges None left → ReadsScript workers bytes (edges ++ []) None left
-only_edges s workers bytes left edges fresh h = subst (λ x. ReadsScript workers bytes x None left) (sym (append-nil edges)) (fresh_reads s workers bytes edges None left fresh h)
+pub next_asked : (next : Option Line) (a b c : ℕ) → b ≡ c → IfSome next (λ _. a ≡ b) → IfSome next (λ _. a ≡ c)
+next_asked None a b c same is = tt
+next_asked (Some l) a b c same is = is ∙ same
 
--- the edge lines and the first line behind them, and then more
-pub behind_first_line : (s t : Script) (workers : ℕ) (bytes rest : List ℕ) (edges : List Line) (l : Line) (more : List Line) (end : Option ScriptFault) (left : List ℕ) → IsFresh s workers → Behind s bytes (edges ++ l ∷ []) t rest → ReadsFrom t rest more end left → ReadsScript workers bytes (edges ++ l ∷ more) end left
-behind_first_line s t workers bytes rest edges l more end left fresh b h =
-    fresh_reads s workers bytes (edges ++ l ∷ more) end left fresh (subst (λ x. ReadsFrom s bytes x end left) (append_assoc edges (l ∷ []) more) (b more end left h))
+-- with each line that comes there is less room, and when none does the reading is over
+pub next_smaller : (next : Option Line) (less room : ℕ) → IfSome next (λ _. less < room) → option_map_or (λ (l : Line). less + 1) next 0 < room + 1
+next_smaller None less room is = omega arith
+next_smaller (Some l) less room is = omega (arith, is)

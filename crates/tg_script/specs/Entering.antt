@@ -1,5 +1,5 @@
 -- What is written for the lines of a script where their entries are written in the place of replies.
-use Rattle.std.specs.Prelude.{◌≡◌, ℕ, ◌+◌, ◌≤◌, IfErr, List, [], ◌∷◌, ◌++◌, length, Option, Some, None, Result, Ok, Err}
+use Rattle.std.specs.Prelude.{◌≡◌, ℕ, ◌≤◌, List, [], ◌∷◌, ◌++◌, length, Option, Some, None, Result, Ok, Err}
 use Rattle.std.specs.List.{flat_map}
 use Rattle.tg_model.specs.declared.value.Value.{Value}
 use Rattle.tg_model.specs.declared.command.Deed.{Deed}
@@ -16,9 +16,8 @@ use Rattle.tg_text.specs.declared.fault.ScriptFault.{ScriptFault}
 use Rattle.tg_text.specs.declared.fault.ScriptFault.TheVariants as fault
 use Rattle.tg_text.specs.Reading.{ReadsScript}
 use Rattle.tg_entries.specs.Texts.{entry_text, head_text, history_text}
-use Rattle.tg_script.specs.Lines.{read_failures}
 use Rattle.tg_script.specs.Script.{Scene, Serves, Start, CanOpen, MayAnswer, commands_of, create_of, edges_of, scene_of, spawn_of}
-use Rattle.tg_script.specs.Running.{IsDue, Ran}
+use Rattle.tg_script.specs.Running.{Ran, RunsAs}
 
 -- ---- the entries of lines
 
@@ -95,11 +94,6 @@ RanEntering {T} start bytes before (Err fault.HeapFull) left after = Ran {T = T}
 RanEntering {T} start bytes before (Err fault.BadLimits) left after = Ran {T = T} start bytes before (Err fault.BadLimits) left after
 RanEntering start bytes before (Err f) left after = StandsEntered start bytes before (Some f) unended_text left after
 
--- A run from this start that writes entries, by what its source and its sink tell, as `RunsFrom` says it of one that writes replies.
-pub record EntersFrom {S K T : Type 0} (left : S → Option (List ℕ)) (asks failures : S → ℕ) (taken : K → Option (List ℕ))
-    (source source' : S) (sink sink' : K) (start : Start) (result : Result T ScriptFault) : Type 0 where
-  pub output : (bytes before : List ℕ) → left source ≡ Some bytes → taken sink ≡ Some before →
-      (rest : List ℕ) × (left source' ≡ Some rest) × RanEntering start bytes before result rest (taken sink')
-  pub due : IfErr result (IsDue start)
-  pub asked : asks source' ≤ asks source + 1048577
-  pub read_failed : failures source' ≡ failures source + read_failures result
+-- A run from this start that writes entries, by what its source and its sink tell.
+abbrev pub EntersFrom : {S K T : Type 0} → (S → Option (List ℕ)) → (S → ℕ) → (S → ℕ) → (K → Option (List ℕ)) → S → S → K → K → Start → Result T ScriptFault → Type 0
+EntersFrom {S} {K} {T} left asks failures taken source source' sink sink' start result = RunsAs (RanEntering {T = T}) left asks failures taken source source' sink sink' start result

@@ -1,7 +1,8 @@
 -- What comes of the next line of a script, and what that says of how its bytes are read.
-use Rattle.std.specs.Prelude.{◌≡◌, ◌⊎◌, ℕ, ◌+◌, List, [], ◌∷◌, ◌++◌, Option, Some, None, Result, Ok, Err, IfErr}
+use Rattle.std.specs.Prelude.{◌≡◌, ◌⊎◌, ℕ, ◌+◌, true, List, [], ◌∷◌, ◌++◌, Option, Some, None, Result, Ok, Err, IfErr}
 use Rattle.std.specs.List.{flat_map}
 use Rattle.tg_text.specs.declared.line.Line.{Line}
+use Rattle.tg_text.specs.declared.fetch.TheConstants.{MOST_BYTES}
 use Rattle.tg_text.specs.declared.fault.ScriptFault.{ScriptFault}
 use Rattle.tg_text.specs.declared.fault.ScriptFault.TheVariants as fault
 use Rattle.tg_script.specs.declared.script.Script.{Script}
@@ -12,6 +13,13 @@ use Rattle.tg_text.specs.Sinks.{KeepsBytes}
 -- the bytes are these lines, and then the fault, or the end, and these bytes are left
 abbrev pub ReadsFrom : Script → List ℕ → List Line → Option ScriptFault → List ℕ → Type 0
 ReadsFrom s bytes lines end left = Reads s.workers s.lines.room s.count s.opening bytes lines end left
+
+-- a script of which no line was read, with so many workers
+pub record IsFresh (s : Script) (number : ℕ) : Type 0 where
+  pub workers : s.workers ≡ number
+  pub room : s.lines.room ≡ MOST_BYTES
+  pub count : s.count ≡ 0
+  pub opening : s.opening ≡ true
 
 -- the line is taken: whatever is read behind it is read behind it
 abbrev pub Passes : Script → List ℕ → Line → Script → List ℕ → Type 0
@@ -59,11 +67,6 @@ IsBehind lines bytes left = bytes ≡ flat_map line_bytes lines ++ left
 abbrev pub read_failures : {T : Type 0} → Result T ScriptFault → ℕ
 read_failures (Err fault.ReadFailed) = 1
 read_failures r = 0
-
--- these lines are taken: whatever is read behind them is read behind them
-abbrev pub Behind : Script → List ℕ → List Line → Script → List ℕ → Type 0
-Behind s bytes front t rest =
-    (lines : List Line) (end : Option ScriptFault) (left : List ℕ) → ReadsFrom t rest lines end left → ReadsFrom s bytes (front ++ lines) end left
 
 -- how many failures of the sink an outcome is
 abbrev pub write_failures : {T : Type 0} → Result T ScriptFault → ℕ

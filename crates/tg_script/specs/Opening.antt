@@ -1,5 +1,5 @@
 -- What the opening of a run comes to: the edge lines in front of a script, and the store that they make.
-use Rattle.std.specs.Prelude.{◌≡◌, ◌≢◌, ℕ, ◌<◌, ◌≤◌, false, List, [], ◌∷◌, ◌++◌, map, Option, Some, None, Result, Ok, Err}
+use Rattle.std.specs.Prelude.{◌≡◌, ℕ, ◌<◌, ◌≤◌, false, List, [], map, Result, Ok, Err}
 use Rattle.tg_model.specs.declared.edge.Edge.{Edge}
 use Rattle.tg_model.specs.Opened.{Plan, HasLimits, start_of}
 use Rattle.tg_store.specs.Store.{StoreState, StandsFor}
@@ -7,10 +7,7 @@ use Rattle.tg_text.specs.declared.line.Line.{Line}
 use Rattle.tg_text.specs.declared.line.Line.TheVariants as line
 use Rattle.tg_text.specs.declared.fault.ScriptFault.{ScriptFault}
 use Rattle.tg_text.specs.declared.fault.ScriptFault.TheVariants as fault
-use Rattle.tg_script.specs.declared.script.Script.{Script}
-use Rattle.tg_script.specs.declared.opening.Front.{Front}
 use Rattle.tg_text.specs.Reading.{MayStand}
-use Rattle.tg_script.specs.Lines.{ReadsFrom, Behind, IsOfReading}
 
 -- a line that may stand behind the edges
 abbrev pub IsCommand : Line → Type 0
@@ -23,18 +20,6 @@ pub record IsAnswerable (Ready : Type 0) (l : Line) : Type 0 where
 
 abbrev pub edge_lines : List Edge → List Line
 edge_lines edges = map line.Edge edges
-
--- where no other line came the input ended, else whatever is read behind that line is read behind it
-abbrev pub ReadsFirst : Script → List ℕ → List Edge → Option Line → Script → List ℕ → Type 0
-ReadsFirst s bytes edges None t rest = ReadsFrom s bytes (edge_lines edges) None rest
-ReadsFirst s bytes edges (Some l) t rest = Behind s bytes (edge_lines edges ++ l ∷ []) t rest
-
--- the edge lines, up to the first other line or to the end; or edge lines up to the last, for which there was no memory, or up to
--- the first fault; and what is left behind them
-abbrev pub ReadsEdges : Script → List ℕ → Result Front ScriptFault → Script → List ℕ → Type 0
-ReadsEdges s bytes (Ok front) t rest = ReadsFirst s bytes front.edges.items front.first t rest
-ReadsEdges s bytes (Err fault.OutOfMemory) t rest = (edges : List Edge) × (edges ≢ []) × ReadsFrom s bytes (edge_lines edges) (Some fault.OutOfMemory) rest
-ReadsEdges s bytes (Err f) t rest = IsOfReading f × (edges : List Edge) × ReadsFrom s bytes (edge_lines edges) (Some f) rest
 
 -- The store is opened with the plan, has no entry, and stands for the graph that the plan starts from; or a limit of the plan is
 -- out of its range, or else memory was wanting, or a block for each worker where the heap may have so many.

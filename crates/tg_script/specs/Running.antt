@@ -49,15 +49,19 @@ IsDue start fault.BadLimits = ¬ HasRoomForWorkers start
 IsDue start fault.HeapFull = start.blocks < start.workers
 IsDue start f = Unit {0}
 
--- A run from this start, by what its source and its sink tell: of the bytes that are left, how often it was asked and has failed, and
--- of the bytes that were taken.
-pub record RunsFrom {S K T : Type 0} (left : S → Option (List ℕ)) (asks failures : S → ℕ) (taken : K → Option (List ℕ))
-    (source source' : S) (sink sink' : K) (start : Start) (result : Result T ScriptFault) : Type 0 where
+-- A run from this start of which so much stands in its sink, by what its source and its sink tell: of the bytes that are left, how often
+-- it was asked and has failed, and of the bytes that were taken.
+pub record RunsAs {S K T : Type 0} (Stands : Start → List ℕ → List ℕ → Result T ScriptFault → List ℕ → Option (List ℕ) → Type 0) (left : S → Option (List ℕ))
+    (asks failures : S → ℕ) (taken : K → Option (List ℕ)) (source source' : S) (sink sink' : K) (start : Start) (result : Result T ScriptFault) : Type 0 where
   pub output : (bytes before : List ℕ) → left source ≡ Some bytes → taken sink ≡ Some before →
-      (rest : List ℕ) × (left source' ≡ Some rest) × Ran start bytes before result rest (taken sink')
+      (rest : List ℕ) × (left source' ≡ Some rest) × Stands start bytes before result rest (taken sink')
   pub due : IfErr result (IsDue start)
   pub asked : asks source' ≤ asks source + 1048577
   pub read_failed : failures source' ≡ failures source + read_failures result
+
+-- a run that writes replies
+abbrev pub RunsFrom : {S K T : Type 0} → (S → Option (List ℕ)) → (S → ℕ) → (S → ℕ) → (K → Option (List ℕ)) → S → S → K → K → Start → Result T ScriptFault → Type 0
+RunsFrom {S} {K} {T} left asks failures taken source source' sink sink' start result = RunsAs (Ran {T = T}) left asks failures taken source source' sink sink' start result
 
 -- The sink was finished at the end of a run, and has failed where that is told.
 pub record FinishesSink {K T : Type 0} (failures : K → ℕ) (is_finished : K → Bool) (sink sink' : K) (result : Result T ScriptFault) : Type 0 where

@@ -1,9 +1,9 @@
 //! The opening of a run: the edge lines of its script, and the store that they make.
-ghost use Rattle.std.specs.Prelude.{◌≡◌, ◌+◌, ◌<◌, ◌≤◌, ℕ, List, length, Some, true, false, IfOk, IfSome};
+ghost use Rattle.std.specs.Prelude.{◌≡◌, ◌<◌, ◌≤◌, ℕ, List, length, Some, IfOk};
 ghost use Rattle.std.specs.List.{All};
 ghost use Rattle.tg_model.specs.Opened.{Plan, JoinsWorkers};
-ghost use Rattle.tg_script.specs.Lines.{IsOfKeeping, OnlyReads};
-ghost use Rattle.tg_script.specs.Opening.{ReadsEdges, IsCommand, OpensStore};
+ghost use Rattle.tg_script.specs.Opening.{OpensStore};
+ghost use Rattle.tg_script.specs.Inner.Beginning.{AsksForEdges, IsFront, ReadsEdges};
 
 use crate::script::Script;
 use std::alloc::Global;
@@ -12,39 +12,44 @@ use tg_payload::{Draft, Payload, values_of};
 use tg_store::{Limits, OpenFault, Store};
 use tg_text::{Line, ScriptFault, Sink, Source};
 
-/// The edges in front of a script, and the line behind them.
+/// The edges in front of a script, the line behind them, and the script behind that.
 #[derive(Drop)]
 pub(crate) struct Front {
     pub(crate) edges: Vec<Edge>,
     pub(crate) first: Option<Line>,
+    pub(crate) script: Script,
 }
 
-/// Reads the edge lines in front of a script, and the line behind them where one comes.
+/// Reads the edge lines in front of a script for so many workers, and the line behind them where one comes.
 pub(crate) fn read_edges<S: Source, K: Sink>(
     alloc: Global,
-    script: &mut Script,
     source: &mut S,
     sink: &mut K,
+    workers: u64,
 ) -> Result<Front, ScriptFault>
-    requires { script.old.opening ≡ true }
-    ensures edges { IfOk result (λ front. All (JoinsWorkers script.old.workers) front.edges.items) }
-    ensures first { IfOk result (λ front. IfSome front.first (λ line. IsCommand line × (script.new.opening ≡ false))) }
-    ensures bytes { (bytes : List ℕ) → S.left source.old ≡ Some bytes → (rest : List ℕ) × (S.left source.new ≡ Some rest) × ReadsEdges script.old bytes result script.new rest }
-    ensures reading { OnlyReads IsOfKeeping S.failures K.failures K.taken source.old source.new sink.old sink.new result }
-    ensures asked { S.asked source.new + script.new.lines.room ≤ S.asked source.old + script.old.lines.room + 1 }
-    ensures asked_of_line { IfOk result (λ front. IfSome front.first (λ _. S.asked source.new + script.new.lines.room ≡ S.asked source.old + script.old.lines.room)) }
+    ensures front { IfOk result (IsFront workers) }
+    ensures bytes { (bytes : List ℕ) → S.left source.old ≡ Some bytes → (rest : List ℕ) × (S.left source.new ≡ Some rest) × ReadsEdges workers bytes result rest }
+    ensures reading { AsksForEdges S.asked S.failures K.failures K.taken source.old source.new sink.old sink.new result }
 {
+    let mut script = Script::new(workers);
     let mut edges = Vec::new(alloc);
     while let Some(line) = script.next(source, sink)? {
         let Line::Edge(edge) = line else {
-            let first = Some(line);
-            return Ok(Front { edges, first });
+            return Ok(Front {
+                edges,
+                first: Some(line),
+                script,
+            });
         };
         if edges.push(edge).is_err() {
             return Err(ScriptFault::OutOfMemory);
         }
     }
-    Ok(Front { edges, first: None })
+    Ok(Front {
+        edges,
+        first: None,
+        script,
+    })
 }
 
 /// Opens the store with the workers, the edges between them and their payloads, and these limits. Refused for a number

@@ -1,14 +1,11 @@
 //! The run of a whole script.
-ghost use Rattle.std.specs.Prelude.{◌≡◌, ◌≢◌, ◌+◌, ◌≤◌, ℕ, List, [], Some, Err, true, false, IfErr};
-ghost use Rattle.std.specs.List.{All};
-ghost use Rattle.tg_model.specs.Opened.{Plan, JoinsWorkers};
-ghost use Rattle.tg_script.specs.Inner.Counting.{MayCountInMemory};
-ghost use Rattle.tg_script.specs.Lines.{CountsFailures, IsOfReading, read_failures, write_failures};
-ghost use Rattle.tg_script.specs.Opening.{IsAnswerable};
-ghost use Rattle.tg_script.specs.Inner.Run.{OpensRun, Shows};
+ghost use Rattle.std.specs.Prelude.{◌≡◌, ◌≢◌, ℕ, List, [], Some, Err, true, IfErr, IfOk};
+ghost use Rattle.tg_script.specs.Inner.Beginning.{Begins, BeginsStreams, IsBegun, MayGoOn};
+ghost use Rattle.tg_script.specs.Inner.Counting.{MayCountInMemory, RunsInMemory};
+ghost use Rattle.tg_script.specs.Inner.Run.{Shows};
+ghost use Rattle.tg_script.specs.Inner.Telling.{TellsFirst, UsesStreams};
 ghost use Rattle.tg_script.specs.Running.{Finishes, FinishesSink, IsDue, Ran, RunsFrom};
 ghost use Rattle.tg_script.specs.Script.{MayRun, MayStart, Scene, start_with};
-ghost use Rattle.tg_script.specs.Inner.Telling.{TellsAll};
 
 use crate::collector::{Collector, OneThread};
 use crate::helpers::Helpers;
@@ -20,7 +17,6 @@ use crate::telling::{Replies, Telling};
 use std::alloc::Global;
 use std::marker::Brand;
 use std::sync::ledger::{Blank, Ledger};
-use tg_model::Edge;
 use tg_payload::{Draft, Payload};
 use tg_store::Limits;
 use tg_text::{Bytes, Count, Line, ScriptFault, Sink, Source, Written};
@@ -62,8 +58,26 @@ pub fn run_script_with<P: Payload, C: Collector, S: Source, K: Sink>(
     ensures ran { RunsFrom S.left S.asked S.failures K.taken source.old source.new sink.old sink.new (start_with settings workers.items stock.items) result }
     ensures finish { FinishesSink K.failures K.finished sink.old sink.new result }
 {
-    let outcome = run_lines(alloc, collector, source, sink, settings, workers, stock);
-    finish(sink, outcome)
+    match begin(alloc, source, sink, settings, workers, stock) {
+        Ok(begun) => {
+            let Begun {
+                mut run,
+                mut script,
+                first,
+            } = begun;
+            let outcome = run_commands::<P, Replies, C, S, K>(
+                &mut run,
+                collector,
+                &mut script,
+                source,
+                sink,
+                first,
+            );
+            drop(run);
+            finish(sink, outcome)
+        }
+        Err(fault) => finish(sink, Err(fault)),
+    }
 }
 
 /// Runs the script as [`run_script_with`] does, with collections by the thread that runs it alone: how many helpers the
@@ -128,9 +142,7 @@ fn run_counted<P: Payload, C: Collector, A: Ledger, F: Ledger>(
 ) -> InMemory
     requires runnable { MayRun C.Ready settings workers.items }
     requires countable { MayCountInMemory A.name A.parts F.name F.parts asked failures }
-    ensures ran { (left : List ℕ) × Ran (start_with settings workers.items stock.items) script.now [] result.outcome left (Some result.written.items) }
-    ensures due { IfErr result.outcome (IsDue (start_with settings workers.items stock.items)) }
-    ensures read { result.outcome ≢ Err ScriptFault.ReadFailed }
+    ensures ran { RunsInMemory (start_with settings workers.items stock.items) script.now result }
 {
     let mut source = Bytes::new(script, Count::<A>::new(asked));
     let mut sink = Written::new(alloc, Count::<F>::new(failures));
@@ -167,56 +179,33 @@ pub(crate) fn finish<K: Sink>(
     }
 }
 
-// All but that the sink is finished.
-fn run_lines<P: Payload, C: Collector, S: Source, K: Sink>(
+/// A run that has begun, and where its script is.
+#[derive(Drop)]
+pub(crate) struct Begun<P: Payload> {
+    pub(crate) run: Run<P>,
+    pub(crate) script: Script,
+    pub(crate) first: Option<Line>,
+}
+
+/// Reads the edge lines and the line behind them, and opens the store, beside which the stock is whole.
+pub(crate) fn begin<P: Payload, S: Source, K: Sink>(
     alloc: Global,
-    collector: &C,
     source: &mut S,
     sink: &mut K,
     settings: Settings,
     workers: Vec<Draft<P>>,
     stock: Vec<Draft<P>>,
-) -> Result<(), ScriptFault>
-    requires runnable { MayRun C.Ready settings workers.items }
-    ensures ran { RunsFrom S.left S.asked S.failures K.taken source.old source.new sink.old sink.new (start_with settings workers.items stock.items) result }
-    ensures write_failed { K.failures sink.new ≡ K.failures sink.old + write_failures result }
-{
-    let mut script = Script::new(settings.workers);
-    let Front { edges, first } = read_edges(alloc, &mut script, source, sink)?;
-    let mut run = open_run(alloc, settings, edges, workers, stock)?;
-    match first {
-        Some(first) => {
-            let ran = run_commands::<P, Replies, C, S, K>(
-                &mut run,
-                collector,
-                &mut script,
-                source,
-                sink,
-                first,
-            );
-            drop(run);
-            ran
-        }
-        None => {
-            drop(run);
-            Ok(())
-        }
-    }
-}
-
-/// Opens the store, beside which the stock is whole.
-pub(crate) fn open_run<P: Payload>(
-    alloc: Global,
-    settings: Settings,
-    edges: Vec<Edge>,
-    workers: Vec<Draft<P>>,
-    stock: Vec<Draft<P>>,
-) -> Result<Run<P>, ScriptFault>
+) -> Result<Begun<P>, ScriptFault>
     requires startable { MayStart settings workers.items }
-    requires edges { All (JoinsWorkers settings.workers) edges.items }
-    ensures { let plan : Plan = record { workers = settings.workers; edges = edges.items; values = workers.items; limit = settings.max_vertices } in
-        OpensRun plan settings.limits.max_blocks stock.items settings.helpers result }
+    ensures begun { IfOk result (IsBegun (start_with settings workers.items stock.items)) }
+    ensures bytes { (bytes : List ℕ) → S.left source.old ≡ Some bytes → (rest : List ℕ) × (S.left source.new ≡ Some rest) × Begins (start_with settings workers.items stock.items) bytes result rest }
+    ensures streams { BeginsStreams S.asked S.failures K.failures K.taken source.old source.new sink.old sink.new (start_with settings workers.items stock.items) result }
 {
+    let Front {
+        edges,
+        first,
+        script,
+    } = read_edges(alloc, source, sink, settings.workers)?;
     let store = open_store(
         alloc,
         settings.workers,
@@ -225,31 +214,34 @@ pub(crate) fn open_run<P: Payload>(
         settings.max_vertices,
         settings.limits,
     )?;
-    Ok(Run {
+    let supply = Supply::new(stock);
+    let helpers = settings.helpers;
+    let run = Run {
         store,
-        supply: Supply::new(stock),
-        helpers: settings.helpers,
-    })
+        supply,
+        helpers,
+    };
+    Ok(Begun { run, script, first })
 }
 
-/// Runs the lines from the first on that is no edge line, and writes what is told of each.
+/// Runs the lines from the first on that is no edge line, where there is one, and writes what is told of each.
 pub(crate) fn run_commands<P: Payload, T: Telling, C: Collector, S: Source, K: Sink>(
     run: &mut Run<P>,
     collector: &C,
     script: &mut Script,
     source: &mut S,
     sink: &mut K,
-    first: Line,
+    first: Option<Line>,
 ) -> Result<(), ScriptFault>
-    requires answerable { IsAnswerable C.Ready first }
-    requires opening { script.old.opening ≡ false }
+    requires runnable { MayGoOn C.Ready script.old first }
     ensures written { (t : Scene) (rest before : List ℕ) → Shows run.old t → S.left source.old ≡ Some rest → K.taken sink.old ≡ Some before →
-        (left : List ℕ) × (S.left source.new ≡ Some left) × TellsAll T.told script.old rest t first run.old.store.entries before result left run.new.store.entries (K.taken sink.new) }
+        (left : List ℕ) × (S.left source.new ≡ Some left) × TellsFirst T.told script.old rest t first run.old.store.entries before result left run.new.store.entries (K.taken sink.new) }
     ensures kept { run.new.store.opening ≡ run.old.store.opening }
-    ensures fault { IfErr result IsOfReading }
-    ensures asked { S.asked source.new ≤ S.asked source.old + script.old.lines.room + 1 }
-    ensures failures { CountsFailures S.failures K.failures source.old source.new sink.old sink.new (read_failures result) (write_failures result) }
+    ensures streams { UsesStreams S.asked S.failures K.failures source.old source.new sink.old sink.new script.old first result }
 {
+    let Some(first) = first else {
+        return Ok(());
+    };
     let mut line = first;
     'lines: loop {
         let Ok(()) = T::run_line(run, collector, sink, line) else {

@@ -23,16 +23,13 @@ pub(crate) struct Script {
 }
 
 impl Script {
-    ghost use Rattle.std.specs.Prelude.{◌≡◌, ◌+◌, ◌<◌, ◌≤◌, ℕ, List, Some, Ok, true, IfOk, IfSome};
+    ghost use Rattle.std.specs.Prelude.{◌≡◌, ◌+◌, ◌<◌, ◌≤◌, ℕ, List, Some, IfOk, IfSome};
     ghost use Rattle.tg_text.specs.declared.fetch.TheConstants.{MOST_BYTES};
-    ghost use Rattle.tg_script.specs.Lines.{IsOfReading, NextLine, OnlyReads, TakesLine, Follows};
+    ghost use Rattle.tg_script.specs.Lines.{IsFresh, IsOfReading, NextLine, OnlyReads, TakesLine, Follows};
 
     /// No line was read.
     pub(crate) fn new(workers: u64) -> Script
-        ensures workers { result.workers ≡ workers }
-        ensures room { result.lines.room ≡ MOST_BYTES }
-        ensures count { result.count ≡ 0 }
-        ensures opening { result.opening ≡ true }
+        ensures { IsFresh result workers }
     {
         Script {
             lines: Lines::new(),

@@ -1,28 +1,34 @@
 //! How what came of a line is told: by its reply, or by the entry that it made.
-ghost use Rattle.std.specs.Prelude.{◌≡◌, Bool, false, true};
+ghost use Rattle.std.specs.Prelude.{Bool, false, true};
 ghost use Rattle.tg_script.specs.Opening.{IsAnswerable};
-ghost use Rattle.tg_script.specs.Inner.Run.{IsAsBefore};
+ghost use Rattle.tg_script.specs.Inner.Run.{IsAsBefore, IsHeeded};
 ghost use Rattle.tg_script.specs.Inner.Telling.{LineText, RunsLine, entry_of_line, reply_of_line};
+ghost use Rattle.tg_store.specs.Store.{HandsOut};
 
 use crate::collector::Collector;
 use crate::run::Run;
 use tg_entries::write_entries;
 use tg_model::Reply;
 use tg_payload::Payload;
+use tg_store::Store;
 use tg_text::{Line, Sink, WriteFailed, write_reply};
+
+// How many entries a run holds at most, and how many edges a list that it holds.
+const MOST_ENTRIES: usize = 32;
+
+const MOST_EDGES: usize = 64;
 
 /// Whether what a command entered is held until it was told.
 pub(crate) trait Holding {
-    ghost use Rattle.std.specs.Prelude.{◌≡◌, Bool, true};
-    ghost use Rattle.tg_script.specs.Inner.Run.{IsAsBefore};
+    ghost use Rattle.std.specs.Prelude.{Bool};
+    ghost use Rattle.tg_script.specs.Inner.Run.{IsHeeded};
 
     /// Whether it is held.
     ghost holds: { Bool };
 
     /// Does what is to be done where a command has this reply, before it is told.
-    fn heed<P: Payload>(run: &mut Run<P>, reply: &Reply)
-        ensures same { IsAsBefore run.old run.new }
-        ensures held { holds ≡ true → run.new.store.handed ≡ run.old.store.handed };
+    fn heed<P: Payload>(store: &mut Store<P>, reply: &Reply)
+        ensures { IsHeeded holds store.old store.new };
 }
 
 /// How what came of a line is told. A run is the same over it.
@@ -51,8 +57,10 @@ impl Holding for Replies {
     ghost holds = { false };
 
     #[inline(always)]
-    fn heed<P: Payload>(run: &mut Run<P>, reply: &Reply) {
-        run.give_up_long(reply);
+    fn heed<P: Payload>(store: &mut Store<P>, reply: &Reply) {
+        if is_long(reply) {
+            give_up_entries(store);
+        }
     }
 }
 
@@ -66,7 +74,7 @@ impl Telling for Replies {
         sink: &mut K,
         line: Line,
     ) -> Result<(), WriteFailed> {
-        run.give_up_many();
+        give_up_many(&mut run.store);
         let answer = run.answer::<Replies, C>(collector, line);
         write_reply(sink, &answer)
     }
@@ -79,7 +87,7 @@ impl Holding for Entries {
     ghost holds = { true };
 
     #[inline(always)]
-    fn heed<P: Payload>(_run: &mut Run<P>, _reply: &Reply) {}
+    fn heed<P: Payload>(_store: &mut Store<P>, _reply: &Reply) {}
 }
 
 impl Telling for Entries {
@@ -92,8 +100,36 @@ impl Telling for Entries {
         line: Line,
     ) -> Result<(), WriteFailed> {
         // Those of the lines before were written.
-        run.give_up_entries();
+        give_up_entries(&mut run.store);
         let _ = run.answer::<Entries, C>(collector, line);
         write_entries(sink, run.store.journal().entries())
+    }
+}
+
+// Gives up what was entered, where it is many entries. A run's output is its journal.
+#[inline(always)]
+fn give_up_many<P: Payload>(store: &mut Store<P>)
+    ensures { IsAsBefore store.old store.new }
+{
+    if store.journal().entries().len() >= MOST_ENTRIES {
+        give_up_entries(store);
+    }
+}
+
+// Gives up what was entered.
+#[cold]
+fn give_up_entries<P: Payload>(store: &mut Store<P>)
+    ensures { HandsOut store.old store.new }
+{
+    let made = store.journal().len();
+    store.forget(made);
+}
+
+// Whether the reply is a long list. No other reply takes much memory.
+#[inline(always)]
+fn is_long(reply: &Reply) -> bool {
+    match reply {
+        Reply::Edges(edges) => edges.as_slice().len() > MOST_EDGES,
+        _ => false,
     }
 }

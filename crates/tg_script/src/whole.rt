@@ -1,13 +1,12 @@
 //! A script that is read to its end before any line is run.
-ghost use Rattle.std.specs.Prelude.{◌≡◌, ◌+◌, ℕ, ◌≤◌, List, Some, false, IfOk, OnOk};
+ghost use Rattle.std.specs.Prelude.{◌≡◌, ◌+◌, ℕ, ◌≤◌, List, Some, IfOk};
 ghost use Rattle.std.specs.List.{All};
 ghost use Rattle.tg_model.specs.Opened.{JoinsWorkers};
 ghost use Rattle.tg_script.specs.Lines.{IsOfKeeping, OnlyReads};
 ghost use Rattle.tg_script.specs.Opening.{IsCommand};
-ghost use Rattle.tg_script.specs.Whole.{ReadsWhole, ReadsOn};
+ghost use Rattle.tg_script.specs.Whole.{ReadsWhole};
 
 use crate::opening::{Front, read_edges};
-use crate::script::Script;
 use std::alloc::Global;
 use tg_model::Edge;
 use tg_text::{Line, ScriptFault, Sink, Source};
@@ -34,37 +33,18 @@ pub fn read_script<S: Source, K: Sink>(
     ensures reading { OnlyReads IsOfKeeping S.failures K.failures K.taken source.old source.new sink.old sink.new result }
     ensures asked { S.asked source.new ≤ S.asked source.old + 1048577 }
 {
-    let mut script = Script::new(workers);
-    let Front { edges, first } = read_edges(alloc, &mut script, source, sink)?;
+    let Front {
+        edges,
+        first,
+        mut script,
+    } = read_edges(alloc, source, sink, workers)?;
     let mut lines = Vec::new(alloc);
-    let Some(first) = first else {
-        return Ok(WholeScript { edges, lines });
-    };
-    if lines.push(first).is_err() {
-        return Err(ScriptFault::OutOfMemory);
-    }
-    read_commands(&mut script, source, sink, &mut lines)?;
-    Ok(WholeScript { edges, lines })
-}
-
-// Reads the lines behind the first on that is no edge line.
-fn read_commands<S: Source, K: Sink>(
-    script: &mut Script,
-    source: &mut S,
-    sink: &mut K,
-    lines: &mut Vec<Line>,
-) -> Result<(), ScriptFault>
-    requires opening { script.old.opening ≡ false }
-    requires commands { All IsCommand lines.old.items }
-    ensures commands { OnOk result (All IsCommand lines.new.items) }
-    ensures bytes { (bytes : List ℕ) → S.left source.old ≡ Some bytes → (left : List ℕ) × (S.left source.new ≡ Some left) × ReadsOn script.old bytes lines.old.items lines.new.items result left }
-    ensures reading { OnlyReads IsOfKeeping S.failures K.failures K.taken source.old source.new sink.old sink.new result }
-    ensures asked { S.asked source.new ≤ S.asked source.old + script.old.lines.room + 1 }
-{
-    while let Some(line) = script.next(source, sink)? {
+    let mut next = first;
+    while let Some(line) = next {
         if lines.push(line).is_err() {
             return Err(ScriptFault::OutOfMemory);
         }
+        next = script.next(source, sink)?;
     }
-    Ok(())
+    Ok(WholeScript { edges, lines })
 }

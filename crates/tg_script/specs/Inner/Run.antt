@@ -1,6 +1,5 @@
 -- How a run under way stands to a scene, and what is said of the answer to a line.
-use Rattle.std.specs.Prelude.{◌≡◌, ◌≤◌, ℕ, List, [], ◌∷◌, ◌++◌, Result, Ok, Err}
-use Rattle.tg_model.specs.Opened.{Plan, HasLimits, start_of}
+use Rattle.std.specs.Prelude.{◌≡◌, ℕ, Bool, true, List, [], ◌∷◌, ◌++◌, Result, Ok, Err}
 use Rattle.tg_model.specs.declared.value.Value.{Value}
 use Rattle.tg_model.specs.declared.reply.Reply.TheVariants as reply
 use Rattle.tg_rights.specs.RightSet.{RightSet}
@@ -14,9 +13,7 @@ use Rattle.tg_text.specs.declared.line.Line.TheVariants as line
 use Rattle.tg_text.specs.declared.answer.Answer.{Answer}
 use Rattle.tg_text.specs.declared.answer.Answer.TheVariants as told
 use Rattle.tg_script.specs.declared.run.Run.{Run}
-use Rattle.tg_text.specs.declared.fault.ScriptFault.{ScriptFault}
 use Rattle.tg_script.specs.Entering.{entered}
-use Rattle.tg_script.specs.Opening.{OpensStore}
 use Rattle.tg_script.specs.Inner.Supply.{values_left}
 use Rattle.tg_script.specs.Script.{Scene, Serves}
 
@@ -34,16 +31,15 @@ HandlesBy store values helpers l a new = (s : Scene) → ShowsBy store values he
 abbrev pub Handles : {P : Type 0} → Run P → Line → Answer → Run P → Type 0
 Handles old l a new = HandlesBy old.store (values_left old.supply) old.helpers l a new
 
--- the same, where the first value of the stock was taken
-abbrev pub HandlesWith : {P : Type 0} → Run P → Value → Line → Answer → Run P → Type 0
-HandlesWith old value l a new = HandlesBy old.store (value ∷ values_left old.supply) old.helpers l a new
+-- entries may have been given up, and nothing else changed that a line is answered by
+pub record IsAsBefore (old new : StoreState) : Type 0 where
+  pub entries : new.entries ≡ old.entries
+  pub opening : new.opening ≡ old.opening
 
--- entries may have been given up, and nothing else changed
-pub record IsAsBefore {P : Type 0} (old new : Run P) : Type 0 where
-  pub entries : new.store.entries ≡ old.store.entries
-  pub opening : new.store.opening ≡ old.store.opening
-  pub values : values_left new.supply ≡ values_left old.supply
-  pub helpers : new.helpers ≡ old.helpers
+-- the same, but none was given up where they are held
+pub record IsHeeded (holds : Bool) (old new : StoreState) : Type 0 where
+  pub same : IsAsBefore old new
+  pub held : holds ≡ true → new.handed ≡ old.handed
 
 -- The line made exactly the entry that a line makes which is answered so, where these values were left of the stock, and the opening
 -- is the same still.
@@ -53,6 +49,11 @@ pub record MakesEntryBy (old : StoreState) (values : List Value) (l : Line) (a :
 
 abbrev pub MakesEntry : {P : Type 0} → Run P → Line → Answer → Run P → Type 0
 MakesEntry old l a new = MakesEntryBy old.store (values_left old.supply) l a new.store
+
+-- the same, and where they are held no entry was given up
+pub record EntersLine {P : Type 0} (holds : Bool) (old : Run P) (l : Line) (a : Answer) (new : Run P) : Type 0 where
+  pub entry : MakesEntry old l a new
+  pub held : holds ≡ true → new.store.handed ≡ old.store.handed
 
 -- the line by which x makes a vertex of this kind
 abbrev pub line_making : Making → ℕ → RightSet → Line
@@ -68,9 +69,3 @@ making_answer (Err refused) = create_answer refused.why
 abbrev pub values_back : {P : Type 0} → Result ℕ (CreateRefused P) → List Value
 values_back (Ok name) = []
 values_back (Err refused) = refused.draft ∷ []
-
--- the store was opened, with no entry, and the run shows the scene that the plan makes beside this stock; or why it wasn't opened
-abbrev pub OpensRun : {P : Type 0} → Plan → ℕ → List Value → ℕ → Result (Run P) ScriptFault → Type 0
-OpensRun p blocks stock helpers (Ok run) =
-    HasLimits p × (p.workers ≤ blocks) × Shows run (record { graph = start_of p; stock = stock; helpers = helpers }) × (run.store.opening ≡ p) × (run.store.entries ≡ [])
-OpensRun p blocks stock helpers (Err f) = OpensStore p blocks (Err f)

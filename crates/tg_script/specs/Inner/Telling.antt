@@ -1,5 +1,5 @@
 -- Parts of a run, which are the same whether it tells its lines by replies or by entries.
-use Rattle.std.specs.Prelude.{◌≡◌, ◌⊎◌, ℕ, ◌≤◌, List, [], ◌∷◌, ◌++◌, length, Option, Some, None, Result, Ok, Err, IsOk}
+use Rattle.std.specs.Prelude.{◌≡◌, ◌⊎◌, ℕ, ◌+◌, ◌≤◌, IfErr, IfNone, IfSome, List, [], ◌∷◌, ◌++◌, length, Option, Some, None, Result, Ok, Err, IsOk}
 use Rattle.std.specs.List.{flat_map}
 use Rattle.tg_model.specs.declared.value.Value.{Value}
 use Rattle.tg_model.specs.Opened.{Plan, IsPlan}
@@ -15,7 +15,7 @@ use Rattle.tg_entries.specs.Texts.{entry_text, history_text}
 use Rattle.tg_script.specs.declared.run.Run.{Run}
 use Rattle.tg_script.specs.declared.script.Script.{Script}
 use Rattle.tg_script.specs.Entering.{AreEntered, entered, unended_text}
-use Rattle.tg_script.specs.Lines.{IsBehind, IsOfReading, ReadsFrom}
+use Rattle.tg_script.specs.Lines.{CountsFailures, IsBehind, IsOfReading, ReadsFrom, read_failures, write_failures}
 use Rattle.tg_script.specs.Inner.Run.{Handles, MakesEntry}
 use Rattle.tg_script.specs.Script.{Scene, Serves}
 use Rattle.tg_script.specs.Inner.Supply.{values_left}
@@ -87,6 +87,15 @@ TellsAll told s bytes t first begun before (Err f) left entries after = IsOfRead
 abbrev pub TellsFirst : {T : Type 0} → LineText → Script → List ℕ → Scene → Option Line → List Entry → List ℕ → Result T ScriptFault → List ℕ → List Entry → Option (List ℕ) → Type 0
 TellsFirst told s bytes t None begun before r left entries after = IsOk r × (left ≡ bytes) × (entries ≡ begun) × (after ≡ Some before)
 TellsFirst told s bytes t (Some l) begun before r left entries after = TellsAll told s bytes t l begun before r left entries after
+
+-- The same by what source and sink tell beside their bytes: no fault was met but one of reading, each failure is told, and the source was
+-- asked for no more than the script may take.
+pub record UsesStreams {S K T : Type 0} (asks read : S → ℕ) (written : K → ℕ) (source source' : S) (sink sink' : K) (s : Script) (first : Option Line)
+    (result : Result T ScriptFault) : Type 0 where
+  pub fault : IfErr result IsOfReading
+  pub failures : CountsFailures read written source source' sink sink' (read_failures result) (write_failures result)
+  pub asked : IfSome first (λ _. asks source' ≤ asks source + s.lines.room + 1)
+  pub unasked : IfNone first (asks source' ≡ asks source)
 
 -- these are the lines from the first on that is no edge line; where there is none, no fault but of writing is met behind it
 abbrev pub ReadsCommands : Script → List ℕ → Option Line → List Line → Option ScriptFault → List ℕ → Type 0

@@ -1,37 +1,43 @@
-use Rattle.std.proofs.Common.{◌+◌, ap, sym, ◌∙◌}
+use Rattle.std.proofs.Common.{◌+◌, arith, subst, Err}
+use Rattle.tg_model.specs.Opened.{Plan}
+use Rattle.tg_script.specs.Inner.Beginning.{plan_with, scene_with}
+use Rattle.tg_script.specs.Inner.Telling.{EntersAll}
 use Rattle.tg_script.specs.Script.{start_with}
-use Rattle.tg_script.proofs.EnteringLaws.{entering_finished}
-use Rattle.tg_script.proofs.DueLaws.{finished_due, finished_read, finished_unfailed, finished_write}
+use Rattle.tg_script.proofs.DueLaws.{runs_begun, runs_finished, runs_unbegun, sink_finished}
+use Rattle.tg_script.proofs.EnteringLaws.{entering_finished, entering_unbegun, ran_entering}
 use Rattle.tg_script.proofs.entering.run_script_entries.Goals as goal
 
-pub returns-clause-entered : goal.returns-clause-entered
-returns-clause-entered g c =
+pub returns-in-Ok-clause-entered : goal.returns-in-Ok-clause-entered
+returns-in-Ok-clause-entered g c =
+    let k = g.K.Sink in
     let start = start_with c.args.settings c.args.workers.items c.args.stock.items in
-    let s = g.K.Sink in
-    record {
-      output = (λ bytes before left taken.
-          let ran = c.enter_lines-outcome.ensures.entered.output bytes before left taken in (
-            ran.0,
-            ran.1,
-            entering_finished c.enter_lines-outcome.result c.finish.result start bytes before ran.0 (s.taken c.enter_lines-outcome.new.sink) (s.taken c.finish.new.sink)
-                (s.failures c.enter_lines-outcome.new.sink) (s.failures c.finish.new.sink) ran.2 c.finish.ensures.outcome,
-          ));
-      due = finished_due start c.enter_lines-outcome.result c.finish.result (s.taken c.enter_lines-outcome.new.sink) (s.taken c.finish.new.sink)
-          (s.failures c.enter_lines-outcome.new.sink) (s.failures c.finish.new.sink) c.enter_lines-outcome.ensures.entered.due c.finish.ensures.outcome;
-      asked = c.enter_lines-outcome.ensures.entered.asked;
-      read_failed = c.enter_lines-outcome.ensures.entered.read_failed ∙ ap (λ n. g.S.Source.failures c.args.source.now + n)
-          (sym (finished_read c.enter_lines-outcome.result c.finish.result (s.taken c.enter_lines-outcome.new.sink) (s.taken c.finish.new.sink)
-          (s.failures c.enter_lines-outcome.new.sink) (s.failures c.finish.new.sink) c.finish.ensures.outcome));
-    }
+    let begun = c.in-Ok.begun in
+    let edges = begun.run.store.opening.edges in
+    let is = c.in-Ok.ensures.begun in
+    let all = c.enter_all-outcome in
+    let ended = c.finish.ensures.outcome in
+    runs_finished k.failures (runs_begun c.in-Ok.ensures.bytes c.in-Ok.ensures.streams all.ensures.streams
+    (λ bytes rest before leaves taken reads.
+    let told = all.ensures.written (scene_with start edges) rest before is.shows leaves taken in (
+      told.0,
+      told.1,
+      ran_entering all.result start begun.script bytes rest edges begun.first before told.0 (k.taken all.new.sink) is.can is.first reads
+          (subst (λ (p : Plan). EntersAll begun.script rest (scene_with start edges) begun.first p before all.result told.0 (k.taken all.new.sink)) is.opening told.2),
+    )))
+    ended (λ bytes before rest ran. entering_finished all.result c.finish.result start bytes before rest (k.taken all.new.sink) (k.taken c.finish.new.sink) (k.failures all.new.sink) (k.failures c.finish.new.sink) ran ended)
 
-pub returns-clause-finish : goal.returns-clause-finish
-returns-clause-finish g c =
-    let s = g.K.Sink in
-    let had = c.enter_lines-outcome.ensures.write_failed in
-    record {
-      write_failed = finished_write c.enter_lines-outcome.result c.finish.result (s.taken c.enter_lines-outcome.new.sink) (s.taken c.finish.new.sink)
-          (s.failures c.args.sink.now) (s.failures c.enter_lines-outcome.new.sink) (s.failures c.finish.new.sink) c.finish.ensures.outcome had;
-      unfailed = finished_unfailed c.enter_lines-outcome.result c.finish.result (s.taken c.enter_lines-outcome.new.sink) (s.taken c.finish.new.sink)
-          (s.failures c.args.sink.now) (s.failures c.enter_lines-outcome.new.sink) (s.failures c.finish.new.sink) c.finish.ensures.outcome had;
-      finished = c.finish.ensures.finished;
-    }
+pub returns-in-Ok-clause-finish : goal.returns-in-Ok-clause-finish
+returns-in-Ok-clause-finish g c =
+    sink_finished g.K.Sink.taken c.enter_all-outcome.new.sink (omega (arith, c.in-Ok.ensures.streams.failures.write_failed, c.enter_all-outcome.ensures.streams.failures.write_failed)) c.finish.ensures.outcome c.finish.ensures.finished
+
+pub returns-in-Err-clause-entered : goal.returns-in-Err-clause-entered
+returns-in-Err-clause-entered g c =
+    let k = g.K.Sink in
+    let start = start_with c.args.settings c.args.workers.items c.args.stock.items in
+    let f = c.in-Err.fault in
+    let ended = c.finish-in-Err.ensures.outcome in
+    runs_finished k.failures (runs_unbegun c.in-Err.ensures.bytes c.in-Err.ensures.streams (λ bytes before rest after h same. entering_unbegun (Unit {0}) f start bytes before rest after h same))
+    ended (λ bytes before rest ran. entering_finished (Err f) c.finish-in-Err.result start bytes before rest (k.taken c.begin.new.sink) (k.taken c.finish-in-Err.new.sink) (k.failures c.begin.new.sink) (k.failures c.finish-in-Err.new.sink) ran ended)
+
+pub returns-in-Err-clause-finish : goal.returns-in-Err-clause-finish
+returns-in-Err-clause-finish g c = sink_finished g.K.Sink.taken c.begin.new.sink c.in-Err.ensures.streams.failures.write_failed c.finish-in-Err.ensures.outcome c.finish-in-Err.ensures.finished

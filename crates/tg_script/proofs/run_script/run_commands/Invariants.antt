@@ -1,4 +1,6 @@
 use Rattle.std.proofs.Common.{◌≡◌, ◌+◌, ℕ, List, Some, false}
+use Rattle.tg_text.specs.declared.line.Line.{Line}
+use Rattle.tg_script.specs.Lines.{CountsFailures}
 use Rattle.tg_script.specs.Opening.{IsCommand}
 use Rattle.tg_script.specs.Inner.Run.{Shows}
 use Rattle.tg_script.specs.Script.{Scene}
@@ -12,11 +14,10 @@ invariant-lines g l =
     record {
       command : IsCommand l.line;
       opening : l.script.opening ≡ false;
-      under : (t : Scene) (rest before : List ℕ) → Shows l.fn.run t → s.left l.fn.source ≡ Some rest → k.taken l.fn.sink ≡ Some before →
-          Under g.T.Telling.told l.fn.script rest t l.fn.first l.fn.run.store.entries before l.script l.run l.line (s.left l.source) (k.taken l.sink);
-      read : s.failures l.source ≡ s.failures l.fn.source;
+      under : (first : Line) (t : Scene) (rest before : List ℕ) → l.fn.first ≡ Some first → Shows l.fn.run t → s.left l.fn.source ≡ Some rest → k.taken l.fn.sink ≡ Some before →
+          Under g.T.Telling.told l.fn.script rest t first l.fn.run.store.entries before l.script l.run l.line (s.left l.source) (k.taken l.sink);
       kept : l.run.store.opening ≡ l.fn.run.store.opening;
-      wrote : k.failures l.sink ≡ k.failures l.fn.sink;
+      failures : CountsFailures s.failures k.failures l.fn.source l.source l.fn.sink l.sink 0 0;
       asked : s.asked l.source + l.script.lines.room ≡ s.asked l.fn.source + l.fn.script.lines.room;
     }
 

@@ -1,97 +1,114 @@
-use Rattle.std.proofs.Common.{◌++◌, [], ◌∷◌, inr, refl, ap, ◌∙◌, sym, subst, arith, Some, None, List}
+use Rattle.std.proofs.Common.{◌≡◌, ◌++◌, [], ◌∷◌, ◌+◌, ◌≤◌, ◌<◌, inl, inr, refl, ap, ◌∙◌, sym, subst, arith, rules, append-nil, append_assoc, Some, None, List, Option}
+use Rattle.std.specs.List.{All}
+use Rattle.std.specs.Option.{option_map_or}
+use Rattle.std.proofs.lemmas.List.Elements.{All-push}
 use Rattle.std.proofs.lemmas.Result.{err_from_is_err_and}
 use Rattle.tg_text.specs.declared.line.Line.{Line}
 use Rattle.tg_text.specs.declared.fault.ScriptFault.TheVariants as fault
-use Rattle.tg_text.specs.Reading.{ReadsScript}
-use Rattle.tg_script.specs.Opening.{edge_lines}
-use Rattle.tg_script.proofs.LinesLaws.{keeps_then}
+use Rattle.tg_script.specs.Opening.{IsCommand, edge_lines}
+use Rattle.tg_script.specs.Inner.Beginning.{ReadsFirst, ReadsFront}
+use Rattle.tg_script.proofs.LinesLaws.{front_all, front_next, reads_none, reads_then}
 use Rattle.tg_script.proofs.OpeningLaws.{pushed}
-use Rattle.tg_script.proofs.RanLaws.{IsFresh}
-use Rattle.tg_script.proofs.WholeLaws.{edges_whole, only_edges, behind_first_line}
+use Rattle.tg_script.proofs.WholeLaws.{next_asked, next_behind, next_smaller}
 use Rattle.tg_script.proofs.whole.read_script.Goals as goal
 
 pub returns-in_err-edges-clause-bytes : goal.returns-in_err-edges-clause-bytes
 returns-in_err-edges-clause-bytes g c = λ bytes known.
-    let fresh : IsFresh c.new-script.result c.args.workers = record { workers = c.new-script.ensures.workers; room = c.new-script.ensures.room; count = c.new-script.ensures.count; opening = c.new-script.ensures.opening } in
     let p = err_from_is_err_and c.from_residual.result c.from_residual.ensures.1 in
     let n = c.in_err-edges.ensures.bytes bytes known in
-    rw (p.1, p.2) (n.0, n.1, edges_whole c.in_err-edges.field-0.0 c.new-script.result c.read_edges.new.script c.args.workers bytes n.0 fresh n.2)
-
-pub returns-in_default-clause-bytes : goal.returns-in_default-clause-bytes
-returns-in_default-clause-bytes g c = λ bytes known.
-    let fresh : IsFresh c.new-script.result c.args.workers = record { workers = c.new-script.ensures.workers; room = c.new-script.ensures.room; count = c.new-script.ensures.count; opening = c.new-script.ensures.opening } in
-    let edges = edge_lines c.in_ok-edges.field-0.edges.items in
-    let n = (rw c.in_default.is at c.in_ok-edges.ensures.bytes) bytes known in
-    (n.0, n.1, subst (λ x. ReadsScript c.args.workers bytes (edges ++ x) None n.0) (sym c.new-lines.ensures.items) (only_edges c.new-script.result c.args.workers bytes n.0 edges fresh n.2))
-
-pub returns-then-is_err-clause-bytes : goal.returns-then-is_err-clause-bytes
-returns-then-is_err-clause-bytes g c = λ bytes known.
-    let fresh : IsFresh c.new-script.result c.args.workers = record { workers = c.new-script.ensures.workers; room = c.new-script.ensures.room; count = c.new-script.ensures.count; opening = c.new-script.ensures.opening } in
-    let edges = edge_lines c.in_ok-edges.field-0.edges.items in
-    let n = (rw c.in-Some.is at c.in_ok-edges.ensures.bytes) bytes known in
-    (n.0, n.1, (edges ++ c.in-Some.first ∷ [], behind_first_line c.new-script.result c.read_edges.new.script c.args.workers bytes n.0 edges c.in-Some.first [] (Some fault.OutOfMemory) n.0 fresh n.2 refl))
-
-pub returns-in_err-read_commands-clause-bytes : goal.returns-in_err-read_commands-clause-bytes
-returns-in_err-read_commands-clause-bytes g c = λ bytes known.
-    let fresh : IsFresh c.new-script.result c.args.workers = record { workers = c.new-script.ensures.workers; room = c.new-script.ensures.room; count = c.new-script.ensures.count; opening = c.new-script.ensures.opening } in
-    let edges = edge_lines c.in_ok-edges.field-0.edges.items in
-    let n = (rw c.in-Some.is at c.in_ok-edges.ensures.bytes) bytes known in
-    let m = c.in_err-read_commands.ensures.bytes n.0 n.1 in
-    let p = err_from_is_err_and c.from_residual-in_err-read_commands.result c.from_residual-in_err-read_commands.ensures.1 in
-    rw (p.1, p.2) (m.0, m.1, (edges ++ c.in-Some.first ∷ m.2.0, behind_first_line c.new-script.result c.read_edges.new.script c.args.workers bytes n.0 edges c.in-Some.first m.2.0 (Some c.in_err-read_commands.field-0.0) m.0 fresh n.2 m.2.1))
-
-pub returns-clause-bytes : goal.returns-clause-bytes
-returns-clause-bytes g c = λ bytes known.
-    let fresh : IsFresh c.new-script.result c.args.workers = record { workers = c.new-script.ensures.workers; room = c.new-script.ensures.room; count = c.new-script.ensures.count; opening = c.new-script.ensures.opening } in
-    let edges = edge_lines c.in_ok-edges.field-0.edges.items in
-    let n = (rw c.in-Some.is at c.in_ok-edges.ensures.bytes) bytes known in
-    let m = c.in_ok-read_commands.ensures.bytes n.0 n.1 in
-    let one = pushed c.push.new.self.items c.new-lines.result.items c.in-Some.first c.push.result (sym c.if-is_err.ensures.value) c.push.ensures.items ∙ ap (λ (x : List Line). x ++ c.in-Some.first ∷ []) c.new-lines.ensures.items in (
-      m.0,
-      m.1,
-      subst (λ x. ReadsScript c.args.workers bytes (edges ++ x) None m.0) (sym (m.2.1 ∙ ap (λ (x : List Line). x ++ m.2.0) one))
-          (behind_first_line c.new-script.result c.read_edges.new.script c.args.workers bytes n.0 edges c.in-Some.first m.2.0 None m.0 fresh n.2 m.2.2),
-    )
+    rw (p.1, p.2) (n.0, n.1, (edge_lines n.2.edges, n.2.reads))
 
 pub returns-in_err-edges-clause-reading : goal.returns-in_err-edges-clause-reading
 returns-in_err-edges-clause-reading g c =
     let p = err_from_is_err_and c.from_residual.result c.from_residual.ensures.1 in
-    let reading = c.in_err-edges.ensures.reading in
+    let reading = c.in_err-edges.ensures.reading.reading in
     rw (p.1, p.2) (record { fault = reading.fault; failures = reading.failures; taken = reading.taken })
 
-pub returns-in_default-clause-reading : goal.returns-in_default-clause-reading
-returns-in_default-clause-reading g c =
+pub loop-next-init : goal.loop-next-init
+loop-next-init g c =
+    let front = c.in_ok-edges.field-0 in
+    let edges = edge_lines front.edges.items in
+    let none = sym c.new-lines.ensures.items in
     let reading = c.in_ok-edges.ensures.reading in
-    record { fault = tt; failures = reading.failures; taken = reading.taken }
+    record {
+      commands = subst (λ (x : List Line). All IsCommand x) none (search rules);
+      next = c.in_ok-edges.ensures.front.first;
+      bytes = λ bytes known.
+          let n = c.in_ok-edges.ensures.bytes bytes known in (
+            n.0,
+            n.1,
+            subst (λ (x : List Line). ReadsFirst c.args.workers bytes (edges ++ x) front.first front.script n.0) none
+                (subst (λ (x : List Line). ReadsFirst c.args.workers bytes x front.first front.script n.0) (sym (append-nil edges)) n.2),
+          );
+      reading = record { fault = tt; failures = reading.reading.failures; taken = reading.reading.taken };
+      asked = reading.asked;
+      asked_of_line = reading.asked_of_line;
+    }
+
+pub returns-then-is_err-clause-bytes : goal.returns-then-is_err-clause-bytes
+returns-then-is_err-clause-bytes g c = λ bytes known.
+    let i = (rw c.in-Some.is at c.loop-next.invariant.bytes) bytes known in
+    let lines = (edge_lines c.in_ok-edges.field-0.edges.items ++ c.loop-next.lines.items) ++ c.in-Some.line ∷ [] in
+    (i.0, i.1, (lines, front_all c.args.workers c.loop-next.script bytes i.0 lines (Some fault.OutOfMemory) i.0 i.2 refl))
 
 pub returns-then-is_err-clause-reading : goal.returns-then-is_err-clause-reading
 returns-then-is_err-clause-reading g c =
-    let reading = c.in_ok-edges.ensures.reading in
+    let reading = c.loop-next.invariant.reading in
     record { fault = inr refl; failures = reading.failures; taken = reading.taken }
 
-pub returns-in_err-read_commands-clause-reading : goal.returns-in_err-read_commands-clause-reading
-returns-in_err-read_commands-clause-reading g c =
-    let p = err_from_is_err_and c.from_residual-in_err-read_commands.result c.from_residual-in_err-read_commands.ensures.1 in
-    let first = c.in_ok-edges.ensures.reading in
-    let last = c.in_err-read_commands.ensures.reading in
-    rw (p.1, p.2) (record {
-      fault = last.fault;
-      failures = record {
-        read_failed = omega (arith, last.failures.read_failed, first.failures.read_failed);
-        write_failed = omega (arith, last.failures.write_failed, first.failures.write_failed);
-      };
-      taken = keeps_then (g.K.Sink.taken c.args.sink.now) (g.K.Sink.taken c.read_edges.new.sink) (g.K.Sink.taken c.read_commands.new.sink) first.taken last.taken;
-    })
+pub returns-in_err-next-clause-bytes : goal.returns-in_err-next-clause-bytes
+returns-in_err-next-clause-bytes g c = λ bytes known.
+    let i = (rw c.in-Some.is at c.loop-next.invariant.bytes) bytes known in
+    let n = c.in_err-next.ensures.bytes i.0 i.1 in
+    let lines = (edge_lines c.in_ok-edges.field-0.edges.items ++ c.loop-next.lines.items) ++ c.in-Some.line ∷ [] in
+    let p = err_from_is_err_and c.from_residual-in_err-next.result c.from_residual-in_err-next.ensures.1 in
+    rw (p.1, p.2) (n.0, n.1, (lines, front_all c.args.workers c.loop-next.script bytes i.0 lines (Some c.in_err-next.field-0.0) n.0 i.2 n.2.1))
+
+pub returns-in_err-next-clause-reading : goal.returns-in_err-next-clause-reading
+returns-in_err-next-clause-reading g c =
+    let p = err_from_is_err_and c.from_residual-in_err-next.result c.from_residual-in_err-next.ensures.1 in
+    let reading = c.in_err-next.ensures.reading in
+    rw (p.1, p.2) (reads_then c.loop-next.invariant.reading reading (inl reading.fault) refl refl)
+
+pub returns-in_err-next-clause-asked : goal.returns-in_err-next-clause-asked
+returns-in_err-next-clause-asked g c =
+    let asked = rw c.in-Some.is at c.loop-next.invariant.asked_of_line in
+    omega (arith, asked, c.in_err-next.ensures.asked)
+
+pub loop-next-preserved : goal.loop-next-preserved
+loop-next-preserved g c =
+    let next = rw c.in-Some.is at c.loop-next.invariant.next in
+    let asked = rw c.in-Some.is at c.loop-next.invariant.asked_of_line in
+    let old = c.loop-next.lines.items in
+    let edges = edge_lines c.in_ok-edges.field-0.edges.items in
+    let one = c.in-Some.line ∷ [] in
+    let came = c.in_ok-next.next in
+    let script = c.next.new.self in
+    let more = pushed c.push.new.self.items old c.in-Some.line c.push.result (sym c.if-is_err.ensures.value) c.push.ensures.items in
+    record {
+      commands = subst (λ (x : List Line). All IsCommand x) (sym more) (All-push IsCommand old c.in-Some.line c.loop-next.invariant.commands next.0);
+      next = next_behind c.loop-next.script script came next.1 c.in_ok-next.ensures.follows;
+      bytes = λ bytes known.
+          let i = (rw c.in-Some.is at c.loop-next.invariant.bytes) bytes known in
+          let n = c.in_ok-next.ensures.bytes i.0 i.1 in
+          let all : (edges ++ old) ++ one ≡ edges ++ c.push.new.self.items = append_assoc edges old one ∙ ap (λ (x : List Line). edges ++ x) (sym more) in (
+            n.0,
+            n.1,
+            front_next c.args.workers c.loop-next.script script bytes i.0 n.0 (edges ++ c.push.new.self.items) came
+                (subst (λ (x : List Line). ReadsFront c.args.workers bytes x c.loop-next.script i.0) all i.2) n.2,
+          );
+      reading = reads_then c.loop-next.invariant.reading c.in_ok-next.ensures.reading tt refl refl;
+      asked = omega (arith, asked, c.in_ok-next.ensures.asked);
+      asked_of_line = next_asked came _ _ _ asked c.in_ok-next.ensures.asked_of_line;
+    }
+
+pub loop-next-smaller : goal.loop-next-smaller
+loop-next-smaller g c = rw c.in-Some.is (next_smaller c.in_ok-next.next c.next.new.self.lines.room c.loop-next.script.lines.room c.in_ok-next.ensures.shorter)
+
+pub returns-clause-bytes : goal.returns-clause-bytes
+returns-clause-bytes g c = λ bytes known. (rw c.in_default.is at c.loop-next.invariant.bytes) bytes known
 
 pub returns-clause-reading : goal.returns-clause-reading
 returns-clause-reading g c =
-    let first = c.in_ok-edges.ensures.reading in
-    let last = c.in_ok-read_commands.ensures.reading in
-    record {
-      fault = tt;
-      failures = record {
-        read_failed = omega (arith, last.failures.read_failed, first.failures.read_failed);
-        write_failed = omega (arith, last.failures.write_failed, first.failures.write_failed);
-      };
-      taken = keeps_then (g.K.Sink.taken c.args.sink.now) (g.K.Sink.taken c.read_edges.new.sink) (g.K.Sink.taken c.read_commands.new.sink) first.taken last.taken;
-    }
+    let reading = c.loop-next.invariant.reading in
+    record { fault = tt; failures = reading.failures; taken = reading.taken }

@@ -1,4 +1,4 @@
-use Rattle.std.proofs.Common.{List, ap, refl, subst, ◌∙◌}
+use Rattle.std.proofs.Common.{List, refl, subst, ◌∙◌}
 use Rattle.std.specs.List.{flat_map}
 use Rattle.tg_journal.specs.declared.entry.Entry.{Entry}
 use Rattle.tg_entries.specs.Texts.{entry_text}
@@ -15,17 +15,18 @@ pub returns : goal.returns
 returns g c =
     let s = g.K.Sink in
     let old = c.args.run.now in
-    let mid = c.give_up_entries.new.self in
+    let mid = c.give_up_entries.new.store in
     let new = c.answer.new.self in
     let l = c.args.line in
     let a = c.answer.result in
+    let values = values_left old.supply in
     let out = c.give_up_entries.ensures in
-    let before : IsAsBefore old mid = record { entries = out.store.entries; opening = out.store.opening; values = ap values_left out.supply; helpers = out.helpers } in
-    let made = makes_before old mid new l a before c.answer.ensures.entry in
-    let held = c.entries.ensures ∙ held_since old.store.entries (entered l a (values_left old.supply)) c.journal.result.now.entries c.journal.result.now.start
-    (c.journal.ensures.entries ∙ made.entries) (c.journal.ensures.start ∙ c.answer.ensures.held refl ∙ out.store.handed) in (
+    let before : IsAsBefore old.store mid = record { entries = out.entries; opening = out.opening } in
+    let made = makes_before old.store mid values l a new.store before c.answer.ensures.entered.entry in
+    let held = c.entries.ensures ∙ held_since old.store.entries (entered l a values) c.journal.result.now.entries c.journal.result.now.start
+    (c.journal.ensures.entries ∙ made.entries) (c.journal.ensures.start ∙ c.answer.ensures.entered.held refl ∙ out.handed) in (
       a,
-      handles_before old mid new l a before c.answer.ensures.answered,
+      handles_before old.store mid values old.helpers l a new before c.answer.ensures.answered,
       made,
       subst (λ (es : List Entry). Writes (s.taken c.args.sink.now) (s.failures c.args.sink.now) (flat_map entry_text es) c.write_entries.result (s.taken c.write_entries.new.sink) (s.failures c.write_entries.new.sink))
           held c.write_entries.ensures,
