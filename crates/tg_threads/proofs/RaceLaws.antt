@@ -1,6 +1,6 @@
 -- What comes of a whole race, from what its parts did.
 use mathlib.Core.Bool.{false≢true}
-use Rattle.std.proofs.Common.{◌≡◌, ◌⊎◌, ◌+◌, ◌<◌, ◌≤◌, arith, inl, inr, ℕ, List, [], ◌∷◌, ◌++◌, Option, Some, Result, Ok, Err, refl, sym, ap, ◌∙◌, subst, append-nil, length}
+use Rattle.std.proofs.Common.{Bool, ◌≡◌, ◌⊎◌, ◌+◌, ◌<◌, ◌≤◌, arith, inl, inr, ℕ, List, [], ◌∷◌, ◌++◌, Option, Some, Result, Ok, Err, refl, sym, ap, ◌∙◌, subst, append-nil, length}
 use Rattle.std.specs.Prelude.{IfErr, IsErrAnd, IsOk, OnOk, map}
 use Rattle.std.specs.List.{All, filter, range_with_len}
 use Rattle.std.proofs.lemmas.List.{length-map}
@@ -34,7 +34,7 @@ use Rattle.tg_weave.specs.Telling.{text_of_told}
 use Rattle.tg_script.specs.Entering.{plan_of}
 use Rattle.tg_threads.specs.Output.{Arena, IsNewStore, IsRaceOutput, RaceText, arena_of}
 use Rattle.tg_threads.specs.Tasks.{AllBring, AreRaced, all_assigned, assigned_of}
-use Rattle.tg_threads.specs.Race.{EndsRace, HasHistory, HasRaced, IsOfTelling, IsRaceDue, IsWhole, TellsRace, race_fault_of_audit, race_read_failures, race_write_failures}
+use Rattle.tg_threads.specs.Race.{CountsRace, EndsRace, FinishesRace, HasFinished, HasHistory, HasRaced, IsOfTelling, IsRaceDue, IsWhole, RacesFrom, TellsRace, race_fault_of_audit, race_read_failures, race_write_failures}
 use Rattle.tg_threads.proofs.ShareLaws.{each_assigned}
 use Rattle.tg_threads.proofs.WeaveLaws.{bring_as_many, each_told}
 
@@ -206,3 +206,26 @@ ended_unfailed outcome (Err why) mid after e f g ended had = tt
 ended_unfailed (Err why) (Ok done) mid after e f g (keeps, inl same) had = absurd cc
 ended_unfailed (Ok other) (Ok done) mid after e f g (keeps, inl same) had = omega (arith, same.2 refl, had)
 ended_unfailed outcome (Ok done) mid after e f g (keeps, inr failed) had = absurd cc
+
+-- ---- the whole, where the sink was finished in the end
+
+module _ {S K T : Type 0} (left : S → Option (List ℕ)) (asks failures : S → ℕ) (taken : K → Option (List ℕ)) (write_fails : K → ℕ) (is_finished : K → Bool) {source source' : S} {sink between after : K} {outcome result : Result T RaceFault}
+    (counts : CountsRace asks failures write_fails source source' sink between outcome) (ends : HasFinished taken write_fails is_finished between after outcome result) where
+  pub raced_from : {race_text : RaceText} {start : Start} →
+      ((bytes before : List ℕ) → left source ≡ Some bytes → taken sink ≡ Some before → (rest : List ℕ) × (left source' ≡ Some rest) × HasRaced race_text start bytes before outcome rest (taken between)) →
+      IfErr outcome (IsRaceDue start) → RacesFrom left asks failures taken source source' sink after race_text start result
+  raced_from {race_text = race_text} {start = start} output due = record {
+    output = λ bytes before known had.
+        let raced = output bytes before known had in
+        (raced.0, raced.1, race_ended outcome result race_text start bytes before raced.0 (taken between) (taken after) (write_fails between) (write_fails after) raced.2 ends.ends);
+    due = ended_due start outcome result (taken between) (taken after) (write_fails between) (write_fails after) due ends.ends;
+    asked = counts.asked;
+    read_failed = counts.read_failed ∙ ap (λ n. failures source + n) (sym (ended_read outcome result (taken between) (taken after) (write_fails between) (write_fails after) ends.ends));
+  }
+
+  pub race_finishes : FinishesRace write_fails is_finished sink after result
+  race_finishes = record {
+    write_failed = ended_write outcome result (taken between) (taken after) (write_fails sink) (write_fails between) (write_fails after) ends.ends counts.write_failed;
+    unfailed = ended_unfailed outcome result (taken between) (taken after) (write_fails sink) (write_fails between) (write_fails after) ends.ends counts.write_failed;
+    finished = ends.finished;
+  }

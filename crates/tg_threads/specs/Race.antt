@@ -1,5 +1,5 @@
 -- What comes of a whole script whose workers run their lines side by side.
-use Rattle.std.specs.Prelude.{◌≡◌, ◌⊎◌, ℕ, ◌+◌, ◌<◌, ◌≤◌, Bool, true, List, [], ◌++◌, Option, Some, None, Result, Ok, Err, IsOk, IfErr, IfOk, OnOk}
+use Rattle.std.specs.Prelude.{◌≡◌, ◌⊎◌, ℕ, ◌+◌, ◌<◌, ◌≤◌, Bool, true, false, List, [], ◌++◌, Option, Some, None, Result, Ok, Err, IsOk, IfErr, IfOk, OnOk}
 use Rattle.std.specs.List.{All}
 use Rattle.tg_model.specs.declared.value.Value.{Value}
 use Rattle.tg_model.specs.Opened.{IsPlan, Plan, start_of}
@@ -24,7 +24,7 @@ use Rattle.tg_threads.specs.declared.threads.ThreadsFault.TheVariants as threads
 use Rattle.tg_threads.specs.declared.race.Opened.{Opened}
 use Rattle.tg_threads.specs.declared.race.Raced.{Raced}
 use Rattle.tg_weave.specs.Boxes.{boxed}
-use Rattle.tg_shared.specs.Sessions.{SharedStart}
+use Rattle.tg_shared.specs.Sessions.{AreSharedOut, MayClose, SessionState, SharedStart, handed_of}
 use Rattle.tg_script.specs.Entering.{plan_of}
 use Rattle.tg_threads.specs.Output.{IsNewStore, IsRaceOutput, RaceText, arena_of}
 use Rattle.tg_threads.specs.Tasks.{AreRaced}
@@ -134,6 +134,12 @@ pub record CountsRace {S K T : Type 0} (asks read_fails : S → ℕ) (write_fail
   pub read_failed : read_fails source' ≡ read_fails source + race_read_failures result
   pub write_failed : write_fails sink' ≡ write_fails sink + race_write_failures result
 
+-- the same, where nothing is written
+pub record OpensSilently {S K T : Type 0} (asks read_fails : S → ℕ) (taken : K → Option (List ℕ)) (write_fails : K → ℕ)
+    (source source' : S) (sink sink' : K) (result : Result T RaceFault) : Type 0 where
+  pub keeps : KeepsBytes (taken sink) (taken sink')
+  pub counts : CountsRace asks read_fails write_fails source source' sink sink' result
+
 -- these lines may be raced in a store of this opening and these entries: it has a worker and no entry, and each of them is a command
 pub record MayRace (opening : Plan) (entries : List Entry) (lines : List Line) : Type 0 where
   pub new : (1 ≤ opening.workers) × (entries ≡ [])
@@ -147,6 +153,19 @@ pub record RunsRace {P : Type 0} (helpers blocks : ℕ) (opening : Plan) (stock 
       × AreRaced (arena_of shared helpers) opening.workers (boxed stock lines) raced.store.entries raced.told.items
       × (raced.store.handed ≡ 0))
   pub fault : IfErr result IsBeforeWriting
+
+-- the sessions of a store that is shared for a race, in which no worker is ended: it had no entry, and nothing of it was handed out
+pub record MayCloseRace (start : SharedStart) (sessions : List SessionState) : Type 0 where
+  pub new : start.entries ≡ []
+  pub none_ended : start.may_end ≡ false
+  pub none_handed : handed_of sessions ≡ 0
+
+-- the store that is had back with these sessions: each entry is one of their receipts, and nothing was handed out
+pub record IsClosedRace (start : SharedStart) (sessions : List SessionState) (store : StoreState) : Type 0 where
+  pub opening : store.opening ≡ start.opening
+  pub matching : MayClose store.entries 0 sessions
+  pub shared_out : AreSharedOut store.entries sessions
+  pub none_handed : store.handed ≡ 0
 
 -- the whole script was read, and a store of its opening has no entry yet
 abbrev pub OpensRace : {P : Type 0} → Start → List ℕ → Result (Opened P) RaceFault → List ℕ → Type 0
@@ -173,3 +192,8 @@ abbrev pub EndsRace : {T : Type 0} → Option (List ℕ) → ℕ → Result T Ra
 EndsRace before failures outcome result after failures' =
     KeepsBytes before after × (((result ≡ outcome) × (failures ≤ failures') × (IsOk outcome → failures' ≡ failures))
     ⊎ (IsOk outcome × (result ≡ Err fault.WriteFailed) × (failures' ≡ failures + 1)))
+
+-- and it tells so
+pub record HasFinished {K T : Type 0} (taken : K → Option (List ℕ)) (failures : K → ℕ) (is_finished : K → Bool) (sink sink' : K) (outcome result : Result T RaceFault) : Type 0 where
+  pub ends : EndsRace (taken sink) (failures sink) outcome result (taken sink') (failures sink')
+  pub finished : is_finished sink' ≡ true

@@ -1,7 +1,7 @@
 -- What a worker's lines come to on its thread, and how the parts of a race stand to what is told of it.
-use Rattle.std.specs.Prelude.{◌≡◌, ◌≢◌, ℕ, ◌<◌, Bool, true, false, if◌then◌else◌, List, [], ◌∷◌, ◌++◌, map, Option, Some, None, Result, IfOk, IfErr}
+use Rattle.std.specs.Prelude.{◌≡◌, ◌≢◌, ℕ, ◌+◌, ◌<◌, ◌≤◌, Bool, true, false, if◌then◌else◌, List, [], ◌∷◌, ◌++◌, length, map, Option, Some, None, Result, IfOk, IfErr}
 use Rattle.std.specs.List.{All, flat_map, range_with_len}
-use Rattle.std.specs.Vec.{vec_capacity}
+use Rattle.std.specs.Vec.{vec_capacity, vec_len}
 use Rattle.std.specs.declared.vec.Vec.{Vec}
 use Rattle.tg_model.specs.declared.value.Value.{Value}
 use Rattle.tg_model.specs.declared.command.Deed.{Deed}
@@ -115,10 +115,11 @@ abbrev pub subjects_spawned : List Receipt → List ℕ
 subjects_spawned receipts = flat_map (λ r. subject_spawned r.entry.deed r.entry.reply) receipts
 
 -- Where there is a fresh session for each subject that a worker's session made, by its receipts, and no other, so there is behind a
--- line that came to something: none of them is lost. They went into the room that there was.
-pub record KeepsSpawned {A E : Type 0} (before after : SessionState) (sessions sessions' : Vec SessionState A) (result : Result Told E) : Type 0 where
+-- line that came to something: none of them is lost. They went into the room that there was, and so many at most.
+pub record KeepsSpawned {A E : Type 0} (most : ℕ) (before after : SessionState) (sessions sessions' : Vec SessionState A) (result : Result Told E) : Type 0 where
   pub each : IfOk result (λ told. AreFresh (subjects_spawned before.receipts) sessions.items → AreFresh (subjects_spawned after.receipts) sessions'.items)
   pub kept : vec_capacity sessions' ≡ vec_capacity sessions
+  pub fits : vec_len sessions' ≤ vec_len sessions + most
 
 -- The session of one of so many workers ran its lines, all that its thread was given, and they came to this; there is a session for
 -- each subject that they made, which ran none, and none of them handed out a receipt.
@@ -158,3 +159,9 @@ pub record AreRaced (arena : Arena) (workers : ℕ) (bs : List Boxed) (entries :
   pub told : AreTold arena (has_thread workers) bs made (text_of_told entries ts)
   pub each : HasEach entries made
   pub there : All (IsThere entries) ts
+
+-- the journal is whole and was audited, and what the lines came to is told of entries that it has
+pub record MayTell (start : ℕ) (entries : List Entry) (ts : List Told) (audited : ℕ) : Type 0 where
+  pub whole : start ≡ 0
+  pub there : All (IsThere entries) ts
+  pub number : audited ≡ length entries

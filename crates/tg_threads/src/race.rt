@@ -1,13 +1,12 @@
 //! A whole script, whose workers run their lines side by side.
-ghost use Rattle.std.specs.Prelude.{◌≡◌, ◌⊎◌, ◌+◌, ◌<◌, ◌≤◌, ℕ, List, [], Some, false, true, IfErr, IfOk, length};
+ghost use Rattle.std.specs.Prelude.{◌≡◌, ◌⊎◌, ◌+◌, ◌<◌, ◌≤◌, ℕ, List, [], Some, false, IfErr, IfOk, length};
 ghost use Rattle.std.specs.List.{All, range_with_len};
 ghost use Rattle.tg_model.specs.declared.value.Value.{Value};
-ghost use Rattle.tg_text.specs.Sinks.{KeepsBytes};
 ghost use Rattle.tg_script.specs.Opening.{IsCommand};
 ghost use Rattle.tg_script.specs.Script.{MayStart, start_with};
-ghost use Rattle.tg_shared.specs.Sessions.{AreFresh, AreSharedOut, AtSome, MayClose, MayShare, count_of, handed_of, held_from, parts_of, sessions_made};
+ghost use Rattle.tg_shared.specs.Sessions.{AreFresh, AtSome, MayClose, MayShare, count_of, held_from, parts_of, sessions_made};
 ghost use Rattle.tg_threads.specs.Output.{entry_race, reply_race};
-ghost use Rattle.tg_threads.specs.Race.{CountsRace, EndsRace, FinishesRace, HasRaced, IsRaceDue, MayRace, OpensRace, RacesFrom, RunsRace};
+ghost use Rattle.tg_threads.specs.Race.{CountsRace, FinishesRace, HasFinished, HasRaced, IsClosedRace, IsRaceDue, MayCloseRace, MayRace, OpensRace, OpensSilently, RacesFrom, RunsRace};
 
 use crate::fault::RaceFault;
 use crate::telling::{Entries, RaceTelling, Replies};
@@ -97,8 +96,7 @@ pub fn run_race_entries<
 
 // Finishes the sink. A fault that came before stands.
 fn finish<K: Sink>(sink: &mut K, outcome: Result<(), RaceFault>) -> Result<(), RaceFault>
-    ensures outcome { EndsRace (K.taken sink.old) (K.failures sink.old) outcome result (K.taken sink.new) (K.failures sink.new) }
-    ensures finished { K.finished sink.new ≡ true }
+    ensures { HasFinished K.taken K.failures K.finished sink.old sink.new outcome result }
 {
     if sink.finish() {
         return outcome;
@@ -136,11 +134,13 @@ fn race<
     let helpers = settings.helpers;
     let opened = open_race(alloc, source, sink, settings, workers)?;
     let Opened { store, lines } = opened;
-    let raced = run_lines(
+    let blank = Blank::new(store.opening().max_vertices() + 1);
+    let raced = share::<Brand, P, G, R>(
         rt,
         alloc,
         turnstile,
         helpers,
+        blank,
         store,
         stock,
         lines.as_slice(),
@@ -171,9 +171,8 @@ fn open_race<P: Payload, S: Source, K: Sink>(
     ensures commands { IfOk result (λ opened. All IsCommand opened.lines.items) }
     ensures output { (bytes : List ℕ) → S.left source.old ≡ Some bytes →
         (left : List ℕ) × (S.left source.new ≡ Some left) × OpensRace (start_with settings workers.items []) bytes result left }
-    ensures taken { KeepsBytes (K.taken sink.old) (K.taken sink.new) }
     ensures due { (stock : List Value) → IfErr result (IsRaceDue (start_with settings workers.items stock)) }
-    ensures counts { CountsRace S.asked S.failures K.failures source.old source.new sink.old sink.new result }
+    ensures silent { OpensSilently S.asked S.failures K.taken K.failures source.old source.new sink.old sink.new result }
 {
     let whole = read_script(alloc, source, sink, settings.workers)?;
     let store = open_store(
@@ -221,24 +220,7 @@ impl<P: Payload> Raced<P> {
     }
 }
 
-// Runs the lines in a store with no entry.
-fn run_lines<P: Payload + Send, G: Turnstile + Sync, R: Threads + Wait + Sync>(
-    rt: &R,
-    alloc: Global,
-    turnstile: &G,
-    helpers: Helpers,
-    store: Store<P>,
-    stock: Vec<Draft<P>>,
-    lines: &[Line],
-) -> Result<Raced<P>, RaceFault>
-    requires raceable { MayRace store.opening store.entries lines.now }
-    ensures run { RunsRace helpers store.heap.table.limits.max_blocks store.opening stock.items lines.now result }
-{
-    let blank = Blank::new(store.opening().max_vertices() + 1);
-    share::<Brand, P, G, R>(rt, alloc, turnstile, helpers, blank, store, stock, lines)
-}
-
-// Shares the store, runs the lines, and closes.
+// Shares a store with no entry, runs the lines, and closes.
 fn share<L: Round + Send + Sync, P: Payload + Send, G: Turnstile + Sync, R: Threads + Wait + Sync>(
     rt: &R,
     alloc: Global,
@@ -297,13 +279,8 @@ fn closed<L: Round, P: Payload>(
     store: SharedStore<L, P>,
     sessions: Vec<Session<L>>,
 ) -> Result<Store<P>, RaceFault>
-    requires new { L.start.entries ≡ [] }
-    requires none_ended { L.start.may_end ≡ false }
-    requires none_handed { handed_of sessions.items ≡ 0 }
-    ensures opening { IfOk result (λ store. store.opening ≡ L.start.opening) }
-    ensures matching { IfOk result (λ store. MayClose store.entries 0 sessions.items) }
-    ensures shared_out { IfOk result (λ store. AreSharedOut store.entries sessions.items) }
-    ensures none_handed { IfOk result (λ store. store.handed ≡ 0) }
+    requires { MayCloseRace L.start sessions.items }
+    ensures closed { IfOk result (IsClosedRace L.start sessions.items) }
     ensures due { IfErr result (λ why. (why ≡ RaceFault.ReceiptMismatch)
         × ((AtSome L.start (λ s. parts_of sessions.items < sessions_made L.start s.entries)) ⊎ AtSome L.start (λ s.
         (length L.start.entries + count_of sessions.items ≤ length s.entries) × (¬ MayClose s.entries (held_from L.start s) sessions.items)))) }

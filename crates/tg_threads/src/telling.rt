@@ -1,9 +1,8 @@
 //! What is written of a race in the end: the replies to its lines, or its entries.
-ghost use Rattle.std.specs.Prelude.{◌≡◌, length};
-ghost use Rattle.std.specs.List.{All};
 ghost use Rattle.tg_text.specs.Sinks.{Writes};
 ghost use Rattle.tg_threads.specs.Output.{RaceText, entry_race, reply_race};
-ghost use Rattle.tg_weave.specs.Telling.{IsThere, text_of_told};
+ghost use Rattle.tg_threads.specs.Tasks.{MayTell};
+ghost use Rattle.tg_weave.specs.Telling.{text_of_told};
 
 use tg_entries::write_history;
 use tg_journal::Journal;
@@ -13,11 +12,10 @@ use tg_weave::{Told, tell_all};
 
 /// What is written of a race in the end.
 pub(crate) trait RaceTelling {
-    ghost use Rattle.std.specs.Prelude.{◌≡◌, length};
-    ghost use Rattle.std.specs.List.{All};
     ghost use Rattle.tg_text.specs.Sinks.{Writes};
     ghost use Rattle.tg_threads.specs.Output.{RaceText};
-    ghost use Rattle.tg_weave.specs.Telling.{IsThere, text_of_told};
+    ghost use Rattle.tg_threads.specs.Tasks.{MayTell};
+    ghost use Rattle.tg_weave.specs.Telling.{text_of_told};
 
     /// The text of all of it.
     ghost race_text: { RaceText };
@@ -31,9 +29,7 @@ pub(crate) trait RaceTelling {
         told: &[Told],
         audited: u64,
     ) -> Result<(), WriteFailed>
-        requires whole { journal.now.start ≡ 0 }
-        requires there { All (IsThere journal.now.entries) told.now }
-        requires number { audited ≡ length journal.now.entries }
+        requires { MayTell journal.now.start journal.now.entries told.now audited }
         ensures { Writes (K.taken sink.old) (K.failures sink.old)
             (race_text opening.now journal.now.entries (text_of_told journal.now.entries told.now)) result
             (K.taken sink.new) (K.failures sink.new) };

@@ -1,5 +1,5 @@
 //! The run of one worker's lines.
-ghost use Rattle.std.specs.Prelude.{◌≡◌, ◌≢◌, ◌<◌, ◌≤◌, ◌+◌, ◌++◌, ◌∷◌, ◌↔◌, [], ℕ, Bool, true, false, if◌then◌else◌, length, map, List, Some, Err, IfErr, IfOk};
+ghost use Rattle.std.specs.Prelude.{◌≡◌, ◌<◌, ◌++◌, ◌∷◌, ◌↔◌, [], ℕ, Bool, true, false, if◌then◌else◌, length, map, List, Some, Err, IfErr, IfOk};
 ghost use Rattle.std.specs.List.{count_by};
 ghost use Rattle.std.specs.Vec.{vec_len, vec_capacity};
 ghost use Rattle.tg_model.specs.declared.command.Deed.TheVariants as Deed;
@@ -127,8 +127,7 @@ fn run_task<L: Round, P: Payload, R: Threads + Wait + Sync>(
     requires room { may_make_subject task ≡ true → vec_len spawned.old < vec_capacity spawned.old }
     ensures run { (workers : ℕ) (before : ℕ → Bool) → before session.old.worker ≡ served → IsRunBy workers session.old.worker (boxed_of task) →
         IfOk result (λ told. HasRun (arena_of L.start helpers) before (boxed_of task) told session.old session.new) }
-    ensures spawned { KeepsSpawned session.old session.new spawned.old spawned.new result }
-    ensures fits { vec_len spawned.new ≤ vec_len spawned.old + (if may_make_subject task then 1 else 0) }
+    ensures spawned { KeepsSpawned (if may_make_subject task then 1 else 0) session.old session.new spawned.old spawned.new result }
     ensures gone { IfErr result (λ why. (why ≡ ThreadsFault.NoSuchWorker) × AtSome L.start (λ s. ¬ IsSubject (graph_of_store s) session.old.worker)) }
 {
     let Task { line, draft } = task;
@@ -195,8 +194,7 @@ fn spawn<L: Round, P: Payload, R: Wait>(
 ) -> Result<Told, ThreadsFault>
     requires room { vec_len spawned.old < vec_capacity spawned.old }
     ensures told { IsToldOrGone L.start session.old (λ told. HasMade L.start (spawn_of label) draft told session.old session.new) result }
-    ensures spawned { KeepsSpawned session.old session.new spawned.old spawned.new result }
-    ensures fits { vec_len spawned.new ≤ vec_len spawned.old + 1 }
+    ensures spawned { KeepsSpawned 1 session.old session.new spawned.old spawned.new result }
 {
     let Some(draft) = draft else {
         return Ok(Told::Refused(Refusal::Stock));

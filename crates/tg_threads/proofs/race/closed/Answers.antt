@@ -19,11 +19,13 @@ returns-in-Ok g c =
     let first : length start.entries ≡ 0 = ap (λ (es : List Entry). length es) c.requires.new in
     let since : held_from start c.in-Ok.store ≡ 0 = c.in-Ok.ensures.none_handed c.requires.none_ended c.requires.none_handed ∙ first in
     record {
-      opening = c.in-Ok.ensures.gone_on.opening;
-      matching = subst (λ (n : ℕ). MayClose entries n items) since c.in-Ok.ensures.matching;
-      shared_out = subst (λ (n : ℕ). AreSharedOut (drop n entries) items) since
-          (c.in-Ok.ensures.shared_out c.requires.none_ended (from_first (length start.entries) (handed_of items) (held_from start c.in-Ok.store) first c.requires.none_handed since));
-      none_handed = none_out (length start.entries) c.in-Ok.store.handed since;
+      closed = record {
+        opening = c.in-Ok.ensures.back.gone_on.opening;
+        matching = subst (λ (n : ℕ). MayClose entries n items) since c.in-Ok.ensures.back.matching;
+        shared_out = subst (λ (n : ℕ). AreSharedOut (drop n entries) items) since
+            (c.in-Ok.ensures.shared_out c.requires.none_ended (from_first (length start.entries) (handed_of items) (held_from start c.in-Ok.store) first c.requires.none_handed since));
+        none_handed = none_out (length start.entries) c.in-Ok.store.handed since;
+      };
       due = tt;
     }
 

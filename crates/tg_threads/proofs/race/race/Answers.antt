@@ -32,7 +32,7 @@ returns-clause-output g c = λ bytes before known taken.
       opens.0,
       opens.1,
       race_told c.tell-told.result g.T.RaceTelling.race_text start shared bytes before opens.0 lines store ts (s.taken c.tell-told.new.sink) whole.1 new (came.2 ∙ whole.3) same
-          (c.tell-told.ensures.told before (keeps_known (s.taken c.args.sink.now) (s.taken c.open_race.new.sink) before taken c.in_ok-opened.ensures.taken)),
+          (c.tell-told.ensures.told before (keeps_known (s.taken c.args.sink.now) (s.taken c.open_race.new.sink) before taken c.in_ok-opened.ensures.silent.keeps)),
     )
 
 pub returns-clause-due : goal.returns-clause-due
@@ -45,8 +45,8 @@ returns-in_err-opened-clause-due g c =
     let given = err_from_is_err_and c.from_residual.result c.from_residual.ensures.1 in
     rw (given.1, given.2) (c.in_err-opened.ensures.due c.args.stock.items)
 
-pub run_lines-requires-clause-raceable : goal.run_lines-requires-clause-raceable
-run_lines-requires-clause-raceable g c κs within = record {
+pub share-requires-clause-raceable : goal.share-requires-clause-raceable
+share-requires-clause-raceable g c κs within = record {
   new = (omega (arith, c.in_ok-opened.ensures.new.0, c.requires.startable.number.0), c.in_ok-opened.ensures.new.1);
   commands = subst (λ (lines : List Line). All IsCommand lines) (sym c.as_slice.ensures.value) c.in_ok-opened.ensures.commands;
 }

@@ -1,4 +1,5 @@
-use Rattle.std.proofs.Common.{◌≡◌, ◌∙◌, Some, ap, refl, sym, subst}
+use Rattle.std.proofs.Common.{arith, if◌then◌else◌, ◌+◌, ◌≤◌, ◌≡◌, ◌∙◌, Some, ap, refl, sym, subst}
+use Rattle.std.specs.Vec.{vec_len}
 use Rattle.std.proofs.lemmas.Result.{IfOk-weaker}
 use Rattle.tg_text.specs.declared.line.Line.{Line}
 use Rattle.tg_text.specs.declared.line.Line.TheVariants as line
@@ -6,7 +7,7 @@ use Rattle.tg_script.specs.Script.{create_of, spawn_of}
 use Rattle.tg_weave.specs.Boxes.{Boxed}
 use Rattle.tg_weave.specs.Shares.{runner_of}
 use Rattle.tg_threads.specs.Output.{arena_of}
-use Rattle.tg_threads.specs.Tasks.{HasRun, is_deed}
+use Rattle.tg_threads.specs.Tasks.{HasRun, is_deed, is_spawn_line}
 use Rattle.tg_threads.proofs.RunLaws.{asked_runs, create_each, full_runs, made_runs, minor_runs, plain_each, served_of}
 use Rattle.tg_threads.proofs.worker.run_task.Goals as goal
 
@@ -67,10 +68,19 @@ pub returns-in-Plain-clause-spawned : goal.returns-in-Plain-clause-spawned
 returns-in-Plain-clause-spawned g c = record {
   each = IfOk-weaker c.apply.result _ _ (λ t asked. plain_each g.L.Round.start c.in-Plain.command t c.args.session.now c.apply.new.session c.args.spawned.now.items asked) c.apply.ensures.told.asked;
   kept = refl;
+  fits = omega arith;
 }
 
 pub returns-in-Create-clause-spawned : goal.returns-in-Create-clause-spawned
 returns-in-Create-clause-spawned g c = record {
   each = IfOk-weaker c.create.result _ _ (λ t made. create_each g.L.Round.start c.in-Create.label c.args.task.draft t c.args.session.now c.create.new.session c.args.spawned.now.items made) c.create.ensures.told.asked;
   kept = refl;
+  fits = omega arith;
+}
+
+pub returns-in-Spawn-clause-spawned : goal.returns-in-Spawn-clause-spawned
+returns-in-Spawn-clause-spawned g c = record {
+  each = c.spawn.ensures.spawned.each;
+  kept = c.spawn.ensures.spawned.kept;
+  fits = subst (λ (l : Line). vec_len c.spawn.new.spawned ≤ vec_len c.args.spawned.now + (if is_spawn_line l then 1 else 0)) (sym c.in-Spawn.is) c.spawn.ensures.spawned.fits;
 }

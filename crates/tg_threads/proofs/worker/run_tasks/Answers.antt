@@ -49,7 +49,7 @@ loop-task-preserved g c =
     record {
       left = left;
       spawned = c.in_ok-one.ensures.spawned.each c.loop-task.invariant.spawned;
-      room = room_left (may_make_subject c.in-Some.task) c.in-Some.task c.next.new.self.rest.items c.loop-task.task-iterator.rest.items _ _ _ _ refl c.in-Some.ensures.steps.0 c.loop-task.invariant.room c.run_task.ensures.fits c.run_task.ensures.spawned.kept;
+      room = room_left (may_make_subject c.in-Some.task) c.in-Some.task c.next.new.self.rest.items c.loop-task.task-iterator.rest.items _ _ _ _ refl c.in-Some.ensures.steps.0 c.loop-task.invariant.room c.run_task.ensures.spawned.fits c.run_task.ensures.spawned.kept;
       runs = λ low all.
           let workers = g.L.Round.start.opening.workers in
           let asked : c.worker-in-loop-task.result ≡ c.run_task.new.session.worker = c.worker-in-loop-task.ensures in

@@ -1,4 +1,4 @@
-use Rattle.std.proofs.Common.{List, Option, refl, rules, sym, subst}
+use Rattle.std.proofs.Common.{List, Option, arith, refl, rules, sym, subst}
 use Rattle.std.specs.Prelude.{IfOk}
 use Rattle.tg_model.specs.declared.value.Value.{Value}
 use Rattle.tg_script.specs.Script.{spawn_of}
@@ -28,6 +28,7 @@ returns-in-Ok-clause-spawned g c =
       each = λ had. subst (λ (ss : List SessionState). AreFresh (subjects_spawned new.receipts) ss) (sym c.push_reserved.ensures.items)
           (one_spawned old new fresh _ (spawn_of c.args.label c.in-Some.draft) _ held refl c.in-Ok.ensures.receipt.3.0 c.in-Ok.ensures.fresh had);
       kept = c.push_reserved.ensures.capacity;
+      fits = search rules;
     }
 
 pub returns-in-Err-clause-spawned : goal.returns-in-Err-clause-spawned
@@ -38,6 +39,7 @@ returns-in-Err-clause-spawned g c =
     record {
       each = ok_where c.not_made.result _ (still_each old new c.args.spawned.now.items same);
       kept = refl;
+      fits = omega arith;
     }
 
 pub last_told-requires : goal.last_told-requires
