@@ -2,9 +2,10 @@
 -- as that, and on an open one the store's answer is told, of which the clauses of the store's own call hold.
 use Rattle.std.specs.Prelude.{◌≡◌, ◌≢◌, ◌↔◌, ◌⊎◌, ◌≤◌, ◌<◌, ◌-◌, ◌==◌, ℕ, true, false, List, [], ◌∷◌, Some, None, Result, Ok, Err, IfOk, IfErr, OnOk, OnErr, length, map}
 use Rattle.std.specs.List.{IsDistinct}
-use Rattle.tg_rights.specs.RightSet.{RightSet, bits_of, no_rights}
+use Rattle.tg_rights.specs.RightSet.{RightSet, bits_of}
 use Rattle.tg_model.specs.Graph.{ProtectionGraph, IsSubject}
-use Rattle.tg_model.specs.Rules.{IsAllowed, step, answer_of, reply_of}
+use Rattle.tg_model.specs.Near.{reply_on_none}
+use Rattle.tg_model.specs.Rules.{IsAllowed, step, answer_of}
 use Rattle.tg_model.specs.Opened.{HasLimitsTo, HasWorkers, start_of}
 use Rattle.tg_model.specs.declared.opening.TheConstants.{MAX_LASTING_VERTICES}
 use Rattle.tg_model.specs.declared.command.Command.{Command}
@@ -155,7 +156,7 @@ IsAlikeOrDenied one r = IsDoneOrDenied r
 abbrev pub IsReplyTo : Command → Reply → Type 0
 IsReplyTo command.List r = IsListed r
 IsReplyTo command.Retire r = IsDone r
-IsReplyTo asked r = IsAlikeOrDenied (reply_of (λ x y. no_rights) (λ x. None) 0 0 asked) r
+IsReplyTo asked r = IsAlikeOrDenied (reply_on_none asked) r
 
 -- ---- creates and spawns
 
