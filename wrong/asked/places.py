@@ -124,7 +124,7 @@ NAMED = {
     ("tg_graph/src/settle.rt", "add_indexed", "while let Some(number)=row.noted.next(from)"):
         "a cell that was noted each",
     ("tg_script/src/opening.rt", "read_edges", "while let Some(line)=script.next(source, sink)?"): "a line each",
-    ("tg_script/src/whole.rt", "read_commands", "while let Some(line)=script.next(source, sink)?"): "a line each",
+    ("tg_script/src/whole.rt", "read_script", "while let Some(line)=next"): "a line each",
     ("tg_script/src/run_script.rt", "run_commands", "loop"): "a line each",
     ("tg_text/src/sink.rt", "put_all", "while!rest.is_empty()"): "a part of the bytes each",
     ("tg_text/src/stock.rt", "gather_boxes", "while!rest.is_empty()"): "an item of the text each",

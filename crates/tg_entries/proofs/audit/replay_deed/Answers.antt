@@ -1,7 +1,0 @@
-use Rattle.tg_entries.proofs.ReadLaws.{entry_read}
-use Rattle.tg_entries.proofs.audit.replay_deed.Goals as goal
-
-pub returns : goal.returns
-returns g c = λ text was.
-    entry_read text c.args.line.now c.args.entered.now (record { auditor = c.is_next.new.auditor; count = c.in-Some.next }) was
-    (λ h come. c.in_ok-is_next.ensures h come c.if-not-branch.false) c.in-Some.ensures.1
