@@ -6,3 +6,4 @@ pub mod Tracing
 pub mod Adding
 pub mod Pointing
 pub mod Moving
+pub mod Numbered

@@ -10,10 +10,23 @@ use Rattle.tg_space.specs.SpaceTable.{adopted, kept_blocks}
 use Rattle.tg_space.specs.Closure.{IsInClosure}
 use Rattle.tg_space.specs.Targets.{from_space, targets_of, all_root_targets, image_of, IsImage}
 use Rattle.tg_space.specs.Generations.{AreInGenerations, NamesYoung}
+use Rattle.tg_space.specs.declared.copied.Copied.{Copied}
 use Rattle.tg_space.specs.declared.kind.Kind.{Kind}
 use Rattle.tg_space.specs.declared.kind.Kind.TheVariants.{Full, Nursery}
 use Rattle.tg_space.specs.declared.root.Root.{Root}
 use Rattle.tg_space.specs.declared.root.Root.TheVariants.{Remembered}
+
+-- What a collection makes: a forwarding word for each cell, the new blocks of Aged and of Old, and the places of the cells of Old
+-- to be remembered.
+pub record Collected : Type 0 where
+  pub forward : List ℕ
+  pub aged : BlockList
+  pub old : BlockList
+  pub notes : List Place
+
+-- what is handed over, without the blocks that it had no use for
+abbrev pub collected_in : Copied → Collected
+collected_in copied = record { forward = copied.forward.words; aged = copied.adoption.aged; old = copied.adoption.old; notes = copied.remembered.places }
 
 -- ---- room
 
@@ -45,11 +58,11 @@ copies_in forward space = count_by (is_copy_in space) forward
 
 -- The new blocks, behind those that Old keeps, stay within the limit, and each space has as many as its copies need; or
 -- at most this many more, where several helpers fill blocks of their own.
-pub record AreFewBlocks (space_blocks kept more : ℕ) (forward : List ℕ) (aged old : BlockList) : Type 0 where
-  pub aged_within : length aged ≤ space_blocks
-  pub old_within : length old ≤ space_blocks - kept
-  pub aged_needed : length aged ≤ blocks_for (copies_in forward 1) + more
-  pub old_needed : length old ≤ blocks_for (copies_in forward 0) + more
+pub record AreFewBlocks (space_blocks kept more : ℕ) (made : Collected) : Type 0 where
+  pub aged_within : length made.aged ≤ space_blocks
+  pub old_within : length made.old ≤ space_blocks - kept
+  pub aged_needed : length made.aged ≤ blocks_for (copies_in made.forward 1) + more
+  pub old_needed : length made.old ≤ blocks_for (copies_in made.forward 0) + more
 
 -- ---- places
 
@@ -75,25 +88,25 @@ IsMadeInOld kind h roots forward aged old p words =
 
 -- ---- the collection
 
--- These forwarding words, new blocks of Aged and of Old, and notes are those of a collection from these roots.
-pub record IsCollection (kind : Kind) (h : SpaceList) (roots : List Root) (forward : List ℕ) (aged old : BlockList) (notes : List Place) : Type 0 where
+-- This is what a collection from these roots makes.
+pub record IsCollection (kind : Kind) (h : SpaceList) (roots : List Root) (made : Collected) : Type 0 where
   -- one forwarding word for each cell
-  pub whole : length forward ≡ length (cells_of h)
+  pub whole : length made.forward ≡ length (cells_of h)
   -- it is 0 exactly for the cells that the roots don't reach
-  pub reached : (c : ℕ) → c < length (cells_of h) → slice_index forward c ≢ 0 ↔ IsInClosure (all_root_targets (from_space kind) h roots) (targets_of (from_space kind) h) c
+  pub reached : (c : ℕ) → c < length (cells_of h) → slice_index made.forward c ≢ 0 ↔ IsInClosure (all_root_targets (from_space kind) h roots) (targets_of (from_space kind) h) c
   -- any other is the word of a new place, with no rights, where the copy of the cell stands
-  pub words : (c : ℕ) → IsForwarded h forward c → slice_index forward c ≡ link_to (new_place forward c)
-  pub placed : (c : ℕ) → IsForwarded h forward c → IsNewPlace kind h aged old (new_place forward c)
-  pub copied : (c : ℕ) → IsForwarded h forward c → IsImage (from_space kind) h (new_place forward) c (cell_at (adopted kind h aged old) (new_place forward c))
+  pub words : (c : ℕ) → IsForwarded h made.forward c → slice_index made.forward c ≡ link_to (new_place made.forward c)
+  pub placed : (c : ℕ) → IsForwarded h made.forward c → IsNewPlace kind h made.aged made.old (new_place made.forward c)
+  pub copied : (c : ℕ) → IsForwarded h made.forward c → IsImage (from_space kind) h (new_place made.forward) c (cell_at (adopted kind h made.aged made.old) (new_place made.forward c))
   -- no place stands twice
-  pub apart : (c d : ℕ) → IsForwarded h forward c → d < length (cells_of h) → slice_index forward c ≡ slice_index forward d → c ≡ d
+  pub apart : (c d : ℕ) → IsForwarded h made.forward c → d < length (cells_of h) → slice_index made.forward c ≡ slice_index made.forward d → c ≡ d
   -- nothing else is in the new blocks
-  pub rest : (p : Place) → IsNewPlace kind h aged old p → ((c : ℕ) → c < length (cells_of h) → slice_index forward c ≢ link_to p) → cell_at (adopted kind h aged old) p ≡ free_cell
+  pub rest : (p : Place) → IsNewPlace kind h made.aged made.old p → ((c : ℕ) → c < length (cells_of h) → slice_index made.forward c ≢ link_to p) → cell_at (adopted kind h made.aged made.old) p ≡ free_cell
   -- copies are in the space of their generation
-  pub generations : AreInGenerations kind h roots forward
+  pub generations : AreInGenerations kind h roots made.forward
   -- the notes are exactly the cells of Old that will name young ones
-  pub noted : (p : Place) → Contains notes p ↔ ((words : List ℕ) × IsMadeInOld kind h roots forward aged old p words × NamesYoung words)
+  pub noted : (p : Place) → Contains made.notes p ↔ ((words : List ℕ) × IsMadeInOld kind h roots made.forward made.aged made.old p words × NamesYoung words)
   -- a full collection leaves no cell in Aged
-  pub none_aged : kind ≡ Full → aged ≡ []
+  pub none_aged : kind ≡ Full → made.aged ≡ []
   -- Old has room for the new blocks
-  pub few : kept_blocks kind h + length old ≤ MOST_SPACE_BLOCKS
+  pub few : kept_blocks kind h + length made.old ≤ MOST_SPACE_BLOCKS

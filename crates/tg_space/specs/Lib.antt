@@ -7,3 +7,4 @@ pub mod Soundness
 pub mod Generations
 pub mod Forwarding
 pub mod Collection
+pub mod Numbering

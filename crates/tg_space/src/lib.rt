@@ -22,8 +22,11 @@
 //!
 //! **Who may call.** The heap's graph reads and writes words and allocates; a collection only reads, builds new
 //! blocks in a `Space` of its own, and hands them over by `adopt`. So a collection that is refused leaves all as it
-//! was. Only `new`, `add_block`, `adopt`, `ForwardingTable::new`, and of a `Space` `push`, `add_block` and `append`
-//! take memory.
+//! was. Only `new`, `add_block`, `adopt`, `ForwardingTable::new`, and of a `Space` `with_capacity`, `push`, `add_block`
+//! and `append` take memory.
+//!
+//! **While a collection's blocks are put in place** the old cells may be gone already. `Numbering` keeps which numbers
+//! they had, and `Moves` tells by it where the collection has what a word or a place named.
 //!
 //! **What stands here for several crates above**, as definitions in `specs/`: the targets of cells and roots, the
 //! closure of the roots as the least set, the image of a cell under a map to new places, which spaces and roots are
@@ -32,9 +35,12 @@
 #![tactic(auto)]
 
 pub use adoption::Adoption;
+pub use copied::Copied;
 pub use forwarding::{Forwarding, ForwardingTable};
 pub use kind::Kind;
 pub use limits::{Limits, MOST_BLOCKS};
+pub use moves::Moves;
+pub use numbering::Numbering;
 pub use pointers::first_pointer;
 pub use room_fault::RoomFault;
 pub use root::Root;
@@ -43,11 +49,13 @@ pub use spaces::Spaces;
 pub use spare::Spare;
 
 mod adoption;
+mod copied;
 mod forwarding;
-mod images;
 mod kind;
 pub mod laws;
 mod limits;
+mod moves;
+mod numbering;
 mod pointers;
 mod room_fault;
 mod root;

@@ -1,5 +1,5 @@
 //! One space.
-ghost use Rattle.std.specs.Prelude.{◌≡◌, ◌<◌, ◌≤◌, ◌^◌, ◌+◌, ◌++◌, ◌∷◌, [], length, slice_index, slice_index_or, slice_set, vec_capacity, OnOk, OnErr};
+ghost use Rattle.std.specs.Prelude.{◌≡◌, ◌<◌, ◌≤◌, ◌^◌, ◌+◌, ◌++◌, ◌∷◌, [], length, slice_index, slice_index_or, slice_set, vec_capacity, IfOk, OnOk, OnErr};
 ghost use Rattle.tg_word.specs.declared.TheConstants.{CELLS, MOST_SPACE_BLOCKS};
 ghost use Rattle.tg_block.specs.declared.TheConstants.{WORDS};
 ghost use Rattle.tg_block.specs.Cells.{cell_of, with_word, free_block};
@@ -34,6 +34,17 @@ impl Space {
         Space {
             blocks: Vec::new(alloc),
         }
+    }
+
+    /// A space with no block, and room for so many.
+    ///
+    /// It is refused only where memory was.
+    pub fn with_capacity(alloc: Global, blocks: usize) -> Result<Self, AllocError>
+        ensures { IfOk result (λ space. space ≡ []) }
+    {
+        Ok(Space {
+            blocks: Vec::with_capacity(alloc, blocks)?,
+        })
     }
 
     /// How many blocks there are.
