@@ -5,10 +5,10 @@ use Rattle.std.specs.List.{All}
 use Rattle.std.specs.Map.{keys_of, lookup, lookup_key, values_of}
 use Rattle.std.proofs.Math.Seq.{take-append-add}
 use Rattle.std.proofs.lemmas.Bool.{cases_eq, cases_lt, eq-eqb, eqb-true, ne_eqb}
-use Rattle.std.proofs.lemmas.List.{get_or-take, length-append, length-take, length-take-le, map-append, take-append-le, take_more}
+use Rattle.std.proofs.lemmas.List.{get_or-take, length-append, length-take, length-take-le, map-append, take-append-le}
 use Rattle.std.proofs.lemmas.List.Edits.{length-swap}
 use Rattle.std.proofs.lemmas.List.Elements.{All-append}
-use Rattle.std.proofs.lemmas.Option.{slice_get_within, slice_get-get_or}
+use Rattle.std.proofs.lemmas.Option.{get_or_from_slice_get, slice_get_within, slice_get-get_or}
 use Rattle.indexmap.proofs.MapLemmas.{Found-position}
 use Rattle.indexmap.proofs.ReorderLemmas.{exchange, exchange-within, get_or-swap}
 use Rattle.indexmap.specs.Layout.{length-set_value_at, set_value_at}
@@ -16,17 +16,9 @@ use Rattle.tg_word.specs.declared.Place.{Place}
 use Rattle.tg_space.specs.Targets.{from_space}
 use Rattle.tg_space.specs.declared.kind.Kind.{Kind}
 use Rattle.tg_space.specs.declared.kind.Kind.TheVariants.{Full, Nursery}
-use Rattle.tg_rows.specs.Index.{AreAged, HasIndexAt, IsAged, IsOldPlace, IsOldRow, followed_place}
+use Rattle.tg_space.specs.Numbering.{followed_place}
+use Rattle.tg_rows.specs.Index.{AreAged, HasIndexAt, IsAged, IsOldPlace, IsOldRow}
 use Rattle.tg_rows.specs.declared.indexed_row.IndexedRow.{IndexedRow}
-
--- one more of the first
-pub one_more : {X : Type 0} (P : X → Type 0) (xs : List X) (n : ℕ) (d : X) → n < length xs → All P (take n xs) → P (get_or xs n d) → All P (take (n + 1) xs)
-one_more {X = X} P xs n d low all here =
-    subst (All P) (sym (take_more xs n d low)) (All-append P (take n xs) (get_or xs n d ∷ []) all (λ k e in_one. one k e in_one))
-  where
-    one : (k : ℕ) (e : X) → k < 1 → P (get_or (get_or xs n d ∷ []) k e)
-    one zero e in_one = here
-    one (suc k) e in_one = absurd (omega arith)
 
 -- cells of Old stay in a nursery collection, and none is asked about in a full one
 pub stay : (kind : Kind) (starts : List ℕ) (to : ℕ → Place) (cells front : List Place) (first : ℕ) → (kind ≡ Full → first ≡ 0) → All IsOldPlace (take first cells) → front ≡ take first cells → All (λ p. followed_place (from_space kind) starts to p ≡ p) front
@@ -74,9 +66,7 @@ value_of (e ∷ es) zero v d found = cc
 value_of (e ∷ es) (suc i) v d found = value_of es i v d found
 
 pub slice_get_is : {X : Type 0} (xs : List X) (i : ℕ) (x : X) → slice_get xs i ≡ Some x → get_or xs i x ≡ x
-slice_get_is xs i x found =
-    let there : slice_get xs i ≡ Some (get_or xs i x) = slice_get-get_or xs i x (slice_get_within xs i x found) in
-    let same : Some (get_or xs i x) ≡ Some x = sym there ∙ found in cc
+slice_get_is xs i x found = get_or_from_slice_get xs i x x found
 
 pub first_below : {X : Type 0} (xs : List X) (n j : ℕ) → j < length (take n xs) → j < n
 first_below xs n j low = omega (arith, length-take n xs)

@@ -14,7 +14,7 @@ use Rattle.tg_space.specs.Soundness.{AreSound, HasLayout, HasLayoutOf, IsKindAt,
 use Rattle.tg_space.specs.Rows.{link_of, chunks_from, link_at, row_of}
 use Rattle.tg_payload.specs.Table.{Payloads, entry}
 use Rattle.tg_rows.specs.Content.{IsContent, IsNamed}
-use Rattle.tg_rows.specs.Rows.{IsChain, IsVertexAt, key_at, name_at, name_in, names_in, references_of, rights_to, row_words, words_of}
+use Rattle.tg_rows.specs.Rows.{IsChain, IsRow, IsVertexAt, key_at, name_at, name_in, names_in, references_of, rights_to, row_words, words_of}
 use Rattle.tg_rows.specs.Graph.{IsGraph, content_in}
 use Rattle.tg_rows.proofs.Places.{sound_from_places, links_apart}
 use Rattle.tg_rows.proofs.Layouts.{KindCases, is_free, is_object, is_chunk, is_bad, kind_cases}
@@ -73,6 +73,20 @@ pub record Becomes (h after : SpaceList) (payloads : Payloads) (named : ℕ → 
   pub content : IsContent (content_in after payloads) named label value
   pub vertices : (x : ℕ) (p : Place) → IsVertexAt h x p → IsVertexAt after x p
 
+-- the second step's content, in words of the first one's
+pub becomes_then : (h mid after : SpaceList) (first second : Payloads) (named1 named2 named : ℕ → Type 0) (label1 label2 label : ℕ → ℕ → RightSet) (value1 value2 value : ℕ → Option Value) →
+    Becomes h mid first named1 label1 value1 → Becomes mid after second named2 label2 value2 →
+    ((x : ℕ) → named2 x ↔ named x) → ((x y : ℕ) → label2 x y ≡ label x y) → ((x : ℕ) → value2 x ≡ value x) → Becomes h after second named label value
+becomes_then h mid after first second named1 named2 named label1 label2 label value1 value2 value one two names labels values = record {
+  graph = two.graph;
+  content = record {
+    names = λ x. (λ n. (names x).0 ((two.content.names x).0 n), λ n. (two.content.names x).1 ((names x).1 n));
+    labels = λ x y. two.content.labels x y ∙ labels x y;
+    values = λ x. two.content.values x ∙ values x;
+  };
+  vertices = λ x p vertex. two.vertices x p (one.vertices x p vertex);
+}
+
 module _ (h : SpaceList) (payloads : Payloads) (is : IsSpaceList h) (named : ℕ → Type 0) (label : ℕ → ℕ → RightSet) (value : ℕ → Option Value) (shows : Shows h payloads named label value) where
   shown_sound : AreSound h []
   shown_sound = sound_from_places h is shows.layouts shows.links
@@ -116,6 +130,16 @@ pub flat_map_same : {X Y : Type 0} (f g : X → List Y) (xs : List X) → All (�
 flat_map_same f g [] same = refl
 flat_map_same f g (x ∷ xs) same =
     ap (λ ys. ys ++ flat_map g xs) (All-head (λ z. g z ≡ f z) x xs same) ∙ ap (λ ys. f x ++ ys) (flat_map_same f g xs (All-tail (λ z. g z ≡ f z) x xs same))
+
+-- the words of a row whose cells stay
+pub words_by_cells : (h after : SpaceList) (r : Place) → row_of after r ≡ row_of h r → All (λ q. cell_at after q ≡ cell_at h q) (row_of h r) → row_words after r ≡ row_words h r
+words_by_cells h after r row cells =
+    ap (λ (ps : List Place). words_of after ps) row
+    ∙ flat_map_same (λ q. references_of (cell_at h q)) (λ q. references_of (cell_at after q)) (row_of h r)
+    (All-weaker (λ q. cell_at after q ≡ cell_at h q) (λ q. references_of (cell_at after q) ≡ references_of (cell_at h q)) (λ q e. ap references_of e) (row_of h r) cells)
+
+pub links_by_cells : (h after : SpaceList) (ps : List Place) → All (λ q. cell_at after q ≡ cell_at h q) ps → All (λ q. link_at after q ≡ link_at h q) ps
+links_by_cells h after ps cells = All-weaker (λ q. cell_at after q ≡ cell_at h q) (λ q. link_at after q ≡ link_at h q) (λ q e. ap link_of e) ps cells
 
 module _ (h after : SpaceList) (stays : Stays h after) where
   pub refers_stays : (word : ℕ) → RefersTo h word → RefersTo after word
@@ -179,6 +203,16 @@ module _ (h after : SpaceList) (stays : Stays h after) where
         subst (λ (l : ℕ). IsChain after l ps) (sym (All-head (λ q. link_at after q ≡ link_at h q) p ps same)) rest,
       )
 
+  -- and so does a row where the links of its cells do
+  pub row_chain : (r : Place) → IsRow h r → All (λ q. link_at after q ≡ link_at h q) (row_of h r) → IsChain after (link_at after r) (chunks_from h (length (cells_of h)) (link_at h r))
+  row_chain r row same =
+      let old = chunks_from h (length (cells_of h)) (link_at h r) in
+      subst (λ (l : ℕ). IsChain after l old) (sym (All-head (λ q. link_at after q ≡ link_at h q) r old same)) (chain_stays old (link_at h r) row.ends (All-tail (λ q. link_at after q ≡ link_at h q) r old same))
+
+  pub row_by_links : IsSpaceList after → AreSound after [] → (r : Place) → IsRow h r → All (λ q. link_at after q ≡ link_at h q) (row_of h r) → row_of after r ≡ row_of h r
+  row_by_links after_is sound r row same =
+      ap (λ (ps : List Place). r ∷ ps) (chain_whole after after_is [] sound r (chunks_from h (length (cells_of h)) (link_at h r)) (stays.objects r row.object) (row_chain r row same))
+
   -- what a row shows after the change, by what its words say before
   pub row_shown : (p : Place) (chunks : List Place) (words : List ℕ) (rights : ℕ → RightSet) → IsChain after (link_at after p) chunks → words_of after (p ∷ chunks) ≡ words → All (IsReference h) words →
       IsDistinct (λ a b. a == b) (names_in h words) → ((y : ℕ) → rights_to h y words ≡ rights y) → ShowsRow after p rights
@@ -198,13 +232,9 @@ module _ (h after : SpaceList) (stays : Stays h after) where
     pub row_stays : (p : Place) → IsKindAt h Object p → All (λ q. cell_at after q ≡ cell_at h q) (row_of h p) → ShowsRow after p ((content_in h payloads).label (name_at h p))
     row_stays p object same =
         let ends = graph.ends p object in
-        let chunks = chunks_from h (length (cells_of h)) (link_at h p) in
-        let first : cell_at after p ≡ cell_at h p = All-head (λ q. cell_at after q ≡ cell_at h q) p chunks same in
-        let rest = All-tail (λ q. cell_at after q ≡ cell_at h q) p chunks same in
-        let links = All-weaker (λ q. cell_at after q ≡ cell_at h q) (λ q. link_at after q ≡ link_at h q) (λ q e. ap link_of e) chunks rest in
         let references = All-weaker (λ q. cell_at after q ≡ cell_at h q) (λ q. references_of (cell_at after q) ≡ references_of (cell_at h q)) (λ q e. ap references_of e) (row_of h p) same in
-        row_shown p chunks (row_words h p) ((content_in h payloads).label (name_at h p))
-        (subst (λ (l : ℕ). IsChain after l chunks) (sym (ap link_of first)) (chain_stays chunks (link_at h p) ends links))
+        row_shown p (chunks_from h (length (cells_of h)) (link_at h p)) (row_words h p) ((content_in h payloads).label (name_at h p))
+        (row_chain p (record { object = object; ends = ends }) (links_by_cells h after (row_of h p) same))
         (flat_map_same (λ q. references_of (cell_at h q)) (λ q. references_of (cell_at after q)) (row_of h p) references)
         (row_references h is [] graph.sound p object ends)
         (graph.targets p object)

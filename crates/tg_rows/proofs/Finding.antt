@@ -1,5 +1,5 @@
 -- What the place of a word in a row says of the rights over a name.
-use Rattle.std.proofs.Common.{◌≡◌, ◌≢◌, ℕ, zero, suc, ◌+◌, ◌-◌, ◌<◌, ◌≤◌, ◌==◌, Bool, true, false, cond, List, [], ◌∷◌, ◌++◌, Option, Some, None, length, get_or, drop, refl, sym, ap, subst, arith, ◌∙◌, ⊎_elim, option_map}
+use Rattle.std.proofs.Common.{◌≡◌, ◌≢◌, ◌⊎◌, inl, inr, ℕ, zero, suc, ◌+◌, ◌-◌, ◌<◌, ◌≤◌, ◌==◌, Bool, true, false, cond, List, [], ◌∷◌, ◌++◌, Option, Some, None, length, get_or, drop, refl, sym, ap, subst, arith, ◌∙◌, ⊎_elim, option_map}
 use Rattle.std.specs.Prelude.{nat_lt, position, slice_index}
 use Rattle.std.specs.List.{All, Contains, position_or_len}
 use Rattle.std.specs.Option.{option_or}
@@ -7,7 +7,7 @@ use Rattle.std.proofs.lemmas.List.{get_or-take, get_or-drop, get_or_default, len
 use Rattle.std.proofs.lemmas.List.Elements.{All-nil, All-append, All-contains, All-weaker}
 use Rattle.std.proofs.lemmas.List.Quantifiers.{position-Some}
 use Rattle.std.proofs.lemmas.List.Sums.{fails_before_first}
-use Rattle.tg_block.specs.declared.CellKind.TheVariants.{Object}
+use Rattle.tg_block.specs.declared.CellKind.TheVariants.{Object, Chunk}
 use Rattle.tg_payload.specs.Table.{Payloads}
 use Rattle.tg_rights.specs.RightSet.{no_rights}
 use Rattle.tg_word.specs.declared.Place.{Place}
@@ -22,11 +22,11 @@ use Rattle.tg_rows.specs.Graph.{IsGraph, content_in}
 use Rattle.tg_rows.specs.Spots.{IsSpotIn, is_empty, last_of, refers_to, word_of_cell, word_where}
 use Rattle.tg_rows.specs.declared.rows.Spot.{Spot}
 use Rattle.tg_rows.specs.declared.rows.Spot.TheVariants.{Reference, Empty, Full}
-use Rattle.tg_rows.proofs.Chains.{row_held, row_references}
-use Rattle.tg_rows.proofs.Layouts.{references_at}
+use Rattle.tg_rows.proofs.Chains.{chain_chunks, row_held, row_references}
+use Rattle.tg_rows.proofs.Layouts.{chunk_tagged, object_tagged, references_at}
 use Rattle.tg_rows.proofs.Lookups.{label_at, name_of_vertex}
 use Rattle.tg_rows.proofs.Places.{cell_long}
-use Rattle.tg_rows.proofs.Members.{Contains-here, Contains-more}
+use Rattle.tg_rows.proofs.Members.{Contains-cases, Contains-here, Contains-more}
 use Rattle.tg_rows.proofs.Slots.{IsOther, rights_none}
 use Rattle.std.proofs.lemmas.Bool.{eq-eqb, eqb-false, eqb-true, ltb-false, ne_eqb}
 
@@ -185,6 +185,20 @@ module _ (h : SpaceList) (payloads : Payloads) (is : IsSpaceList h) (graph : IsG
 
   pub cell_held : (q : Place) → Contains (row_of h p) q → Holds h q
   cell_held q has = All-contains (Holds h) (row_of h p) q (row_held h p (chunks_from h (length (cells_of h)) (link_at h p)) object (graph.ends p object)) has
+
+  -- a cell of the row is the object, or a chunk
+  pub row_kind : (q : Place) → Contains (row_of h p) q → IsKindAt h Object q ⊎ IsKindAt h Chunk q
+  row_kind q has =
+      let ps = chunks_from h (length (cells_of h)) (link_at h p) in
+      ⊎_elim (λ same. inl (subst (IsKindAt h Object) same object)) (λ rest. inr (All-contains (IsKindAt h Chunk) ps q (chain_chunks h ps (link_at h p) (graph.ends p object)) rest)) (Contains-cases p ps q has)
+
+  -- its link stands behind its references
+  pub row_low : (q : Place) → Contains (row_of h p) q → first_pointer (slice_index (cell_at h q) 0) ≤ 7
+  row_low q has =
+      ⊎_elim
+      (λ (o : IsKindAt h Object q). let at : first_pointer (slice_index (cell_at h q) 0) ≡ 4 = ap first_pointer ((object_tagged (cell_at h q)).0 o.is) in omega arith)
+      (λ (c : IsKindAt h Chunk q). let at : first_pointer (slice_index (cell_at h q) 0) ≡ 1 = ap first_pointer ((chunk_tagged (cell_at h q)).0 c.is) in omega arith)
+      (row_kind q has)
 
   -- what a word of the row refers to
   pub word_refers : (q : Place) (i : ℕ) → Contains (row_of h p) q → first_pointer (slice_index (cell_at h q) 0) ≤ i → i < 7 → slice_index (cell_at h q) i ≢ 0 → RefersTo h (slice_index (cell_at h q) i)

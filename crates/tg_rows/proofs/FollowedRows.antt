@@ -1,5 +1,5 @@
 -- The indexes of a heap's rows, while a collection's copies are followed.
-use Rattle.std.proofs.Common.{◌≡◌, ◌≢◌, ℕ, ◌+◌, ◌-◌, ◌<◌, ◌≤◌, ◌⊎◌, inl, inr, Bool, List, [], ◌∷◌, Option, None, Some, false, true, cond, zero, suc, length, get_or, set, take, nat_eq, refl, sym, ap, subst, arith, ◌∙◌, ⊎_elim}
+use Rattle.std.proofs.Common.{◌≡◌, ◌≢◌, ℕ, ◌+◌, ◌-◌, ◌<◌, ◌≤◌, ◌⊎◌, inl, inr, Bool, List, [], ◌∷◌, Option, None, Some, false, true, cond, zero, suc, length, get_or, set, take, nat_eq, refl, sym, ap, subst, arith, ◌∙◌, ⊎_elim, ◌++◌, map}
 use Rattle.std.specs.Prelude.{IfSome, IsSome, is_some, slice_get, swap, swap_remove}
 use Rattle.std.specs.List.{All, IsDistinct}
 use Rattle.std.specs.Map.{keys_of, lookup, values_of}
@@ -7,7 +7,7 @@ use Rattle.std.proofs.Math.Seq.{take-length}
 use Rattle.std.proofs.lemmas.Bool.{cases_eq}
 use Rattle.std.proofs.lemmas.Bool.Decides.{Decides-eqb}
 use Rattle.std.proofs.lemmas.Cmp.{nat_eq_equiv}
-use Rattle.std.proofs.lemmas.List.{get_or_default, get_or-set_other, get_or-set_same, get_or-take, length-set, length-take}
+use Rattle.std.proofs.lemmas.List.{get_or_default, get_or-set_other, get_or-set_same, get_or-take, length-set, length-take, get_or-map, length-append, length-map, map-append, take-map}
 use Rattle.std.proofs.lemmas.List.Edits.{length-swap}
 use Rattle.std.proofs.lemmas.List.Elements.{Contains-get_or}
 use Rattle.std.proofs.lemmas.Map.Views.{Contains-from_lookup, lookup-from_Contains}
@@ -19,11 +19,13 @@ use Rattle.tg_space.specs.Collection.{new_place}
 use Rattle.tg_space.specs.Targets.{from_space}
 use Rattle.tg_space.specs.declared.kind.Kind.{Kind}
 use Rattle.tg_space.specs.declared.kind.Kind.TheVariants.{Full, Nursery}
-use Rattle.tg_rows.specs.Index.{AreAged, AreFollowed, IsAged, IsFollowed, IsFollowedTo, IsLeftBehind, IsOldPlace, IsOldRow, IsMarked, followed_place}
+use Rattle.tg_space.specs.Numbering.{followed_place, IsNumbered, followed_word}
+use Rattle.tg_rows.specs.Index.{AreAged, AreFollowed, IsAged, IsFollowed, IsFollowedTo, IsLeftBehind, IsOldPlace, IsOldRow, IsMarked, AreMovedToOld}
 use Rattle.tg_rows.specs.Inner.Followed.{CanFollow}
 use Rattle.tg_rows.specs.declared.indexed_row.IndexedRow.{IndexedRow}
 use Rattle.tg_rows.specs.declared.followed.Fate.TheVariants.{Gone, Young, Old}
-use Rattle.tg_rows.proofs.Ages.{exchanged_none, exchanged_second, first_below, map_same, old_row_at, slice_get_is, value_here, value_of, value_other, written_aged}
+use Rattle.tg_rows.proofs.Ages.{exchanged_none, exchanged_second, first_below, map_same, old_row_at, slice_get_is, value_here, value_of, value_other, written_aged, moved_behind, old_behind, stay}
+use Rattle.tg_word.specs.Word.{place_in}
 
 abbrev Entries : Type 0
 Entries = List (ℕ × IndexedRow)
@@ -41,6 +43,16 @@ module _ (es : Entries) (i : ℕ) (inside : i < length es) (p : Entry) where
 
   removed_long : length (swap_remove es i p) ≡ length es - 1
   removed_long = let a = length-take (length es - 1) (set es i (get_or es (length es - 1) p)) in let b = length-set es i (get_or es (length es - 1) p) in omega (arith, a, b)
+
+  -- what holds of each entry from a place on but the one that goes holds of each that is left
+  removed_each : (Q : Entry → Type 0) (from : ℕ) → from ≤ i → ((j : ℕ) (d : Entry) → from ≤ j → j ≢ i → j < length es → Q (get_or es j d)) → (j : ℕ) (d : Entry) → from ≤ j → j < length es - 1 → Q (get_or (swap_remove es i p) j d)
+  removed_each Q from low each j d high short =
+      let last = get_or es (length es - 1) p in
+      let read = get_or-take (length es - 1) (set es i last) j d short in
+      ⊎_elim
+      (λ same. subst Q (sym (read ∙ ap (λ k. get_or (set es i last) k d) same ∙ get_or-set_same es i last d inside)) (each (length es - 1) p (omega arith) (λ e. omega (arith, e, same)) (omega arith)))
+      (λ ne. subst Q (sym (read ∙ get_or-set_other es i j last d ne)) (each j d high ne (omega arith)))
+      (cases_eq j i)
 
 -- ---- which names have an index
 
@@ -181,7 +193,9 @@ module _ (kind : Kind) (starts forward : List ℕ) (notes : List Place) (rows es
     todo = λ j d high in_rest.
         let long : length rest ≡ length (swap_remove later at p) = ap (λ (l : Entries). length l) gone in
         subst (λ (l : Entries). lookup (nat_eq (get_or l j d).0) rows ≡ Some (get_or l j d).1) (sym gone)
-        (todo_rest j d high (let short = removed_long later at (omega (arith, later_long)) p in omega (arith, long, short, in_rest)));
+        (removed_each later at (omega (arith, later_long)) p (λ e. lookup (nat_eq e.0) rows ≡ Some e.1) at (omega arith)
+        (λ k e behind ne in_later. subst (λ (x : Entry). lookup (nat_eq x.0) rows ≡ Some x.1) (sym (other k e ne)) (followed.todo k e behind (omega (arith, later_long))))
+        j d high (let short = removed_long later at (omega (arith, later_long)) p in omega (arith, long, short, in_rest)));
     kept = λ name r in_rows. by_name name r in_rows (nat_eq here.0 name) refl;
   }
     where
@@ -194,24 +208,6 @@ module _ (kind : Kind) (starts forward : List ℕ) (notes : List Place) (rows es
       by_name name r in_rows false other_name =
           let stays : lookup (nat_eq name) rest ≡ lookup (nat_eq name) later = out name ∙ ap (λ (b : Bool). cond b None (lookup (nat_eq name) later)) other_name in
           ⊎_elim (λ some. inl (ap (λ (o : Option IndexedRow). is_some o) stays ∙ some)) (λ gone_too. inr gone_too) (kept_later name r in_rows)
-
-      -- the entry that goes counts as the last one, where it was the last
-      todo_rest : (j : ℕ) (d : Entry) → at ≤ j → j < length later - 1 → lookup (nat_eq (get_or (swap_remove later at p) j d).0) rows ≡ Some (get_or (swap_remove later at p) j d).1
-      todo_rest j d high low = by_place (cases_eq j at)
-        where
-          last : Entry
-          last = get_or later (length later - 1) p
-
-          read : get_or (swap_remove later at p) j d ≡ get_or (set later at last) j d
-          read = get_or-take (length later - 1) (set later at last) j d low
-
-          by_place : (j ≡ at) ⊎ (j ≢ at) → lookup (nat_eq (get_or (swap_remove later at p) j d).0) rows ≡ Some (get_or (swap_remove later at p) j d).1
-          by_place (inl same) =
-              let set_here : get_or (set later at last) j d ≡ last = ap (λ k. get_or (set later at last) k d) same ∙ get_or-set_same later at last d (omega (arith, later_long)) in
-              let last_is : last ≡ get_or es (length later - 1) p = other (length later - 1) p (λ e. omega (arith, later_long)) in
-              subst (λ (e : Entry). lookup (nat_eq e.0) rows ≡ Some e.1) (sym (read ∙ set_here ∙ last_is)) (followed.todo (length later - 1) p (omega (arith, later_long)) (omega (arith, later_long)))
-          by_place (inr ne) =
-              subst (λ (e : Entry). lookup (nat_eq e.0) rows ≡ Some e.1) (sym (read ∙ get_or-set_other later at j last d ne ∙ other j d ne)) (followed.todo j d high (omega (arith, later_long)))
 
 -- ---- ages, while rows are followed
 
@@ -227,7 +223,7 @@ module _ (es later : Entries) (old at : ℕ) (inside : at < length es) (low : ol
   pub aged_rest : (p : Entry) (rest : Entries) → rest ≡ swap_remove later at p → AreAged rest old
   aged_rest p rest gone = subst (λ (l : Entries). AreAged l old) (sym gone) (record {
     within = omega (arith, long_as, short);
-    each = λ j d in_rest. by_place j d (omega (arith, short)) (cases_eq j at);
+    each = λ j d in_rest. removed_each later at (omega (arith, long_as)) p (λ e. IsAged e.1) 0 (omega arith) (λ k e _ _ in_later. aged_later.each k e in_later) j d (omega arith) (omega (arith, short));
     first = λ j d in_first.
         let before : j < old = first_below (swap_remove later at p) old j in_first in
         subst (λ (e : Entry). IsOldRow e.1) (sym (get_or-take old (swap_remove later at p) j d before ∙ removed_before later at (omega (arith, long_as)) p j d (omega arith))) (old_row_at later old aged_later j d before);
@@ -235,17 +231,6 @@ module _ (es later : Entries) (old at : ℕ) (inside : at < length es) (low : ol
     where
       short : length (swap_remove later at p) ≡ length later - 1
       short = removed_long later at (omega (arith, long_as)) p
-
-      last : Entry
-      last = get_or later (length later - 1) p
-
-      by_place : (j : ℕ) (d : Entry) → j < length later - 1 → (j ≡ at) ⊎ (j ≢ at) → IsAged (get_or (swap_remove later at p) j d).1
-      by_place j d in_rest (inl same) =
-          subst (λ (e : Entry). IsAged e.1) (sym (get_or-take (length later - 1) (set later at last) j d in_rest ∙ ap (λ k. get_or (set later at last) k d) same ∙ get_or-set_same later at last d (omega (arith, long_as))))
-          (aged_later.each (length later - 1) p (omega (arith, long_as)))
-      by_place j d in_rest (inr ne) =
-          subst (λ (e : Entry). IsAged e.1) (sym (get_or-take (length later - 1) (set later at last) j d in_rest ∙ get_or-set_other later at j last d ne))
-          (aged_later.each j d (omega arith))
 
   -- a row that lies in Old whole joins the first ones
   pub aged_swapped : IsOldRow next → (swapped : Entries) → swapped ≡ swap later at old → AreAged swapped (old + 1)
@@ -309,3 +294,60 @@ pub can_follow : (kind : Kind) (starts forward : List ℕ) (notes : List Place) 
 can_follow kind starts forward notes rows es at inside followed can row found =
     can (get_or es at (0, row)).0 row
     (subst (λ (r : IndexedRow). lookup (nat_eq (get_or es at (0, row)).0) rows ≡ Some r) (value_of es at row (0, row) found) (followed.todo at (0, row) (omega arith) inside))
+
+-- ---- the words of the cells of a row
+
+place_of_either : (b : Bool) (x y : ℕ) → place_in (cond b x y) ≡ cond b (place_in x) (place_in y)
+place_of_either true x y = refl
+place_of_either false x y = refl
+
+-- the place in the new word of a cell is where the cell is
+places_followed : (from : ℕ → Bool) (starts forward words : List ℕ) → map place_in (map (followed_word from starts forward) words) ≡ map (followed_place from starts (new_place forward)) (map place_in words)
+places_followed from starts forward [] = refl
+places_followed from starts forward (word ∷ words) =
+    ap (λ (p : Place). p ∷ map place_in (map (followed_word from starts forward) words)) (place_of_either (from (place_in word).space) _ word)
+    ∙ ap (λ (ps : List Place). followed_place from starts (new_place forward) (place_in word) ∷ ps) (places_followed from starts forward words)
+
+-- after a full collection each of them lies in Old
+followed_old : (kind : Kind) (starts forward words : List ℕ) → kind ≡ Full → AreMovedToOld kind forward → All (λ word. IsNumbered starts (length forward) (place_in word)) words → All IsOldPlace (map place_in (map (followed_word (from_space kind) starts forward) words))
+followed_old kind starts forward [] full old numbered k d low = absurd (omega arith)
+followed_old kind starts forward (word ∷ words) full old numbered zero d low =
+    subst (λ (other : Kind). IsOldPlace (place_in (followed_word (from_space other) starts forward word))) (sym full) (old full _ 0 (numbered zero word (omega arith)).inside)
+followed_old kind starts forward (word ∷ words) full old numbered (suc k) d low = followed_old kind starts forward words full old (λ i e inside. numbered (suc i) e (omega (arith, inside))) k d (omega (arith, low))
+
+-- what holds of all cells holds of those behind the first ones
+behind_front : (P : Place → Type 0) (front young : List ℕ) → All P (map place_in (front ++ young)) → All (λ word. P (place_in word)) young
+behind_front P [] young all k e low =
+    let d : Place = place_in 0 in
+    subst P (get_or-map place_in young k e d low) (all k d (omega (arith, low, length-map young place_in)))
+behind_front P (word ∷ front) young all k e low = behind_front P front young (λ i d inside. all (suc i) d (omega (arith, inside))) k e low
+
+-- Of the words of a row the first ones stay, and the others are followed.
+module _ (kind : Kind) (starts forward words front young new : List ℕ) (first : ℕ) (whole : words ≡ front ++ young) (front_is : front ≡ take first words) (front_long : length front ≡ first)
+    (followed : new ≡ map (followed_word (from_space kind) starts forward) young) where
+  pub words_long : length (front ++ new) ≡ length words
+  words_long =
+      omega (arith, length-append front new, ap (λ (ws : List ℕ). length ws) followed, length-map young (followed_word (from_space kind) starts forward), ap (λ (ws : List ℕ). length ws) whole, length-append front young)
+
+  front_places : map place_in front ≡ take first (map place_in words)
+  front_places = ap (map place_in) front_is ∙ sym (take-map place_in first words)
+
+  pub words_moved : (kind ≡ Full → first ≡ 0) → All IsOldPlace (take first (map place_in words)) → map place_in (front ++ new) ≡ map (followed_place (from_space kind) starts (new_place forward)) (map place_in words)
+  words_moved full old =
+      let f = followed_place (from_space kind) starts (new_place forward) in
+      map-append place_in front new
+      ∙ ap (λ (ps : List Place). map place_in front ++ ps) (ap (map place_in) followed ∙ places_followed (from_space kind) starts forward young)
+      ∙ moved_behind f (map place_in front) (map place_in young) (stay kind starts (new_place forward) (map place_in words) (map place_in front) first full old front_places)
+      ∙ ap (map f) (sym (map-append place_in front young) ∙ ap (map place_in) (sym whole))
+
+  pub words_old : (n : ℕ) → All IsOldPlace (take first (map place_in words)) → All IsOldPlace (take n (map place_in new)) → All IsOldPlace (take (first + n) (map place_in (front ++ new)))
+  words_old n old behind =
+      subst (λ (ps : List Place). All IsOldPlace (take (first + n) ps)) (sym (map-append place_in front new))
+      (old_behind (map place_in front) (map place_in new) first n (length-map front place_in ∙ front_long) (subst (All IsOldPlace) (sym front_places) old) behind)
+
+  pub young_numbered : All (IsNumbered starts (length forward)) (map place_in words) → All (λ word. IsNumbered starts (length forward) (place_in word)) young
+  young_numbered numbered =
+      behind_front (IsNumbered starts (length forward)) front young (subst (λ (ws : List ℕ). All (IsNumbered starts (length forward)) (map place_in ws)) whole numbered)
+
+  pub young_old : AreMovedToOld kind forward → All (IsNumbered starts (length forward)) (map place_in words) → kind ≡ Full → All IsOldPlace (map place_in new)
+  young_old old numbered full = subst (λ (ws : List ℕ). All IsOldPlace (map place_in ws)) (sym followed) (followed_old kind starts forward young full old (young_numbered numbered))

@@ -1,43 +1,78 @@
 -- What a change of one row leaves of the indexes of all.
-use Rattle.std.proofs.Common.{◌≡◌, ◌≢◌, ℕ, ◌+◌, ◌^◌, ◌<◌, ◌≤◌, ◌++◌, ◌∷◌, List, [], Option, Some, None, IsSome, length, get_or, nat_eq, refl, sym, ap, subst, arith, ◌∙◌, ⊎_elim}
+use Rattle.std.proofs.Common.{◌≡◌, ◌≢◌, ℕ, ◌+◌, ◌^◌, ◌<◌, ◌≤◌, ◌++◌, ◌∷◌, List, [], Option, Some, None, IsSome, length, get_or, nat_eq, refl, sym, ap, subst, arith, ◌∙◌, ⊎_elim, false}
 use Rattle.std.specs.Map.{lookup}
 use Rattle.std.proofs.lemmas.Bool.{cases_eq}
 use Rattle.tg_word.specs.declared.Place.{Place}
-use Rattle.tg_word.specs.Word.{place_in}
+use Rattle.tg_word.specs.Word.{place_in, word_at}
 use Rattle.tg_block.specs.declared.CellKind.TheVariants.{Object}
 use Rattle.tg_model.specs.Graph.{without_rights}
-use Rattle.tg_space.specs.SpaceList.{SpaceList, Holds, IsSpaceList, cell_at}
-use Rattle.tg_space.specs.SpaceTable.{SpaceTable, place_in_space, used_of}
+use Rattle.tg_space.specs.SpaceList.{SpaceList, Holds, IsSpaceList, cell_at, cells_of}
+use Rattle.tg_space.specs.SpaceTable.{SpaceTable, place_in_space, used_of, IsNursery, IsSpaceTable}
 use Rattle.tg_space.specs.Soundness.{IsKindAt}
-use Rattle.tg_space.specs.Rows.{link_at, row_of}
+use Rattle.tg_space.specs.Rows.{link_at, row_of, chunks_from}
 use Rattle.tg_space.proofs.Flat.{length-cells_of}
 use Rattle.tg_space.proofs.Tables.{count_few, table_list}
 use Rattle.tg_index.specs.Slots.{Slots, HasVacant, IsFirstVacant, IsIndexOf, PutsAt, place_number}
 use Rattle.tg_rows.specs.Content.{IsNamed}
 use Rattle.tg_rows.specs.Inner.Following.{AreBehind, IsBehind, IsNarrowed, IsNotedIn, IsPutAt, IsReady, IsReadyAt, IsWay}
-use Rattle.tg_rows.specs.Graph.{content_in}
+use Rattle.tg_rows.specs.Graph.{content_in, IsGraph}
 use Rattle.tg_rows.specs.Index.{Indexes, IsRowIndex, KeepsOtherIndexes}
 use Rattle.tg_rows.specs.Rows.{IsRow, IsVertexAt, name_at}
-use Rattle.tg_rows.specs.Spots.{narrowed, word_put}
+use Rattle.tg_rows.specs.Spots.{narrowed, word_put, IsSpotIn, cells_for, table_put, widened}
 use Rattle.tg_rows.specs.declared.indexed_row.IndexedRow.{IndexedRow}
 use Rattle.tg_rows.specs.declared.indexes.Way.{Way}
 use Rattle.tg_rows.specs.declared.indexes.Way.TheVariants.{Walk, Index, New}
 use Rattle.tg_rows.specs.declared.rows.Spot.{Spot}
 use Rattle.tg_rows.specs.declared.rows.Spot.TheVariants.{Reference, Empty, Full}
-use Rattle.tg_rows.proofs.IndexExtend.{full_absent, full_chunk, full_held, full_index}
+use Rattle.tg_rows.proofs.IndexExtend.{full_absent, full_chunk, full_held, full_index, full_others, full_row}
 use Rattle.tg_rows.proofs.IndexMoved.{kept_rows_index}
-use Rattle.tg_rows.proofs.IndexOthers.{others_put}
 use Rattle.tg_rows.proofs.Changes.{holds_written}
-use Rattle.tg_rows.proofs.Finding.{IsReferenceTo, cell_held, found_refers, reference_found}
-use Rattle.tg_rows.proofs.IndexKept.{other_index}
-use Rattle.tg_rows.proofs.IndexPut.{cleared_index, filled_absent, filled_index, filled_vacant, has_number, kept_index, narrowed_place, slot_of_zero, still_names, wide_index, word_there}
+use Rattle.tg_rows.proofs.Finding.{IsReferenceTo, cell_held, found_refers, reference_found, empty_found}
+use Rattle.tg_rows.proofs.IndexKept.{other_index, written_row}
+use Rattle.tg_rows.proofs.IndexPut.{cleared_index, filled_absent, filled_index, filled_vacant, has_number, kept_index, narrowed_place, slot_of_zero, still_names, wide_index, word_there, filled_others}
 use Rattle.tg_rows.proofs.IndexedRows.{Entries}
 use Rattle.tg_rows.proofs.Changed.{Becomes}
 use Rattle.tg_rows.proofs.Layouts.{present_place}
 use Rattle.tg_rows.proofs.Indexed.{places_short}
 use Rattle.tg_rows.proofs.Putting.{narrowed_becomes, put_becomes}
 use Rattle.tg_rows.proofs.Marked.{KeepsOthersMarked, others_marked}
-use Rattle.tg_rows.proofs.RowLengths.{grown_put}
+use Rattle.tg_rights.specs.RightSet.{RightSet, is_none_held}
+use Rattle.tg_nursery.specs.Allocation.{HasLeft}
+use Rattle.tg_payload.specs.Table.{Payloads}
+use Rattle.std.proofs.lemmas.List.{length-append}
+
+-- ---- the indexes of other rows
+
+module _ (t : SpaceTable) (table : IsSpaceTable t) (payloads : Payloads) (graph : IsGraph t.spaces payloads) (p : Place) (object : IsKindAt t.spaces Object p) (name : ℕ)
+    (space : ℕ) (nursery : IsNursery t space) (to : Place) (target : IsKindAt t.spaces Object to) (named : name_at t.spaces to ≡ name) (rights : RightSet) (some : is_none_held rights ≡ false)
+    (r : Place) (s : Slots) (places : List Place) (other : r ≢ p) (at : IsKindAt t.spaces Object r) (index : IsRowIndex t.spaces r s places) where
+  pub others_put : (spot : Spot) → IsSpotIn t.spaces name p (chunks_from t.spaces (length (cells_of t.spaces)) (link_at t.spaces p)) spot → HasLeft t space (cells_for spot) → IsRowIndex (table_put t space spot rights to).spaces r s places
+  others_put (Reference q i) found left =
+      let reference = reference_found t.spaces p name q i found in
+      let sound = (put_becomes t table payloads graph p object name (Reference q i) found space left nursery to target named rights some).graph.sound in
+      other_index t.spaces payloads (table_list t table) graph p q i (widened (get_or (cell_at t.spaces q) i 0) rights) object reference.cell (reference.from, reference.to) sound r at other s places index
+  others_put (Empty q i) found left = filled_others t table payloads graph p object name q i found space left nursery to target named rights some r s places other at index
+  others_put (Full last) found left = full_others t table payloads graph p object name last found space left nursery to target named rights some r s places other at index
+
+-- ---- the length of the row itself
+
+module _ (t : SpaceTable) (table : IsSpaceTable t) (payloads : Payloads) (graph : IsGraph t.spaces payloads) (p : Place) (object : IsKindAt t.spaces Object p) (name : ℕ)
+    (space : ℕ) (nursery : IsNursery t space) (to : Place) (target : IsKindAt t.spaces Object to) (named : name_at t.spaces to ≡ name) (rights : RightSet) (some : is_none_held rights ≡ false) where
+  pub grown_put : (spot : Spot) → IsSpotIn t.spaces name p (chunks_from t.spaces (length (cells_of t.spaces)) (link_at t.spaces p)) spot → HasLeft t space (cells_for spot) → length (row_of (table_put t space spot rights to).spaces p) ≤ length (row_of t.spaces p) + 1
+  grown_put (Reference q i) found left =
+      let reference = reference_found t.spaces p name q i found in
+      let sound = (put_becomes t table payloads graph p object name (Reference q i) found space left nursery to target named rights some).graph.sound in
+      let same = ap (λ (ps : List Place). length ps) (written_row t.spaces payloads (table_list t table) graph p q i (widened (get_or (cell_at t.spaces q) i 0) rights) object reference.cell (reference.from, reference.to) sound p object) in
+      omega (arith, same)
+  grown_put (Empty q i) found left =
+      let slot = empty_found t.spaces p q i found.1 in
+      let sound = (put_becomes t table payloads graph p object name (Empty q i) found space left nursery to target named rights some).graph.sound in
+      let same = ap (λ (ps : List Place). length ps) (written_row t.spaces payloads (table_list t table) graph p q i (word_at rights to) object slot.cell (slot.from, slot.to) sound p object) in
+      omega (arith, same)
+  grown_put (Full last) found left =
+      let longer = ap (λ (ps : List Place). length ps) (full_row t table payloads graph p object name last found space left nursery to target named rights some) in
+      let all = length-append (row_of t.spaces p) (place_in_space space (used_of t space) ∷ []) in
+      omega (arith, longer, all)
 
 -- ---- rights were put at a spot
 

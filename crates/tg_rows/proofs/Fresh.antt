@@ -240,8 +240,8 @@ module _ (h : SpaceList) (payloads : Payloads) (is : IsSpaceList h) (graph : IsG
     links = fresh_links h payloads is graph q free (vertex_words name key) refl;
     rows = by_object {X = λ p. ShowsRow with_vertex p ((content_in h payloads).label (name_at with_vertex p))} empty_row
         (λ p object. subst (λ (n : ℕ). ShowsRow with_vertex p ((content_in h payloads).label n)) (sym (stays.names p object)) (fresh_rows h payloads is graph q free (vertex_words name key) p object));
-    names = λ p r op or same. names_apart p r (old_or_new p op) (old_or_new r or) same;
-    keys = λ p r op or same. keys_apart p r (old_or_new p op) (old_or_new r or) same;
+    names = λ p r op or same. apart (name_at h) (name_at with_vertex) name new_name old_name stays.names graph.names p r (old_or_new p op) (old_or_new r or) same;
+    keys = λ p r op or same. apart (key_at h) (key_at with_vertex) key new_key used_key stays.keys graph.keys p r (old_or_new p op) (old_or_new r or) same;
     payloads_used = λ k. (used k (cases_eq k key), λ at. has k at.0 at.2 (old_or_new at.0 at.1));
     vertex = by_object {X = λ p. IsNamed (content_in h payloads) (name_at with_vertex p) ⊎ (name_at with_vertex p ≡ name)} (inr new_name)
         (λ p object. inl (name_of_vertex h payloads is (name_at with_vertex p) p (record { object = object; named = sym (stays.names p object) })));
@@ -256,17 +256,13 @@ module _ (h : SpaceList) (payloads : Payloads) (is : IsSpaceList h) (graph : IsG
     no_value = λ x none. sym (value_there x (λ same. none (inr same))) ∙ value_nowhere h payloads is x (λ named. none (inl named));
   }
     where
-      names_apart : (p r : Place) → (p ≡ q) ⊎ IsKindAt h Object p → (r ≡ q) ⊎ IsKindAt h Object r → name_at with_vertex p ≡ name_at with_vertex r → p ≡ r
-      names_apart p r (inl one) (inl two) same = one ∙ sym two
-      names_apart p r (inl one) (inr old) same = absurd (old_name r old (sym same ∙ ap (name_at with_vertex) one ∙ new_name))
-      names_apart p r (inr old) (inl two) same = absurd (old_name p old (same ∙ ap (name_at with_vertex) two ∙ new_name))
-      names_apart p r (inr one) (inr two) same = graph.names p r one two (sym (stays.names p one) ∙ same ∙ stays.names r two)
-
-      keys_apart : (p r : Place) → (p ≡ q) ⊎ IsKindAt h Object p → (r ≡ q) ⊎ IsKindAt h Object r → key_at with_vertex p ≡ key_at with_vertex r → p ≡ r
-      keys_apart p r (inl one) (inl two) same = one ∙ sym two
-      keys_apart p r (inl one) (inr old) same = absurd (used_key r old (sym same ∙ ap (key_at with_vertex) one ∙ new_key))
-      keys_apart p r (inr old) (inl two) same = absurd (used_key p old (same ∙ ap (key_at with_vertex) two ∙ new_key))
-      keys_apart p r (inr one) (inr two) same = graph.keys p r one two (sym (stays.keys p one) ∙ same ∙ stays.keys r two)
+      -- numbers of objects stay apart, where the new one's is another
+      apart : (f g : Place → ℕ) (n : ℕ) → g q ≡ n → ((p : Place) → IsKindAt h Object p → g p ≢ n) → ((p : Place) → IsKindAt h Object p → g p ≡ f p) → ((p r : Place) → IsKindAt h Object p → IsKindAt h Object r → f p ≡ f r → p ≡ r) →
+          (p r : Place) → (p ≡ q) ⊎ IsKindAt h Object p → (r ≡ q) ⊎ IsKindAt h Object r → g p ≡ g r → p ≡ r
+      apart f g n new_is others same before p r (inl one) (inl two) e = one ∙ sym two
+      apart f g n new_is others same before p r (inl one) (inr old) e = absurd (others r old (sym e ∙ ap g one ∙ new_is))
+      apart f g n new_is others same before p r (inr old) (inl two) e = absurd (others p old (e ∙ ap g two ∙ new_is))
+      apart f g n new_is others same before p r (inr one) (inr two) e = before p r one two (sym (same p one) ∙ e ∙ same r two)
 
       used : (k : ℕ) → (k ≡ key) ⊎ (k ≢ key) → IsSome (entry new k) → (p : Place) × IsKindAt with_vertex Object p × (key_at with_vertex p ≡ k)
       used k (inl same) some = (q, new_object, new_key ∙ sym same)

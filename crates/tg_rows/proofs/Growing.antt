@@ -1,45 +1,46 @@
 -- Steps of a change, one after the other: room is made, a vertex is placed, a value is written.
-use Rattle.std.proofs.Common.{◌≡◌, ◌≢◌, ◌↔◌, ℕ, ◌+◌, ◌*◌, ◌<◌, ◌≤◌, ◌⊎◌, inl, inr, ◌==◌, not, ◌&&◌, Bool, true, false, cond, List, [], ◌∷◌, length, set, drop, Option, Some, None, IsSome, refl, sym, ap, subst, arith, ◌∙◌, ⊎_elim, option_map}
+use Rattle.std.proofs.Common.{◌≡◌, ◌≢◌, ℕ, ◌+◌, ◌*◌, ◌<◌, ◌≤◌, ◌⊎◌, inl, inr, ◌==◌, not, ◌&&◌, Bool, true, false, cond, List, [], ◌∷◌, length, set, drop, Option, Some, None, IsSome, refl, sym, ap, subst, arith, ◌∙◌, ⊎_elim, option_map}
 use Rattle.std.specs.Prelude.{nat_lt, position, slice_index, slice_index_or}
 use Rattle.std.specs.List.{All, position_or_len}
 use Rattle.std.specs.Option.{option_or}
-use Rattle.std.proofs.lemmas.Bool.{cases_eq}
+use Rattle.std.proofs.lemmas.Bool.{cases_eq, le-ltb}
 use Rattle.std.proofs.lemmas.Bool.Decides.{eqb_tells}
 use Rattle.std.proofs.lemmas.List.{length-set, get_or-set_same, get_or-set_other}
 use Rattle.std.proofs.lemmas.List.Elements.{All-head, All-tail, All-weaker}
 use Rattle.tg_rights.specs.RightSet.{RightSet, is_none_held}
-use Rattle.tg_model.specs.Graph.{with_rights}
+use Rattle.tg_model.specs.Graph.{with_rights, without_rights}
 use Rattle.tg_model.specs.declared.value.Value.{Value}
 use Rattle.tg_model.specs.Rules.{with_value, written, written_at}
 use Rattle.tg_word.specs.declared.Place.{Place}
 use Rattle.tg_block.specs.Cells.{free_cell, kind_of}
 use Rattle.tg_block.specs.declared.CellKind.TheVariants.{Free, Object}
 use Rattle.tg_space.specs.SpaceList.{SpaceList, IsSpaceList, Holds, cell_at, cells_of, space_of, with_block, with_cell_at}
-use Rattle.tg_space.specs.SpaceTable.{SpaceTable, IsHandedOut, IsNursery, IsSpaceTable, number_in_space, used_of, with_one_used, with_spaces}
+use Rattle.tg_space.specs.SpaceTable.{SpaceTable, IsHandedOut, IsNursery, IsSpaceTable, number_in_space, used_of, with_one_used, with_spaces, place_in_space}
 use Rattle.tg_space.specs.Soundness.{IsKindAt, IsReference}
 use Rattle.tg_space.specs.Generations.{AreRemembered}
 use Rattle.tg_space.specs.Targets.{first_pointer}
-use Rattle.tg_space.proofs.Tables.{kept-with_block, table_cell, table_list}
+use Rattle.tg_space.proofs.Tables.{kept-with_block, table_cell, table_list, holds_same, shape_cell, shape_written}
 use Rattle.tg_nursery.specs.Allocation.{HasLeft, room_made_for}
 use Rattle.tg_payload.specs.Table.{Payloads, Updates, entry}
 use Rattle.tg_rows.specs.Content.{IsNamed}
 use Rattle.tg_rows.specs.Graph.{IsGraph, content_in}
-use Rattle.tg_rows.specs.Rows.{IsChain, IsVertexAt, key_at, name_at, name_in, references_of, row_words, words_of}
+use Rattle.tg_rows.specs.Rows.{IsVertexAt, key_at, name_at, name_in, references_of, row_words, words_of}
 use Rattle.tg_space.specs.Rows.{chunks_from, link_at, row_of}
-use Rattle.tg_rows.specs.Spots.{CanPut, IsSpotIn, cells_for, is_empty, last_of, note_for, refers_to, table_put, word_in_cell, word_of_cell, word_where}
-use Rattle.tg_rows.specs.Steps.{ChangesTo, KeepsRows, vertex_words}
+use Rattle.tg_rows.specs.Spots.{CanPut, IsSpotIn, cells_for, is_empty, last_of, note_for, refers_to, table_put, word_in_cell, word_of_cell, word_where, IsSpotFor, IsMadeInRow, vertex_put, with_note, chunk_words, widened}
+use Rattle.tg_rows.specs.Steps.{ChangesTo, KeepsRows, vertex_words, TakesOneCell}
 use Rattle.tg_rows.specs.declared.rows.Spot.{Spot}
 use Rattle.tg_rows.specs.declared.rows.Spot.TheVariants.{Reference, Empty, Full}
 use Rattle.tg_rows.proofs.Chains.{chain_same, row_held}
-use Rattle.tg_rows.proofs.Finding.{words_are_references}
+use Rattle.tg_rows.proofs.Finding.{words_are_references, none_found, none_refers}
 use Rattle.tg_rows.proofs.Fresh.{block_added, block_stays, fresh_same, fresh_stays, vertex_at, vertex_placed}
-use Rattle.tg_rows.proofs.Changed.{Becomes, Stays, chain_stays}
+use Rattle.tg_rows.proofs.Changed.{Becomes, Stays, becomes_then, links_by_cells, row_chain}
 use Rattle.tg_rows.proofs.Linked.{value_written}
 use Rattle.tg_rows.proofs.Lookups.{label_is, name_of_vertex, value_at, value_is}
 use Rattle.tg_rows.proofs.Members.{All-left, All-right}
 use Rattle.tg_rows.proofs.Changes.{list_written}
-use Rattle.tg_rows.proofs.Putting.{can_put, put_becomes}
+use Rattle.tg_rows.proofs.Putting.{can_put, put_becomes, nothing_taken, relabel}
 use Rattle.tg_rows.proofs.Remembering.{AreNoted, put_remembered, remembered_room, remembered_young}
+use Rattle.tg_word.specs.Word.{link_to, word_at}
 
 -- ---- one step after the other
 
@@ -50,20 +51,6 @@ becomes_self h payloads graph = record {
   vertices = λ x p vertex. vertex;
 }
 
--- the second step's content, in words of the first one's
-pub becomes_then : (h mid after : SpaceList) (first second : Payloads) (named1 named2 named : ℕ → Type 0) (label1 label2 label : ℕ → ℕ → RightSet) (value1 value2 value : ℕ → Option Value) →
-    Becomes h mid first named1 label1 value1 → Becomes mid after second named2 label2 value2 →
-    ((x : ℕ) → named2 x ↔ named x) → ((x y : ℕ) → label2 x y ≡ label x y) → ((x : ℕ) → value2 x ≡ value x) → Becomes h after second named label value
-becomes_then h mid after first second named1 named2 named label1 label2 label value1 value2 value one two names labels values = record {
-  graph = two.graph;
-  content = record {
-    names = λ x. (λ n. (names x).0 ((two.content.names x).0 n), λ n. (two.content.names x).1 ((names x).1 n));
-    labels = λ x y. two.content.labels x y ∙ labels x y;
-    values = λ x. two.content.values x ∙ values x;
-  };
-  vertices = λ x p vertex. two.vertices x p (one.vertices x p vertex);
-}
-
 -- ---- rows that stay
 
 pub keeps_rows : (h after : SpaceList) (before later : Payloads) → IsGraph h before → IsGraph after later → Stays h after → ((p : Place) → IsKindAt h Object p → All (λ q. cell_at after q ≡ cell_at h q) (row_of h p)) → KeepsRows h after
@@ -72,12 +59,8 @@ keeps_rows h after before later graph graph_after stays same = record {
   names = stays.names;
   rows = λ p object.
       let ps = chunks_from h (length (cells_of h)) (link_at h p) in
-      let cells = same p object in
-      let link : link_at after p ≡ link_at h p = ap (λ (ws : List ℕ). slice_index ws 7) (All-head (λ q. cell_at after q ≡ cell_at h q) p ps cells) in
-      let links : All (λ q. link_at after q ≡ link_at h q) ps = All-weaker (λ q. cell_at after q ≡ cell_at h q) (λ q. link_at after q ≡ link_at h q) (λ q e. ap (λ (ws : List ℕ). slice_index ws 7) e) ps (All-tail (λ q. cell_at after q ≡ cell_at h q) p ps cells) in
-      let chain : IsChain after (link_at after p) ps = subst (λ l. IsChain after l ps) (sym link) (chain_stays h after stays ps (link_at h p) (graph.ends p object) links) in
-      let whole = chain_same after (chunks_from after (length (cells_of after)) (link_at after p)) ps (link_at after p) (graph_after.ends p (stays.objects p object)) chain in
-      ap (λ (qs : List Place). p ∷ qs) whole;
+      let chain = row_chain h after stays p (record { object = object; ends = graph.ends p object }) (links_by_cells h after (row_of h p) (same p object)) in
+      ap (λ (qs : List Place). p ∷ qs) (chain_same after (chunks_from after (length (cells_of after)) (link_at after p)) ps (link_at after p) (graph_after.ends p (stays.objects p object)) chain);
   cells = same;
 }
 
@@ -422,3 +405,90 @@ module _ (t grown placed : SpaceTable) (payloads reserved filled : Payloads) (ta
         both.content.values in
         subst (λ (x : SpaceTable). ChangesTo t x filled named label values) (sym is)
         (changes t (table_put placed space spot rights q) filled named label values all (put_spaces placed space spot rights q ∙ step.spaces ∙ made_room.spaces) (put_limits placed space spot rights q ∙ step.limits ∙ made_room.limits))
+
+-- ---- rights are taken where no reference has the name
+
+module _ (t : SpaceTable) (payloads : Payloads) (table : IsSpaceTable t) (graph : IsGraph t.spaces payloads) (p : Place) (object : IsKindAt t.spaces Object p) where
+  pub nothing_dropped : (name : ℕ) (spot : Spot) → IsSpotFor t.spaces name p spot → ((q : Place) (i : ℕ) → spot ≡ Reference q i → ⊥) → (rights : RightSet)
+      → ChangesTo t t payloads (IsNamed (content_in t.spaces payloads)) (without_rights (content_in t.spaces payloads).label (name_at t.spaces p) name rights) (content_in t.spaces payloads).value
+  nothing_dropped name spot found never rights =
+      let content = content_in t.spaces payloads in
+      let from = name_at t.spaces p in
+      let none = none_found t.spaces name p (chunks_from t.spaces (length (cells_of t.spaces)) (link_at t.spaces p)) spot found never in
+      let nothing = none_refers t.spaces payloads (table_list t table) graph p object name none in
+      let label = without_rights content.label from name rights in
+      changes t t payloads (IsNamed content) label content.value
+      (relabel t.spaces t.spaces payloads (IsNamed content) content.label label content.value (nothing_taken content.label from name rights nothing) (becomes_self t.spaces payloads graph))
+      refl refl
+
+-- ---- where a new vertex and the reference to it are
+
+-- a new block hands out no cell
+used_room : (t : SpaceTable) (space cells : ℕ) → used_of (room_made_for t space cells) space ≡ used_of t space
+used_room t space cells = by_test (nat_lt (64 * length (space_of t.spaces space)) (used_of t space + cells))
+  where
+    by_test : (b : Bool) → used_of (cond b (with_spaces t (with_block t.spaces space)) t) space ≡ used_of t space
+    by_test true = refl
+    by_test false = refl
+
+pub made_in_row : (t grown placed after : SpaceTable) (places later : List Place) (space cells : ℕ) (from : Place) → IsKindAt t.spaces Object from → (name : ℕ) (rights : RightSet) (spot : Spot) → IsSpotFor t.spaces name from spot → cells ≡ cells_for spot →
+    grown ≡ room_made_for t space (1 + cells) → ((key : ℕ) × (placed ≡ vertex_put grown space name key)) → (to : Place) → to ≡ place_in_space space (used_of grown space) → after ≡ table_put placed space spot rights to →
+    later ≡ with_note places (note_for spot true) → IsMadeInRow t after places later space (name_at t.spaces from) name rights
+made_in_row t grown placed after places later space cells from object name rights spot found counted made written to next put noted =
+    let room : grown ≡ room_made_for t space (1 + cells_for spot) = made ∙ ap (λ n. room_made_for t space (1 + n)) counted in
+    let vertex : placed ≡ vertex_put (room_made_for t space (1 + cells_for spot)) space name written.0 = written.1 ∙ ap (λ (x : SpaceTable). vertex_put x space name written.0) room in
+    let place : to ≡ place_in_space space (used_of t space) = next ∙ ap (λ (x : SpaceTable). place_in_space space (used_of x space)) room ∙ ap (place_in_space space) (used_room t space (1 + cells_for spot)) in
+    record {
+      row = from;
+      held = record { object = object; named = refl };
+      spot = spot;
+      found = found;
+      key = written.0;
+      put = put ∙ ap (λ (x : SpaceTable). table_put x space spot rights to) vertex ∙ ap (table_put (vertex_put (room_made_for t space (1 + cells_for spot)) space name written.0) space spot rights) place;
+      noted = noted;
+    }
+
+-- ---- rights that are put take one cell at most
+
+-- one reference takes at most one cell
+pub takes_one_cell : (t grown : SpaceTable) (space cells : ℕ) (spot : Spot) (rights : RightSet) (to : Place) → space < length t.spaces → cells ≤ 1 → grown ≡ room_made_for t space cells → IsSpaceTable grown → CanPut grown space spot → TakesOneCell t (table_put grown space spot rights to) space
+takes_one_cell t grown space cells spot rights to low few made table can =
+    let first = made_first (nat_lt (64 * length (space_of t.spaces space)) (used_of t space + cells)) made in
+    let second = put spot can (subst (λ n. space < n) (sym first.1) low) in record {
+      here = let a = ap (λ (us : List ℕ). slice_index us space) first.0 in let b = second.0.here in omega (arith, a, b);
+      others = λ other ne. second.0.others other ne ∙ ap (λ (us : List ℕ). slice_index us other) first.0;
+      blocks = λ left other. second.1 other ∙ ap (λ (x : SpaceTable). length (space_of x.spaces other)) (no_room left);
+    }
+  where
+    made_first : (b : Bool) → grown ≡ cond b (with_spaces t (with_block t.spaces space)) t → (grown.used ≡ t.used) × (length grown.spaces ≡ length t.spaces)
+    made_first false same = (ap (λ (x : SpaceTable). x.used) same, ap (λ (x : SpaceTable). length x.spaces) same)
+    made_first true same = (ap (λ (x : SpaceTable). x.used) same, ap (λ (x : SpaceTable). length x.spaces) same ∙ length-set t.spaces space _)
+
+    no_room : HasLeft t space 1 → grown ≡ t
+    no_room left =
+        let test : nat_lt (64 * length (space_of t.spaces space)) (used_of t space + cells) ≡ false = le-ltb (64 * length (space_of t.spaces space)) (used_of t space + cells) (omega (arith, left, few)) in
+        made ∙ ap (λ (b : Bool). cond b (with_spaces t (with_block t.spaces space)) t) test
+
+    put : (spot : Spot) → CanPut grown space spot → space < length grown.spaces →
+        TakesOneCell grown (table_put grown space spot rights to) space × ((other : ℕ) → length (space_of (table_put grown space spot rights to).spaces other) ≡ length (space_of grown.spaces other))
+    put (Reference q i) can inside =
+        let shape = shape_written grown.spaces q i (widened (slice_index (cell_at grown.spaces q) i) rights) can.can.held in
+        (record { here = omega arith; others = λ other ne. refl; blocks = λ left. shape.blocks }, shape.blocks)
+    put (Empty q i) can inside =
+        let shape = shape_written grown.spaces q i (word_at rights to) can.held in
+        (record { here = omega arith; others = λ other ne. refl; blocks = λ left. shape.blocks }, shape.blocks)
+    put (Full last) can inside =
+        let chunk = place_in_space space (used_of grown space) in
+        let left = can.1 in
+        let held : Holds grown.spaces chunk = record { space = inside; block = omega (arith, left); cell = omega arith } in
+        let placed = with_cell_at grown.spaces chunk (chunk_words (word_at rights to)) in
+        let one = shape_cell grown.spaces chunk (chunk_words (word_at rights to)) held in
+        let two = shape_written placed last 7 (link_to chunk) (holds_same grown.spaces placed one last can.0.held) in
+        let same = λ (other : ℕ). two.blocks other ∙ one.blocks other in (
+          record {
+            here = let e = get_or-set_same grown.used space (used_of grown space + 1) 0 (omega (arith, table.counted, inside)) in omega (arith, e);
+            others = λ other ne. get_or-set_other grown.used space other (used_of grown space + 1) 0 ne;
+            blocks = λ left. same;
+          },
+          same,
+        )

@@ -1,13 +1,12 @@
 -- A chunk that comes to the end of a row, cells that come to a heap, and the indexes of rows.
-use Rattle.std.proofs.Common.{[], ◌≡◌, ◌≢◌, ℕ, zero, suc, ◌+◌, ◌-◌, ◌<◌, ◌≤◌, ◌⊎◌, ◌==◌, inl, inr, true, false, List, ◌∷◌, ◌++◌, Option, Some, None, length, get_or, set, refl, sym, ap, subst, arith, ◌∙◌, ⊎_elim}
+use Rattle.std.proofs.Common.{[], ◌≡◌, ◌≢◌, ℕ, suc, ◌+◌, ◌-◌, ◌<◌, ◌≤◌, ◌⊎◌, ◌==◌, inl, inr, true, false, List, ◌∷◌, ◌++◌, Option, Some, None, length, get_or, set, refl, sym, ap, subst, arith, ◌∙◌, ⊎_elim}
 use Rattle.std.specs.List.{All, Contains}
 use Rattle.std.proofs.lemmas.Bool.{cases_lt}
 use Rattle.std.proofs.lemmas.Bool.Decides.{eqb_tells}
 use Rattle.std.proofs.lemmas.List.{get_or_append_left, get_or-append-add, get_or_past, length-append}
-use Rattle.std.proofs.lemmas.List.Elements.{All-head, All-tail, All-weaker}
 use Rattle.tg_word.specs.declared.Place.{Place}
 use Rattle.tg_rights.specs.RightSet.{RightSet, is_none_held, no_rights}
-use Rattle.tg_word.specs.Word.{is_present, link_to, place_in, word_at}
+use Rattle.tg_word.specs.Word.{link_to, place_in, word_at}
 use Rattle.tg_word.proofs.Packing.{place_in-word_at}
 use Rattle.tg_block.specs.Cells.{kind_of}
 use Rattle.tg_space.specs.SpaceTable.{SpaceTable, IsNursery, IsSpaceTable, place_in_space, used_of}
@@ -15,69 +14,26 @@ use Rattle.tg_space.proofs.Tables.{table_list}
 use Rattle.tg_nursery.specs.Allocation.{HasLeft}
 use Rattle.tg_block.specs.declared.CellKind.TheVariants.{Free, Object}
 use Rattle.tg_space.specs.SpaceList.{SpaceList, Holds, IsSpaceList, cell_at, cells_of, with_cell_at, with_word_at}
-use Rattle.tg_space.specs.Soundness.{AreSound, IsKindAt, IsReference, RefersTo}
-use Rattle.tg_space.specs.Rows.{chunks_from, link_at, link_of, row_of}
+use Rattle.tg_space.specs.Soundness.{AreSound, IsKindAt, RefersTo}
+use Rattle.tg_space.specs.Rows.{chunks_from, link_at, row_of}
 use Rattle.tg_payload.specs.Table.{Payloads}
 use Rattle.tg_index.specs.Slots.{Slots, IsFirstVacant, IsIndexOf, PutsAt, place_number}
 use Rattle.tg_rows.specs.Graph.{IsGraph}
 use Rattle.tg_rows.specs.Index.{IsRowIndex, row_slots, name_referred}
-use Rattle.tg_rows.specs.Rows.{IsChain, name_at, name_in, references_of, row_words, words_of}
+use Rattle.tg_rows.specs.Rows.{name_at, name_in, row_words}
 use Rattle.tg_rows.specs.Spots.{IsSpotIn, chunk_words, is_empty, last_of, table_put}
 use Rattle.tg_rows.specs.declared.rows.Spot.TheVariants.{Full}
 use Rattle.tg_rows.proofs.Changes.{holds_written, list_written}
-use Rattle.tg_rows.proofs.Chains.{chain_whole, row_references}
 use Rattle.tg_rows.proofs.Finding.{Finds, cell_held, last_ends, row_is, where_finds}
 use Rattle.tg_rows.proofs.Indexed.{slot_none}
 use Rattle.tg_rows.proofs.IndexPut.{absent}
 use Rattle.tg_rows.proofs.Putting.{name_is, others, refers}
-use Rattle.tg_rows.proofs.IndexKept.{index_same}
-use Rattle.tg_rows.proofs.Changed.{Stays, chain_stays, flat_map_same, name_stays}
+use Rattle.tg_rows.proofs.IndexKept.{index_stays, reference_of, slot_stays}
+use Rattle.tg_rows.proofs.Changed.{Stays, links_by_cells, row_by_links}
 use Rattle.tg_rows.proofs.Linked.{chunk_added, extended_spaces, extended_stays, link_extended, others_extended, row_extended, row_words_extended}
 use Rattle.tg_rows.proofs.Slots.{IsOther}
+use Rattle.tg_rows.proofs.Layouts.{empty_present, zero_at}
 use Rattle.tg_rows.proofs.Places.{held_place}
-
--- a reference that stays names what it named
-pub slot_stays : (h after : SpaceList) → Stays h after → (word : ℕ) → IsReference h word → name_referred after word ≡ name_referred h word
-slot_stays h after stays word reference = by_test (eqb_tells word 0)
-  where
-    by_test : ((word == 0) ≡ true) × (word ≡ 0) ⊎ ((word == 0) ≡ false) × (word ≢ 0) → name_referred after word ≡ name_referred h word
-    by_test (inl t) = rw t.0 refl
-    by_test (inr f) = rw f.0 (ap (λ (n : ℕ). Some n) (name_stays h after stays word reference f.1))
-
-pub reference_of : (h : SpaceList) (payloads : Payloads) (is : IsSpaceList h) (graph : IsGraph h payloads) (r : Place) → IsKindAt h Object r → (m : ℕ) → IsReference h (get_or (row_words h r) m 0)
-reference_of h payloads is graph r at m = by_length (cases_lt m (length (row_words h r)))
-  where
-    by_length : (m < length (row_words h r)) ⊎ (length (row_words h r) ≤ m) → IsReference h (get_or (row_words h r) m 0)
-    by_length (inl less) = row_references h is [] graph.sound r at (graph.ends r at) m 0 less
-    by_length (inr past) = inl (get_or_past (row_words h r) m 0 past)
-
--- ---- a row whose cells are what they were
-
-module _ (h after : SpaceList) (payloads : Payloads) (is : IsSpaceList h) (graph : IsGraph h payloads) (after_is : IsSpaceList after) (stays : Stays h after) (sound : AreSound after []) (r : Place) (at : IsKindAt h Object r)
-    (cells : All (λ c. cell_at after c ≡ cell_at h c) (row_of h r)) where
-  same_row : row_of after r ≡ row_of h r
-  same_row =
-      let old = chunks_from h (length (cells_of h)) (link_at h r) in
-      let links = All-weaker (λ c. cell_at after c ≡ cell_at h c) (λ c. link_at after c ≡ link_at h c) (λ c e. ap link_of e) (row_of h r) cells in
-      let chain = chain_stays h after stays old (link_at h r) (graph.ends r at) (All-tail (λ c. link_at after c ≡ link_at h c) r old links) in
-      ap (λ (ps : List Place). r ∷ ps)
-      (chain_whole after after_is [] sound r old (stays.objects r at)
-      (subst (λ (l : ℕ). IsChain after l old) (sym (All-head (λ c. link_at after c ≡ link_at h c) r old links)) chain))
-
-  same_words : row_words after r ≡ row_words h r
-  same_words =
-      ap (λ (ps : List Place). words_of after ps) same_row
-      ∙ flat_map_same (λ c. references_of (cell_at h c)) (λ c. references_of (cell_at after c)) (row_of h r)
-      (All-weaker (λ c. cell_at after c ≡ cell_at h c) (λ c. references_of (cell_at after c) ≡ references_of (cell_at h c)) (λ c e. ap references_of e) (row_of h r) cells)
-
-  -- its index stays
-  pub same_index : (s : Slots) (places : List Place) → IsRowIndex h r s places → IsRowIndex after r s places
-  same_index s places index = record {
-    names = index_same s (row_slots h r) (row_slots after r)
-        (λ m. ap (λ (ws : List ℕ). name_referred after (get_or ws m 0)) same_words ∙ slot_stays h after stays (get_or (row_words h r) m 0) (reference_of h payloads is graph r at m)) index.names;
-    cells = index.cells ∙ sym same_row;
-    len = index.len ∙ ap (λ (ws : List ℕ). length ws) (sym same_words);
-  }
 
 -- ---- a chunk at the end of a row
 
@@ -85,12 +41,7 @@ abbrev five : List ℕ
 five = 0 ∷ 0 ∷ 0 ∷ 0 ∷ 0 ∷ []
 
 zeros : (k : ℕ) → get_or five k 0 ≡ 0
-zeros zero = refl
-zeros (suc zero) = refl
-zeros (suc (suc zero)) = refl
-zeros (suc (suc (suc zero))) = refl
-zeros (suc (suc (suc (suc zero)))) = refl
-zeros (suc (suc (suc (suc (suc k))))) = refl
+zeros k = zero_at five k refl
 
 module _ (h : SpaceList) (payloads : Payloads) (is : IsSpaceList h) (graph : IsGraph h payloads) (p last q : Place) (word : ℕ) (object : IsKindAt h Object p) (has : Contains (row_of h p) last) (ends_here : link_at h last ≡ 0)
     (free : IsKindAt h Free q) (refers : RefersTo h word) (others : All (IsOther h (name_in h word)) (row_words h p)) where
@@ -105,15 +56,13 @@ module _ (h : SpaceList) (payloads : Payloads) (is : IsSpaceList h) (graph : IsG
 
   pub extended_others : (r : Place) (s : Slots) (places : List Place) → r ≢ p → IsKindAt h Object r → IsRowIndex h r s places → IsRowIndex (with_word_at (with_cell_at h q (chunk_words word)) last 7 (link_to q)) r s places
   extended_others r s places other at index =
-      same_index h after payloads is graph (extended_spaces h payloads is graph p last q word object has ends_here free refers others) stays sound r at
-      (others_extended h payloads is graph p last q word object has ends_here free refers others r at other) s places index
-
-  word_some : word ≢ 0
-  word_some e = let no : false ≡ true = subst (λ w. is_present w ≡ true) e refers.present in absurd cc
+      let cells = others_extended h payloads is graph p last q word object has ends_here free refers others r at other in
+      let spaces = extended_spaces h payloads is graph p last q word object has ends_here free refers others in
+      index_stays h after payloads is graph stays.names r at (row_by_links h after stays spaces sound r (row_is h payloads is graph r at) (links_by_cells h after (row_of h r) cells)) cells s places index
 
   new_slot : name_referred after word ≡ Some (name_in h word)
   new_slot =
-      let test : (word == 0) ≡ false = ⊎_elim (λ z. absurd (word_some z.1)) (λ f. f.0) (eqb_tells word 0) in
+      let test : (word == 0) ≡ false = ⊎_elim (λ z. absurd (empty_present word refers.present z.1)) (λ f. f.0) (eqb_tells word 0) in
       rw test (ap (λ (n : ℕ). Some n) (stays.names (place_in word) refers.object))
 
   words : row_words after p ≡ row_words h p ++ word ∷ 0 ∷ 0 ∷ 0 ∷ 0 ∷ 0 ∷ []
@@ -132,7 +81,7 @@ module _ (h : SpaceList) (payloads : Payloads) (is : IsSpaceList h) (graph : IsG
       elsewhere : (m : ℕ) → m ≢ length (row_words h p) → (m < length (row_words h p)) ⊎ (length (row_words h p) ≤ m) → name_referred after (get_or (row_words h p ++ word ∷ 0 ∷ 0 ∷ 0 ∷ 0 ∷ 0 ∷ []) m 0) ≡ row_slots h p m
       elsewhere m other (inl low) =
           ap (name_referred after) (get_or_append_left (row_words h p) (word ∷ 0 ∷ 0 ∷ 0 ∷ 0 ∷ 0 ∷ []) 0 m low)
-          ∙ slot_stays h after stays (get_or (row_words h p) m 0) (reference_of h payloads is graph p object m)
+          ∙ slot_stays h after stays.names (get_or (row_words h p) m 0) (reference_of h payloads is graph p object m)
       elsewhere m other (inr high) =
           let k = m - length (row_words h p) - 1 in
           let at : m ≡ length (row_words h p) + suc k = omega (arith, other) in

@@ -1,12 +1,13 @@
 -- What a written reference makes of the indexes of rows.
-use Rattle.std.proofs.Common.{◌≡◌, ◌≢◌, ℕ, ◌+◌, ◌-◌, ◌*◌, ◌/◌, ◌%◌, ◌<◌, ◌≤◌, ◌⊎◌, ◌==◌, inl, inr, true, false, cond, List, [], ◌∷◌, ◌++◌, Option, Some, None, length, get_or, refl, sym, ap, subst, arith, ◌∙◌}
+use Rattle.std.proofs.Common.{◌≡◌, ◌≢◌, ℕ, ◌+◌, ◌-◌, ◌*◌, ◌/◌, ◌%◌, ◌<◌, ◌≤◌, ◌⊎◌, ◌==◌, inl, inr, true, false, cond, List, [], ◌∷◌, ◌++◌, Option, Some, None, length, get_or, refl, sym, ap, subst, arith, ◌∙◌, ⊎_elim}
 use Rattle.std.specs.Prelude.{nat_lt}
-use Rattle.std.specs.List.{Contains}
+use Rattle.std.specs.List.{All, Contains}
 use Rattle.std.proofs.lemmas.Bool.{cases_lt, le-ltb, lt-ltb}
-use Rattle.std.proofs.lemmas.Bool.Decides.{eqb_tells}
 use Rattle.std.proofs.lemmas.List.{get_or_append_left, get_or-append-add, get_or_past, get_or_default, get_or-set_other, get_or-set_same}
 use Rattle.std.proofs.lemmas.Nat.{div-add-mod'}
+use Rattle.std.proofs.lemmas.List.Elements.{All-weaker}
 use Rattle.tg_word.specs.declared.Place.{Place}
+use Rattle.tg_word.specs.Word.{place_in}
 use Rattle.tg_block.specs.declared.CellKind.TheVariants.{Object}
 use Rattle.tg_space.specs.SpaceList.{SpaceList, IsSpaceList, Holds, cell_at, cells_of, with_word_at}
 use Rattle.tg_space.specs.Soundness.{AreSound, IsKindAt, IsReference}
@@ -16,15 +17,16 @@ use Rattle.tg_payload.specs.Table.{Payloads}
 use Rattle.tg_index.specs.Slots.{Slots, IsIndexOf, PutsAt}
 use Rattle.tg_rows.specs.Graph.{IsGraph}
 use Rattle.tg_rows.specs.Index.{IsRowIndex, row_slots, name_referred}
-use Rattle.tg_rows.specs.Rows.{IsChain, IsRow, references_of, row_words, words_of}
+use Rattle.tg_rows.specs.Rows.{IsChain, IsRow, name_at, references_of, row_words, words_of}
 use Rattle.tg_rows.specs.Spots.{word_of_cell}
 use Rattle.tg_rows.proofs.Chains.{chain_chunks, chain_whole, row_apart, row_held, row_references}
 use Rattle.tg_rows.proofs.Changes.{same_or_other}
+use Rattle.tg_rows.proofs.Layouts.{first_range}
 use Rattle.tg_rows.proofs.Finding.{reference_at, row_is}
 use Rattle.tg_rows.proofs.Indexed.{nth_of_row, nth_word, row_long}
-use Rattle.tg_rows.proofs.Changed.{Stays, chain_stays, name_stays}
+use Rattle.tg_rows.proofs.Changed.{Stays, row_by_links, row_chain, words_by_cells}
 use Rattle.tg_rows.proofs.Places.{cell_long}
-use Rattle.tg_rows.proofs.Written.{IsSlot, first_range, here, links_kept, there, word_spaces, word_stays}
+use Rattle.tg_rows.proofs.Written.{IsSlot, here, links_kept, outside, there, word_spaces, word_stays}
 
 -- ---- the word at a place
 
@@ -75,17 +77,16 @@ module _ (h : SpaceList) (is : IsSpaceList h) (p : Place) (row : IsRow h p) wher
 
 module _ (h after : SpaceList) (is : IsSpaceList h) (after_is : IsSpaceList after) (stays : Stays h after) (sound : AreSound after []) (r : Place) (row : IsRow h r)
     (links : (c : Place) → link_at after c ≡ link_at h c) where
-  pub row_kept : row_of after r ≡ row_of h r
-  row_kept =
-      let old = chunks_from h (length (cells_of h)) (link_at h r) in
-      ap (λ (ps : List Place). r ∷ ps)
-      (chain_whole after after_is [] sound r old (stays.objects r row.object)
-      (subst (λ (l : ℕ). IsChain after l old) (sym (links r)) (chain_stays h after stays old (link_at h r) row.ends (λ k d inside. links (get_or old k d)))))
+  same_links : All (λ c. link_at after c ≡ link_at h c) (row_of h r)
+  same_links k d inside = links (get_or (row_of h r) k d)
+
+  row_kept : row_of after r ≡ row_of h r
+  row_kept = row_by_links h after stays after_is sound r row same_links
 
   row_after : IsRow after r
   row_after =
       let old = chunks_from h (length (cells_of h)) (link_at h r) in
-      let chain : IsChain after (link_at after r) old = subst (λ (l : ℕ). IsChain after l old) (sym (links r)) (chain_stays h after stays old (link_at h r) row.ends (λ k d inside. links (get_or old k d))) in
+      let chain = row_chain h after stays r row same_links in
       record {
         object = stays.objects r row.object;
         ends = subst (IsChain after (link_at after r)) (sym (chain_whole after after_is [] sound r old (stays.objects r row.object) chain)) chain;
@@ -114,14 +115,6 @@ module _ (h after : SpaceList) (is : IsSpaceList h) (after_is : IsSpaceList afte
       by_length (inr high) =
           get_or_past (row_words after r) m 0 (subst (λ l. l ≤ m) (sym long_kept) high) ∙ sym (get_or_past (row_words h r) m 0 high)
 
-  -- a reference that stays names what it named
-  slot_kept : (word : ℕ) → IsReference h word → name_referred after word ≡ name_referred h word
-  slot_kept word reference = by_test (eqb_tells word 0)
-    where
-      by_test : ((word == 0) ≡ true) × (word ≡ 0) ⊎ ((word == 0) ≡ false) × (word ≢ 0) → name_referred after word ≡ name_referred h word
-      by_test (inl t) = rw t.0 refl
-      by_test (inr f) = rw f.0 (ap (λ (n : ℕ). Some n) (name_stays h after stays word reference f.1))
-
 -- an index is told by what stands at each place
 pub index_same : (s : Slots) (row later : ℕ → Option ℕ) → ((n : ℕ) → later n ≡ row n) → IsIndexOf s row → IsIndexOf s later
 index_same s row later same is = record {
@@ -131,6 +124,27 @@ index_same s row later same is = record {
   fresh = λ n high. same n ∙ is.fresh n high;
   next = is.next;
 }
+
+-- a reference names what it named where objects keep their names
+pub slot_stays : (h after : SpaceList) → ((p : Place) → IsKindAt h Object p → name_at after p ≡ name_at h p) → (word : ℕ) → IsReference h word → name_referred after word ≡ name_referred h word
+slot_stays h after names word (inl none) = rw none refl
+slot_stays h after names word (inr refers) = ap (λ (n : ℕ). cond (word == 0) None (Some n)) (names (place_in word) refers.object)
+
+pub reference_of : (h : SpaceList) (payloads : Payloads) (is : IsSpaceList h) (graph : IsGraph h payloads) (r : Place) → IsKindAt h Object r → (m : ℕ) → IsReference h (get_or (row_words h r) m 0)
+reference_of h payloads is graph r at m =
+    ⊎_elim (λ less. row_references h is [] graph.sound r at (graph.ends r at) m 0 less) (λ past. inl (get_or_past (row_words h r) m 0 past)) (cases_lt m (length (row_words h r)))
+
+-- the index of a row whose cells stay is the same
+pub index_stays : (h after : SpaceList) (payloads : Payloads) (is : IsSpaceList h) (graph : IsGraph h payloads) → ((p : Place) → IsKindAt h Object p → name_at after p ≡ name_at h p) → (r : Place) → IsKindAt h Object r → row_of after r ≡ row_of h r →
+    All (λ q. cell_at after q ≡ cell_at h q) (row_of h r) → (s : Slots) (places : List Place) → IsRowIndex h r s places → IsRowIndex after r s places
+index_stays h after payloads is graph names r at row cells s places index =
+    let words = words_by_cells h after r row cells in
+    record {
+      names = index_same s (row_slots h r) (row_slots after r)
+          (λ m. ap (λ (ws : List ℕ). name_referred after (get_or ws m 0)) words ∙ slot_stays h after names (get_or (row_words h r) m 0) (reference_of h payloads is graph r at m)) index.names;
+      cells = index.cells ∙ sym row;
+      len = index.len ∙ ap (λ (ws : List ℕ). length ws) (sym words);
+    }
 
 -- ---- a reference is written
 
@@ -167,13 +181,6 @@ module _ (h : SpaceList) (payloads : Payloads) (is : IsSpaceList h) (graph : IsG
           ∙ get_or-set_other (cell_at h q) i w word 0 (apart same) ∙ ap (λ (y : Place). get_or (cell_at h y) w 0) (sym same)
       by_place (inr other) = ap (λ (ws : List ℕ). get_or ws w 0) (there h payloads is graph q held i word low high x other)
 
-  reference_of : (r : Place) → IsKindAt h Object r → (m : ℕ) → IsReference h (get_or (row_words h r) m 0)
-  reference_of r at m = by_length (cases_lt m (length (row_words h r)))
-    where
-      by_length : (m < length (row_words h r)) ⊎ (length (row_words h r) ≤ m) → IsReference h (get_or (row_words h r) m 0)
-      by_length (inl less) = row_references h is [] graph.sound r at (graph.ends r at) m 0 less
-      by_length (inr past) = inl (get_or_past (row_words h r) m 0 past)
-
   module _ (r : Place) (at : IsKindAt h Object r) where
     row : IsRow h r
     row = row_is h payloads is graph r at
@@ -187,20 +194,14 @@ module _ (h : SpaceList) (payloads : Payloads) (is : IsSpaceList h) (graph : IsG
     slots_same : (m : ℕ) → ((c w : ℕ) → IsAt (length (row_of h r)) m c w → get_or (row_of h r) c r ≡ q → w ≡ i → ⊥) → row_slots written r m ≡ row_slots h r m
     slots_same m apart =
         let same = word_kept h written is spaces stays sound r row links_same m (λ c w place. same_word (get_or (row_of h r) c r) w (apart c w place)) in
-        ap (name_referred written) same ∙ slot_kept h written is spaces stays sound r row links_same (get_or (row_words h r) m 0) (reference_of r at m)
+        ap (name_referred written) same ∙ slot_stays h written stays.names (get_or (row_words h r) m 0) (reference_of h payloads is graph r at m)
 
     -- the index of another row stays
     pub other_index : r ≢ p → (s : Slots) (places : List Place) → IsRowIndex h r s places → IsRowIndex (with_word_at h q i word) r s places
-    other_index other s places index = record {
-      names = index_same s (row_slots h r) (row_slots written r) (λ m. slots_same m (λ c w place same _. elsewhere c place.inside same)) index.names;
-      cells = index.cells ∙ sym cells_same;
-      len = index.len ∙ sym (long_kept h written is spaces stays sound r row links_same);
-    }
-      where
-        elsewhere : (c : ℕ) → c < length (row_of h r) → get_or (row_of h r) c r ≡ q → ⊥
-        elsewhere c inside same =
-            let mine : get_or (row_of h p) has.0 r ≡ q = get_or_default (row_of h p) has.0 r q has.1 ∙ has.2 in
-            other (row_apart h is [] graph.sound r p (chunks_from h (length (cells_of h)) (link_at h r)) (chunks_from h (length (cells_of h)) (link_at h p)) at object (graph.ends r at) (graph.ends p object) c has.0 r inside has.1 (same ∙ sym mine)).0
+    other_index other =
+        let apart = outside h payloads is graph q held i word low high p object has r at other in
+        let cells = All-weaker (λ c. c ≢ q) (λ c. cell_at written c ≡ cell_at h c) (there h payloads is graph q held i word low high) (row_of h r) apart in
+        index_stays h written payloads is graph stays.names r at cells_same cells
 
   -- of the row itself, one name changes
   module _ (n : ℕ) (is_at : n + 4 ≡ has.0 * 6 + i) where

@@ -3,7 +3,6 @@ use Rattle.std.proofs.Common.{◌≡◌, ◌≢◌, ℕ, ◌<◌, ◌≤◌, ◌
 use Rattle.std.proofs.lemmas.Bool.{cases_lt}
 use Rattle.std.proofs.lemmas.Bool.Decides.{eqb_tells}
 use Rattle.std.proofs.lemmas.List.{get_or-map, get_or_past, length-map}
-use Rattle.std.proofs.lemmas.List.Elements.{All-weaker}
 use Rattle.tg_word.specs.declared.Place.{Place}
 use Rattle.tg_block.specs.Cells.{kind_of}
 use Rattle.tg_block.specs.declared.CellKind.TheVariants.{Object}
@@ -12,15 +11,13 @@ use Rattle.tg_space.specs.Soundness.{IsKindAt, IsReference}
 use Rattle.tg_space.specs.Targets.{moved_word}
 use Rattle.tg_space.specs.Rows.{chunks_from, link_at, row_of}
 use Rattle.tg_index.specs.Slots.{Slots}
-use Rattle.tg_rows.specs.Index.{IsRowIndex, row_slots, name_referred, moved_place}
-use Rattle.tg_rows.specs.Rows.{IsChain, name_in, references_of, row_words, words_of}
+use Rattle.tg_space.specs.Numbering.{moved_place}
+use Rattle.tg_rows.specs.Index.{IsRowIndex, row_slots, name_referred}
+use Rattle.tg_rows.specs.Rows.{IsChain, name_in, row_words, words_of}
 use Rattle.tg_rows.specs.Graph.{IsGraph}
 use Rattle.tg_rows.specs.Steps.{KeepsRows}
 use Rattle.tg_payload.specs.Table.{Payloads}
-use Rattle.tg_word.specs.Word.{place_in}
-use Rattle.tg_rows.proofs.IndexExtend.{reference_of}
-use Rattle.tg_rows.proofs.Changed.{flat_map_same}
-use Rattle.tg_rows.proofs.IndexKept.{index_same}
+use Rattle.tg_rows.proofs.IndexKept.{index_same, index_stays}
 use Rattle.tg_rows.proofs.KeptCells.{IsKeptWord, Moves}
 use Rattle.tg_rows.proofs.KeptRows.{IsKeptRow, row_kept, same_name, words_after}
 
@@ -65,25 +62,4 @@ module _ {from : ℕ → Bool} {h after : SpaceList} {to : ℕ → Place} {kept 
               ∙ ap (name_referred h) (sym (get_or_past (row_words h p) m 0 high))
 
 pub kept_rows_index : (h after : SpaceList) (payloads : Payloads) (is : IsSpaceList h) (graph : IsGraph h payloads) → KeepsRows h after → (r : Place) (at : IsKindAt h Object r) (s : Slots) (places : List Place) → IsRowIndex h r s places → IsRowIndex after r s places
-kept_rows_index h after payloads is graph keeps r at s places index = record {
-  names = index_same s (row_slots h r) (row_slots after r) slots index.names;
-  cells = index.cells ∙ sym (keeps.rows r at);
-  len = index.len ∙ ap (λ (ws : List ℕ). length ws) (sym words);
-}
-  where
-    words : row_words after r ≡ row_words h r
-    words =
-        ap (λ (ps : List Place). words_of after ps) (keeps.rows r at)
-        ∙ flat_map_same (λ c. references_of (cell_at h c)) (λ c. references_of (cell_at after c)) (row_of h r)
-        (All-weaker (λ c. cell_at after c ≡ cell_at h c) (λ c. references_of (cell_at after c) ≡ references_of (cell_at h c)) (λ c e. ap references_of e) (row_of h r) (keeps.cells r at))
-
-    slot : (word : ℕ) → IsReference h word → name_referred after word ≡ name_referred h word
-    slot word reference = by_test (eqb_tells word 0) reference
-      where
-        by_test : ((word == 0) ≡ true) × (word ≡ 0) ⊎ ((word == 0) ≡ false) × (word ≢ 0) → IsReference h word → name_referred after word ≡ name_referred h word
-        by_test (inl t) _ = rw t.0 refl
-        by_test (inr f) (inl none) = absurd (f.1 none)
-        by_test (inr f) (inr refers) = rw f.0 (ap (λ (k : ℕ). Some k) (keeps.names (place_in word) refers.object))
-
-    slots : (m : ℕ) → row_slots after r m ≡ row_slots h r m
-    slots m = ap (λ (ws : List ℕ). name_referred after (get_or ws m 0)) words ∙ slot (get_or (row_words h r) m 0) (reference_of h payloads is graph r at m)
+kept_rows_index h after payloads is graph keeps r at = index_stays h after payloads is graph keeps.names r at (keeps.rows r at) (keeps.cells r at)

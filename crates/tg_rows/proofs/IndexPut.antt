@@ -30,7 +30,7 @@ use Rattle.tg_rows.proofs.Finding.{Finds, IsReferenceTo, cell_held, empty_found,
 use Rattle.tg_rows.proofs.Indexed.{none_slot, nth_of_row, number_low, row_long, slot_none, slot_some, some_slot, where_none, where_nth}
 use Rattle.tg_rows.proofs.IndexKept.{at_number, index_same, other_index, own_index, own_slots}
 use Rattle.tg_rows.proofs.Changes.{cell_written}
-use Rattle.tg_rows.proofs.Layouts.{present_place}
+use Rattle.tg_rows.proofs.Layouts.{empty_present, present_place}
 use Rattle.tg_rows.proofs.Places.{cell_long, held_place}
 use Rattle.tg_rows.proofs.Putting.{put_becomes}
 use Rattle.tg_rows.proofs.Written.{IsSlot, word_stays}
@@ -253,9 +253,7 @@ module _ (t : SpaceTable) (table : IsSpaceTable t) (payloads : Payloads) (graph 
   old_place = present_place (get_or (cell_at t.spaces q) i 0) (found_refers t.spaces payloads whole graph p object name q i (reference_found t.spaces p name q i found)).present
 
   wide_some : widened (get_or (cell_at t.spaces q) i 0) rights ≢ 0
-  wide_some e =
-      let no : false ≡ true = subst (λ w. is_present w ≡ true) e (is_present-word_at (union (rights_in (get_or (cell_at t.spaces q) i 0)) rights) (place_in (get_or (cell_at t.spaces q) i 0)) old_place) in
-      absurd cc
+  wide_some = empty_present (widened (get_or (cell_at t.spaces q) i 0) rights) (is_present-word_at (union (rights_in (get_or (cell_at t.spaces q) i 0)) rights) (place_in (get_or (cell_at t.spaces q) i 0)) old_place)
 
   pub wide_index : IsRowIndex (table_put t space (Reference q i) rights to).spaces p s places
   wide_index =

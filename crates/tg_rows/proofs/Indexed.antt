@@ -23,7 +23,8 @@ use Rattle.tg_rows.proofs.Chains.{chain_chunks, chain_short}
 use Rattle.tg_rows.proofs.Finding.{referring}
 use Rattle.tg_rows.proofs.Layouts.{object_tagged, chunk_tagged}
 use Rattle.tg_rows.proofs.Places.{cell_long}
-use Rattle.tg_rows.proofs.Walks.{position_is, position_none, refers_is}
+use Rattle.tg_rows.proofs.Walks.{position_is, position_none}
+use Rattle.tg_rows.proofs.Slots.{same_test}
 
 -- ---- words by their numbers
 
@@ -149,7 +150,7 @@ slot_some h word name e = by_test (eqb_tells word 0)
   where
     by_test : ((word == 0) ≡ true) × (word ≡ 0) ⊎ ((word == 0) ≡ false) × (word ≢ 0) → refers_to h name word ≡ true
     by_test (inl t) = absurd (none-some name (rw t.0 at e))
-    by_test (inr f) = let z : Some (name_in h word) ≡ Some name = rw f.0 at e in let same : name_in h word ≡ name = cc in refers_is h name word f.1 same
+    by_test (inr f) = let z : Some (name_in h word) ≡ Some name = rw f.0 at e in let same : name_in h word ≡ name = cc in same_test h name word f.1 same
 
 pub some_slot : (h : SpaceList) (word name : ℕ) → refers_to h name word ≡ true → name_referred h word ≡ Some name
 some_slot h word name passes =

@@ -1,5 +1,5 @@
 -- The indexes of a heap's rows, once one row was changed.
-use Rattle.std.proofs.Common.{◌≡◌, ◌≢◌, ℕ, Bool, true, false, cond, List, Option, Some, None, Result, Err, is_some, nat_eq, refl, sym, ap, subst, ◌∙◌}
+use Rattle.std.proofs.Common.{◌≡◌, ◌≢◌, ℕ, Bool, true, false, cond, List, Option, Some, None, Result, Err, is_some, nat_eq, refl, sym, ap, subst, ◌∙◌, ◌<◌, length}
 use Rattle.std.specs.Map.{lookup}
 use Rattle.std.proofs.lemmas.Bool.Decides.{Decides-eqb}
 use Rattle.tg_word.specs.declared.Place.{Place}
@@ -8,15 +8,21 @@ use Rattle.tg_space.specs.SpaceList.{SpaceList}
 use Rattle.tg_space.specs.Soundness.{IsKindAt}
 use Rattle.tg_payload.specs.Table.{Payloads}
 use Rattle.tg_rows.specs.Graph.{IsGraph}
-use Rattle.tg_rows.specs.Inner.Deeds.{FollowsChange, KeepsIndexed}
+use Rattle.tg_rows.specs.Inner.Deeds.{FollowsChange, KeepsIndexed, LooksAlong}
 use Rattle.tg_rows.specs.declared.cells.Cells.{Cells}
 use Rattle.tg_space.specs.SpaceTable.{SpaceTable}
-use Rattle.tg_rows.specs.Index.{AreIndexed, Indexes, IsIndexed, IsMarked, IsRowIndex, KeepsOtherIndexes, MayIndex, SameIndexed, indexed_in}
+use Rattle.tg_rows.specs.Index.{AreIndexed, Indexes, IsIndexed, IsMarked, IsRowIndex, KeepsOtherIndexes, MayIndex, SameIndexed, indexed_in, HasIndexAt}
 use Rattle.tg_rows.specs.Rows.{IsVertexAt, name_at}
 use Rattle.tg_rows.specs.declared.indexed_row.IndexedRow.{IndexedRow}
 use Rattle.indexmap.specs.Layout.{set_value_at}
 use Rattle.tg_rows.proofs.FollowedRows.{same_some}
 use Rattle.tg_rows.proofs.Marked.{KeepsOthersMarked}
+use Rattle.std.specs.Prelude.{slice_get}
+use Rattle.std.proofs.lemmas.Option.{slice_get_within}
+use Rattle.tg_rows.specs.Inner.Following.{IsWay}
+use Rattle.tg_rows.specs.Spots.{IsSoundIndex, IsSoundRow}
+use Rattle.tg_rows.specs.declared.indexes.Way.{Way}
+use Rattle.tg_rows.specs.declared.indexes.Way.TheVariants.{Index}
 
 abbrev pub Entries : Type 0
 Entries = List (ℕ × IndexedRow)
@@ -126,3 +132,26 @@ change_refused old new rows later p result e is spaces places kept = record {
   names = may_index (name_at old.spaces.spaces p) rows.entries later.entries kept.kept;
   kept = rw is kept.kept;
 }
+
+-- ---- the index by which a row is looked along
+
+module _ {P : Type 0} (cells : Cells P) (rows : Indexes) (w : Way) (p : Place) (looks : LooksAlong cells rows w p) where
+  pub row_looked : IsSoundRow cells.spaces.spaces p
+  row_looked = record { sound = looks.graph.sound; row = record { object = looks.from; ends = looks.graph.ends p looks.from } }
+
+  pub index_looked : (row : IndexedRow) → IsRowIndex cells.spaces.spaces p row.names row.cells.items → IsSoundIndex cells.spaces.spaces p row
+  index_looked row index = record { sound = row_looked.sound; row = row_looked.row; index = index }
+
+  here : (at : ℕ) → w ≡ Index at → HasIndexAt rows.entries (name_at cells.spaces.spaces p) at
+  here at is = subst (λ (w : Way). IsWay cells.spaces.spaces rows.entries p w) is looks.way
+
+  pub inside_looked : (at : ℕ) → w ≡ Index at → at < length rows.entries
+  inside_looked at is = slice_get_within rows.entries at (name_at cells.spaces.spaces p, (here at is).row) (here at is).here
+
+  -- the index at the place is that of the row
+  pub there_looked : (at : ℕ) → w ≡ Index at → (row : IndexedRow) → ((name : ℕ) (r : IndexedRow) → slice_get rows.entries at ≡ Some (name, r) → row ≡ r) → IsSoundIndex cells.spaces.spaces p row
+  there_looked at is row same =
+      let own = name_at cells.spaces.spaces p in
+      let found = here at is in
+      let index = index_at cells.spaces.spaces cells.payloads looks.graph cells.remembered.places rows.entries looks.indexed p looks.from own refl found.row found.found in
+      index_looked row (subst (λ (r : IndexedRow). IsRowIndex cells.spaces.spaces p r.names r.cells.items) (sym (same own found.row found.here)) index.0)

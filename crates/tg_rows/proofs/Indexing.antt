@@ -1,11 +1,10 @@
 -- The names and the cells of a row, one after the other, and the index that is made of them.
-use Rattle.std.proofs.Common.{◌≡◌, ◌≢◌, ℕ, zero, suc, ◌+◌, ◌-◌, ◌<◌, ◌≤◌, ◌⊎◌, inl, inr, ◌==◌, not, true, false, List, [], ◌∷◌, ◌++◌, Option, Some, None, length, get_or, map, take, drop, refl, sym, ap, subst, arith, ◌∙◌, ⊎_elim, append_assoc, append-nil}
+use Rattle.std.proofs.Common.{◌≡◌, ◌≢◌, ℕ, zero, suc, ◌+◌, ◌-◌, ◌<◌, ◌≤◌, ◌⊎◌, inl, inr, ◌==◌, not, true, false, List, [], ◌∷◌, ◌++◌, Option, Some, None, length, get_or, map, take, drop, refl, sym, ap, subst, arith, ◌∙◌, ⊎_elim}
 use Rattle.std.specs.Prelude.{slice_index}
 use Rattle.std.specs.List.{AllPairs, Contains}
 use Rattle.std.proofs.lemmas.Bool.{cases_lt}
 use Rattle.std.proofs.lemmas.Bool.Decides.{Decides-eqb, eqb_tells}
 use Rattle.std.proofs.lemmas.List.{get_or_past, get_or-map, length-map, map-append}
-use Rattle.std.proofs.lemmas.List.Concat.{flat_map-append}
 use Rattle.std.proofs.lemmas.List.Elements.{Contains-get_or}
 use Rattle.std.proofs.lemmas.Map.Made.{AllPairs-from_IsDistinct}
 use Rattle.tg_word.specs.declared.Place.{Place}
@@ -19,65 +18,43 @@ use Rattle.tg_index.specs.Slots.{Slots, IsEachNameOnce, IsIndexOf, listed_row}
 use Rattle.tg_space.specs.Targets.{first_pointer}
 use Rattle.tg_rows.specs.Graph.{IsGraph}
 use Rattle.tg_rows.specs.Index.{IsRowIndex, row_slots, name_referred}
-use Rattle.tg_rows.specs.Rows.{IsRow, name_in, names_in, references_of, row_words, words_of}
+use Rattle.tg_rows.specs.Rows.{IsRow, name_in, names_in, row_words, words_of}
 use Rattle.tg_rows.proofs.Finding.{referring}
 use Rattle.tg_rows.proofs.Indexed.{slot_some}
 use Rattle.tg_rows.proofs.IndexKept.{index_same}
 use Rattle.tg_rows.proofs.Members.{Contains-filter, Contains-map}
 use Rattle.tg_rows.proofs.Slots.{names_in-some, names_in-zero}
-use Rattle.tg_rows.proofs.Walks.{IsInRow, links_on, rest_ends, rest_goes_on, rest_of, row_begins, row_goes_on, slice_is}
+use Rattle.tg_rows.proofs.Walks.{IsGathered, IsInRow, gather_ends, gather_goes_on, rest_ends, rest_goes_on, rest_of, row_begins, row_goes_on, words_pushed, words_split}
 
 -- ---- a walk that lists a row
 
-slots_of_cell : (h : SpaceList) (at : Place) (ps : List Place) → map (name_referred h) (words_of h (at ∷ ps)) ≡ map (name_referred h) (references_of (cell_at h at)) ++ map (name_referred h) (words_of h ps)
-slots_of_cell h at ps =
-    ap (map (name_referred h)) (flat_map-append (λ q. references_of (cell_at h q)) (at ∷ []) ps ∙ ap (λ (xs : List ℕ). xs ++ words_of h ps) (append-nil (references_of (cell_at h at))))
-    ∙ map-append (name_referred h) (references_of (cell_at h at)) (words_of h ps)
-
 -- the names and the cells of a row were listed up to one of its cells
-pub record IsListed (h : SpaceList) (from at : Place) (left : ℕ) (names : List (Option ℕ)) (cells : List Place) : Type 0 where
-  pub row : IsInRow h at left
-  pub names_left : map (name_referred h) (row_words h from) ≡ names ++ map (name_referred h) (words_of h (rest_of h at left))
-  pub cells_left : row_of h from ≡ cells ++ rest_of h at left
+abbrev pub IsListed : SpaceList → Place → Place → ℕ → List (Option ℕ) → List Place → Type 0
+IsListed h from at left names cells = IsGathered h (λ ps. map (name_referred h) (words_of h ps)) from at left names × IsGathered h (λ ps. ps) from at left cells
 
 pub list_begins : (h : SpaceList) (from : Place) (left : ℕ) (names : List (Option ℕ)) (cells : List Place) → IsRow h from → left ≡ length (cells_of h) → names ≡ [] → cells ≡ [] → IsListed h from from left names cells
 list_begins h from left names cells row long none_named none_listed =
-    rw long (rw none_named (rw none_listed (record { row = row_begins h from row; names_left = refl; cells_left = refl })))
+    rw long (rw none_named (rw none_listed (record { row = row_begins h from row; all = refl }, record { row = row_begins h from row; all = refl })))
 
 module _ (h : SpaceList) (from at : Place) (left : ℕ) (names more : List (Option ℕ)) (cells next_cells : List Place) (words : List ℕ) (first : ℕ) (are : words ≡ cell_at h at) (is : first ≡ first_pointer (slice_index words 0))
     (listed : IsListed h from at left names cells) (pushed : more ≡ names ++ map (name_referred h) (take (7 - first) (drop first words))) (one_more : next_cells ≡ cells ++ at ∷ []) where
-  here : map (name_referred h) (row_words h from) ≡ more ++ map (name_referred h) (words_of h (chunks_from h left (link_at h at)))
-  here =
-      let qs = chunks_from h left (link_at h at) in
-      let rest = map (name_referred h) (words_of h qs) in
-      listed.names_left ∙ ap (λ es. names ++ es) (slots_of_cell h at qs) ∙ sym (append_assoc names (map (name_referred h) (references_of (cell_at h at))) rest)
-      ∙ ap (λ ws. (names ++ map (name_referred h) ws) ++ rest) (sym (slice_is h at words first are is)) ∙ ap (λ es. es ++ rest) (sym pushed)
+  abbrev slots : List ℕ → List (Option ℕ)
+  slots ws = map (name_referred h) ws
 
-  cells_here : row_of h from ≡ next_cells ++ chunks_from h left (link_at h at)
-  cells_here =
-      listed.cells_left ∙ sym (append_assoc cells (at ∷ []) (chunks_from h left (link_at h at))) ∙ ap (λ (ps : List Place). ps ++ chunks_from h left (link_at h at)) (sym one_more)
+  split : slots (words_of h (rest_of h at left)) ≡ slots (words_of h (at ∷ [])) ++ slots (words_of h (chunks_from h left (link_at h at)))
+  split = words_split h slots (map-append (name_referred h)) at (chunks_from h left (link_at h at))
+
+  more_is : more ≡ names ++ slots (words_of h (at ∷ []))
+  more_is = words_pushed h slots (map-append (name_referred h)) at names more words first are is pushed
 
   pub list_goes_on : slice_index words 7 ≢ 0 → (next : Place) → next ≡ place_in (slice_index words 7) → (0 < left) × IsListed h from next (left - 1) more next_cells
   list_goes_on ne next next_is =
-      let link = links_on h at words are ne next next_is in
-      let on = row_goes_on h at left listed.row link.0 in
-      let rest = rest_goes_on h at left listed.row link.0 in (
-        on.0,
-        subst (λ (q : Place). IsListed h from q (left - 1) more next_cells) link.1
-            (record {
-              row = on.1;
-              names_left = here ∙ ap (λ (ps : List Place). more ++ map (name_referred h) (words_of h ps)) rest;
-              cells_left = cells_here ∙ ap (λ (ps : List Place). next_cells ++ ps) rest;
-            }),
-      )
+      let on = gather_goes_on h (λ ps. slots (words_of h ps)) from at left names more words are listed.0 split more_is ne next next_is in
+      (on.0, (on.1, (gather_goes_on h (λ ps. ps) from at left cells next_cells words are listed.1 refl one_more ne next next_is).1))
 
   pub list_ends : slice_index words 7 ≡ 0 → (more ≡ map (name_referred h) (row_words h from)) × (next_cells ≡ row_of h from)
   list_ends none =
-      let link = ap (λ (ws : List ℕ). slice_index ws 7) are in
-      let rest = rest_ends h at left (sym link ∙ none) in (
-        sym (here ∙ ap (λ (ps : List Place). more ++ map (name_referred h) (words_of h ps)) rest ∙ append-nil more),
-        sym (cells_here ∙ ap (λ (ps : List Place). next_cells ++ ps) rest ∙ append-nil next_cells),
-      )
+      (gather_ends h (λ ps. slots (words_of h ps)) from at left names more words are listed.0 split more_is none refl, gather_ends h (λ ps. ps) from at left cells next_cells words are listed.1 refl one_more none refl)
 
 -- ---- no name stands at two places
 

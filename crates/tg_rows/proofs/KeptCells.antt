@@ -17,18 +17,12 @@ use Rattle.tg_space.specs.Soundness.{AreSound, HasLayout, HasLayoutOf, IsKindAt,
 use Rattle.tg_space.specs.Rows.{link_of, link_at}
 use Rattle.tg_space.proofs.Pointing.{pointers_from_layout}
 use Rattle.tg_rows.specs.Rows.{name_at, key_at, references_of}
-use Rattle.tg_rows.specs.Index.{moved_place}
+use Rattle.tg_space.specs.Numbering.{moved_place}
 use Rattle.tg_rows.proofs.Places.{cell_long, layout_at, links_apart, sound_from_places, held_place}
-use Rattle.tg_rows.proofs.Layouts.{KindCases, is_free, is_object, is_chunk, is_bad, kind_cases, object_tagged, chunk_tagged, free_zero, references_of_object, references_of_chunk, references_at, link_held, present_word, same_link}
-use Rattle.std.proofs.lemmas.Bool.{cond_both, ne_eqb}
+use Rattle.tg_rows.proofs.Layouts.{KindCases, empty_present, first_range, is_free, is_object, is_chunk, is_bad, kind_cases, object_tagged, chunk_tagged, free_zero, references_of_object, references_of_chunk, references_at, link_held, present_word, same_link}
+use Rattle.std.proofs.lemmas.Bool.{ne_eqb}
 
 -- ---- the copy of a cell, word by word
-
-first_pointer-some : (tag : ℕ) → 0 < first_pointer tag
-first_pointer-some tag = cond_both (tag == 1) 4 (if tag == 2 then 1 else 8) (λ n. 0 < n) (λ t. omega arith) (λ t. cond_both (tag == 2) 1 8 (λ n. 0 < n) (λ u. omega arith) (λ u. omega arith))
-
-first_pointer-le : (tag : ℕ) → first_pointer tag ≤ 8
-first_pointer-le tag = cond_both (tag == 1) 4 (if tag == 2 then 1 else 8) (λ n. n ≤ 8) (λ t. omega arith) (λ t. cond_both (tag == 2) 1 8 (λ n. n ≤ 8) (λ u. omega arith) (λ u. omega arith))
 
 -- the kind of a cell that is not free
 kind_of_tag : ℕ → CellKind
@@ -56,13 +50,13 @@ module _ (from : ℕ → Bool) (h : SpaceList) (to : ℕ → Place) (words : Lis
       ∙ ap (moved_word from h to) (get_or-drop n words (i - n) 0 ∙ ap (λ (k : ℕ). get_or words k 0) back)
 
   tag_moved : get_or (image_of from h to words) 0 0 ≡ get_or words 0 0
-  tag_moved = kept_before 0 (first_pointer-some (get_or words 0 0)) (lit< tt)
+  tag_moved = kept_before 0 (first_range (get_or words 0 0)).0 (lit< tt)
 
   references_moved : references_of (image_of from h to words) ≡ map (moved_word from h to) (references_of words)
   references_moved =
       let n = first_pointer (get_or words 0 0) in
       let same : first_pointer (get_or (image_of from h to words) 0 0) ≡ n = ap first_pointer tag_moved in
-      let at : length (take n words) ≡ n = length-take-le n words (let le = first_pointer-le (get_or words 0 0) in omega arith) in
+      let at : length (take n words) ≡ n = length-take-le n words (let le = (first_range (get_or words 0 0)).1 in omega arith) in
       ap (λ (k : ℕ). take (7 - k) (drop k (image_of from h to words))) same
       ∙ ap (λ (xs : List ℕ). take (7 - n) xs) (drop_at (take n words) (map (moved_word from h to) (drop n words)) n at)
       ∙ take-map (moved_word from h to) (7 - n) (drop n words)
@@ -97,9 +91,6 @@ word_moved from h to word ne present inside = record {
 
     same : moved_word from h to word ≡ word_at (rights_in word) (moved_place from h to (place_in word))
     same = by_space (from (place_in word).space) refl
-
-empty_present : (word : ℕ) → IsTrue (is_present word) → word ≡ 0 → ⊥
-empty_present word present z = let no : false ≡ true = subst (λ (w : ℕ). is_present w ≡ true) z present in absurd cc
 
 -- ---- kept cells
 

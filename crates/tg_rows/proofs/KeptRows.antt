@@ -14,9 +14,8 @@ use Rattle.tg_space.specs.Targets.{moved_word}
 use Rattle.tg_space.specs.Soundness.{IsKindAt, IsReference, RefersTo}
 use Rattle.tg_rows.specs.Rows.{IsChain, name_at, name_in, names_in, references_of, rights_to, row_words, words_of}
 use Rattle.tg_space.specs.Rows.{chunks_from, link_at, row_of}
-use Rattle.tg_rows.specs.Index.{moved_place}
-use Rattle.tg_rows.proofs.Layouts.{references_at}
-use Rattle.tg_rows.proofs.Chains.{chain_whole}
+use Rattle.tg_space.specs.Numbering.{moved_place}
+use Rattle.tg_rows.proofs.Chains.{row_references, chain_whole}
 use Rattle.tg_rows.proofs.Slots.{names_in-some}
 use Rattle.tg_rows.proofs.KeptCells.{Moves, IsKeptWord, is_copied, kind_at_after, link_kept, name_kept, references_kept, sound_after}
 
@@ -52,12 +51,6 @@ module _ {from : ℕ → Bool} {h after : SpaceList} {to : ℕ → Place} {kept 
   words_kept (p ∷ ps) all =
       All-append (IsKeptWord move) (references_of (cell_at h p)) (words_of h ps)
       (references_kept move p (All-head kept p ps all)) (words_kept ps (All-tail kept p ps all))
-
-  words_refer : (ps : List Place) → All kept ps → All (IsReference h) (words_of h ps)
-  words_refer [] all = All-nil (IsReference h)
-  words_refer (p ∷ ps) all =
-      All-append (IsReference h) (references_of (cell_at h p)) (words_of h ps)
-      (references_at h move.whole [] move.sound p (move.held p (All-head kept p ps all))) (words_refer ps (All-tail kept p ps all))
 
   -- ---- what a moved reference refers to
 
@@ -128,9 +121,9 @@ module _ {from : ℕ → Bool} {h after : SpaceList} {to : ℕ → Place} {kept 
     row = row;
     ends = subst (IsChain after (link_at after (moved_place from h to p))) (sym enough) moved;
     words = words_kept (row_of h p) cells;
-    references = words_refer (row_of h p) cells;
-    rights = λ name. ap (rights_to after name) words ∙ rights_after name (row_words h p) (words_kept (row_of h p) cells) (words_refer (row_of h p) cells);
-    names = ap (names_in after) words ∙ names_after (row_words h p) (words_kept (row_of h p) cells) (words_refer (row_of h p) cells);
+    references = refer;
+    rights = λ name. ap (rights_to after name) words ∙ rights_after name (row_words h p) (words_kept (row_of h p) cells) refer;
+    names = ap (names_in after) words ∙ names_after (row_words h p) (words_kept (row_of h p) cells) refer;
   }
     where
       object : IsKindAt after Object (moved_place from h to p)
@@ -138,6 +131,9 @@ module _ {from : ℕ → Bool} {h after : SpaceList} {to : ℕ → Place} {kept 
 
       cells : All kept (row_of h p)
       cells = All-cons kept p (chunks_from h (length (cells_of h)) (link_at h p)) keep (chain_cells (chunks_from h (length (cells_of h)) (link_at h p)) (link_at h p) (link_kept move p keep) chain)
+
+      refer : All (IsReference h) (row_words h p)
+      refer = row_references h move.whole [] move.sound p (record { held = move.held p keep; is = is }) chain
 
       moved : IsChain after (link_at after (moved_place from h to p)) (map (moved_place from h to) (chunks_from h (length (cells_of h)) (link_at h p)))
       moved =

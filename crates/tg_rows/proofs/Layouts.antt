@@ -1,5 +1,5 @@
 -- What the layout of a cell says of its words.
-use Rattle.std.proofs.Common.{◌≡◌, ◌≢◌, ℕ, zero, suc, ◌<◌, ◌/◌, ◌^◌, ◌↔◌, ◌&&◌, inl, Bool, true, false, ◌==◌, List, [], ◌∷◌, get_or, take, drop, refl, sym, ap, subst, arith, ◌∙◌, ⊎_elim, IsTrue}
+use Rattle.std.proofs.Common.{◌≡◌, ◌≢◌, ℕ, zero, suc, ◌<◌, ◌≤◌, ◌/◌, ◌^◌, ◌↔◌, ◌&&◌, if◌then◌else◌, inl, Bool, true, false, ◌==◌, List, [], ◌∷◌, get_or, take, drop, refl, sym, ap, subst, arith, ◌∙◌, ⊎_elim, IsTrue}
 use Rattle.std.specs.List.{All, list_all}
 use Rattle.std.proofs.lemmas.List.Elements.{All-nil}
 use Rattle.tg_word.specs.declared.Place.{Place}
@@ -10,16 +10,21 @@ use Rattle.tg_block.specs.declared.CellKind.TheVariants.{Free, Object, Chunk, Ba
 use Rattle.tg_space.specs.SpaceList.{SpaceList, IsSpaceList, Holds, cell_at}
 use Rattle.tg_space.specs.Soundness.{AreSound, HasLayout, HasLayoutOf, IsKindAt, IsReference, IsLink, LinksTo}
 use Rattle.tg_space.specs.Rows.{link_of, link_at}
+use Rattle.tg_space.specs.Targets.{first_pointer}
 use Rattle.tg_space.specs.declared.root.Root.{Root}
 use Rattle.tg_rows.specs.Rows.{references_of}
 use Rattle.tg_rows.proofs.Places.{layout_at}
-use Rattle.std.proofs.lemmas.Bool.{and_parts, eqb-true}
+use Rattle.std.proofs.lemmas.Bool.{and_parts, cond_both, eqb-true}
 
 -- ---- words
 
 -- a present word is that of its own rights and place
 present_fits : (word : ℕ) → IsTrue (is_present word) → word < 2 ^ 64
 present_fits word present = let high = eqb-true (word / 2 ^ 41) 1 (and_parts (word / 2 ^ 41 == 1) _ present).0 in omega (arith, high)
+
+-- the empty word isn't one
+pub empty_present : (word : ℕ) → IsTrue (is_present word) → word ≢ 0
+empty_present word present z = let no : false ≡ true = subst (λ (w : ℕ). is_present w ≡ true) z present in absurd cc
 
 module _ (word : ℕ) (present : IsTrue (is_present word)) where
   pub present_word : word_at (rights_in word) (place_in word) ≡ word
@@ -99,6 +104,12 @@ module _ (words : List ℕ) where
 
   pub references_of_free : kind_of words ≡ Free → references_of words ≡ []
   references_of_free is = rw (free_zero is 0) refl
+
+-- where the first reference of a cell stands
+pub first_range : (tag : ℕ) → (1 ≤ first_pointer tag) × (first_pointer tag ≤ 8)
+first_range tag =
+    let range = λ (n : ℕ). (1 ≤ n) × (n ≤ 8) in
+    cond_both (tag == 1) 4 (if tag == 2 then 1 else 8) range (λ _. (omega arith, omega arith)) (λ _. cond_both (tag == 2) 1 8 range (λ _. (omega arith, omega arith)) (λ _. (omega arith, omega arith)))
 
 -- an object is no chunk
 pub apart_kinds : (h : SpaceList) (p : Place) → IsKindAt h Object p → IsKindAt h Chunk p → ⊥

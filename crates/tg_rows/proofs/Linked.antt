@@ -5,12 +5,12 @@ use Rattle.std.proofs.lemmas.Bool.{cases_eq}
 use Rattle.std.proofs.lemmas.Bool.Decides.{eqb_tells}
 use Rattle.std.proofs.lemmas.List.{append-nil}
 use Rattle.std.proofs.lemmas.List.Concat.{flat_map-append}
-use Rattle.std.proofs.lemmas.List.Elements.{All-append, All-from_recursion, All-head, All-tail, All-weaker}
+use Rattle.std.proofs.lemmas.List.Elements.{All-append, All-from_recursion, All-weaker}
 use Rattle.tg_rights.specs.RightSet.{RightSet, no_rights}
 use Rattle.tg_model.specs.declared.value.Value.{Value}
 use Rattle.tg_model.specs.Rules.{with_value}
 use Rattle.tg_word.specs.declared.Place.{Place}
-use Rattle.tg_word.specs.Word.{IsPlace, is_present, link_to, place_in, rights_in}
+use Rattle.tg_word.specs.Word.{IsPlace, link_to, place_in, rights_in}
 use Rattle.tg_word.proofs.Packing.{is_present-word_at, place_in-word_at, rights_in-word_at, word_at-above_zero}
 use Rattle.tg_block.specs.Cells.{kind_of}
 use Rattle.tg_block.specs.declared.CellKind.TheVariants.{Free, Object, Chunk}
@@ -25,12 +25,13 @@ use Rattle.tg_rows.specs.Graph.{IsGraph, content_in}
 use Rattle.tg_rows.specs.Spots.{chunk_words}
 use Rattle.tg_rows.proofs.Members.{Contains-cases, Contains-none}
 use Rattle.tg_rows.proofs.Places.{cell_long, layout_at, links_apart, held_place}
-use Rattle.tg_rows.proofs.Layouts.{RowCell, apart_kinds, link_some, object_tagged, chunk_tagged, references_at}
+use Rattle.tg_rows.proofs.Layouts.{RowCell, apart_kinds, empty_present, link_some, references_at}
 use Rattle.tg_rows.proofs.Lookups.{label_at, label_is, label_nowhere, name_of_vertex, value_at, value_nowhere, vertex_of_name}
-use Rattle.tg_rows.proofs.Chains.{chain_chunks, chain_whole, row_held, row_references}
+use Rattle.tg_rows.proofs.Chains.{chain_whole, row_held, row_references}
 use Rattle.tg_rows.proofs.Changes.{cell_kept, cell_written, holds_written, list_written, same_or_other}
 use Rattle.tg_rows.proofs.Slots.{IsOther, puts_appended}
-use Rattle.tg_rows.proofs.Changed.{Becomes, Shows, Stays, chain_stays, flat_map_same, name_stays, one_row, reference_stays, shown_content, shown_graph, with_label}
+use Rattle.tg_rows.proofs.Changed.{Becomes, Shows, Stays, becomes_then, flat_map_same, links_by_cells, name_stays, one_row, reference_stays, row_by_links, shown_content, shown_graph, with_label, words_by_cells}
+use Rattle.tg_rows.proofs.Finding.{cell_held, row_kind, row_low}
 use Rattle.tg_rows.proofs.Fresh.{chunk_placed, fresh_same, fresh_stays, row_used}
 use Rattle.tg_rows.proofs.Written.{here, held_before, link_set, outside, outside_rows, references_same, there, was_row, word_back, word_layouts, word_spaces, word_stays}
 
@@ -46,21 +47,13 @@ module _ (h : SpaceList) (payloads : Payloads) (is : IsSpaceList h) (graph : IsG
   ends = graph.ends p object
 
   held : Holds h last
-  held = subst (Holds h) has.2 (row_held h p chunks object ends has.0 last has.1)
+  held = cell_held h payloads is graph p object last has
 
   last_kind : IsKindAt h Object last ⊎ IsKindAt h Chunk last
-  last_kind = by_place (Contains-cases p chunks last has)
-    where
-      by_place : (p ≡ last) ⊎ Contains chunks last → IsKindAt h Object last ⊎ IsKindAt h Chunk last
-      by_place (inl same) = inl (subst (IsKindAt h Object) same object)
-      by_place (inr rest) = inr (subst (IsKindAt h Chunk) rest.2 (chain_chunks h chunks (link_at h p) ends rest.0 last rest.1))
+  last_kind = row_kind h payloads is graph p object last has
 
   low : first_pointer (get_or (cell_at h last) 0 0) ≤ 7
-  low =
-      ⊎_elim
-      (λ (o : IsKindAt h Object last). let at : first_pointer (get_or (cell_at h last) 0 0) ≡ 4 = ap first_pointer ((object_tagged (cell_at h last)).0 o.is) in omega arith)
-      (λ (c : IsKindAt h Chunk last). let at : first_pointer (get_or (cell_at h last) 0 0) ≡ 1 = ap first_pointer ((chunk_tagged (cell_at h last)).0 c.is) in omega arith)
-      last_kind
+  low = row_low h payloads is graph p object last has
 
   high : 7 < 8
   high = omega arith
@@ -195,22 +188,11 @@ module _ (h : SpaceList) (payloads : Payloads) (is : IsSpaceList h) (graph : IsG
   same_cells : All (λ c. cell_at placed c ≡ cell_at h c) (row_of h p)
   same_cells = fresh_same h payloads is graph q free (chunk_words word) p object
 
-  same_chain : chunks_from placed (length (cells_of placed)) (link_at placed p) ≡ chunks_from h (length (cells_of h)) (link_at h p)
-  same_chain =
-      let old = chunks_from h (length (cells_of h)) (link_at h p) in
-      let links = All-weaker (λ c. cell_at placed c ≡ cell_at h c) (λ c. link_at placed c ≡ link_at h c) (λ c e. ap link_of e) (row_of h p) same_cells in
-      let chain = chain_stays h placed kept old (link_at h p) (graph.ends p object) (All-tail (λ c. link_at placed c ≡ link_at h c) p old links) in
-      chain_whole placed spaces [] first.graph.sound p old (kept.objects p object)
-      (subst (λ (l : ℕ). IsChain placed l old) (sym (All-head (λ c. link_at placed c ≡ link_at h c) p old links)) chain)
-
   same_row : row_of placed p ≡ row_of h p
-  same_row = ap (λ (ps : List Place). p ∷ ps) same_chain
+  same_row = row_by_links h placed kept spaces first.graph.sound p (record { object = object; ends = graph.ends p object }) (links_by_cells h placed (row_of h p) same_cells)
 
   same_words : row_words placed p ≡ row_words h p
-  same_words =
-      ap (λ (ps : List Place). words_of placed ps) same_row
-      ∙ flat_map_same (λ c. references_of (cell_at h c)) (λ c. references_of (cell_at placed c)) (row_of h p)
-      (All-weaker (λ c. cell_at placed c ≡ cell_at h c) (λ c. references_of (cell_at placed c) ≡ references_of (cell_at h c)) (λ c e. ap references_of e) (row_of h p) same_cells)
+  same_words = words_by_cells h placed p same_row same_cells
 
   here_words : cell_at placed q ≡ chunk_words word
   here_words = cell_written h is q free.held (chunk_words word)
@@ -233,9 +215,6 @@ module _ (h : SpaceList) (payloads : Payloads) (is : IsSpaceList h) (graph : IsG
   same_name : name_in placed word ≡ name_in h word
   same_name = kept.names (place_in word) refers.object
 
-  word_some : word ≢ 0
-  word_some e = let no : false ≡ true = subst (λ (w : ℕ). is_present w ≡ true) e refers.present in absurd cc
-
   last_other : last ≢ q
   last_other =
       let row_cells = row_used h p (chunks_from h (length (cells_of h)) (link_at h p)) object (graph.ends p object) q free in
@@ -255,31 +234,23 @@ module _ (h : SpaceList) (payloads : Payloads) (is : IsSpaceList h) (graph : IsG
   second =
       chunk_linked placed payloads spaces first.graph p last q (kept.objects p object) (subst (λ (ps : List Place). Contains ps last) (sym same_row) has)
       (ap link_of (cell_kept h is q free.held (chunk_words word) last last_other) ∙ ends_here) new_chunk (ap link_of here_words) placed_unlinked word (0 ∷ 0 ∷ 0 ∷ 0 ∷ 0 ∷ []) (ap references_of here_words)
-      (All-from_recursion (λ z. z ≡ 0) (0 ∷ 0 ∷ 0 ∷ 0 ∷ 0 ∷ []) (refl, (refl, (refl, (refl, (refl, tt)))))) word_some others_placed
+      (All-from_recursion (λ z. z ≡ 0) (0 ∷ 0 ∷ 0 ∷ 0 ∷ 0 ∷ []) (refl, (refl, (refl, (refl, (refl, tt)))))) (empty_present word refers.present) others_placed
+
+  abbrev extended : SpaceList
+  extended = with_word_at (with_cell_at h q (chunk_words word)) last 7 (link_to q)
 
   pub chunk_added : Becomes h (with_word_at (with_cell_at h q (chunk_words word)) last 7 (link_to q)) payloads (IsNamed (content_in h payloads)) (with_label (content_in h payloads).label (name_at h p) (name_in h word) (rights_in word)) (content_in h payloads).value
   chunk_added =
       let c = content_in h payloads in
       let c1 = content_in placed payloads in
       let labels : c1.label ≡ c.label = label_is c1 (IsNamed c) c.label c.value first.content in
-      record {
-        graph = second.graph;
-        content = record {
-          names = λ x. (
-            λ named. (first.content.names x).0 ((second.content.names x).0 named),
-            λ named. (second.content.names x).1 ((first.content.names x).1 named),
-          );
-          labels = λ x y. second.content.labels x y ∙ ap (λ (f : ℕ → ℕ → RightSet). with_label f (name_at placed p) (name_in placed word) (rights_in word) x y) labels
-              ∙ ap (λ (n : ℕ). with_label c.label n (name_in placed word) (rights_in word) x y) (kept.names p object) ∙ ap (λ (n : ℕ). with_label c.label (name_at h p) n (rights_in word) x y) same_name;
-          values = λ x. second.content.values x ∙ first.content.values x;
-        };
-        vertices = λ x v vertex. second.vertices x v (first.vertices x v vertex);
-      }
+      becomes_then h placed extended payloads payloads (IsNamed c) (IsNamed c1) (IsNamed c) c.label (with_label c1.label (name_at placed p) (name_in placed word) (rights_in word)) (with_label c.label (name_at h p) (name_in h word) (rights_in word))
+      c.value c1.value c.value first second first.content.names
+      (λ x y. ap (λ (f : ℕ → ℕ → RightSet). with_label f (name_at placed p) (name_in placed word) (rights_in word) x y) labels
+      ∙ ap (λ (n : ℕ). with_label c.label n (name_in placed word) (rights_in word) x y) (kept.names p object) ∙ ap (λ (n : ℕ). with_label c.label (name_at h p) n (rights_in word) x y) same_name)
+      first.content.values
 
   -- ---- the row once the chunk is at its end
-
-  abbrev extended : SpaceList
-  extended = with_word_at (with_cell_at h q (chunk_words word)) last 7 (link_to q)
 
   has_placed : Contains (row_of placed p) last
   has_placed = subst (λ (ps : List Place). Contains ps last) (sym same_row) has
@@ -319,7 +290,7 @@ module _ (h : SpaceList) (payloads : Payloads) (is : IsSpaceList h) (graph : IsG
   link_extended = link_is placed payloads spaces first.graph p last q (kept.objects p object) has_placed ends_placed new_chunk (ap link_of here_words) placed_unlinked
 
   pub row_extended : row_of (with_word_at (with_cell_at h q (chunk_words word)) last 7 (link_to q)) p ≡ row_of h p ++ q ∷ []
-  row_extended = ap (λ (ps : List Place). p ∷ ps) extended_chunks ∙ ap (λ (ps : List Place). p ∷ (ps ++ q ∷ [])) same_chain
+  row_extended = ap (λ (ps : List Place). p ∷ ps) extended_chunks ∙ ap (λ (ps : List Place). ps ++ q ∷ []) same_row
 
   pub row_words_extended : row_words (with_word_at (with_cell_at h q (chunk_words word)) last 7 (link_to q)) p ≡ row_words h p ++ word ∷ 0 ∷ 0 ∷ 0 ∷ 0 ∷ 0 ∷ []
   row_words_extended =

@@ -4,7 +4,7 @@ use Rattle.std.specs.Prelude.{IfSome}
 use Rattle.std.specs.List.{All, Contains}
 use Rattle.std.proofs.lemmas.Bool.{cases_Bool, cases_eq}
 use Rattle.std.proofs.lemmas.List.{get_or-map, get_or-take, get_or_default, length-append, length-map, length-take-le, get_or_append_left}
-use Rattle.std.proofs.lemmas.List.Elements.{All-nil, Contains-get_or}
+use Rattle.std.proofs.lemmas.List.Elements.{All-nil, Contains-get_or, All-more}
 use Rattle.std.proofs.lemmas.Nat.Bits.{bit_at-zero}
 use Rattle.std.proofs.Math.Seq.{take-append-le}
 use Rattle.std.proofs.lemmas.Option.{none-some, same_Some, slice_get-get_or}
@@ -21,13 +21,14 @@ use Rattle.tg_payload.specs.Table.{Payloads}
 use Rattle.tg_index.specs.Bits.{SetsBit, bit_of}
 use Rattle.tg_index.specs.Slots.{Slots, IsFirstVacant}
 use Rattle.tg_rows.specs.Graph.{IsGraph}
-use Rattle.tg_rows.specs.Index.{IsAged, IsMarked, IsOldPlace, IsPlaceOf, IsRowIndex, row_slots, followed_place}
+use Rattle.tg_space.specs.Numbering.{followed_place}
+use Rattle.tg_rows.specs.Index.{IsAged, IsMarked, IsOldPlace, IsPlaceOf, IsRowIndex, row_slots}
 use Rattle.tg_rows.specs.Rows.{IsRow}
 use Rattle.tg_rows.specs.Spots.{IsNoteIn, IsSpotFor, note_for, old_cell_if, with_note}
 use Rattle.tg_rows.specs.declared.indexed_row.IndexedRow.{IndexedRow}
 use Rattle.tg_rows.specs.declared.rows.Spot.{Spot}
 use Rattle.tg_rows.specs.declared.rows.Spot.TheVariants.{Reference, Empty, Full}
-use Rattle.tg_rows.proofs.Ages.{first_below, one_more}
+use Rattle.tg_rows.proofs.Ages.{first_below}
 use Rattle.tg_rows.proofs.Chains.{row_apart}
 use Rattle.tg_rows.proofs.Finding.{empty_found, last_ends}
 use Rattle.tg_rows.proofs.Indexed.{empty_none, empty_nth, last_is, places_long}
@@ -205,7 +206,7 @@ pub aged_one : (notes : List Place) (row : IndexedRow) (marks : List ℕ) → ((
     (d : Place) → row.old_cells < length row.cells.items → IsOldPlace (get_or row.cells.items row.old_cells d) → (Contains notes (get_or row.cells.items row.old_cells d) → bit_of marks row.old_cells ≡ 1) → IsMarked notes row →
     IsMarked notes (record { names = row.names; cells = row.cells; old_cells = row.old_cells + 1; noted = marks })
 aged_one notes row marks only more d inside here noted is = record {
-  aged = record { within = omega (arith, inside); cells = one_more IsOldPlace row.cells.items row.old_cells d inside is.aged.cells here; marks = only };
+  aged = record { within = omega (arith, inside); cells = All-more IsOldPlace row.cells.items row.old_cells d inside is.aged.cells here; marks = only };
   marked = λ n e low has.
       ⊎_elim
       (λ (same : n ≡ row.old_cells).

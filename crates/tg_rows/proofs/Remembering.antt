@@ -10,7 +10,7 @@ use Rattle.tg_word.specs.declared.Place.{Place}
 use Rattle.tg_word.specs.Word.{IsPlace, link_to, place_in, rights_in, word_at}
 use Rattle.tg_word.proofs.Packing.{place_in-word_at}
 use Rattle.tg_block.specs.Cells.{free_cell, kind_of}
-use Rattle.tg_block.specs.declared.CellKind.TheVariants.{Free, Object, Chunk}
+use Rattle.tg_block.specs.declared.CellKind.TheVariants.{Free, Object}
 use Rattle.tg_space.specs.SpaceList.{SpaceList, IsSpaceList, Holds, cell_at, cells_of, space_of, with_block, with_cell_at, with_word_at}
 use Rattle.tg_space.specs.SpaceTable.{SpaceTable, IsNursery, IsSpaceTable, place_in_space, used_of, with_spaces}
 use Rattle.tg_space.specs.Soundness.{IsKindAt, IsOldCell}
@@ -26,11 +26,10 @@ use Rattle.tg_rows.specs.Spots.{IsSpotIn, cells_for, chunk_words, last_of, narro
 use Rattle.tg_rows.specs.declared.rows.Spot.{Spot}
 use Rattle.tg_rows.specs.declared.rows.Spot.TheVariants.{Reference, Empty, Full}
 use Rattle.tg_rows.proofs.Changes.{cell_kept, cell_written, holds_written, list_written, same_or_other}
-use Rattle.tg_rows.proofs.Chains.{chain_chunks}
-use Rattle.tg_rows.proofs.Finding.{cell_held, empty_found, found_refers, last_ends, reference_found}
+use Rattle.tg_rows.proofs.Finding.{cell_held, empty_found, found_refers, last_ends, reference_found, row_low}
 use Rattle.tg_rows.proofs.Fresh.{fresh_same}
-use Rattle.tg_rows.proofs.Layouts.{chunk_tagged, object_tagged, present_place}
-use Rattle.tg_rows.proofs.Members.{Contains-cases, Contains-none}
+use Rattle.tg_rows.proofs.Layouts.{present_place}
+use Rattle.tg_rows.proofs.Members.{Contains-none}
 use Rattle.tg_rows.proofs.Places.{cell_long, held_place}
 use Rattle.tg_rows.proofs.Written.{pointers_set}
 
@@ -170,20 +169,6 @@ module _ (t : SpaceTable) (table : IsSpaceTable t) (payloads : Payloads) (graph 
   held_in_row : (q : Place) → Contains (row_of t.spaces p) q → Holds t.spaces q
   held_in_row q has = cell_held t.spaces payloads is graph p object q has
 
-  -- the link of a cell of the row stands behind its references
-  link_last : (q : Place) → Contains (row_of t.spaces p) q → first_pointer (get_or (cell_at t.spaces q) 0 0) ≤ 7
-  link_last q has =
-      ⊎_elim
-      (λ same.
-      let tag : get_or (cell_at t.spaces q) 0 0 ≡ 1 = (object_tagged (cell_at t.spaces q)).0 (subst (IsKindAt t.spaces Object) same object).is in
-      let at : first_pointer (get_or (cell_at t.spaces q) 0 0) ≡ 4 = ap first_pointer tag in
-      omega arith)
-      (λ rest.
-      let chunk : IsKindAt t.spaces Chunk q = All-contains (IsKindAt t.spaces Chunk) qs q (chain_chunks t.spaces qs (link_at t.spaces p) (graph.ends p object)) rest in
-      let at : first_pointer (get_or (cell_at t.spaces q) 0 0) ≡ 1 = ap first_pointer ((chunk_tagged (cell_at t.spaces q)).0 chunk.is) in
-      omega arith)
-      (Contains-cases p qs q has)
-
   -- a reference becomes one to the same cell, or to none
   remembered_same : (q : Place) (i word : ℕ) → Contains (row_of t.spaces p) q → first_pointer (get_or (cell_at t.spaces q) 0 0) ≤ i → i < 7 →
       ((place_in word).space ≢ 0 → (place_in (get_or (cell_at t.spaces q) i 0)).space ≢ 0) → (places later : List Place) → AreNoted places later None → AreRemembered t.spaces places → AreRemembered (with_word_at t.spaces q i word) later
@@ -270,7 +255,7 @@ module _ (t : SpaceTable) (table : IsSpaceTable t) (payloads : Payloads) (graph 
         let same : cell_at (with_cell_at t.spaces chunk words) last ≡ cell_at t.spaces last =
         All-contains (λ c. cell_at (with_cell_at t.spaces chunk words) c ≡ cell_at t.spaces c) (row_of t.spaces p) last (fresh_same t.spaces payloads is graph chunk free words p object) has in
         let behind : first_pointer (get_or (cell_at (with_cell_at t.spaces chunk words) last) 0 0) ≤ 7 =
-        subst (λ (ws : List ℕ). first_pointer (get_or ws 0 0) ≤ 7) (sym same) (link_last last has) in
+        subst (λ (ws : List ℕ). first_pointer (get_or ws 0 0) ≤ 7) (sym same) (row_low t.spaces payloads is graph p object last has) in
         let first : AreRemembered (with_cell_at t.spaces chunk words) places =
         remembered_young t.spaces is chunk held (let far = nursery.0 in λ none. omega (arith, far, none)) words places before in
         remembered_word (with_cell_at t.spaces chunk words) (list_written t.spaces is chunk held words refl) last ((holds_written t.spaces is chunk held words last).1 (held_in_row last has)) 7 (link_to chunk) behind (omega arith) places later first

@@ -76,7 +76,7 @@ module _ (h : SpaceList) where
       by_tests (inr some) (inl same) = absurd (other some.1 same.1)
       by_tests (inr some) (inr differ) = rw (some.0, differ.0) refl
 
-  same_test : (name word : ℕ) → word ≢ 0 → name_in h word ≡ name → (not (word == 0) && (name_in h word == name)) ≡ true
+  pub same_test : (name word : ℕ) → word ≢ 0 → name_in h word ≡ name → (not (word == 0) && (name_in h word == name)) ≡ true
   same_test name word some same =
       let one : (word == 0) ≡ false = ⊎_elim (λ t. absurd (some t.1)) (λ f. f.0) (eqb_tells word 0) in
       let two : (name_in h word == name) ≡ true = ⊎_elim (λ t. t.0) (λ f. absurd (f.1 same)) (eqb_tells (name_in h word) name) in

@@ -1,5 +1,5 @@
 -- Walks along rows, cell by cell.
-use Rattle.std.proofs.Common.{◌≡◌, ◌≢◌, ℕ, ◌+◌, ◌-◌, ◌<◌, ◌⊎◌, inl, inr, ◌==◌, not, Bool, true, false, List, [], ◌∷◌, ◌++◌, Option, Some, None, length, get_or, take, drop, refl, sym, ap, subst, arith, ◌∙◌, option_map, map, append_assoc, append-nil}
+use Rattle.std.proofs.Common.{◌≡◌, ◌≢◌, ℕ, ◌+◌, ◌-◌, ◌<◌, ◌⊎◌, inl, inr, not, Bool, true, false, List, [], ◌∷◌, ◌++◌, Option, Some, None, length, get_or, take, drop, refl, sym, ap, subst, arith, ◌∙◌, option_map, map, append_assoc, append-nil}
 use Rattle.std.specs.Prelude.{nat_lt, position, slice_index}
 use Rattle.std.specs.List.{filter, position_or_len}
 use Rattle.std.specs.Option.{option_or}
@@ -17,7 +17,7 @@ use Rattle.tg_space.specs.Rows.{chunks_from, link_at, row_of}
 use Rattle.tg_rows.specs.Spots.{IsSpotIn, is_empty, last_of, refers_to, spot_for_new, word_in_cell, word_of_cell, word_where}
 use Rattle.tg_rows.proofs.Layouts.{object_tagged, chunk_tagged}
 use Rattle.tg_rows.proofs.Chains.{chain_none, chain_step}
-use Rattle.std.proofs.lemmas.Bool.{eq-eqb, le-ltb, lt-ltb, ne_eqb}
+use Rattle.std.proofs.lemmas.Bool.{le-ltb, lt-ltb}
 
 -- ---- the first that passes
 
@@ -32,13 +32,6 @@ position_none p xs d fails =
     let at : position_or_len p xs ≡ length xs = position_or_len_is p xs (length xs) d (omega arith) fails (λ h. absurd (omega arith)) in
     let test : nat_lt (length xs) (length xs) ≡ false = le-ltb (length xs) (length xs) (omega arith) in
     rw at (rw test refl)
-
--- the test of a reference
-pub refers_is : (h : SpaceList) (name word : ℕ) → word ≢ 0 → name_in h word ≡ name → refers_to h name word ≡ true
-refers_is h name word ne same =
-    let some : (word == 0) ≡ false = ne_eqb word 0 ne in
-    let named : (name_in h word == name) ≡ true = eq-eqb (name_in h word) name same in
-    rw some (rw named refl)
 
 -- ---- cells of a row
 
@@ -168,42 +161,55 @@ edges_in-append h xs ys =
     let edge : ℕ → ℕ × RightSet = λ word. (name_in h word, rights_in word) in
     ap (map edge) (filter-append test xs ys) ∙ map-append edge (filter test xs) (filter test ys)
 
-pub edges_of_cell : (h : SpaceList) (at : Place) (ps : List Place) → edges_in h (words_of h (at ∷ ps)) ≡ edges_in h (references_of (cell_at h at)) ++ edges_in h (words_of h ps)
-edges_of_cell h at ps =
-    ap (edges_in h) (flat_map-append (λ q. references_of (cell_at h q)) (at ∷ []) ps ∙ ap (λ (xs : List ℕ). xs ++ words_of h ps) (append-nil (references_of (cell_at h at))))
-    ∙ edges_in-append h (references_of (cell_at h at)) (words_of h ps)
-
 -- where the words of a cell have a link, the cell links to that place
 pub links_on : (h : SpaceList) (at : Place) (words : List ℕ) → words ≡ cell_at h at → slice_index words 7 ≢ 0 → (next : Place) → next ≡ place_in (slice_index words 7) → (link_at h at ≢ 0) × (place_in (link_at h at) ≡ next)
 links_on h at words are some next is =
     let link = ap (λ (ws : List ℕ). slice_index ws 7) are in (λ e. some (link ∙ e), sym (is ∙ ap place_in link))
 
--- the edges of a row were collected up to one of its cells
-pub record IsCollected (h : SpaceList) (from at : Place) (left : ℕ) (edges : List (ℕ × RightSet)) : Type 0 where
+-- what a map makes of the cells of a row was gathered up to one of them
+pub record IsGathered {X : Type 0} (h : SpaceList) (f : List Place → List X) (from at : Place) (left : ℕ) (xs : List X) : Type 0 where
   pub row : IsInRow h at left
-  pub all : edges_in h (row_words h from) ≡ edges ++ edges_in h (words_of h (rest_of h at left))
+  pub all : f (row_of h from) ≡ xs ++ f (rest_of h at left)
+
+module _ {X : Type 0} (h : SpaceList) (f : List Place → List X) (from at : Place) (left : ℕ) (xs more : List X) (words : List ℕ) (are : words ≡ cell_at h at) (gathered : IsGathered h f from at left xs)
+    (split : f (rest_of h at left) ≡ f (at ∷ []) ++ f (chunks_from h left (link_at h at))) (pushed : more ≡ xs ++ f (at ∷ [])) where
+  here : f (row_of h from) ≡ more ++ f (chunks_from h left (link_at h at))
+  here =
+      let rest = f (chunks_from h left (link_at h at)) in
+      gathered.all ∙ ap (λ ys. xs ++ ys) split ∙ sym (append_assoc xs (f (at ∷ [])) rest) ∙ ap (λ ys. ys ++ rest) (sym pushed)
+
+  pub gather_goes_on : slice_index words 7 ≢ 0 → (next : Place) → next ≡ place_in (slice_index words 7) → (0 < left) × IsGathered h f from next (left - 1) more
+  gather_goes_on ne next next_is =
+      let link = links_on h at words are ne next next_is in
+      let on = row_goes_on h at left gathered.row link.0 in
+      let rest = rest_goes_on h at left gathered.row link.0 in
+      (on.0, subst (λ (q : Place). IsGathered h f from q (left - 1) more) link.1 (record { row = on.1; all = here ∙ ap (λ (ps : List Place). more ++ f ps) rest }))
+
+  pub gather_ends : slice_index words 7 ≡ 0 → f [] ≡ [] → more ≡ f (row_of h from)
+  gather_ends zero none =
+      let link = ap (λ (ws : List ℕ). slice_index ws 7) are in
+      sym (here ∙ ap (λ (ps : List Place). more ++ f ps) (rest_ends h at left (sym link ∙ zero)) ∙ ap (λ ys. more ++ ys) none ∙ append-nil more)
+
+-- a map of the words of the cells, one after the other
+module _ {X : Type 0} (h : SpaceList) (g : List ℕ → List X) (appends : (us vs : List ℕ) → g (us ++ vs) ≡ g us ++ g vs) (at : Place) where
+  pub words_split : (ps : List Place) → g (words_of h (at ∷ ps)) ≡ g (words_of h (at ∷ [])) ++ g (words_of h ps)
+  words_split ps = ap g (flat_map-append (λ q. references_of (cell_at h q)) (at ∷ []) ps) ∙ appends (words_of h (at ∷ [])) (words_of h ps)
+
+  pub words_pushed : (xs more : List X) (words : List ℕ) (first : ℕ) → words ≡ cell_at h at → first ≡ first_pointer (slice_index words 0) → more ≡ xs ++ g (take (7 - first) (drop first words)) → more ≡ xs ++ g (words_of h (at ∷ []))
+  words_pushed xs more words first are is pushed = pushed ∙ ap (λ ws. xs ++ g ws) (slice_is h at words first are is ∙ sym (append-nil (references_of (cell_at h at))))
+
+-- the edges of a row were collected up to one of its cells
+abbrev pub IsCollected : SpaceList → Place → Place → ℕ → List (ℕ × RightSet) → Type 0
+IsCollected h from at left edges = IsGathered h (λ ps. edges_in h (words_of h ps)) from at left edges
 
 module _ (h : SpaceList) (from at : Place) (left : ℕ) (edges more : List (ℕ × RightSet)) (words : List ℕ) (first : ℕ) (are : words ≡ cell_at h at) (is : first ≡ first_pointer (slice_index words 0))
     (collected : IsCollected h from at left edges) (pushed : more ≡ edges ++ edges_in h (take (7 - first) (drop first words))) where
-  here : edges_in h (row_words h from) ≡ more ++ edges_in h (words_of h (chunks_from h left (link_at h at)))
-  here =
-      let qs = chunks_from h left (link_at h at) in
-      let rest = edges_in h (words_of h qs) in
-      collected.all ∙ ap (λ es. edges ++ es) (edges_of_cell h at qs) ∙ sym (append_assoc edges (edges_in h (references_of (cell_at h at))) rest)
-      ∙ ap (λ ws. (edges ++ edges_in h ws) ++ rest) (sym (slice_is h at words first are is)) ∙ ap (λ es. es ++ rest) (sym pushed)
-
   pub collect_goes_on : slice_index words 7 ≢ 0 → (next : Place) → next ≡ place_in (slice_index words 7) → (0 < left) × IsCollected h from next (left - 1) more
-  collect_goes_on ne next next_is =
-      let link = links_on h at words are ne next next_is in
-      let on = row_goes_on h at left collected.row link.0 in
-      let rest = rest_goes_on h at left collected.row link.0 in (
-        on.0,
-        subst (λ (q : Place). IsCollected h from q (left - 1) more) link.1
-            (record { row = on.1; all = here ∙ ap (λ (ps : List Place). more ++ edges_in h (words_of h ps)) rest }),
-      )
+  collect_goes_on =
+      gather_goes_on h (λ ps. edges_in h (words_of h ps)) from at left edges more words are collected (words_split h (edges_in h) (edges_in-append h) at (chunks_from h left (link_at h at)))
+      (words_pushed h (edges_in h) (edges_in-append h) at edges more words first are is pushed)
 
   pub collect_ends : slice_index words 7 ≡ 0 → more ≡ edges_in h (row_words h from)
   collect_ends zero =
-      let link = ap (λ (ws : List ℕ). slice_index ws 7) are in
-      let rest = rest_ends h at left (sym link ∙ zero) in
-      sym (here ∙ ap (λ (ps : List Place). more ++ edges_in h (words_of h ps)) rest ∙ append-nil more)
+      gather_ends h (λ ps. edges_in h (words_of h ps)) from at left edges more words are collected (words_split h (edges_in h) (edges_in-append h) at (chunks_from h left (link_at h at)))
+      (words_pushed h (edges_in h) (edges_in-append h) at edges more words first are is pushed) zero refl

@@ -1,14 +1,12 @@
 -- A reference or the last link of a row is written, and what that makes of the graph.
-use Rattle.std.proofs.Common.{◌≡◌, ◌≢◌, ℕ, zero, suc, ◌<◌, ◌≤◌, ◌+◌, ◌-◌, ◌⊎◌, ◌==◌, inl, inr, true, false, List, [], ◌∷◌, ◌++◌, length, get_or, take, drop, set, refl, sym, ap, subst, arith, ◌∙◌, ⊎_elim}
+use Rattle.std.proofs.Common.{◌≡◌, ◌≢◌, ℕ, zero, suc, ◌<◌, ◌≤◌, ◌+◌, ◌-◌, ◌⊎◌, ◌==◌, inl, inr, List, [], ◌∷◌, ◌++◌, length, get_or, take, drop, set, refl, sym, ap, subst, arith, ◌∙◌}
 use Rattle.std.specs.List.{All, Contains, IsDistinct, flat_map}
-use Rattle.std.proofs.lemmas.Bool.{cases_eq}
-use Rattle.std.proofs.lemmas.Bool.Decides.{eqb_tells}
 use Rattle.std.proofs.lemmas.List.{append_assoc, drop_more, drop-set-add, get_or-drop, get_or-set_other, get_or-set_same, get_or-take, get_or_default, length-drop, length-set, length-take-le, set_split, take-append-drop, take-set-le}
 use lib.Seq.{take-set-lt}
 use Rattle.std.proofs.lemmas.List.Elements.{All-cons, All-append, All-from_get_or, All-set, All-tail, All-weaker}
 use Rattle.tg_rights.specs.RightSet.{RightSet, no_rights}
 use Rattle.tg_word.specs.declared.Place.{Place}
-use Rattle.tg_word.specs.Word.{is_present, place_in, rights_in}
+use Rattle.tg_word.specs.Word.{place_in, rights_in}
 use Rattle.tg_block.specs.Cells.{kind_of}
 use Rattle.tg_block.specs.declared.CellKind.TheVariants.{Object, Chunk}
 use Rattle.tg_space.specs.SpaceList.{SpaceList, IsSpaceList, Holds, cell_at, cells_of, with_word_at}
@@ -21,26 +19,13 @@ use Rattle.tg_rows.specs.Rows.{IsChain, name_at, name_in, names_in, references_o
 use Rattle.tg_rows.specs.Graph.{IsGraph, content_in}
 use Rattle.tg_rows.proofs.Members.{All-left, All-right}
 use Rattle.tg_rows.proofs.Places.{cell_long, layout_at}
-use Rattle.tg_rows.proofs.Layouts.{KindCases, RowCell, is_free, is_object, is_chunk, is_bad, kind_cases, chunk_tagged, free_zero, object_tagged, references_of_chunk, references_of_object, row_cell}
+use Rattle.tg_rows.proofs.Layouts.{KindCases, RowCell, empty_present, first_range, is_free, is_object, is_chunk, is_bad, kind_cases, chunk_tagged, free_zero, object_tagged, references_of_chunk, references_of_object, row_cell}
 use Rattle.tg_rows.proofs.Chains.{row_apart, row_held, row_references}
 use Rattle.tg_rows.proofs.Changes.{cell_kept, cell_written, holds_written, list_written, same_or_other}
 use Rattle.tg_rows.proofs.Slots.{IsOther, Puts, puts_changed, puts_cleared, puts_filled}
 use Rattle.tg_rows.proofs.Changed.{Becomes, ShowsRow, Stays, chain_stays, flat_map_same, layout_stays, link_stays, links_stay, one_row, reference_stays, row_stays, with_label}
 
 -- ---- one word of a cell
-
--- where the first reference of a cell stands
-pub first_range : (tag : ℕ) → (1 ≤ first_pointer tag) × (first_pointer tag ≤ 8)
-first_range tag = by_tag (cases_eq tag 1) (cases_eq tag 2)
-  where
-    by_tag : (tag ≡ 1) ⊎ (tag ≢ 1) → (tag ≡ 2) ⊎ (tag ≢ 2) → (1 ≤ first_pointer tag) × (first_pointer tag ≤ 8)
-    by_tag (inl one) _ = let at : first_pointer tag ≡ 4 = ap first_pointer one in (omega arith, omega arith)
-    by_tag (inr _) (inl two) = let at : first_pointer tag ≡ 1 = ap first_pointer two in (omega arith, omega arith)
-    by_tag (inr not_one) (inr not_two) =
-        let f : (tag == 1) ≡ false = ⊎_elim (λ t. absurd (not_one t.1)) (λ x. x.0) (eqb_tells tag 1) in
-        let g : (tag == 2) ≡ false = ⊎_elim (λ t. absurd (not_two t.1)) (λ x. x.0) (eqb_tells tag 2) in
-        let at : first_pointer tag ≡ 8 = rw (f, g) refl in
-        (omega arith, omega arith)
 
 -- a list is another with one word replaced
 record Replaces (old new : List ℕ) (was is : ℕ) : Type 0 where
@@ -326,24 +311,20 @@ module _ (h : SpaceList) (payloads : Payloads) (is : IsSpaceList h) (graph : IsG
       replaced.of_new all (subst (λ (ws : List ℕ). Puts h ws (xs ++ word ∷ ys) name rights) (sym replaced.of_old) (puts xs ys replaced.of_old))
 
 module _ (h : SpaceList) (payloads : Payloads) (is : IsSpaceList h) (graph : IsGraph h payloads) (p q : Place) (i : ℕ) (object : IsKindAt h Object p) (has : Contains (row_of h p) q) (slot : IsSlot h q i) where
-  -- a reference isn't the empty word
-  reference_some : (word : ℕ) → RefersTo h word → word ≢ 0
-  reference_some word refers e = let no : false ≡ true = subst (λ (w : ℕ). is_present w ≡ true) e refers.present in absurd cc
-
   pub slot_filled : (word : ℕ) → get_or (cell_at h q) i 0 ≡ 0 → RefersTo h word → All (IsOther h (name_in h word)) (row_words h p) →
       Becomes h (with_word_at h q i word) payloads (IsNamed (content_in h payloads)) (with_label (content_in h payloads).label (name_at h p) (name_in h word) (rights_in word)) (content_in h payloads).value
   slot_filled word empty refers others =
       slot_put h payloads is graph p q i word object has slot (inr refers) (name_in h word) (rights_in word) (λ xs ys was.
       let was_empty : row_words h p ≡ xs ++ 0 ∷ ys = was ∙ ap (λ (w : ℕ). xs ++ w ∷ ys) empty in
       subst (λ (w : ℕ). Puts h (xs ++ w ∷ ys) (xs ++ word ∷ ys) (name_in h word) (rights_in word)) (sym empty)
-      (puts_filled h xs ys word (reference_some word refers) (subst (All (IsOther h (name_in h word))) was_empty others)
+      (puts_filled h xs ys word (empty_present word refers.present) (subst (All (IsOther h (name_in h word))) was_empty others)
       (subst (λ (ws : List ℕ). IsDistinct (λ a b. a == b) (names_in h ws)) was_empty (graph.targets p object))))
 
   pub slot_changed : (word : ℕ) → get_or (cell_at h q) i 0 ≢ 0 → RefersTo h word → place_in word ≡ place_in (get_or (cell_at h q) i 0) →
       Becomes h (with_word_at h q i word) payloads (IsNamed (content_in h payloads)) (with_label (content_in h payloads).label (name_at h p) (name_in h word) (rights_in word)) (content_in h payloads).value
   slot_changed word some refers same =
       slot_put h payloads is graph p q i word object has slot (inr refers) (name_in h word) (rights_in word) (λ xs ys was.
-      puts_changed h xs ys (get_or (cell_at h q) i 0) some word (reference_some word refers) (ap (name_at h) same)
+      puts_changed h xs ys (get_or (cell_at h q) i 0) some word (empty_present word refers.present) (ap (name_at h) same)
       (subst (λ (ws : List ℕ). IsDistinct (λ a b. a == b) (names_in h ws)) was (graph.targets p object)))
 
   pub slot_cleared : get_or (cell_at h q) i 0 ≢ 0 →

@@ -1,10 +1,10 @@
 -- What the index of a row is of the row's words.
-use Rattle.std.specs.Prelude.{[], ◌≡◌, ◌≢◌, ℕ, ◌+◌, ◌*◌, ◌<◌, ◌≤◌, ◌==◌, if◌then◌else◌, List, Option, Some, None, false, true, map, length, nat_eq, slice_get, slice_index, slice_index_or, take, is_some, IsSome, IsTrue, ◌⊎◌, Bool, ◌^◌}
+use Rattle.std.specs.Prelude.{[], ◌≡◌, ◌≢◌, ℕ, ◌+◌, ◌*◌, ◌<◌, ◌≤◌, ◌==◌, if◌then◌else◌, List, Option, Some, None, false, true, map, length, nat_eq, slice_get, slice_index, slice_index_or, take, is_some, IsSome, IsTrue, ◌⊎◌, Bool}
 use Rattle.std.specs.List.{All, Contains, filter}
-use Rattle.tg_word.specs.declared.TheConstants.{CELLS}
 use Rattle.tg_word.specs.declared.Place.{Place}
 use Rattle.tg_word.specs.Word.{place_in}
-use Rattle.tg_space.specs.SpaceList.{SpaceList, blocks_before, flat_of}
+use Rattle.tg_space.specs.SpaceList.{SpaceList}
+use Rattle.tg_space.specs.Numbering.{IsNumbered, followed_place, number_by}
 use Rattle.tg_space.specs.Targets.{from_space}
 use Rattle.tg_space.specs.Collection.{new_place}
 use Rattle.tg_space.specs.declared.kind.Kind.{Kind}
@@ -74,28 +74,6 @@ AreIndexed h remembered rows = (name : ℕ) (row : IndexedRow) → lookup (nat_e
 
 -- ---- what a collection makes of indexes
 
--- the number of the cell at a place, where so many blocks stand before each space
-abbrev pub number_by : List ℕ → Place → ℕ
-number_by starts p = CELLS * (slice_index starts p.space + p.block) + p.cell
-
--- the place has a number, which is below the number of words, and these are no more than numbers go
-pub record IsNumbered (starts : List ℕ) (words : ℕ) (p : Place) : Type 0 where
-  pub space : p.space < length starts
-  pub inside : number_by starts p < words
-  pub few : words ≤ 2 ^ 64
-
--- where a collection has the cell at a place: those of from-space are moved, and the place in the word of its number is where to
-abbrev pub followed_place : (ℕ → Bool) → List ℕ → (ℕ → Place) → Place → Place
-followed_place from starts to p = if from p.space then to (number_by starts p) else p
-
--- the word of a cell, once it is one of where a collection has the cell
-abbrev pub followed_word : (ℕ → Bool) → List ℕ → List ℕ → ℕ → ℕ
-followed_word from starts forward word = if from (place_in word).space then slice_index forward (number_by starts (place_in word)) else word
-
--- where a collection has the cell of a place: those of from-space are moved
-abbrev pub moved_place : (ℕ → Bool) → SpaceList → (ℕ → Place) → Place → Place
-moved_place from h to p = if from p.space then to (flat_of h p) else p
-
 -- The index is that of the same row once each of its cells was followed; the object of the row isn't left behind.
 pub record IsFollowedTo (kind : Kind) (starts forward : List ℕ) (row followed : IndexedRow) : Type 0 where
   pub names : followed.names ≡ row.names
@@ -136,10 +114,6 @@ pub record IsFollowed (kind : Kind) (starts forward : List ℕ) (notes : List Pl
 pub record AreFollowed (kind : Kind) (starts forward : List ℕ) (notes : List Place) (rows later : List (ℕ × IndexedRow)) : Type 0 where
   pub each : (name : ℕ) (followed : IndexedRow) → lookup (nat_eq name) later ≡ Some followed → IsFollowed kind starts forward notes rows name followed
   pub kept : (name : ℕ) (row : IndexedRow) → lookup (nat_eq name) rows ≡ Some row → IsSome (lookup (nat_eq name) later) ⊎ IsLeftBehind kind starts forward row
-
--- the number of blocks before each space
-abbrev pub AreStarts : List ℕ → SpaceList → Type 0
-AreStarts starts h = (length h ≤ length starts) × ((space : ℕ) → space < length h → slice_index starts space ≡ blocks_before h space)
 
 -- ---- which names have an index
 

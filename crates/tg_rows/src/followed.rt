@@ -1,18 +1,17 @@
 //! What a collection does to the indexes of rows. The blocks of from-space may be gone by then: cells are told by their
-//! numbers.
-ghost use Rattle.std.specs.Prelude.{◌≡◌, ◌≢◌, ◌≤◌, ◌<◌, ◌^◌, ℕ, List, Some, length, map, nat_eq, slice_get, take, OnErr, OnOk};
+//! numbers (`Moves`).
+ghost use Rattle.std.specs.Prelude.{◌≡◌, ◌≢◌, ◌≤◌, ◌<◌, ℕ, List, Some, length, map, nat_eq, slice_get, take, OnErr, OnOk};
 ghost use Rattle.std.specs.List.{All};
 ghost use Rattle.std.specs.Map.{lookup};
 ghost use Rattle.indexmap.specs.IndexMap.{index_map_len, values};
 ghost use Rattle.indexmap.specs.Layout.{set_value_at};
 ghost use Rattle.tg_index.specs.Bits.{bit_of};
-ghost use Rattle.tg_space.specs.SpaceList.{cells_of};
-ghost use Rattle.tg_space.specs.SpaceTable.{IsSpaceTable};
 ghost use Rattle.tg_space.specs.Collection.{new_place};
+ghost use Rattle.tg_space.specs.Numbering.{IsNumbered, followed_place, followed_word};
 ghost use Rattle.tg_space.specs.Targets.{from_space};
 ghost use Rattle.tg_word.specs.Word.{place_in};
 ghost use Rattle.tg_word.specs.declared.Place.{Place as PlaceOf};
-ghost use Rattle.tg_rows.specs.Index.{AreAged, AreFollowed, AreMovedToOld, AreStarts, IsAged, IsFollowable, IsFollowedTo, IsLeftBehind, IsMarked, IsNumbered, IsOldPlace, IsOldRow, followed_place, followed_word, known_notes, number_by};
+ghost use Rattle.tg_rows.specs.Index.{AreAged, AreFollowed, AreMovedToOld, IsAged, IsFollowable, IsFollowedTo, IsLeftBehind, IsMarked, IsOldPlace, IsOldRow, known_notes};
 ghost use Rattle.tg_rows.specs.Inner.Followed.{CanFollow, CanFollowCells, CanMark, KeepsMarks};
 ghost use Rattle.tg_rows.specs.declared.indexed_row.IndexedRow.{IndexedRow as RowOf};
 
@@ -23,18 +22,8 @@ use indexmap::IndexMap;
 use std::alloc::AllocError;
 use tg_index::NumberSet;
 use tg_remember::Remembered;
-use tg_space::{Forwarding, Kind, Spaces};
-use tg_word::{CELLS, SPACES, number_of, nursery_space, place_of};
-
-// How many spaces there may be.
-const MOST_SPACES: usize = SPACES as usize;
-
-/// How many blocks stood before each space of a heap, from which the numbers of its cells come. A collection may then
-/// put other blocks in their place.
-#[derive(Drop)]
-pub struct Numbering {
-    starts: [u64; MOST_SPACES],
-}
+use tg_space::{Kind, Moves};
+use tg_word::place_of;
 
 // What became of a row in a collection.
 #[derive(Clone, Copy)]
@@ -47,96 +36,35 @@ enum Fate {
     Old,
 }
 
-impl Numbering {
-    /// The numbers of the cells as they are now. Takes no memory.
-    pub fn of(spaces: &Spaces) -> Numbering
-        ensures starts { AreStarts result.starts spaces.now.spaces }
-        ensures table { IsSpaceTable spaces.now }
-        ensures few { length (cells_of spaces.now.spaces) ≤ 2 ^ 64 }
-    {
-        // It tells what holds of all spaces, and that their cells are few.
-        let _ = spaces.cells();
-        let mut starts = [0; MOST_SPACES];
-        let mut before = 0;
-        for space in 0..spaces.nurseries() + nursery_space(0) {
-            starts[space as usize] = before;
-            before += spaces.len(space);
-        }
-        Numbering { starts }
-    }
-
-    // The number of the cell that a word names.
-    #[inline(always)]
-    fn number(&self, word: u64) -> u64
-        requires space { (place_in word).space < length self.now.starts }
-        requires few { number_by self.now.starts (place_in word) < 2 ^ 64 }
-        ensures { result ≡ number_by self.now.starts (place_in word) }
-    {
-        let space = place_of(word).space;
-        CELLS * self.starts[space as usize] + number_of(word)
-    }
-
-    // A word of where a collection of this kind has the cell that a word names.
-    #[inline(always)]
-    fn followed(&self, kind: Kind, forward: &Forwarding, word: u64) -> u64
-        requires { IsNumbered self.now.starts (length forward.now.words) (place_in word) }
-        ensures { result ≡ followed_word (from_space kind) self.now.starts forward.now.words word }
-    {
-        if kind.moves(place_of(word).space) {
-            forward.word(self.number(word))
-        } else {
-            word
-        }
-    }
-
-    // Each of these words becomes one of where a collection of this kind has the cell.
-    fn follow(&self, kind: Kind, forward: &Forwarding, words: &mut [u64])
-        requires { All (λ word. IsNumbered self.now.starts (length forward.now.words) (place_in word)) words.old }
-        ensures { words.new ≡ map (followed_word (from_space kind) self.now.starts forward.now.words) words.old }
-    {
-        for word in words.iter_mut() {
-            *word = self.followed(kind, forward, *word);
-        }
-    }
-}
-
 impl LongRows {
     /// Each index becomes that of the row's copy, and goes where a collection of this kind left the row behind. A
     /// nursery collection looks at those rows alone that may have young or remembered cells, and only at these cells.
     /// Cells have the numbers that they had before it. The cells that are to be remembered are in `noted`. It asks for
     /// memory for marks alone, and does without it where that is refused.
-    pub fn follow(
-        &mut self,
-        numbering: &Numbering,
-        kind: Kind,
-        forward: &Forwarding,
-        noted: &Remembered,
-    )
-        requires rows { (name : ℕ) (row : RowOf) → lookup (nat_eq name) self.old.entries ≡ Some row → IsFollowable numbering.now.starts (length forward.now.words) (known_notes kind noted.now.places) row }
-        requires to_old { AreMovedToOld kind forward.now.words }
-        ensures { AreFollowed kind numbering.now.starts forward.now.words noted.now.places self.old.entries self.new.entries }
+    pub fn follow(&mut self, moves: Moves, noted: &Remembered)
+        requires rows { (name : ℕ) (row : RowOf) → lookup (nat_eq name) self.old.entries ≡ Some row → IsFollowable moves.numbering.now.starts (length moves.forward.now.words) (known_notes moves.kind noted.now.places) row }
+        requires to_old { AreMovedToOld moves.kind moves.forward.now.words }
+        ensures { AreFollowed moves.entry.kind moves.entry.numbering.now.starts moves.entry.forward.now.words noted.now.places self.old.entries self.new.entries }
     {
-        let old = match kind {
+        let old = match moves.kind {
             Kind::Full => 0,
             Kind::Nursery => self.old_rows,
         };
-        self.old_rows = follow_rows(numbering, kind, forward, noted, &mut self.indexes, old);
+        self.old_rows = follow_rows(moves, noted, &mut self.indexes, old);
     }
 }
 
 // Follows the rows behind the first `old` ones. The answer is how many lie in Old whole now.
 fn follow_rows(
-    numbering: &Numbering,
-    kind: Kind,
-    forward: &Forwarding,
+    moves: Moves,
     noted: &Remembered,
     rows: &mut IndexMap<u64, IndexedRow>,
     first: usize,
 ) -> usize
-    requires rows { (name : ℕ) (row : RowOf) → lookup (nat_eq name) rows.old.entries ≡ Some row → CanFollow kind numbering.now.starts forward.now.words noted.now.places row }
+    requires rows { (name : ℕ) (row : RowOf) → lookup (nat_eq name) rows.old.entries ≡ Some row → CanFollow moves.kind moves.numbering.now.starts moves.forward.now.words noted.now.places row }
     requires aged { AreAged rows.old.entries first }
-    requires full { kind ≡ Kind.Full → first ≡ 0 }
-    ensures followed { AreFollowed kind numbering.now.starts forward.now.words noted.now.places rows.old.entries rows.new.entries }
+    requires full { moves.kind ≡ Kind.Full → first ≡ 0 }
+    ensures followed { AreFollowed moves.entry.kind moves.entry.numbering.now.starts moves.entry.forward.now.words noted.now.places rows.old.entries rows.new.entries }
     ensures aged { AreAged rows.new.entries result }
 {
     // It tells that no name stands there twice.
@@ -144,7 +72,7 @@ fn follow_rows(
     let mut old = first;
     let mut i = first;
     while i < rows.len() {
-        match follow_row_at(numbering, kind, forward, noted, rows, i) {
+        match follow_row_at(moves, noted, rows, i) {
             Fate::Gone => drop(rows.swap_remove_index(i)),
             Fate::Young => i += 1,
             Fate::Old => {
@@ -159,46 +87,38 @@ fn follow_rows(
 
 // The index at a place of the map becomes that of the row's copy, unless the row was left behind.
 fn follow_row_at(
-    numbering: &Numbering,
-    kind: Kind,
-    forward: &Forwarding,
+    moves: Moves,
     noted: &Remembered,
     rows: &mut IndexMap<u64, IndexedRow>,
     at: usize,
 ) -> Fate
     requires inside { at < index_map_len rows.old }
-    requires can { (row : RowOf) → slice_get (values rows.old) at ≡ Some row → CanFollow kind numbering.now.starts forward.now.words noted.now.places row }
+    requires can { (row : RowOf) → slice_get (values rows.old) at ≡ Some row → CanFollow moves.kind moves.numbering.now.starts moves.forward.now.words noted.now.places row }
     ensures { (row followed : RowOf) × (slice_get (values rows.old) at ≡ Some row) × (rows.new.entries ≡ set_value_at rows.old.entries at followed)
-        × (result ≢ Fate.Gone → IsFollowedTo kind numbering.now.starts forward.now.words row followed) × IsAged followed × (result ≡ Fate.Old → IsOldRow followed) × (result ≢ Fate.Gone → IsMarked noted.now.places followed)
-        × (result ≡ Fate.Gone → IsLeftBehind kind numbering.now.starts forward.now.words row) }
+        × (result ≢ Fate.Gone → IsFollowedTo moves.entry.kind moves.entry.numbering.now.starts moves.entry.forward.now.words row followed) × IsAged followed × (result ≡ Fate.Old → IsOldRow followed) × (result ≢ Fate.Gone → IsMarked noted.now.places followed)
+        × (result ≡ Fate.Gone → IsLeftBehind moves.entry.kind moves.entry.numbering.now.starts moves.entry.forward.now.words row) }
 {
     match rows.get_index_mut(at) {
-        Some(row) => follow_row(numbering, kind, forward, noted, row),
+        Some(row) => follow_row(moves, noted, row),
         None => unreachable!(),
     }
 }
 
 // The index becomes that of the row's copy, unless the row was left behind.
-fn follow_row(
-    numbering: &Numbering,
-    kind: Kind,
-    forward: &Forwarding,
-    noted: &Remembered,
-    row: &mut IndexedRow,
-) -> Fate
-    requires { CanFollow kind numbering.now.starts forward.now.words noted.now.places row.old }
-    ensures gone { result ≡ Fate.Gone → IsLeftBehind kind numbering.now.starts forward.now.words row.old }
-    ensures followed { result ≢ Fate.Gone → IsFollowedTo kind numbering.now.starts forward.now.words row.old row.new }
+fn follow_row(moves: Moves, noted: &Remembered, row: &mut IndexedRow) -> Fate
+    requires { CanFollow moves.kind moves.numbering.now.starts moves.forward.now.words noted.now.places row.old }
+    ensures gone { result ≡ Fate.Gone → IsLeftBehind moves.entry.kind moves.entry.numbering.now.starts moves.entry.forward.now.words row.old }
+    ensures followed { result ≢ Fate.Gone → IsFollowedTo moves.entry.kind moves.entry.numbering.now.starts moves.entry.forward.now.words row.old row.new }
     ensures aged { IsAged row.new }
     ensures old { result ≡ Fate.Old → IsOldRow row.new }
     ensures marked { result ≢ Fate.Gone → IsMarked noted.now.places row.new }
 {
     let object = row.cells.first_word();
-    if kind.moves(place_of(object).space) && forward.word(numbering.number(object)) == 0 {
+    if moves.kind.moves(place_of(object).space) && moves.forwarding_word(object) == 0 {
         return Fate::Gone;
     }
-    forget_moved(kind, row);
-    let old = follow_cells(numbering, kind, forward, &mut row.cells, row.old_cells);
+    forget_moved(moves.kind, row);
+    let old = follow_cells(moves, &mut row.cells, row.old_cells);
     forget_unnoted(noted, row);
     mark_noted(noted, row, old);
     if row.old_cells < row.cells.len() || row.noted.next(0).is_some() {
@@ -225,22 +145,26 @@ fn forget_moved(kind: Kind, row: &mut IndexedRow)
 
 // Follows the cells behind the first ones, which stay where they are. The answer is how many of the first lie in Old
 // now.
-fn follow_cells(
-    numbering: &Numbering,
-    kind: Kind,
-    forward: &Forwarding,
-    cells: &mut RowCells,
-    first: usize,
-) -> usize
-    requires { CanFollowCells kind numbering.now.starts forward.now.words first cells.old.items }
-    ensures moved { cells.new.items ≡ map (followed_place (from_space kind) numbering.now.starts (new_place forward.now.words)) cells.old.items }
+fn follow_cells(moves: Moves, cells: &mut RowCells, first: usize) -> usize
+    requires { CanFollowCells moves.kind moves.numbering.now.starts moves.forward.now.words first cells.old.items }
+    ensures moved { cells.new.items ≡ map (followed_place (from_space moves.entry.kind) moves.entry.numbering.now.starts (new_place moves.entry.forward.now.words)) cells.old.items }
     ensures from { first ≤ result }
     ensures within { result ≤ length cells.new.items }
     ensures old { All IsOldPlace (take result cells.new.items) }
 {
     let (_, young) = cells.words.split_at_mut(first);
-    numbering.follow(kind, forward, young);
-    first + count_moved(kind, young)
+    follow_words(moves, young);
+    first + count_moved(moves.kind, young)
+}
+
+// Each of these words becomes one of where the collection has the cell.
+fn follow_words(moves: Moves, words: &mut [u64])
+    requires { All (λ word. IsNumbered moves.numbering.now.starts (length moves.forward.now.words) (place_in word)) words.old }
+    ensures { words.new ≡ map (followed_word (from_space moves.entry.kind) moves.entry.numbering.now.starts moves.entry.forward.now.words) words.old }
+{
+    for word in words.iter_mut() {
+        *word = moves.link(*word);
+    }
 }
 
 // How many of the first of these cells lie in Old, where a collection of this kind has them: all after a full one.

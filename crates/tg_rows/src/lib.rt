@@ -41,7 +41,6 @@ mod row_cells;
 mod rows;
 
 pub use cells::{Cells, Found, VertexRefused};
-pub use followed::Numbering;
 pub use indexed_row::IndexedRow;
 pub use indexes::LongRows;
 pub use row_cells::RowCells;

@@ -4,7 +4,8 @@ use Rattle.std.specs.List.{All}
 use Rattle.tg_word.specs.declared.Place.{Place}
 use Rattle.tg_space.specs.declared.kind.Kind.{Kind}
 use Rattle.tg_space.specs.declared.kind.Kind.TheVariants.{Full}
-use Rattle.tg_rows.specs.Index.{AreMovedToOld, IsFollowable, IsMarked, IsNumbered, IsOldPlace, known_notes}
+use Rattle.tg_space.specs.Numbering.{IsNumbered}
+use Rattle.tg_rows.specs.Index.{AreMovedToOld, IsFollowable, IsMarked, IsOldPlace, known_notes}
 use Rattle.tg_rows.specs.declared.indexed_row.IndexedRow.{IndexedRow}
 
 -- the index of a row may be followed through a collection of this kind, after which these cells are to be remembered

@@ -5,18 +5,17 @@ use Rattle.tg_word.specs.declared.Place.{Place}
 use Rattle.tg_space.specs.Collection.{new_place}
 use Rattle.tg_space.specs.Targets.{from_space}
 use Rattle.tg_rows.specs.Inner.Cells.{CellList}
-use Rattle.tg_rows.specs.Index.{IsNumbered, IsOldPlace}
+use Rattle.tg_space.specs.Numbering.{IsNumbered}
+use Rattle.tg_rows.specs.Index.{IsOldPlace}
 use Rattle.tg_rows.proofs.Marked.{marked_moved}
-use Rattle.std.specs.Prelude.{slice_index}
 use Rattle.std.proofs.lemmas.Option.{get_or_from_slice_get}
 use Rattle.tg_rows.proofs.FollowedRows.{old_or_gone}
 use Rattle.tg_rows.proofs.followed.follow_row.Goals as goal
 
--- the object of the row has a number
-numbered : (c : goal.Then-moves) → IsNumbered c.args.numbering.now.starts (length c.args.forward.now.words) (place_in c.first_word-object.result)
-numbered c =
+pub forwarding_word-requires : goal.forwarding_word-requires
+forwarding_word-requires c =
     let object = place_in c.first_word-object.result in
-    subst (IsNumbered c.args.numbering.now.starts (length c.args.forward.now.words)) (get_or_from_slice_get c.args.row.now.cells.items 0 object object c.first_word-object.ensures) (c.requires.able.numbered 0 object c.requires.able.some)
+    subst (IsNumbered c.args.moves.numbering.now.starts (length c.args.moves.forward.now.words)) (get_or_from_slice_get c.args.row.now.cells.items 0 object object c.first_word-object.ensures) (c.requires.able.numbered 0 object c.requires.able.some)
 
 pub follow_cells-old-requires : goal.follow_cells-old-requires
 follow_cells-old-requires c =
@@ -25,7 +24,7 @@ follow_cells-old-requires c =
 
 pub forget_unnoted-requires : goal.forget_unnoted-requires
 forget_unnoted-requires c =
-    marked_moved c.args.kind c.args.numbering.now.starts (new_place c.args.forward.now.words) c.args.noted.now.places c.forget_moved.new.row _ (c.forget_moved.ensures.marked c.args.noted.now.places c.requires.able.marked) c.forget_moved.ensures.full
+    marked_moved c.args.moves.kind c.args.moves.numbering.now.starts (new_place c.args.moves.forward.now.words) c.args.noted.now.places c.forget_moved.new.row _ (c.forget_moved.ensures.marked c.args.noted.now.places c.requires.able.marked) c.forget_moved.ensures.full
     c.follow_cells-old.ensures.moved refl refl
 
 pub mark_noted-requires : goal.mark_noted-requires
@@ -40,17 +39,14 @@ mark_noted-requires c =
       old = subst (λ (v : CellList). All IsOldPlace (take c.follow_cells-old.result v.items)) same first.old;
     }
 
-pub returns-then-word-eq0-clause-old : goal.returns-then-word-eq0-clause-old
-returns-then-word-eq0-clause-old c = λ is. absurd (old_or_gone (sym is))
+pub returns-then-forwarding_word-eq0-clause-old : goal.returns-then-forwarding_word-eq0-clause-old
+returns-then-forwarding_word-eq0-clause-old c = λ is. absurd (old_or_gone (sym is))
 
-pub number-requires : goal.number-requires
-number-requires c = record { space = (numbered c).space; few = let inside = (numbered c).inside in let few = (numbered c).few in omega (arith, inside, few) }
-
-pub returns-then-word-eq0-clause-gone : goal.returns-then-word-eq0-clause-gone
-returns-then-word-eq0-clause-gone c =
+pub returns-then-forwarding_word-eq0-clause-gone : goal.returns-then-forwarding_word-eq0-clause-gone
+returns-then-forwarding_word-eq0-clause-gone c =
     λ same. record {
       object = place_in c.first_word-object.result;
       first = c.first_word-object.ensures;
-      moves = ap (λ (p : Place). from_space c.args.kind p.space) (sym c.place_of.ensures) ∙ sym c.moves.ensures ∙ c.if-moves.true;
-      uncopied = ap (slice_index c.args.forward.now.words) (sym c.number.ensures) ∙ sym c.word.ensures ∙ c.if-word-eq0.true;
+      moves = ap (λ (p : Place). from_space c.args.moves.kind p.space) (sym c.place_of.ensures) ∙ sym c.moves.ensures ∙ c.if-moves.true;
+      uncopied = sym c.forwarding_word.ensures ∙ c.if-forwarding_word-eq0.true;
     }

@@ -27,32 +27,26 @@ row-init c =
     (list_begins h c.args.from c.cells-left.result c.new-names.result.items (map place_in c.new-words.result.items) c.requires.row c.cells-left.ensures.cells c.new-names.ensures.items (ap (map place_in) c.new-words.ensures.items))
 
 pub words-cell-requires : goal.words-cell-requires
-words-cell-requires c = rw c.place_of.ensures c.row.invariant.row.held
+words-cell-requires c = rw c.place_of.ensures c.row.invariant.0.row.held
 
 pub push_names-requires : goal.push_names-requires
 push_names-requires c =
     let h = c.args.spaces.now.spaces in
     let at = place_in c.row.word in
     let references : All (IsReference h) (references_of (cell_at h at)) =
-    references_at h (table_list c.args.spaces.now c.cells-left.ensures.table) [] c.requires.sound at c.row.invariant.row.held in
+    references_at h (table_list c.args.spaces.now c.cells-left.ensures.table) [] c.requires.sound at c.row.invariant.0.row.held in
     subst (All (IsReference h)) (sym (slice_is h at c.words-cell.result.now c.first_pointer-first.result (c.words-cell.ensures.words ∙ ap (cell_at h) c.place_of.ensures) c.first_pointer-first.ensures.word)) references
 
 -- the word of one more cell
 one_more : (words more : List ℕ) (word : ℕ) → more ≡ words ++ word ∷ [] → map place_in more ≡ map place_in words ++ place_in word ∷ []
 one_more words more word pushed = ap (map place_in) pushed ∙ map-append place_in words (word ∷ [])
 
-pub returns-then-cell-eq0-clause-names : goal.returns-then-cell-eq0-clause-names
-returns-then-cell-eq0-clause-names c =
+pub returns-then-cell-eq0 : goal.returns-then-cell-eq0
+returns-then-cell-eq0 c =
     let h = c.args.spaces.now.spaces in
-    (list_ends h c.args.from (place_in c.row.word) c.row.left c.row.names.items c.push_names.new.names.items (map place_in c.row.words.items) (map place_in c.push.new.self.items) c.words-cell.result.now c.first_pointer-first.result
-    (c.words-cell.ensures.words ∙ ap (cell_at h) c.place_of.ensures) c.first_pointer-first.ensures.word c.row.invariant c.in_ok-push_names.ensures (one_more c.row.words.items c.push.new.self.items c.row.word c.in_ok-push.ensures.items) c.if-cell-eq0.true).0
-
-pub returns-then-cell-eq0-clause-cells : goal.returns-then-cell-eq0-clause-cells
-returns-then-cell-eq0-clause-cells c =
-    let h = c.args.spaces.now.spaces in
-    c.of_words.ensures
-    ∙ (list_ends h c.args.from (place_in c.row.word) c.row.left c.row.names.items c.push_names.new.names.items (map place_in c.row.words.items) (map place_in c.push.new.self.items) c.words-cell.result.now c.first_pointer-first.result
-    (c.words-cell.ensures.words ∙ ap (cell_at h) c.place_of.ensures) c.first_pointer-first.ensures.word c.row.invariant c.in_ok-push_names.ensures (one_more c.row.words.items c.push.new.self.items c.row.word c.in_ok-push.ensures.items) c.if-cell-eq0.true).1
+    let ends = list_ends h c.args.from (place_in c.row.word) c.row.left c.row.names.items c.push_names.new.names.items (map place_in c.row.words.items) (map place_in c.push.new.self.items) c.words-cell.result.now c.first_pointer-first.result
+    (c.words-cell.ensures.words ∙ ap (cell_at h) c.place_of.ensures) c.first_pointer-first.ensures.word c.row.invariant c.in_ok-push_names.ensures (one_more c.row.words.items c.push.new.self.items c.row.word c.in_ok-push.ensures.items) c.if-cell-eq0.true in
+    record { names = ends.0; cells = c.of_words.ensures ∙ ends.1 }
 
 pub row-preserved : goal.row-preserved
 row-preserved c =

@@ -1,7 +1,8 @@
 use Rattle.std.proofs.Common.{◌≡◌, sym, ap, ◌∙◌, arith, get_or, length, subst, ⊎_elim}
 use Rattle.tg_rows.specs.Rows.{name_at}
 use Rattle.tg_rows.specs.Spots.{refers_to}
-use Rattle.tg_rows.proofs.Walks.{position_is, position_none, refers_is}
+use Rattle.tg_rows.proofs.Walks.{position_is, position_none}
+use Rattle.tg_rows.proofs.Slots.{same_test}
 use borrow.Author.Count.{falls}
 use Rattle.tg_space.specs.SpaceList.{Holds}
 use Rattle.tg_space.specs.Soundness.{RefersTo}
@@ -13,7 +14,7 @@ returns-then-read-name c =
     let words = c.args.words.now in
     let word = get_or words c.loop-k.k 0 in
     let named : name_at h c.place_of.result ≡ c.args.name = sym c.read.ensures ∙ c.if-read-name.true in
-    let here = refers_is h c.args.name word c.if-word-ne0.true (ap (name_at h) (sym c.place_of.ensures) ∙ named) in
+    let here = same_test h c.args.name word c.if-word-ne0.true (ap (name_at h) (sym c.place_of.ensures) ∙ named) in
     record { is = sym (position_is (refers_to h c.args.name) words c.loop-k.k 0 c.loop-k-test.true c.loop-k.invariant here); inside = c.loop-k-test.true }
 
 pub returns : goal.returns

@@ -4,20 +4,18 @@ use Rattle.std.proofs.lemmas.List.{length-set}
 use Rattle.tg_space.specs.SpaceList.{cell_at, space_of}
 use Rattle.tg_space.specs.SpaceTable.{SpaceTable}
 use Rattle.tg_space.specs.Generations.{AreRemembered}
-use Rattle.tg_space.proofs.Tables.{table_list}
+use Rattle.tg_space.proofs.Tables.{shape_cell, table_list}
 use Rattle.tg_model.specs.Graph.{without_rights}
 use Rattle.tg_rows.specs.Content.{IsNamed}
 use Rattle.tg_rows.specs.Graph.{content_in}
 use Rattle.tg_rows.specs.Rows.{name_at}
 use Rattle.tg_rows.specs.Spots.{narrowed, word_put}
 use Rattle.tg_rows.specs.Steps.{ChangesTo}
-use Rattle.tg_rows.proofs.Changes.{shape_kept}
 use Rattle.tg_rows.proofs.Layouts.{present_place}
 use Rattle.tg_rows.proofs.Finding.{found_refers, reference_found}
-use Rattle.tg_rows.proofs.Growing.{changes}
+use Rattle.tg_rows.proofs.Growing.{changes, nothing_dropped}
 use Rattle.tg_rows.proofs.Remembering.{narrowed_remembered}
 use Rattle.tg_rows.proofs.Putting.{can_write, narrowed_becomes}
-use Rattle.tg_rows.proofs.Narrowed.{nothing_dropped}
 use Rattle.tg_rows.proofs.cells.Cells.drop_rights.Goals as goal
 
 pub forget-requires : goal.forget-requires
@@ -70,7 +68,7 @@ returns-in-Reference-clause-taken g c =
           let reference = reference_found t.spaces c.args.from c.args.name cell c.in-Reference.index c.in-Reference.ensures.spot in
           let to = reference.to in
           let can = can_write t c.spot.ensures.table payloads c.requires.graph c.args.from c.requires.from cell c.in-Reference.index reference.cell (omega arith) in
-          let shape = shape_kept t.spaces list cell can.held (slice_set words c.in-Reference.index (narrowed word c.args.rights)) in
+          let shape = shape_cell t.spaces cell (slice_set words c.in-Reference.index (narrowed word c.args.rights)) can.held in
           ap (λ (x : SpaceTable). length (space_of x.spaces space)) c.narrow.ensures ∙ shape.blocks space;
     }
 

@@ -16,42 +16,30 @@ use Rattle.tg_rows.proofs.IndexedRows.{added_here, added_index, index_at, indexe
 use Rattle.std.proofs.lemmas.Bool.{false≢true}
 use Rattle.tg_rows.proofs.cells.Cells.follow.Goals as goal
 
-pub returns-in-Walk-clause-indexed : goal.returns-in-Walk-clause-indexed
-returns-in-Walk-clause-indexed g c =
+pub returns-in-Walk : goal.returns-in-Walk
+returns-in-Walk g c =
     let rows = c.args.rows.now in
     let b = c.requires in
     let ready : IsReadyShort b.old.spaces rows c.args.from = subst (λ (w : Way). IsReady b.old.spaces rows c.args.from w) c.in-Walk.is b.looked in
-    indexes_kept b.old.spaces c.args.self.now.spaces.spaces (behind_vertices b) c.args.from b.object (behind_others b) b.places c.args.self.now.remembered.places (behind_marked b) rows.entries b.indexed (name_at b.old.spaces c.args.from) refl
-    rows.entries refl ready.none
+    record {
+      indexed = indexes_kept b.old.spaces c.args.self.now.spaces.spaces (behind_vertices b) c.args.from b.object (behind_others b) b.places c.args.self.now.remembered.places (behind_marked b) rows.entries b.indexed (name_at b.old.spaces c.args.from) refl
+          rows.entries refl ready.none;
+      long = λ long. let grown = behind_grown b in let short = ready.short in absurd (omega (arith, grown, short, long));
+      names = may_index (name_at c.args.self.now.spaces.spaces c.args.from) rows.entries rows.entries (λ x. refl);
+    }
 
-pub returns-in-Walk-clause-long : goal.returns-in-Walk-clause-long
-returns-in-Walk-clause-long g c =
-    λ long.
-    let b = c.requires in
-    let ready : IsReadyShort b.old.spaces c.args.rows.now c.args.from = subst (λ (w : Way). IsReady b.old.spaces c.args.rows.now c.args.from w) c.in-Walk.is b.looked in
-    let grown = behind_grown b in
-    let short = ready.short in
-    absurd (omega (arith, grown, short, long))
-
-pub returns-in-Walk-clause-names : goal.returns-in-Walk-clause-names
-returns-in-Walk-clause-names g c = may_index (name_at c.args.self.now.spaces.spaces c.args.from) c.args.rows.now.entries c.args.rows.now.entries (λ x. refl)
-
-pub follow-requires-clause-put : goal.follow-requires-clause-put
-follow-requires-clause-put g c =
+pub follow-requires : goal.follow-requires
+follow-requires g c =
     let b = c.requires in
     let own = name_at b.old.spaces c.args.from in
     let es = c.rows.inside.indexes.entries in
     let inside = ready_there c.args.rows.now _ c.rows.view_is b.old.spaces c.args.from c.args.way c.in-Index.at c.in-Index.is b.looked in
     let indexed : AreIndexed b.old.spaces b.places es = subst (λ (s : Indexes). AreIndexed b.old.spaces b.places s.entries) (sym c.rows.view_is) b.indexed in
-    row_behind b c.in-Some.row.now
-    (index_at b.old.spaces b.payloads b.graph b.places es indexed c.args.from b.object own refl c.in-Some.row.now (row_there es own c.in-Index.at inside.here c.in-Some.row.now c.in-Some.ensures.value)).0
-
-pub follow-requires-clause-room : goal.follow-requires-clause-room
-follow-requires-clause-room g c =
-    let b = c.requires in
-    let own = name_at b.old.spaces c.args.from in
-    let inside = ready_there c.args.rows.now _ c.rows.view_is b.old.spaces c.args.from c.args.way c.in-Index.at c.in-Index.is b.looked in
-    subst HasRoomIn (sym (same_row c.rows.inside.indexes.entries own c.in-Index.at inside.here c.in-Some.row.now c.in-Some.ensures.value)) inside.room
+    record {
+      put = row_behind b c.in-Some.row.now
+          (index_at b.old.spaces b.payloads b.graph b.places es indexed c.args.from b.object own refl c.in-Some.row.now (row_there es own c.in-Index.at inside.here c.in-Some.row.now c.in-Some.ensures.value)).0;
+      room = subst HasRoomIn (sym (same_row es own c.in-Index.at inside.here c.in-Some.row.now c.in-Some.ensures.value)) inside.room;
+    }
 
 pub unreachable-requires : goal.unreachable-requires
 unreachable-requires g c =
@@ -72,35 +60,26 @@ invariant_of-rows g c =
     let aged = subst IsAged (sym (same_row es own c.in-Index.at inside.here c.in-Some.row.now c.in-Some.ensures.value)) (aged_at es c.rows.inside.old_rows c.rows.invariant own c.in-Index.at inside.here) in
     written_aged es (set_value_at es c.in-Index.at c.follow.new.self) c.rows.inside.old_rows c.in-Index.at low c.rows.invariant c.follow.new.self refl (c.follow.ensures.marks.aged aged) (inl inside.behind)
 
-pub returns-in-Some-clause-indexed : goal.returns-in-Some-clause-indexed
-returns-in-Some-clause-indexed g c =
+pub returns-in-Some : goal.returns-in-Some
+returns-in-Some g c =
     let b = c.requires in
     let own = name_at b.old.spaces c.args.from in
     let es = c.rows.inside.indexes.entries in
+    let rows = c.args.rows.now.entries in
     let new = c.follow.new.self in
     let inside = ready_there c.args.rows.now _ c.rows.view_is b.old.spaces c.args.from c.args.way c.in-Index.at c.in-Index.is b.looked in
     let indexed : AreIndexed b.old.spaces b.places es = subst (λ (s : Indexes). AreIndexed b.old.spaces b.places s.entries) (sym c.rows.view_is) b.indexed in
     let was_marked = (index_at b.old.spaces b.payloads b.graph b.places es indexed c.args.from b.object own refl c.in-Some.row.now (row_there es own c.in-Index.at inside.here c.in-Some.row.now c.in-Some.ensures.value)).1 in
     let marked = subst (λ (ps : List Place). IsMarked ps new) (sym b.put.remembered) (c.follow.ensures.marks.marked b.places was_marked) in
     let written = updates-with_value_at c.rows.inside.indexes c.in-Index.at new nat_eq_equiv c.get_index_mut.ensures.unique own inside.here.row inside.here.here in
-    indexes_written b.old.spaces c.args.self.now.spaces.spaces (behind_vertices b) c.args.from b.object (behind_others b) b.places c.args.self.now.remembered.places (behind_marked b) es indexed own refl
-    (set_value_at es c.in-Index.at new) new written.0 c.follow.ensures.index marked
-
-pub returns-in-Some-clause-long : goal.returns-in-Some-clause-long
-returns-in-Some-clause-long g c =
-    let b = c.requires in
-    let own = name_at b.old.spaces c.args.from in
-    let es = c.rows.inside.indexes.entries in
-    let inside = ready_there c.args.rows.now _ c.rows.view_is b.old.spaces c.args.from c.args.way c.in-Index.at c.in-Index.is b.looked in
-    let here = written_indexed es es c.in-Index.at c.follow.new.self (λ x. refl) own ∙ ap (λ (o : Option IndexedRow). is_some o) inside.here.found in
-    λ long. subst (λ n. indexed_in (set_value_at es c.in-Index.at c.follow.new.self) n ≡ true) (sym (behind_own b)) here
-
-pub returns-in-Some-clause-names : goal.returns-in-Some-clause-names
-returns-in-Some-clause-names g c =
-    let es = c.rows.inside.indexes.entries in
-    let rows = c.args.rows.now.entries in
     let first : SameIndexed rows es = subst (λ (s : Indexes). SameIndexed rows s.entries) (sym c.rows.view_is) (λ x. refl) in
-    may_index (name_at c.args.self.now.spaces.spaces c.args.from) rows (set_value_at es c.in-Index.at c.follow.new.self) (written_indexed rows es c.in-Index.at c.follow.new.self first)
+    let here = written_indexed es es c.in-Index.at new (λ x. refl) own ∙ ap (λ (o : Option IndexedRow). is_some o) inside.here.found in
+    record {
+      indexed = indexes_written b.old.spaces c.args.self.now.spaces.spaces (behind_vertices b) c.args.from b.object (behind_others b) b.places c.args.self.now.remembered.places (behind_marked b) es indexed own refl
+          (set_value_at es c.in-Index.at new) new written.0 c.follow.ensures.index marked;
+      long = λ long. subst (λ n. indexed_in (set_value_at es c.in-Index.at new) n ≡ true) (sym (behind_own b)) here;
+      names = may_index (name_at c.args.self.now.spaces.spaces c.args.from) rows (set_value_at es c.in-Index.at new) (written_indexed rows es c.in-Index.at new first);
+    }
 
 pub follow-requires-in-New : goal.follow-requires-in-New
 follow-requires-in-New g c =
@@ -111,37 +90,27 @@ follow-requires-in-New g c =
 pub name_of-requires : goal.name_of-requires
 name_of-requires g c = behind_object c.requires
 
-pub add-requires-clause-absent : goal.add-requires-clause-absent
-add-requires-clause-absent g c =
+pub add-requires : goal.add-requires
+add-requires g c =
     let b = c.requires in
     let ready = subst (λ (r : IndexedRow). IsReadyNew b.old.spaces c.args.rows.now c.args.from r) (sym c.into_inner-row.ensures) (subst (λ (w : Way). IsReady b.old.spaces c.args.rows.now c.args.from w) c.in-New.is b.looked) in
-    subst (λ n. lookup (nat_eq n) c.args.rows.now.entries ≡ None) (sym (c.name_of.ensures ∙ behind_own b)) ready.none
+    record {
+      absent = subst (λ n. lookup (nat_eq n) c.args.rows.now.entries ≡ None) (sym (c.name_of.ensures ∙ behind_own b)) ready.none;
+      aged = c.follow-in-New.ensures.marks.aged ready.aged;
+      room = ready.spare;
+    }
 
-pub add-requires-clause-aged : goal.add-requires-clause-aged
-add-requires-clause-aged g c =
-    let b = c.requires in
-    let ready = subst (λ (r : IndexedRow). IsReadyNew b.old.spaces c.args.rows.now c.args.from r) (sym c.into_inner-row.ensures) (subst (λ (w : Way). IsReady b.old.spaces c.args.rows.now c.args.from w) c.in-New.is b.looked) in
-    c.follow-in-New.ensures.marks.aged ready.aged
-
-pub add-requires-clause-room : goal.add-requires-clause-room
-add-requires-clause-room g c =
-    let b = c.requires in
-    let ready = subst (λ (r : IndexedRow). IsReadyNew b.old.spaces c.args.rows.now c.args.from r) (sym c.into_inner-row.ensures) (subst (λ (w : Way). IsReady b.old.spaces c.args.rows.now c.args.from w) c.in-New.is b.looked) in
-    ready.spare
-
-pub returns-in-New-clause-indexed : goal.returns-in-New-clause-indexed
-returns-in-New-clause-indexed g c =
+pub returns-in-New : goal.returns-in-New
+returns-in-New g c =
     let b = c.requires in
     let new = c.follow-in-New.new.self in
+    let rows = c.args.rows.now.entries in
+    let later = c.add.new.self.entries in
     let ready = subst (λ (r : IndexedRow). IsReadyNew b.old.spaces c.args.rows.now c.args.from r) (sym c.into_inner-row.ensures) (subst (λ (w : Way). IsReady b.old.spaces c.args.rows.now c.args.from w) c.in-New.is b.looked) in
     let marked = subst (λ (ps : List Place). IsMarked ps new) (sym b.put.remembered) (c.follow-in-New.ensures.marks.marked b.places (ready.marked b.places)) in
-    indexes_written b.old.spaces c.args.self.now.spaces.spaces (behind_vertices b) c.args.from b.object (behind_others b) b.places c.args.self.now.remembered.places (behind_marked b) c.args.rows.now.entries b.indexed
-    c.name_of.result (c.name_of.ensures ∙ behind_own b) c.add.new.self.entries new c.add.ensures c.follow-in-New.ensures.index marked
-
-pub returns-in-New-clause-long : goal.returns-in-New-clause-long
-returns-in-New-clause-long g c =
-    λ long. subst (λ n. indexed_in c.add.new.self.entries n ≡ true) c.name_of.ensures (added_here c.name_of.result c.args.rows.now.entries c.add.new.self.entries c.follow-in-New.new.self c.add.ensures)
-
-pub returns-in-New-clause-names : goal.returns-in-New-clause-names
-returns-in-New-clause-names g c =
-    subst (λ n. MayIndex n c.args.rows.now.entries c.add.new.self.entries) c.name_of.ensures (added_index c.name_of.result c.args.rows.now.entries c.add.new.self.entries c.follow-in-New.new.self c.add.ensures)
+    record {
+      indexed = indexes_written b.old.spaces c.args.self.now.spaces.spaces (behind_vertices b) c.args.from b.object (behind_others b) b.places c.args.self.now.remembered.places (behind_marked b) rows b.indexed
+          c.name_of.result (c.name_of.ensures ∙ behind_own b) later new c.add.ensures c.follow-in-New.ensures.index marked;
+      long = λ long. subst (λ n. indexed_in later n ≡ true) c.name_of.ensures (added_here c.name_of.result rows later new c.add.ensures);
+      names = subst (λ n. MayIndex n rows later) c.name_of.ensures (added_index c.name_of.result rows later new c.add.ensures);
+    }

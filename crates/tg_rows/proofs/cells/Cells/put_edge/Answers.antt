@@ -4,10 +4,9 @@ use Rattle.tg_nursery.specs.Allocation.{room_made_for}
 use Rattle.tg_rows.specs.Spots.{cells_for, note_for, table_put, with_note}
 use Rattle.tg_space.specs.SpaceTable.{SpaceTable}
 use Rattle.tg_rows.specs.Steps.{TakesOneCell}
-use Rattle.tg_rows.proofs.OneCell.{takes_one_cell}
+use Rattle.tg_rows.proofs.Growing.{takes_one_cell, added_can, added_changes, added_remembered, left, room, there}
 use Rattle.tg_word.specs.declared.Place.{Place}
 use Rattle.tg_space.specs.Targets.{young_spaces}
-use Rattle.tg_rows.proofs.Growing.{added_can, added_changes, added_remembered, left, room, there}
 use Rattle.tg_rows.proofs.Remembering.{AreNoted, cells_few, is_young, nothing_noted}
 use Rattle.tg_rows.specs.Rows.{name_at}
 use Rattle.tg_rows.specs.Graph.{IsOutOfCells}
@@ -21,14 +20,6 @@ use Rattle.tg_rows.proofs.Results.{ok_or_err}
 use Rattle.std.proofs.lemmas.Bool.{false≢true}
 use Rattle.tg_rows.proofs.cells.Cells.put_edge.Goals as goal
 
-pub returns-clause-one_cell : goal.returns-clause-one_cell
-returns-clause-one_cell g c =
-    let made = c.in_ok-make_room.ensures.room in
-    let can = added_can c.args.self.now.spaces c.make_room.new.self.spaces c.args.self.now.payloads c.requires.row.table made.table c.requires.row.graph (nursery_space c.args.nursery) c.cells.result c.requires.gift.nursery made.spaces
-    c.args.from c.requires.row.from (name_at c.args.self.now.spaces.spaces c.args.to) c.args.spot c.requires.row.spot made.left c.cells.ensures in
-    subst (λ (x : SpaceTable). TakesOneCell c.args.self.now.spaces x (nursery_space c.args.nursery)) (sym c.put.ensures)
-    (takes_one_cell c.args.self.now.spaces c.make_room.new.self.spaces (nursery_space c.args.nursery) c.cells.result c.args.spot c.args.rights c.args.to c.requires.gift.nursery (omega (arith, cells_few c.args.spot, c.cells.ensures)) made.spaces made.table can)
-
 pub returns-in_err-make_room-clause-had_room : goal.returns-in_err-make_room-clause-had_room
 returns-in_err-make_room-clause-had_room g c =
     λ left none.
@@ -38,44 +29,11 @@ returns-in_err-make_room-clause-had_room g c =
     let ok : false ≡ true = c.in_err-make_room.ensures.had_room (omega (arith, left, few, c.cells.ensures)) (c.note-note.ensures ∙ nothing) in
     absurd (false≢true ok)
 
-pub returns-clause-put : goal.returns-clause-put
-returns-clause-put g c =
-    let t = c.args.self.now.spaces in
-    let grown = c.make_room.new.self.spaces in
-    let payloads = c.args.self.now.payloads in
-    let space = nursery_space c.args.nursery in
-    let name = name_at t.spaces c.args.to in
-    let made = c.in_ok-make_room.ensures.room in
-    let wider = room t grown payloads c.requires.row.table made.table c.requires.row.graph space c.cells.result c.requires.gift.nursery made.spaces c.args.from c.requires.row.from name c.args.spot c.requires.row.spot made.left c.cells.ensures in
-    record {
-      ready = grown;
-      rows = wider.rows;
-      put = record {
-        payloads = payloads;
-        space = space;
-        to = c.args.to;
-        rights = c.args.rights;
-        young = young_spaces c.args.to.space;
-        table = made.table;
-        graph = wider.becomes.graph;
-        object = wider.rows.objects c.args.from c.requires.row.from;
-        found = there t grown payloads c.requires.row.table made.table c.requires.row.graph space c.cells.result c.requires.gift.nursery made.spaces c.args.from c.requires.row.from name c.args.spot c.requires.row.spot made.left c.cells.ensures;
-        nursery = (omega arith, subst (λ n. space < n) (sym wider.spaces) c.requires.gift.nursery);
-        left = left t grown payloads c.requires.row.table made.table c.requires.row.graph space c.cells.result c.requires.gift.nursery made.spaces c.args.from c.requires.row.from name c.args.spot c.requires.row.spot made.left c.cells.ensures;
-        target = record { object = wider.rows.objects c.args.to c.requires.gift.to; named = wider.rows.names c.args.to c.requires.gift.to };
-        some = c.requires.gift.some;
-        put = c.put.ensures;
-        noted = refl;
-      };
-      remembered = c.remember.ensures.noted ∙ ap (λ (ps : List Place). with_note ps c.note-note.result) c.make_room.ensures.room.remembered
-          ∙ ap (with_note c.args.self.now.remembered.places) (c.note-note.ensures ∙ ap (note_for c.args.spot) c.moves.ensures);
-    }
-
 pub make_room-requires : goal.make_room-requires
 make_room-requires g c = record { few = let few = c.requires.row.table.few in omega (arith, few, c.requires.gift.nursery); few_cells = omega (arith, cells_few c.args.spot, c.cells.ensures); nursery = c.requires.gift.nursery }
 
-pub returns-clause-edge : goal.returns-clause-edge
-returns-clause-edge g c =
+pub returns : goal.returns
+returns g c =
     let t = c.args.self.now.spaces in
     let grown = c.make_room.new.self.spaces in
     let payloads = c.args.self.now.payloads in
@@ -89,25 +47,54 @@ returns-clause-edge g c =
     let space = nursery_space c.args.nursery in
     let places = c.args.self.now.remembered.places in
     let later = c.remember.new.remembered.places in
-    let room : grown ≡ room_made_for t space (cells_for spot) = made.spaces ∙ ap (room_made_for t space) c.cells.ensures in
+    let made_now : grown ≡ room_made_for t space (cells_for spot) = made.spaces ∙ ap (room_made_for t space) c.cells.ensures in
+    let wider = room t grown payloads row.table made.table row.graph space c.cells.result gift.nursery made.spaces from row.from name spot row.spot made.left c.cells.ensures in
+    let can = added_can t grown payloads row.table made.table row.graph space c.cells.result gift.nursery made.spaces from row.from name spot row.spot made.left c.cells.ensures in
     record {
-      added = added_changes t grown payloads row.table made.table row.graph space c.cells.result gift.nursery made.spaces from row.from name spot row.spot made.left c.cells.ensures to gift.to refl c.args.rights gift.some (omega arith) c.put.new.spaces c.put.ensures;
-      payloads = c.make_room.ensures.payloads;
-      refused = tt;
-      full = λ is. absurd (ok_or_err _ _ is);
-      placed = record {
-        spot = spot;
-        found = row.spot;
-        put = c.put.ensures ∙ ap (λ (x : SpaceTable). table_put x space spot c.args.rights to) room;
-        noted = c.remember.ensures.noted ∙ ap (λ (ps : List Place). with_note ps c.note-note.result) c.make_room.ensures.room.remembered
-            ∙ ap (with_note places) (c.note-note.ensures ∙ ap (note_for spot) c.moves.ensures);
+      edge = record {
+        added = added_changes t grown payloads row.table made.table row.graph space c.cells.result gift.nursery made.spaces from row.from name spot row.spot made.left c.cells.ensures to gift.to refl c.args.rights gift.some (omega arith) c.put.new.spaces c.put.ensures;
+        payloads = c.make_room.ensures.payloads;
+        refused = tt;
+        full = λ is. absurd (ok_or_err _ _ is);
+        placed = record {
+          spot = spot;
+          found = row.spot;
+          put = c.put.ensures ∙ ap (λ (x : SpaceTable). table_put x space spot c.args.rights to) made_now;
+          noted = c.remember.ensures.noted ∙ ap (λ (ps : List Place). with_note ps c.note-note.result) c.make_room.ensures.room.remembered
+              ∙ ap (with_note places) (c.note-note.ensures ∙ ap (note_for spot) c.moves.ensures);
+        };
+        remembered = λ before.
+            let tells : to.space ≢ 0 → c.moves.result ≡ true = λ far. c.moves.ensures ∙ is_young to.space far in
+            let noted = subst (λ (o : Option Place). AreNoted places later o) c.note-note.ensures (subst (λ (ps : List Place). AreNoted ps later c.note-note.result) c.make_room.ensures.room.remembered c.remember.ensures.members) in
+            added_remembered t grown payloads row.table made.table row.graph space c.cells.result gift.nursery made.spaces from row.from name spot row.spot made.left c.cells.ensures
+            (omega arith) to gift.to c.args.rights c.moves.result tells places later noted c.put.new.spaces c.put.ensures before;
+        places = tt;
       };
-      remembered = λ before.
-          let tells : to.space ≢ 0 → c.moves.result ≡ true = λ far. c.moves.ensures ∙ is_young to.space far in
-          let noted = subst (λ (o : Option Place). AreNoted places later o) c.note-note.ensures (subst (λ (ps : List Place). AreNoted ps later c.note-note.result) c.make_room.ensures.room.remembered c.remember.ensures.members) in
-          added_remembered t grown payloads row.table made.table row.graph space c.cells.result gift.nursery made.spaces from row.from name spot row.spot made.left c.cells.ensures
-          (omega arith) to gift.to c.args.rights c.moves.result tells places later noted c.put.new.spaces c.put.ensures before;
-      places = tt;
+      had_room = λ _ _. refl;
+      put = record {
+        ready = grown;
+        rows = wider.rows;
+        put = record {
+          payloads = payloads;
+          space = space;
+          to = c.args.to;
+          rights = c.args.rights;
+          young = young_spaces c.args.to.space;
+          table = made.table;
+          graph = wider.becomes.graph;
+          object = wider.rows.objects c.args.from c.requires.row.from;
+          found = there t grown payloads c.requires.row.table made.table c.requires.row.graph space c.cells.result c.requires.gift.nursery made.spaces c.args.from c.requires.row.from name c.args.spot c.requires.row.spot made.left c.cells.ensures;
+          nursery = (omega arith, subst (λ n. space < n) (sym wider.spaces) c.requires.gift.nursery);
+          left = left t grown payloads c.requires.row.table made.table c.requires.row.graph space c.cells.result c.requires.gift.nursery made.spaces c.args.from c.requires.row.from name c.args.spot c.requires.row.spot made.left c.cells.ensures;
+          target = record { object = wider.rows.objects c.args.to c.requires.gift.to; named = wider.rows.names c.args.to c.requires.gift.to };
+          some = c.requires.gift.some;
+          put = c.put.ensures;
+          noted = refl;
+        };
+        remembered = c.remember.ensures.noted ∙ ap (λ (ps : List Place). with_note ps c.note-note.result) c.make_room.ensures.room.remembered
+            ∙ ap (with_note c.args.self.now.remembered.places) (c.note-note.ensures ∙ ap (note_for c.args.spot) c.moves.ensures);
+      };
+      one_cell = subst (λ (x : SpaceTable). TakesOneCell t x space) (sym c.put.ensures) (takes_one_cell t grown space c.cells.result spot c.args.rights to gift.nursery (omega (arith, cells_few spot, c.cells.ensures)) made.spaces made.table can);
     }
 
 pub returns-in_err-make_room-clause-edge : goal.returns-in_err-make_room-clause-edge

@@ -8,8 +8,7 @@ use Rattle.tg_space.specs.declared.room_fault.RoomFault.{RoomFault}
 use Rattle.tg_space.specs.Generations.{AreRemembered}
 use Rattle.tg_rows.specs.Graph.{IsOutOfCells}
 use Rattle.tg_rows.specs.Spots.{with_note}
-use Rattle.tg_rows.proofs.MadeVertices.{made_in_row}
-use Rattle.tg_rows.proofs.Growing.{found_placed, keeps_rows_then, left_over, made_room, object_placed, grown_graph, placed_can, still_fresh, vertex_made, vertex_remembered, vertex_there}
+use Rattle.tg_rows.proofs.Growing.{made_in_row, found_placed, keeps_rows_then, left_over, made_room, object_placed, grown_graph, placed_can, still_fresh, vertex_made, vertex_remembered, vertex_there}
 use Rattle.tg_rows.proofs.Remembering.{AreNoted, cells_few}
 use Rattle.tg_space.proofs.Tables.{table_list}
 use Rattle.tg_rows.proofs.Places.{held_place}

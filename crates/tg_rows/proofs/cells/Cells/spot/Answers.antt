@@ -4,7 +4,7 @@ use Rattle.tg_rows.specs.Index.{IsRowIndex}
 use Rattle.tg_rows.specs.declared.indexed_row.IndexedRow.{IndexedRow}
 use Rattle.tg_rows.specs.declared.indexes.Way.{Way}
 use Rattle.tg_rows.specs.declared.indexes.Way.TheVariants.{New}
-use Rattle.tg_rows.proofs.Looking.{index_looked, inside_looked, row_looked, there_looked}
+use Rattle.tg_rows.proofs.IndexedRows.{index_looked, inside_looked, row_looked, there_looked}
 use Rattle.tg_rows.proofs.cells.Cells.spot.Goals as goal
 
 pub index-requires : goal.index-requires

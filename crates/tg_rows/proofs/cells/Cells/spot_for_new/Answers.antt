@@ -6,7 +6,7 @@ use Rattle.tg_rows.specs.declared.indexes.Way.{Way}
 use Rattle.tg_rows.specs.declared.indexes.Way.TheVariants.{New}
 use Rattle.tg_space.proofs.Tables.{table_list}
 use Rattle.tg_rows.proofs.Finding.{fresh_lacks}
-use Rattle.tg_rows.proofs.Looking.{index_looked, inside_looked, row_looked, there_looked}
+use Rattle.tg_rows.proofs.IndexedRows.{index_looked, inside_looked, row_looked, there_looked}
 use Rattle.tg_rows.proofs.cells.Cells.spot_for_new.Goals as goal
 
 pub index-requires : goal.index-requires

@@ -1,7 +1,0 @@
-use Rattle.std.proofs.Common.{◌≡◌, ◌++◌, take, drop, map}
-use Rattle.tg_space.specs.Targets.{from_space}
-use Rattle.tg_rows.specs.Index.{followed_word}
-use Rattle.tg_rows.proofs.followed.Numbering.follow.Given as goal
-
-abbrev pub invariant-loop-word : goal.invariant-loop-word
-invariant-loop-word l = l.words ≡ map (followed_word (from_space l.kind) l.self.starts l.forward.words) (take l.word-index l.fn.words) ++ drop l.word-index l.fn.words
