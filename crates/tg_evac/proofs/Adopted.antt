@@ -1,20 +1,16 @@
 -- The cells of new blocks, where they are put in place.
-use Rattle.std.proofs.Common.{◌≡◌, ◌≢◌, ℕ, zero, suc, ◌<◌, ◌≤◌, ◌-◌, ◌⊎◌, ◌++◌, List, [], ◌∷◌, length, get_or, replicate, refl, ap, arith, ◌∙◌, inl, inr, ⊎_elim}
-use Rattle.std.specs.List.{Contains}
+use Rattle.std.proofs.Common.{◌≡◌, ◌≢◌, ℕ, suc, ◌<◌, ◌≤◌, ◌-◌, ◌⊎◌, ◌++◌, List, [], length, get_or, replicate, refl, ap, arith, ◌∙◌, inl, inr, ⊎_elim}
 use Rattle.std.proofs.lemmas.List.{length-append, get_or-append_right, get_or-replicate, get_or_past, length-replicate}
 use Rattle.std.proofs.lemmas.Bool.{cases_lt, cases_eq}
 use Rattle.tg_block.specs.Cells.{cell_of, free_cell}
 use Rattle.tg_word.specs.declared.Place.{Place}
-use Rattle.tg_word.specs.Word.{place_in}
 use Rattle.tg_space.specs.Collection.{IsNewPlace}
 use Rattle.tg_space.specs.Generations.{NamesYoung}
 use Rattle.tg_space.specs.SpaceList.{SpaceList, BlockList, space_of, cell_at}
 use Rattle.tg_space.specs.SpaceTable.{adopted, kept_blocks}
 use Rattle.tg_space.specs.declared.kind.Kind.{Kind}
 use Rattle.tg_space.specs.declared.kind.Kind.TheVariants.{Full, Nursery}
-use Rattle.tg_evac.specs.Win.{Win}
 use Rattle.tg_evac.specs.Copies.{IsPlaceIn, new_cell}
-use Rattle.tg_evac.proofs.Copying.{same_place}
 
 abbrev empties : ℕ → SpaceList
 empties n = replicate n []
@@ -90,26 +86,3 @@ module _ (h : SpaceList) (aged old : BlockList) (p : Place) where
 -- a free cell names no other
 pub free_is_not_young : NamesYoung free_cell → ⊥
 free_is_not_young names = absurd (let low = names.1.1 in omega arith)
-
--- ---- the pair of a place, if there is one
-
-same_or_not : (p q : Place) → (p ≡ q) ⊎ (p ≢ q)
-same_or_not p q = ⊎_elim
-    (λ (s : p.space ≡ q.space). ⊎_elim
-    (λ (b : p.block ≡ q.block). ⊎_elim (λ (c : p.cell ≡ q.cell). inl (same_place p q s b c)) (λ (n : p.cell ≢ q.cell). inr (λ e. n (ap (λ (x : Place). x.cell) e))) (cases_eq p.cell q.cell))
-    (λ (n : p.block ≢ q.block). inr (λ e. n (ap (λ (x : Place). x.block) e))) (cases_eq p.block q.block))
-    (λ (n : p.space ≢ q.space). inr (λ e. n (ap (λ (x : Place). x.space) e))) (cases_eq p.space q.space)
-
-pub find_place : (won : List Win) (p : Place) → ((w : Win) × Contains won w × (place_in w.word ≡ p)) ⊎ ((w : Win) → Contains won w → place_in w.word ≢ p)
-find_place [] p = inr (λ w held e. absurd (let low = held.1 in omega arith))
-find_place (v ∷ won) p = by_first (same_or_not (place_in v.word) p) (find_place won p)
-  where
-    rest_not : place_in v.word ≢ p → ((w : Win) → Contains won w → place_in w.word ≢ p) → (w : Win) (i : ℕ) → i < length (v ∷ won) → get_or (v ∷ won) i w ≡ w → place_in w.word ≢ p
-    rest_not first rest w zero low is e = first (ap (λ (x : Win). place_in x.word) is ∙ e)
-    rest_not first rest w (suc i) low is e = rest w (i, omega arith, is) e
-
-    by_first : (place_in v.word ≡ p) ⊎ (place_in v.word ≢ p) → ((w : Win) × Contains won w × (place_in w.word ≡ p)) ⊎ ((w : Win) → Contains won w → place_in w.word ≢ p) →
-        ((w : Win) × Contains (v ∷ won) w × (place_in w.word ≡ p)) ⊎ ((w : Win) → Contains (v ∷ won) w → place_in w.word ≢ p)
-    by_first (inl here) _ = inl (v, (0, omega arith, refl), here)
-    by_first (inr first) (inl found) = inl (found.0, (suc found.1.0, (let low = found.1.1 in omega arith), found.1.2), found.2)
-    by_first (inr first) (inr rest) = inr (λ w held e. rest_not first rest w held.0 held.1 held.2 e)

@@ -4,7 +4,7 @@ use Rattle.std.specs.List.{All, Contains, flat_map, take_while}
 use Rattle.std.proofs.lemmas.List.{append-nil, append_assoc}
 use Rattle.std.proofs.lemmas.List.Elements.{All-nil, All-cons, All-append, All-weaker, All-head, All-tail, All-contains_itself, Contains-append_left, Contains-append_right}
 use Rattle.std.proofs.lemmas.List.Sums.{take_while-cons}
-use Rattle.std.proofs.lemmas.Bool.Decides.{eqb_tells}
+use Rattle.std.proofs.lemmas.Bool.Decides.{eqb_tells, nat_tests}
 use Rattle.tg_word.specs.declared.Place.{Place}
 use Rattle.tg_word.specs.Word.{place_in}
 use Rattle.tg_space.specs.Rows.{chunks_from, link_at}
@@ -51,16 +51,10 @@ module _ (from : ℕ → Bool) (h : SpaceList) where
   chunks_none (suc most) link none = rw none refl
 
   stop : (p : Place) (rest : List Place) → from p.space ≡ true → flat_map (targets_at from h) (take_while (λ (q : Place). not (from q.space)) (p ∷ rest)) ≡ []
-  stop p rest moved =
-      let none : cond (not (from p.space)) (p ∷ take_while (λ (q : Place). not (from q.space)) rest) [] ≡ [] = rw moved refl in
-      let e : take_while (λ (q : Place). not (from q.space)) (p ∷ rest) ≡ [] = take_while-cons (λ (q : Place). not (from q.space)) p rest ∙ none in
-      ap (flat_map (targets_at from h)) e
+  stop p rest moved = rw (take_while-cons (λ (q : Place). not (from q.space)) p rest, moved) refl
 
   step : (p : Place) (rest : List Place) → from p.space ≡ false → flat_map (targets_at from h) (take_while (λ (q : Place). not (from q.space)) (p ∷ rest)) ≡ targets_at from h p ++ flat_map (targets_at from h) (take_while (λ (q : Place). not (from q.space)) rest)
-  step p rest kept =
-      let some : cond (not (from p.space)) (p ∷ take_while (λ (q : Place). not (from q.space)) rest) [] ≡ p ∷ take_while (λ (q : Place). not (from q.space)) rest = rw kept refl in
-      let e : take_while (λ (q : Place). not (from q.space)) (p ∷ rest) ≡ p ∷ take_while (λ (q : Place). not (from q.space)) rest = take_while-cons (λ (q : Place). not (from q.space)) p rest ∙ some in
-      ap (flat_map (targets_at from h)) e
+  step p rest kept = rw (take_while-cons (λ (q : Place). not (from q.space)) p rest, kept) refl
 
   pub chunks_moved : (most link : ℕ) → from (place_in link).space ≡ true → chunk_targets from h most link ≡ []
   chunks_moved zero link moved = refl
@@ -71,14 +65,9 @@ module _ (from : ℕ → Bool) (h : SpaceList) where
       by_test false = stop (place_in link) (chunks_from h most (link_at h (place_in link))) moved
 
   pub chunks_more : (most link : ℕ) → link ≢ 0 → from (place_in link).space ≡ false → chunk_targets from h (suc most) link ≡ targets_at from h (place_in link) ++ chunk_targets from h most (link_at h (place_in link))
-  chunks_more most link some kept = ⊎_elim
-      (λ (z : (link == 0 ≡ true) × (link ≡ 0)). absurd (some z.1))
-      (λ (n : (link == 0 ≡ false) × (link ≢ 0)). by_test (link == 0) n.0)
-      (eqb_tells link 0)
-    where
-      by_test : (b : Bool) → b ≡ false → flat_map (targets_at from h) (take_while (λ (q : Place). not (from q.space)) (cond b [] (place_in link ∷ chunks_from h most (link_at h (place_in link))))) ≡ targets_at from h (place_in link) ++ chunk_targets from h most (link_at h (place_in link))
-      by_test true isnt = absurd cc
-      by_test false isnt = step (place_in link) (chunks_from h most (link_at h (place_in link))) kept
+  chunks_more most link some kept =
+      let present : (link == 0) ≡ false = grind (arith, nat_tests) in
+      rw present (step (place_in link) (chunks_from h most (link_at h (place_in link))) kept)
 
   pub row_moved : (p : Place) → from p.space ≡ true → root_targets_of from h (Row p) ≡ flat_of h p ∷ []
   row_moved p moved = rw moved refl

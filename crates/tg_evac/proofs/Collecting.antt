@@ -1,14 +1,14 @@
 -- The copies of the won cells are a collection.
-use Rattle.std.proofs.Common.{◌≡◌, ◌≢◌, ◌↔◌, ℕ, ◌<◌, ◌≤◌, ◌+◌, ◌*◌, ◌^◌, ◌⊎◌, List, [], ◌∷◌, length, get_or, map, lit<, refl, sym, ap, subst, arith, ◌∙◌, inl, inr, ⊎_elim}
+use Rattle.std.proofs.Common.{◌≡◌, ◌≢◌, ◌↔◌, ℕ, ◌<◌, ◌≤◌, ◌+◌, ◌*◌, ◌^◌, ◌⊎◌, List, [], length, get_or, map, lit<, refl, sym, ap, subst, arith, ◌∙◌, inl, inr, ⊎_elim}
 use Rattle.std.specs.List.{All, Contains}
-use Rattle.std.proofs.lemmas.List.{length-map}
-use Rattle.std.proofs.lemmas.List.Elements.{All-contains, All-from_get_or, Contains-get_or}
+use Rattle.std.proofs.lemmas.List.{length-map, nil_from_length}
+use Rattle.std.proofs.lemmas.List.Elements.{All-contains, Contains-get_or}
 use Rattle.std.proofs.lemmas.Bool.{cases_eq}
 use Rattle.tg_block.specs.Cells.{IsBlock, free_cell}
 use Rattle.tg_word.specs.declared.Place.{Place}
 use Rattle.tg_word.specs.Word.{link_to, place_in}
 use Rattle.tg_space.specs.Closure.{IsInClosure}
-use Rattle.tg_space.specs.Collection.{AreFewBlocks, IsNewPlace, IsForwarded, IsMadeInOld, IsCollection, new_place}
+use Rattle.tg_space.specs.Collection.{AreFewBlocks, Collected, IsNewPlace, IsForwarded, IsMadeInOld, IsCollection, new_place}
 use Rattle.tg_space.specs.Generations.{AreInGenerations, NamesYoung}
 use Rattle.tg_space.specs.SpaceList.{SpaceList, BlockList, IsSpaceList, cell_at, cells_of}
 use Rattle.tg_space.specs.SpaceTable.{SpaceTable, IsSpaceTable, adopted, kept_blocks}
@@ -18,14 +18,14 @@ use Rattle.tg_space.specs.declared.kind.Kind.TheVariants.{Full, Nursery}
 use Rattle.tg_space.specs.declared.root.Root.{Root}
 use Rattle.tg_space.specs.declared.root.Root.TheVariants.{Remembered}
 use Rattle.tg_space.proofs.Tables.{table_list}
-use Rattle.tg_evac.specs.declared.plan.Plan.{Plan}
 use Rattle.tg_evac.specs.Win.{Win}
-use Rattle.tg_evac.specs.Claims.{Claimed, AreClaims, AreGivenInOrder, IsPlanFor, IsTracedFrom, StandsIn, AreTraced, AreWordsOf, cells_won, win_at, won_in}
+use Rattle.tg_evac.specs.Claims.{AreApart, Claimed, AreClaims, HasNewPlace, AreGivenInOrder, IsPlanFor, IsTracedFrom, StandsIn, AreTraced, AreWordsOf, cells_won, won_in}
 use Rattle.tg_evac.specs.Claimers.{copies_to}
-use Rattle.tg_evac.specs.Copies.{HasNewPlace, HoldCells, HoldCopies, IsPlaceIn, copy_of, moved_cell, new_cell}
-use Rattle.tg_evac.proofs.Claiming.{few_blocks, have_places, in_room, cell_held, win_from_cell, word_place, word_links, word_to, word_behind, cells_apart}
-use Rattle.tg_evac.proofs.Reasons.{all_in_old, are_aged, goes_to}
-use Rattle.tg_evac.proofs.InOrder.{copies_in_order, held_count, none_in_aged, none_young_block, words_old}
+use Rattle.tg_evac.specs.Copies.{HoldCells, HoldCopies, IsPlaceIn, copy_of, moved_cell, new_cell}
+use Rattle.tg_evac.proofs.Claiming.{apart_of, each_word, few_blocks, have_places, in_room, pair_of}
+use Rattle.tg_evac.proofs.Copying.{map_found, map_has}
+use Rattle.tg_evac.proofs.Reasons.{all_in_old, are_aged}
+use Rattle.tg_evac.proofs.InOrder.{copies_in_order, held_count, none_in_aged, none_young_block}
 use Rattle.tg_evac.proofs.Adopted.{old_place, aged_place, new_is}
 
 -- what the pairs of a whole collection are, whoever won them, and in whatever order
@@ -35,33 +35,51 @@ pub record AreWins (kind : Kind) (h : SpaceList) (roots : List Root) (forward : 
   pub traced : AreTraced kind h roots won
   pub reached : (n : ℕ) → Contains (cells_won won) n ↔ IsInClosure (all_root_targets (from_space kind) h roots) (targets_of (from_space kind) h) n
   pub places : All (HasNewPlace (kept_blocks kind h)) won
-  pub apart : (v w : Win) → Contains won v → Contains won w → v.word ≡ w.word → v.cell ≡ w.cell
+  pub apart : AreApart won
+
+-- the notes of these roots, and of these blocks of Old behind as many others
+abbrev pub AreNotes : Kind → SpaceList → List Root → List ℕ → ℕ → BlockList → List Place → Type 0
+AreNotes kind h roots forward kept old notes = (p : Place) → Contains notes p ↔ ((Contains roots (Remembered p) × NamesYoung (moved_cell kind h forward p)) ⊎ (IsPlaceIn 0 kept old p × NamesYoung (new_cell kept old p)))
 
 -- what their copies are, and what was noted
-pub record AreCopies (kind : Kind) (h : SpaceList) (roots : List Root) (forward : List ℕ) (won : List Win) (aged old : BlockList) (notes : List Place) : Type 0 where
-  pub aged_copies : HoldCopies 1 0 (copy_of kind h forward) won aged
-  pub old_copies : HoldCopies 0 (kept_blocks kind h) (copy_of kind h forward) won old
-  pub none_aged : kind ≡ Full → aged ≡ []
-  pub few : kept_blocks kind h + length old ≤ 2 ^ 20
-  pub noted : (p : Place) → Contains notes p ↔ ((Contains roots (Remembered p) × NamesYoung (moved_cell kind h forward p)) ⊎ (IsPlaceIn 0 (kept_blocks kind h) old p × NamesYoung (new_cell (kept_blocks kind h) old p)))
+pub record AreCopies (kind : Kind) (h : SpaceList) (roots : List Root) (won : List Win) (made : Collected) : Type 0 where
+  pub aged_copies : HoldCopies 1 0 (copy_of kind h made.forward) won made.aged
+  pub old_copies : HoldCopies 0 (kept_blocks kind h) (copy_of kind h made.forward) won made.old
+  pub none_aged : kind ≡ Full → made.aged ≡ []
+  pub few : kept_blocks kind h + length made.old ≤ 2 ^ 20
+  pub noted : AreNotes kind h roots made.forward (kept_blocks kind h) made.old made.notes
 
 -- only a nursery collection copies to Aged
-only_nursery : (kind : Kind) (h : SpaceList) (roots : List Root) (forward : List ℕ) (won : List Win) → All (StandsIn forward) won → AreTraced kind h roots won → (w : Win) → Contains won w → (place_in w.word).space ≡ 1 → kind ≡ Nursery
-only_nursery Full h roots forward won stand traced w held aged = absurd (let zero_is = all_in_old h roots won traced w held in omega arith)
-only_nursery Nursery h roots forward won stand traced w held aged = refl
+only_nursery : (kind : Kind) (h : SpaceList) (roots : List Root) (won : List Win) → AreTraced kind h roots won → (w : Win) → Contains won w → (place_in w.word).space ≡ 1 → kind ≡ Nursery
+only_nursery Full h roots won traced w held aged = absurd (let zero_is = all_in_old h roots won traced w held in omega arith)
+only_nursery Nursery h roots won traced w held aged = refl
 
 in_generations : (kind : Kind) (h : SpaceList) (roots : List Root) (forward : List ℕ) (won : List Win) → IsSpaceList h → AreWins kind h roots forward won → AreInGenerations kind h roots forward
 in_generations Full h roots forward won is are = λ c low some.
-    let found = are.words.every c (rw are.whole low) some in
-    let st : StandsIn forward found.0 = All-contains (StandsIn forward) won found.0 are.words.stand found.1 in
-    let to = all_in_old h roots won are.traced found.0 found.1 in
-    let goes = goes_to forward found.0 st in
-    record { some = some; there = ap (λ (n : ℕ). (place_in (get_or forward n 0)).space) (sym found.2) ∙ goes.there ∙ to }
+    let found = pair_of won forward are.words c (rw are.whole low) some in
+    record { some = some; there = ap (λ (n : ℕ). (place_in n).space) found.3 ∙ all_in_old h roots won are.traced found.0 found.1 }
 in_generations Nursery h roots forward won is are =
     are_aged h roots forward won is are.words (λ w held. (All-contains (HasNewPlace (kept_blocks Nursery h)) won w are.places held).two) are.traced are.whole
 
-module _ (kind : Kind) (h : SpaceList) (roots : List Root) (forward : List ℕ) (won : List Win) (aged old : BlockList) (notes : List Place)
-    (is : IsSpaceList h) (are : AreWins kind h roots forward won) (copies : AreCopies kind h roots forward won aged old notes) where
+-- in a full collection no copy in Old names a young cell
+pub none_young : (kind : Kind) (h : SpaceList) (roots : List Root) (forward : List ℕ) (won : List Win) → IsSpaceList h → AreWins kind h roots forward won → (old : BlockList) → HoldCopies 0 (kept_blocks kind h) (copy_of kind h forward) won old →
+    kind ≡ Full → (p : Place) → IsPlaceIn 0 (kept_blocks kind h) old p → NamesYoung (new_cell (kept_blocks kind h) old p) → ⊥
+none_young Full h roots forward won is are old hold full =
+    let words = each_word (λ (word : ℕ). (place_in word).space ≡ 0) refl won forward are.words (λ k d low. all_in_old h roots won are.traced (get_or won k d) (Contains-get_or won k d low)) in
+    none_young_block h forward (have_places 0 won forward are.words are.places) words won old is are.whole are.words.stand hold
+none_young Nursery h roots forward won is are old hold full = absurd cc
+
+module _ (kind : Kind) (h : SpaceList) (roots : List Root) (won : List Win) (made : Collected)
+    (is : IsSpaceList h) (are : AreWins kind h roots made.forward won) (copies : AreCopies kind h roots won made) where
+  abbrev forward : List ℕ
+  forward = made.forward
+
+  abbrev aged : BlockList
+  aged = made.aged
+
+  abbrev old : BlockList
+  old = made.old
+
   stands : (w : Win) → Contains won w → StandsIn forward w
   stands w held = All-contains (StandsIn forward) won w are.words.stand held
 
@@ -78,7 +96,7 @@ module _ (kind : Kind) (h : SpaceList) (roots : List Root) (forward : List ℕ) 
       let two = (place_of_win w held).two in
       let one : (place_in w.word).space ≡ 1 = omega arith in
       let has = copies.aged_copies.copied w held one in let there = aged_place h aged old (place_in w.word) has.place in
-      let nursery : Nursery ≡ kind = sym (only_nursery kind h roots forward won are.words.stand are.traced w held one) in
+      let nursery : Nursery ≡ kind = sym (only_nursery kind h roots won are.traced w held one) in
       let at : cell_at (adopted Nursery h aged old) (place_in w.word) ≡ copy_of kind h forward w.cell = there.1 ∙ has.words in (
         subst (λ (k : Kind). IsNewPlace k h aged old (place_in w.word)) nursery there.0,
         subst (λ (k : Kind). cell_at (adopted k h aged old) (place_in w.word) ≡ copy_of kind h forward w.cell) nursery at,
@@ -86,38 +104,35 @@ module _ (kind : Kind) (h : SpaceList) (roots : List Root) (forward : List ℕ) 
       (cases_eq (place_in w.word).space 0)
 
   -- the pair of a forwarded cell
-  pair_of : (c : ℕ) → IsForwarded h forward c → (w : Win) × Contains won w × (w.cell ≡ c) × (get_or forward c 0 ≡ w.word)
-  pair_of c fw =
-      let found = are.words.every c (rw are.whole fw.0) fw.1 in
-      (found.0, found.1, found.2, ap (λ (n : ℕ). get_or forward n 0) (sym found.2) ∙ (stands found.0 found.1).word)
+  pair : (c : ℕ) → IsForwarded h forward c → (w : Win) × Contains won w × (w.cell ≡ c) × (get_or forward c 0 ≡ w.word)
+  pair c fw = pair_of won forward are.words c (rw are.whole fw.0) fw.1
 
   reached_ok : (c : ℕ) → c < length (cells_of h) → get_or forward c 0 ≢ 0 ↔ IsInClosure (all_root_targets (from_space kind) h roots) (targets_of (from_space kind) h) c
   reached_ok c low = (
-    (λ ne. let found = pair_of c (low, ne) in (are.reached c).0 (subst (λ (n : ℕ). Contains (cells_won won) n) found.2 (cell_held won found.0 found.1))),
-    (λ r zero_is.
-        let found = win_from_cell won c ((are.reached c).1 r) in
+    (λ some. let found = pair c (low, some) in (are.reached c).0 (subst (λ (n : ℕ). Contains (cells_won won) n) found.2 (map_has (λ (w : Win). w.cell) won found.0 found.1))),
+    (λ r none.
+        let found = map_found (λ (w : Win). w.cell) won c ((are.reached c).1 r) in
         let st = stands found.0 found.1 in
-        let word : get_or forward c 0 ≡ found.0.word = ap (λ (n : ℕ). get_or forward n 0) (sym found.2) ∙ st.word in
-        st.some (sym word ∙ zero_is)),
+        st.some (sym st.word ∙ ap (λ (n : ℕ). get_or forward n 0) found.2 ∙ none)),
   )
 
   words_ok : (c : ℕ) → IsForwarded h forward c → get_or forward c 0 ≡ link_to (new_place forward c)
-  words_ok c fw = let found = pair_of c fw in found.3 ∙ (place_of_win found.0 found.1).link ∙ ap (λ (n : ℕ). link_to (place_in n)) (sym found.3)
+  words_ok c fw = let found = pair c fw in found.3 ∙ (place_of_win found.0 found.1).link ∙ ap (λ (n : ℕ). link_to (place_in n)) (sym found.3)
 
   placed_ok : (c : ℕ) → IsForwarded h forward c → IsNewPlace kind h aged old (new_place forward c)
   placed_ok c fw =
-      let found = pair_of c fw in
+      let found = pair c fw in
       subst (λ (n : ℕ). IsNewPlace kind h aged old (place_in n)) (sym found.3) (copy_stands found.0 found.1).0
 
   copied_ok : (c : ℕ) → IsForwarded h forward c → cell_at (adopted kind h aged old) (new_place forward c) ≡ image_of (from_space kind) h (new_place forward) (get_or (cells_of h) c [])
   copied_ok c fw =
-      let found = pair_of c fw in
+      let found = pair c fw in
       ap (λ (n : ℕ). cell_at (adopted kind h aged old) (place_in n)) found.3 ∙ (copy_stands found.0 found.1).1 ∙ ap (copy_of kind h forward) found.2
 
   apart_ok : (c d : ℕ) → IsForwarded h forward c → d < length (cells_of h) → get_or forward c 0 ≡ get_or forward d 0 → c ≡ d
   apart_ok c d fw low e =
       let other : IsForwarded h forward d = (low, λ z. fw.1 (e ∙ z)) in
-      let x = pair_of c fw in let y = pair_of d other in
+      let x = pair c fw in let y = pair d other in
       sym x.2 ∙ are.apart x.0 y.0 x.1 y.1 (sym x.3 ∙ e ∙ y.3) ∙ y.2
 
   -- no pair has a place to which no cell goes
@@ -136,10 +151,10 @@ module _ (kind : Kind) (h : SpaceList) (roots : List Root) (forward : List ℕ) 
 
   -- ---- notes
 
-  noted_ok : (p : Place) → Contains notes p ↔ ((words : List ℕ) × IsMadeInOld kind h roots forward aged old p words × NamesYoung words)
+  noted_ok : (p : Place) → Contains made.notes p ↔ ((words : List ℕ) × IsMadeInOld kind h roots forward aged old p words × NamesYoung words)
   noted_ok p = (forth, back)
     where
-      forth : Contains notes p → (words : List ℕ) × IsMadeInOld kind h roots forward aged old p words × NamesYoung words
+      forth : Contains made.notes p → (words : List ℕ) × IsMadeInOld kind h roots forward aged old p words × NamesYoung words
       forth held = ⊎_elim
           (λ root. (moved_cell kind h forward p, inr (root.0, refl), root.1))
           (λ copy.
@@ -147,7 +162,7 @@ module _ (kind : Kind) (h : SpaceList) (roots : List Root) (forward : List ℕ) 
           (cell_at (adopted kind h aged old) p, inl (there.0, copy.0.space, refl), subst (λ (ws : List ℕ). NamesYoung ws) (sym there.1) copy.1))
           ((copies.noted p).0 held)
 
-      back : ((words : List ℕ) × IsMadeInOld kind h roots forward aged old p words × NamesYoung words) → Contains notes p
+      back : ((words : List ℕ) × IsMadeInOld kind h roots forward aged old p words × NamesYoung words) → Contains made.notes p
       back made = ⊎_elim
           (λ copy. ⊎_elim
           (λ (in_old : IsPlaceIn 0 (kept_blocks kind h) old p).
@@ -157,7 +172,7 @@ module _ (kind : Kind) (h : SpaceList) (roots : List Root) (forward : List ℕ) 
           (λ root. (copies.noted p).1 (inl (root.0, subst (λ (ws : List ℕ). NamesYoung ws) root.1 made.2)))
           made.1
 
-  pub is_collection : IsCollection kind h roots forward aged old notes
+  pub is_collection : IsCollection kind h roots made
   is_collection = record {
     whole = are.whole;
     reached = reached_ok;
@@ -174,86 +189,93 @@ module _ (kind : Kind) (h : SpaceList) (roots : List Root) (forward : List ℕ) 
 
 -- ---- from the claims
 
-pub new_places : (c : Claimed) → AreClaims c → All (HasNewPlace c.plan.kept) c.won
-new_places c are = All-from_get_or (HasNewPlace c.plan.kept) c.won (win_at [] 0) (λ k low.
-    let held : Contains c.won (win_at c.won k) = Contains-get_or c.won k (win_at [] 0) low in
-    record {
-      place = word_place c are (win_at c.won k) held;
-      link = word_links c are (win_at c.won k) held;
-      two = word_to c are (win_at c.won k) held;
-      behind = word_behind c are (win_at c.won k) held;
-    })
+-- the claims of all that the roots reach
+pub record AreEnded (kind : Kind) (t : SpaceTable) (roots : List Root) (c : Claimed) : Type 0 where
+  pub table : IsSpaceTable t
+  pub plan : IsPlanFor kind t c.plan
+  pub claims : AreClaims c
+  pub traced : IsTracedFrom kind t.spaces roots c
 
-module _ (kind : Kind) (t : SpaceTable) (roots : List Root) (plan : Plan) (is_plan : IsPlanFor kind t plan) (table : IsSpaceTable t)
-    (c : Claimed) (claims : AreClaims c) (same : c.plan ≡ plan) (traced : IsTracedFrom kind t.spaces roots c) where
-  kept_is : c.plan.kept ≡ kept_blocks kind t.spaces
-  kept_is = ap (λ (p : Plan). p.kept) same ∙ is_plan.kept
+-- the blocks of Aged and of Old with the copies
+pub record AreFilled (kind : Kind) (h : SpaceList) (c : Claimed) (aged old : BlockList) : Type 0 where
+  pub aged_whole : All IsBlock aged
+  pub old_whole : All IsBlock old
+  pub in_aged : HoldCells (copies_to 1 kind h (new_place c.forward) c.won) aged
+  pub in_old : HoldCells (copies_to 0 kind h (new_place c.forward) c.won) old
 
+module _ (kind : Kind) (t : SpaceTable) (roots : List Root) (c : Claimed) (ended : AreEnded kind t roots c) where
+  abbrev claims : AreClaims c
+  claims = ended.claims
+
+  abbrev kept : ℕ
+  kept = kept_blocks kind t.spaces
+
+  kept_is : c.plan.kept ≡ kept
+  kept_is = ended.plan.kept
+
+  -- what they are, whoever won them
   wins : AreWins kind t.spaces roots c.forward c.won
   wins = record {
-    whole = traced.whole;
+    whole = ended.traced.whole;
     words = claims.words;
-    traced = traced.traced;
-    reached = traced.reached;
-    places = subst (λ (n : ℕ). All (HasNewPlace n) c.won) kept_is (new_places c claims);
-    apart = cells_apart c claims;
+    traced = ended.traced.traced;
+    reached = ended.traced.reached;
+    places = subst (λ (n : ℕ). All (HasNewPlace n) c.won) kept_is claims.places;
+    apart = apart_of c.won claims.apart;
   }
 
-  none_kept : kind ≡ Full → c.plan.kept ≡ 0
-  none_kept full = kept_is ∙ ap (λ (k : Kind). kept_blocks k t.spaces) full
+  -- there are few enough copies of either space
+  pub few_copies : (space : ℕ) → space < 2 → length (copies_to space kind t.spaces (new_place c.forward) c.won) ≤ 2 ^ 26
+  few_copies space two = rw length-map (in_room c claims space two)
 
-  module _ (aged old : BlockList) (aged_whole : All IsBlock aged) (old_whole : All IsBlock old)
-      (in_aged : HoldCells (copies_to 1 kind t.spaces (new_place c.forward) c.won) aged) (in_old : HoldCells (copies_to 0 kind t.spaces (new_place c.forward) c.won) old) where
+  module _ (aged old : BlockList) (filled : AreFilled kind t.spaces c aged old) where
     abbrev copy : ℕ → List ℕ
     copy = copy_of kind t.spaces c.forward
 
-    aged_count : 64 * length aged ≡ length (won_in 1 c.won) + in_aged.free
-    aged_count = held_count (map (λ (w : Win). copy w.cell) (won_in 1 c.won)) aged in_aged aged_whole ∙ ap (λ (n : ℕ). n + in_aged.free) (length-map (won_in 1 c.won) (λ (w : Win). copy w.cell))
+    -- the blocks have room for the copies and a few more
+    count_of : (space : ℕ) (blocks : BlockList) → All IsBlock blocks → (held : HoldCells (copies_to space kind t.spaces (new_place c.forward) c.won) blocks) → 64 * length blocks ≡ length (won_in space c.won) + held.free
+    count_of space blocks whole held =
+        held_count (map (λ (w : Win). copy w.cell) (won_in space c.won)) blocks held whole ∙ ap (λ (n : ℕ). n + held.free) (length-map (won_in space c.won) (λ (w : Win). copy w.cell))
 
-    old_count : 64 * length old ≡ length (won_in 0 c.won) + in_old.free
-    old_count = held_count (map (λ (w : Win). copy w.cell) (won_in 0 c.won)) old in_old old_whole ∙ ap (λ (n : ℕ). n + in_old.free) (length-map (won_in 0 c.won) (λ (w : Win). copy w.cell))
+    aged_count : 64 * length aged ≡ length (won_in 1 c.won) + filled.in_aged.free
+    aged_count = count_of 1 aged filled.aged_whole filled.in_aged
 
-    pub few : (space_blocks : ℕ) → c.plan.room ≡ 64 * space_blocks → AreFewBlocks space_blocks (kept_blocks kind t.spaces) 0 c.forward aged old
-    few space_blocks room = few_blocks c claims space_blocks (kept_blocks kind t.spaces) in_aged.free in_old.free room kept_is aged old aged_count in_aged.few old_count in_old.few
+    old_count : 64 * length old ≡ length (won_in 0 c.won) + filled.in_old.free
+    old_count = count_of 0 old filled.old_whole filled.in_old
 
-    pub aged_copies : HoldCopies 1 0 copy c.won aged
-    aged_copies = copies_in_order 1 0 (lit< tt) c.won (claims.in_order 1 (lit< tt)) (let room = in_room c claims 1 (lit< tt) in omega arith) copy aged aged_whole in_aged
+    pub few : (notes : List Place) → AreFewBlocks t.limits.space_blocks kept 0 (record { forward = c.forward; aged = aged; old = old; notes = notes })
+    few notes = few_blocks c claims t.limits.space_blocks kept filled.in_aged.free filled.in_old.free ended.plan.room kept_is aged old notes aged_count filled.in_aged.few old_count filled.in_old.few
 
-    old_copies : HoldCopies 0 (kept_blocks kind t.spaces) copy c.won old
+    aged_copies : HoldCopies 1 0 copy c.won aged
+    aged_copies = copies_in_order 1 0 (lit< tt) c.won (claims.in_order 1 (lit< tt)) (let room = in_room c claims 1 (lit< tt) in omega arith) copy aged filled.aged_whole filled.in_aged
+
+    old_copies : HoldCopies 0 kept copy c.won old
     old_copies =
         let ends = claims.ends 0 (lit< tt) in let room = claims.few 0 in
-        copies_in_order 0 (kept_blocks kind t.spaces) (lit< tt) c.won (subst (λ (n : ℕ). AreGivenInOrder 0 (64 * n) (won_in 0 c.won)) kept_is (claims.in_order 0 (lit< tt)))
-        (let same = kept_is in omega arith) copy old old_whole in_old
+        copies_in_order 0 kept (lit< tt) c.won (subst (λ (n : ℕ). AreGivenInOrder 0 (64 * n) (won_in 0 c.won)) kept_is (claims.in_order 0 (lit< tt)))
+        (let same = kept_is in omega arith) copy old filled.old_whole filled.in_old
 
     none_aged : kind ≡ Full → aged ≡ []
     none_aged full =
-        let none = none_in_aged_of full in let count = aged_count in let free = in_aged.few in
+        let none = none_in_aged t.spaces roots c.won (subst (λ (k : Kind). AreTraced k t.spaces roots c.won) full ended.traced.traced) in
+        let count = aged_count in let free = filled.in_aged.few in
         nil_from_length aged (omega arith)
-      where
-        none_in_aged_of : kind ≡ Full → length (won_in 1 c.won) ≡ 0
-        none_in_aged_of full = none_in_aged t.spaces roots c claims (subst (λ (k : Kind). IsTracedFrom k t.spaces roots c) full traced) (none_kept full)
 
-        nil_from_length : (blocks : BlockList) → length blocks ≡ 0 → blocks ≡ []
-        nil_from_length [] none = refl
-        nil_from_length (b ∷ bs) none = absurd (omega arith)
-
-    pub old_few : kept_blocks kind t.spaces + length old ≤ 2 ^ 20
+    pub old_few : c.plan.kept + length old ≤ 2 ^ 20
     old_few =
-        let ends = claims.ends 0 (lit< tt) in let room = claims.few 0 in let count = old_count in let free = in_old.few in let same = kept_is in
+        let ends = claims.ends 0 (lit< tt) in let room = claims.few 0 in let count = old_count in let free = filled.in_old.few in
         omega arith
 
-    -- in a full collection no copy in Old names a young cell
-    pub none_young : kind ≡ Full → (p : Place) → IsPlaceIn 0 (kept_blocks kind t.spaces) old p → NamesYoung (new_cell (kept_blocks kind t.spaces) old p) → ⊥
-    none_young full = none_young_in kind full old_copies
-      where
-        none_young_in : (k : Kind) → k ≡ Full → HoldCopies 0 (kept_blocks k t.spaces) (copy_of k t.spaces c.forward) c.won old → (p : Place) → IsPlaceIn 0 (kept_blocks k t.spaces) old p → NamesYoung (new_cell (kept_blocks k t.spaces) old p) → ⊥
-        none_young_in Full is hold =
-            none_young_block t.spaces c.forward (have_places c claims) (words_old t.spaces roots c claims (subst (λ (k : Kind). IsTracedFrom k t.spaces roots c) full traced) (none_kept full)) c.won old (table_list t table) traced.whole claims.words.stand hold
-        none_young_in Nursery is hold = absurd cc
+    pub none_young_in : kind ≡ Full → (p : Place) → IsPlaceIn 0 c.plan.kept old p → NamesYoung (new_cell c.plan.kept old p) → ⊥
+    none_young_in full =
+        subst (λ (n : ℕ). (p : Place) → IsPlaceIn 0 n old p → NamesYoung (new_cell n old p) → ⊥) (sym kept_is) (none_young kind t.spaces roots c.forward c.won (table_list t ended.table) wins old old_copies full)
 
-    pub collected : (notes : List Place) →
-        ((p : Place) → Contains notes p ↔ ((Contains roots (Remembered p) × NamesYoung (moved_cell kind t.spaces c.forward p)) ⊎ (IsPlaceIn 0 (kept_blocks kind t.spaces) old p × NamesYoung (new_cell (kept_blocks kind t.spaces) old p)))) →
-        IsCollection kind t.spaces roots c.forward aged old notes
-    collected notes noted =
-        is_collection kind t.spaces roots c.forward c.won aged old notes (table_list t table) wins
-        (record { aged_copies = aged_copies; old_copies = old_copies; none_aged = none_aged; few = old_few; noted = noted })
+    pub collected : (notes : List Place) → AreNotes kind t.spaces roots c.forward c.plan.kept old notes → IsCollection kind t.spaces roots (record { forward = c.forward; aged = aged; old = old; notes = notes })
+    collected notes noted = is_collection kind t.spaces roots c.won (record { forward = c.forward; aged = aged; old = old; notes = notes }) (table_list t ended.table) wins
+        (record {
+          aged_copies = aged_copies;
+          old_copies = old_copies;
+          none_aged = none_aged;
+          few = subst (λ (n : ℕ). n + length old ≤ 2 ^ 20) kept_is old_few;
+          noted = subst (λ (n : ℕ). AreNotes kind t.spaces roots c.forward n old notes) kept_is noted;
+        })

@@ -37,19 +37,13 @@ numbers n (words ∷ rest) = cond (is_used words) (n ∷ numbers (suc n) rest) (
 length_numbers : (n : ℕ) (rest : List (List ℕ)) → length (numbers n rest) ≡ count_by is_used rest
 unfolding numbers
 length_numbers n [] = refl
-length_numbers n (words ∷ rest) = by_test (is_used words) refl (length_numbers (suc n) rest)
+length_numbers n (words ∷ rest) =
+    let cons = sum_by-cons (λ (x : List ℕ). cond (is_used x) 1 0) words rest in
+    counted (is_used words) (numbers (suc n) rest) ∙ omega (arith, length_numbers (suc n) rest)
   where
-    by_test : (b : Bool) → is_used words ≡ b → length (numbers (suc n) rest) ≡ count_by is_used rest → length (numbers n (words ∷ rest)) ≡ count_by is_used (words ∷ rest)
-    by_test true t ih =
-        let cons = sum_by-cons (λ (x : List ℕ). cond (is_used x) 1 0) words rest in
-        let one : ◌≡◌ {A = ℕ} (cond (is_used words) 1 0) 1 = rw t refl in
-        let long : length (cond (is_used words) (n ∷ numbers (suc n) rest) (numbers (suc n) rest)) ≡ suc (length (numbers (suc n) rest)) = rw t refl in
-        long ∙ omega (arith, cons, one, ih)
-    by_test false t ih =
-        let cons = sum_by-cons (λ (x : List ℕ). cond (is_used x) 1 0) words rest in
-        let one : ◌≡◌ {A = ℕ} (cond (is_used words) 1 0) 0 = rw t refl in
-        let long : length (cond (is_used words) (n ∷ numbers (suc n) rest) (numbers (suc n) rest)) ≡ length (numbers (suc n) rest) = rw t refl in
-        long ∙ omega (arith, cons, one, ih)
+    counted : (b : Bool) (ns : List ℕ) → length (cond b (n ∷ ns) ns) ≡ cond b 1 0 + length ns
+    counted true ns = omega arith
+    counted false ns = omega arith
 
 is_used_true : (words : List ℕ) → 0 < get_or words 0 0 → is_used words ≡ true
 unfolding is_used

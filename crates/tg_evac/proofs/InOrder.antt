@@ -1,11 +1,11 @@
 -- Copies that stand one after the other, and copies that name no young cell.
-use Rattle.std.proofs.Common.{◌≡◌, ◌≢◌, ℕ, ◌<◌, ◌≤◌, ◌+◌, ◌-◌, ◌*◌, ◌/◌, ◌%◌, ◌^◌, ◌∷◌, ◌==◌, Bool, true, false, [], List, length, get_or, map, take, drop, replicate, refl, sym, ap, subst, arith, ◌∙◌, lit<, inl, inr, ⊎_elim, ◌⊎◌}
+use Rattle.std.proofs.Common.{◌≡◌, ◌≢◌, ℕ, ◌<◌, ◌≤◌, ◌+◌, ◌-◌, ◌*◌, ◌/◌, ◌%◌, ◌^◌, ◌==◌, Bool, true, false, [], List, length, get_or, map, take, drop, replicate, refl, sym, ap, subst, arith, ◌∙◌, lit<, ⊎_elim}
 use Rattle.std.specs.List.{All, Contains, flat_map}
-use Rattle.std.proofs.lemmas.Bool.{cases_eq, cases_lt}
+use Rattle.std.proofs.lemmas.Bool.{cases_lt}
 use Rattle.std.proofs.lemmas.Bool.Decides.{nat_tests}
 use Rattle.std.proofs.lemmas.List.{drop_at, get_or-append_right, get_or-map, get_or-replicate, get_or-take, get_or_append_left, get_or_default, get_or_past, length-append, length-map, length-replicate, length-take-le}
 use Rattle.std.proofs.lemmas.List.Concat.{get_or-flat_map}
-use Rattle.std.proofs.lemmas.List.Elements.{All-cons, All-contains, All-contains_itself, All-filter, All-from_get_or, All-get_or, All-nil, All-take, All-weaker, Contains-append_right, Contains-get_or}
+use Rattle.std.proofs.lemmas.List.Elements.{All-contains, All-contains_itself, All-filter, All-get_or, All-take, Contains-get_or}
 use Rattle.tg_word.specs.declared.Place.{Place}
 use Rattle.tg_word.specs.Word.{IsPlace, place_in, rights_in}
 use Rattle.tg_word.proofs.Packing.{place_in-word_at}
@@ -19,11 +19,11 @@ use Rattle.tg_space.specs.declared.kind.Kind.TheVariants.{Full}
 use Rattle.tg_space.specs.declared.root.Root.{Root}
 use Rattle.tg_space.proofs.Flat.{all_cells_whole, length-blocks}
 use Rattle.tg_evac.specs.Win.{Win}
-use Rattle.tg_evac.specs.Claims.{AreClaims, AreGivenInOrder, Claimed, IsTracedFrom, StandsIn, is_in, win_at, won_in}
+use Rattle.tg_evac.specs.Claims.{AreGivenInOrder, AreTraced, StandsIn, is_in, win_at, won_in}
 use Rattle.tg_evac.specs.Copies.{AreOld, HasCopy, HavePlaces, HoldCells, HoldCopies, IsPlaceIn, copy_of, new_cell}
-use Rattle.tg_evac.proofs.Adopted.{find_place, free_is_not_young}
-use Rattle.tg_evac.proofs.Claiming.{in_none, is_in_one, place_back, stands}
-use Rattle.tg_evac.proofs.Copying.{same_place}
+use Rattle.tg_evac.proofs.Adopted.{free_is_not_young}
+use Rattle.tg_evac.proofs.Claiming.{in_none, is_in_one, place_back}
+use Rattle.tg_evac.proofs.Copying.{filter_has, same_place}
 use Rattle.tg_evac.proofs.Reasons.{all_in_old}
 
 -- ---- cells in blocks, one after the other
@@ -53,24 +53,6 @@ module _ (cells : List (List ℕ)) (blocks : BlockList) (hold : HoldCells cells 
       ∙ get_or-append_right cells (replicate hold.free free_cell) (length cells) (64 * b + i) [] refl past ∙ get_or-replicate hold.free (64 * b + i - length cells) free_cell [] (omega arith)
 
 -- ---- the copies of a space
-
--- a pair of the space is among those
-in_held : (space : ℕ) (won : List Win) (w : Win) → Contains won w → (place_in w.word).space ≡ space → Contains (won_in space won) w
-in_held space won w held here = All-contains (λ (v : Win). (place_in v.word).space ≡ space → Contains (won_in space won) v) won w (all won) held here
-  where
-    all : (won : List Win) → All (λ (v : Win). (place_in v.word).space ≡ space → Contains (won_in space won) v) won
-    all [] = All-nil (λ (v : Win). (place_in v.word).space ≡ space → Contains (won_in space []) v)
-    all (v ∷ vs) = All-cons (λ (x : Win). (place_in x.word).space ≡ space → Contains (won_in space (v ∷ vs)) x) v vs
-        (λ here. rw (is_in_one space v here) (0, omega arith, refl))
-        (All-weaker (λ (x : Win). (place_in x.word).space ≡ space → Contains (won_in space vs) x) (λ (x : Win). (place_in x.word).space ≡ space → Contains (won_in space (v ∷ vs)) x)
-        (λ x later here. in_more v vs x (later here)) vs (all vs))
-      where
-        in_more : (v : Win) (vs : List Win) (x : Win) → Contains (won_in space vs) x → Contains (won_in space (v ∷ vs)) x
-        in_more v vs x held = by_test (is_in space v) refl
-          where
-            by_test : (b : Bool) → is_in space v ≡ b → Contains (won_in space (v ∷ vs)) x
-            by_test true t = rw t (Contains-append_right (v ∷ []) (won_in space vs) x held)
-            by_test false t = rw t held
 
 module _ (to kept : ℕ) (two : to < 2) (won : List Win) (order : AreGivenInOrder to (64 * kept) (won_in to won)) (few : 64 * kept + length (won_in to won) ≤ 2 ^ 26) where
   pub place_at : (k : ℕ) → k < length (won_in to won) → place_in (win_at (won_in to won) k).word ≡ place_in_space to (64 * kept + k)
@@ -113,7 +95,7 @@ module _ (to kept : ℕ) (two : to < 2) (won : List Win) (order : AreGivenInOrde
     pub copies_in_order : HoldCopies to kept copy won blocks
     copies_in_order = record {
       copied = λ w held in_space.
-          let there = in_held to won w held in_space in
+          let there = filter_has (is_in to) won w held (is_in_one to w in_space) in
           subst (λ (v : Win). HasCopy to kept copy blocks v) (get_or_default (won_in to won) there.0 (win_at [] 0) w there.1 ∙ there.2) (copy_at there.0 there.1);
       rest = rest_free;
     }
@@ -170,32 +152,16 @@ module _ (h : SpaceList) (forward : List ℕ) (places : HavePlaces forward) (old
   -- and neither does a cell of blocks that hold copies
   pub none_young_block : (won : List Win) (blocks : BlockList) → IsSpaceList h → length forward ≡ length (cells_of h) → All (StandsIn forward) won → HoldCopies 0 0 (copy_of Full h forward) won blocks →
       (p : Place) → IsPlaceIn 0 0 blocks p → NamesYoung (new_cell 0 blocks p) → ⊥
-  none_young_block won blocks are whole stand hold p inside names = ⊎_elim
-      (λ found.
-      let st : StandsIn forward found.0 = All-contains (StandsIn forward) won found.0 stand found.1 in
-      let low : found.0.cell < length (cells_of h) = let below = st.cell in omega arith in
-      let has = hold.copied found.0 found.1 (ap (λ (q : Place). q.space) found.2 ∙ inside.space) in
-      names_none (cell_numbered h found.0.cell) (All-get_or (λ (ws : List ℕ). length ws ≡ 8) (cells_of h) found.0.cell [] low (all_cells_whole h are.spaces))
-      (subst (λ (ws : List ℕ). NamesYoung ws) (ap (λ (q : Place). new_cell 0 blocks q) (sym found.2) ∙ has.words) names))
-      (λ none. free_is_not_young (subst (λ (ws : List ℕ). NamesYoung ws) (hold.rest p inside none) names))
-      (find_place won p)
-
--- ---- the pairs of a full collection
-
-module _ (h : SpaceList) (roots : List Root) (c : Claimed) (are : AreClaims c) (traced : IsTracedFrom Full h roots c) (kept : c.plan.kept ≡ 0) where
-  to_old : (w : Win) → Contains c.won w → (place_in w.word).space ≡ 0
-  to_old = all_in_old h roots c.won traced.traced
-
-  pub words_old : AreOld c.forward
-  words_old = All-from_get_or (λ (word : ℕ). (place_in word).space ≡ 0) c.forward 0 (λ n low. by_word n low (cases_eq (get_or c.forward n 0) 0))
+  none_young_block won blocks are whole stand hold p inside names = free_is_not_young (subst (λ (ws : List ℕ). NamesYoung ws) (hold.rest p inside copied) names)
     where
-      by_word : (n : ℕ) → n < length c.forward → (get_or c.forward n 0 ≡ 0) ⊎ (get_or c.forward n 0 ≡ 0 → ⊥) → (place_in (get_or c.forward n 0)).space ≡ 0
-      by_word n low (inl zero) = ap (λ (w : ℕ). (place_in w).space) zero
-      by_word n low (inr some) =
-          let found = are.words.every n low some in
-          let word : get_or c.forward n 0 ≡ found.0.word = ap (λ (m : ℕ). get_or c.forward m 0) (sym found.2) ∙ (stands c are found.0 found.1).word in
-          ap (λ (w : ℕ). (place_in w).space) word ∙ to_old found.0 found.1
+      copied : (w : Win) → Contains won w → place_in w.word ≢ p
+      copied w held e =
+          let st : StandsIn forward w = All-contains (StandsIn forward) won w stand held in
+          let low : w.cell < length (cells_of h) = let below = st.cell in omega arith in
+          let has = hold.copied w held (ap (λ (q : Place). q.space) e ∙ inside.space) in
+          names_none (cell_numbered h w.cell) (All-get_or (λ (ws : List ℕ). length ws ≡ 8) (cells_of h) w.cell [] low (all_cells_whole h are.spaces))
+          (subst (λ (ws : List ℕ). NamesYoung ws) (ap (λ (q : Place). new_cell 0 blocks q) (sym e) ∙ has.words) names)
 
-  -- none is in Aged
-  pub none_in_aged : length (won_in 1 c.won) ≡ 0
-  none_in_aged = ap length (in_none 1 c.won (All-from_get_or (λ (w : Win). (place_in w.word).space ≢ 1) c.won (win_at [] 0) (λ k low e. absurd (let z = to_old (win_at c.won k) (Contains-get_or c.won k (win_at [] 0) low) in omega arith))))
+-- none of the pairs of a full collection is in Aged
+pub none_in_aged : (h : SpaceList) (roots : List Root) (won : List Win) → AreTraced Full h roots won → length (won_in 1 won) ≡ 0
+none_in_aged h roots won traced = ap length (in_none 1 won (λ k d low e. absurd (let z = all_in_old h roots won traced (get_or won k d) (Contains-get_or won k d low) in omega arith)))

@@ -9,8 +9,8 @@ use Rattle.tg_space.specs.Soundness.{IsRootIn}
 use Rattle.tg_space.specs.declared.kind.Kind.{Kind}
 use Rattle.tg_space.specs.declared.root.Root.{Root}
 use Rattle.tg_evac.specs.Win.{Win}
-use Rattle.tg_evac.specs.Claims.{AreClaims, Claimed, HavePointers, IsTracedFrom, cells_won, is_in, won_in}
-use Rattle.tg_evac.proofs.Claiming.{won_distinct}
+use Rattle.tg_evac.specs.Claims.{AreClaims, Claimed, HavePointers, IsTracedFrom, cells_won, is_in, win_at, won_in}
+use Rattle.tg_evac.proofs.Claiming.{distinct_map}
 use Rattle.tg_evac.proofs.Counting.{won_few}
 use Rattle.tg_evac.proofs.Reasons.{all_used}
 
@@ -28,6 +28,6 @@ won_parts (w ∷ won) = by_tests (is_in 0 w) (is_in 1 w) refl refl (won_parts wo
 -- the copies of both spaces are no more than the cells of from-space in use
 pub moved_few : (kind : Kind) (h : SpaceList) → IsSpaceList h → HavePointers h → (roots : List Root) → All (IsRootIn h) roots → (c : Claimed) → AreClaims c → IsTracedFrom kind h roots c → copies_in c.forward 0 + copies_in c.forward 1 ≤ used_cells kind h
 moved_few kind h is pointers roots are c claims traced =
-    let few = won_few kind h is (cells_won c.won) (won_distinct c claims) (all_used kind h roots c.won traced.traced is pointers are) in
+    let few = won_few kind h is (cells_won c.won) (distinct_map (λ (w : Win). w.cell) c.won (win_at [] 0) claims.distinct) (all_used kind h roots c.won traced.traced is pointers are) in
     let long = length-map c.won (λ (w : Win). w.cell) in
     omega (arith, few, claims.copies 0 (lit< tt), claims.copies 1 (lit< tt), won_parts c.won)

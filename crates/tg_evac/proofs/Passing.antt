@@ -5,8 +5,10 @@ use Rattle.tg_space.specs.SpaceTable.{SpaceTable, kept_blocks}
 use Rattle.tg_space.specs.declared.kind.Kind.{Kind}
 use Rattle.tg_evac.specs.Win.{Win}
 use Rattle.tg_word.specs.declared.Place.{Place}
+use Rattle.tg_word.specs.Word.{place_in}
+use Rattle.tg_space.specs.Targets.{from_space}
 use Rattle.tg_space.specs.declared.root.Root.{Root}
-use Rattle.tg_evac.specs.declared.collect.Copied.{Copied}
+use Rattle.tg_space.specs.declared.copied.Copied.{Copied}
 use Rattle.tg_space.specs.declared.room_fault.RoomFault.{RoomFault}
 use Rattle.tg_space.specs.declared.room_fault.RoomFault.TheVariants.{HeapFull}
 use Rattle.tg_evac.specs.Claims.{IsClaimOf}
@@ -41,6 +43,10 @@ table_still {h = h} adds is = record {
 
 pub walk_still : {Fixed : Type 0} {reason : Win → Type 0} {kind : Kind} {h : SpaceList} {a b : Walked Fixed} → AddsWins reason a b → MayWalk kind h a → MayWalk kind h b
 walk_still adds is = record { pointers = is.pointers; table = table_still adds is.table }
+
+-- whether the cell that a word names is moved, as the table has it
+pub moves_as : {Fixed : Type 0} {kind : Kind} {h : SpaceList} {w : Walked Fixed} (p : Place) (word : ℕ) (moves b : Bool) → IsTableFor kind h w → p ≡ place_in word → moves ≡ from_space kind p.space → moves ≡ b → from_space w.kind (place_in word).space ≡ b
+moves_as {kind = kind} p word moves b table at is test = ap (λ (k : Kind). from_space k (place_in word).space) table.same ∙ ap (λ (q : Place). from_space kind q.space) (sym at) ∙ sym is ∙ test
 
 module _ {Table Fixed : Type 0} (walked : Table → Walked Fixed) (knows : Table → (ℕ → Place) → Type 0) (is_full : Table → Type 0) {before after : Table} where
   -- what was claimed till a claim was refused

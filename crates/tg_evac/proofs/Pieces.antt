@@ -208,40 +208,32 @@ module _ (h : SpaceList) (n : ℕ) (w : Win) (straight : Bool) (source : List �
     pub scan_keeps : KeepsWins b c
     scan_keeps = wins_weaker two (λ v claim. tt)
 
-    pub scan_scanned : {after : (ℕ → Place) → Type 0} → KnowsMore before after → All (Contains c.met) (named_by (from_space b.kind) h (pointers_of source)) → (words : List ℕ) → ((to : ℕ → Place) → after to → words ≡ image_of (from_space b.kind) h to source) → (place_in w.word).space < 2 →
-        (aged_after old_after : List (List ℕ)) → (straight ≡ true → old_after ≡ old ++ words ∷ []) → (straight ≡ false → old_after ≡ old) → (straight ≡ false → aged_after ≡ aged ++ words ∷ []) → (straight ≡ true → aged_after ≡ aged) → AreScanned h c after (n + 1) aged_after old_after
-    scan_scanned {after} grows met words image low_space aged_after old_after old_new old_kept aged_new aged_kept =
-        let kept = scanned_more so two grows in
-        let low_now : n < length c.won = let long = ap length two.is ∙ length-append b.won two.added in omega arith in
-        let is_now : w ≡ win_at c.won n = is ∙ sym (ap (λ (ws : List Win). win_at ws n) two.is ∙ get_or_append_left b.won two.added (win_at [] 0) n low) in
-        let met_now : All (Contains c.met) (targets_of (from_space c.kind) h w.cell) =
-        subst (λ (k : Kind). All (Contains c.met) (targets_of (from_space k) h w.cell)) (sym two.same_kind) (subst (λ (ws : List ℕ). All (Contains c.met) (named_by (from_space b.kind) h (pointers_of ws))) at met) in
-        let image_now : (to : ℕ → Place) → after to → words ≡ image_at c.kind h to w.cell = λ (to : ℕ → Place) (agrees : after to).
-        image to agrees ∙ ap (image_of (from_space b.kind) h to) at ∙ ap (λ (k : Kind). image_at k h to w.cell) (sym two.same_kind) in
-        by_test straight refl kept low_now is_now met_now image_now
-      where
-        by_test : (b : Bool) → straight ≡ b → AreScanned h c after n aged old → n < length c.won → w ≡ win_at c.won n → All (Contains c.met) (targets_of (from_space c.kind) h w.cell) → ((to : ℕ → Place) → after to → words ≡ image_at c.kind h to w.cell) → AreScanned h c after (n + 1) aged_after old_after
-        by_test true is_true kept low_now is_now met_now image_now =
-            let here = straight_old is_true in
-            scanned_next kept low_now w is_now met_now words image_now aged_after old_after (λ one. absurd (omega arith)) (λ other. aged_kept is_true) (λ zero_is. old_new is_true) (λ other. absurd (other here))
-        by_test false isnt kept low_now is_now met_now image_now =
-            let other = straight_aged isnt in
-            scanned_next kept low_now w is_now met_now words image_now aged_after old_after (λ one. aged_new isnt) (λ not_one. absurd (omega arith)) (λ zero_is. absurd (other zero_is)) (λ _. old_kept isnt)
-
-    -- the same of what a call answers that may be refused
+    -- of what a call answers that may be refused
     pub scan_copied : {E : Type 0} (r : Result (Unit {0}) E) {after : (ℕ → Place) → Type 0} → KnowsMore before after → OnOk r (All (Contains c.met) (named_by (from_space b.kind) h (pointers_of source))) → (place_in w.word).space < 2 →
         (aged_after old_after : List (List ℕ)) → OnOk r (straight ≡ true → AddsCopy b.kind h after source old old_after) → (straight ≡ false → old_after ≡ old) → OnOk r (straight ≡ false → AddsCopy b.kind h after source aged aged_after) → (straight ≡ true → aged_after ≡ aged) →
         OnOk r (AreScanned h c after (n + 1) aged_after old_after)
     scan_copied (Err _) grows met low_space aged_after old_after old_new old_kept aged_new aged_kept = tt
     scan_copied (Ok _) {after} grows met low_space aged_after old_after old_new old_kept aged_new aged_kept = by_test straight refl
       where
+        low_now : n < length c.won
+        low_now = let long = ap length two.is ∙ length-append b.won two.added in omega arith
+
+        is_now : w ≡ win_at c.won n
+        is_now = is ∙ sym (ap (λ (ws : List Win). win_at ws n) two.is ∙ get_or_append_left b.won two.added (win_at [] 0) n low)
+
+        met_now : All (Contains c.met) (targets_of (from_space c.kind) h w.cell)
+        met_now = subst (λ (k : Kind). All (Contains c.met) (targets_of (from_space k) h w.cell)) (sym two.same_kind) (subst (λ (ws : List ℕ). All (Contains c.met) (named_by (from_space b.kind) h (pointers_of ws))) at met)
+
+        image_now : {one more : List (List ℕ)} (adds : AddsCopy b.kind h after source one more) (to : ℕ → Place) → after to → adds.copy ≡ image_at c.kind h to w.cell
+        image_now adds to agrees = adds.image to agrees ∙ ap (image_of (from_space b.kind) h to) at ∙ ap (λ (k : Kind). image_at k h to w.cell) (sym two.same_kind)
+
         by_test : (o : Bool) → straight ≡ o → AreScanned h c after (n + 1) aged_after old_after
         by_test true is_true =
-            let one = old_new is_true in
-            scan_scanned grows met one.copy one.image low_space aged_after old_after (λ _. one.is) old_kept (λ isnt. absurd (let both : true ≡ false = sym is_true ∙ isnt in cc)) aged_kept
+            let one = old_new is_true in let here = straight_old is_true in
+            scanned_next (scanned_more so two grows) low_now w is_now met_now one.copy (image_now one) aged_after old_after (λ aged. absurd (omega arith)) (λ other. aged_kept is_true) (λ zero_is. one.is) (λ other. absurd (other here))
         by_test false isnt =
-            let one = aged_new isnt in
-            scan_scanned grows met one.copy one.image low_space aged_after old_after (λ is_true. absurd (let both : true ≡ false = sym is_true ∙ isnt in cc)) old_kept (λ _. one.is) aged_kept
+            let one = aged_new isnt in let other = straight_aged isnt in
+            scanned_next (scanned_more so two grows) low_now w is_now met_now one.copy (image_now one) aged_after old_after (λ aged. one.is) (λ not_one. absurd (omega arith)) (λ zero_is. absurd (other zero_is)) (λ _. old_kept isnt)
 
 -- ---- the plain table
 

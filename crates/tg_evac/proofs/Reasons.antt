@@ -25,6 +25,7 @@ use Rattle.tg_evac.specs.Claims.{HavePointers, StandsIn, IsClaimOf, IsRootClaim,
 use Rattle.tg_evac.specs.Claimers.{AddsWins, Walked}
 use Rattle.tg_evac.specs.Room.{IsReachedFrom}
 use Rattle.tg_evac.proofs.Chunks.{used_root, used_targets, targets_from}
+use Rattle.tg_evac.proofs.Claiming.{pair_of}
 use Rattle.tg_evac.proofs.Counting.{IsUsed}
 
 -- ---- spaces of copies
@@ -44,11 +45,11 @@ space_other b space is other = ⊎_elim
 
 -- ---- one trace after more claims
 
--- a pair has a reason among these pairs
-abbrev HasReason : Kind → SpaceList → List Root → List Win → Win → Type 0
-HasReason kind h roots won w =
+-- a pair has a reason among so many of these pairs
+abbrev pub HasReason : Kind → SpaceList → List Root → List Win → ℕ → Win → Type 0
+HasReason kind h roots won n w =
     IsRootClaim kind h roots w
-    ⊎ ((j : ℕ) × (j < length won) × IsClaimOf h (is_in_old (win_at won j)) (targets_of (from_space kind) h (win_at won j).cell) w)
+    ⊎ ((j : ℕ) × (j < n) × IsClaimOf h (is_in_old (win_at won j)) (targets_of (from_space kind) h (win_at won j).cell) w)
 
 module _ (kind : Kind) (h : SpaceList) (roots : List Root) {reason : Win → Type 0} {Fixed : Type 0} {a b : Walked Fixed} (adds : AddsWins reason a b) where
   kept_win : (k : ℕ) → k < length a.won → win_at b.won k ≡ win_at a.won k
@@ -60,29 +61,16 @@ module _ (kind : Kind) (h : SpaceList) (roots : List Root) {reason : Win → Typ
       let e = ap (λ (ws : List Win). win_at ws k) adds.is ∙ get_or-append_right a.won adds.added (length a.won) k (win_at [] 0) refl low in
       subst (λ (w : Win). reason w) (sym e) (All-get_or reason adds.added (k - length a.won) (win_at [] 0) (omega arith) adds.reasons)
 
-  pub traced_more : ((w : Win) → reason w → IsRootClaim kind h roots w ⊎ ((j : ℕ) × (j < length a.won) × IsClaimOf h (is_in_old (win_at a.won j)) (targets_of (from_space kind) h (win_at a.won j).cell) w)) →
-      AreTraced kind h roots a.won → AreTraced kind h roots b.won
-  traced_more allowed traced k inside = by_place (cases_lt k (length a.won))
-    where
-      carry : (w : Win) (n : ℕ) → n ≤ length b.won → HasReason kind h roots a.won w → ((j : ℕ) → j < length a.won → j < n) →
-          IsRootClaim kind h roots w ⊎ ((j : ℕ) × (j < n) × IsClaimOf h (is_in_old (win_at b.won j)) (targets_of (from_space kind) h (win_at b.won j).cell) w)
-      carry w n le has below = ⊎_elim (λ r. inl r)
-          (λ (j, low, claim). inr (j, below j low, subst (λ (v : Win). IsClaimOf h (is_in_old v) (targets_of (from_space kind) h v.cell) w) (sym (kept_win j low)) claim)) has
+  -- and so it has among more
+  carry : (n m : ℕ) (w : Win) → n ≤ length a.won → n ≤ m → HasReason kind h roots a.won n w → HasReason kind h roots b.won m w
+  carry n m w low le has = ⊎_elim (λ r. inl r)
+      (λ (j, below, claim). inr (j, omega arith, subst (λ (v : Win). IsClaimOf h (is_in_old v) (targets_of (from_space kind) h v.cell) w) (sym (kept_win j (omega arith))) claim)) has
 
-      old : k < length a.won → IsRootClaim kind h roots (win_at a.won k) ⊎ ((j : ℕ) × (j < k) × IsClaimOf h (is_in_old (win_at a.won j)) (targets_of (from_space kind) h (win_at a.won j).cell) (win_at a.won k)) →
-          IsRootClaim kind h roots (win_at b.won k) ⊎ ((j : ℕ) × (j < k) × IsClaimOf h (is_in_old (win_at b.won j)) (targets_of (from_space kind) h (win_at b.won j).cell) (win_at b.won k))
-      old low has = ⊎_elim (λ r. inl (subst (λ (w : Win). IsRootClaim kind h roots w) (sym (kept_win k low)) r))
-          (λ (j, below, claim). inr (
-            j,
-            below,
-            (let jk : j < length a.won = omega arith in
-                subst (λ (w : Win). IsClaimOf h (is_in_old (win_at b.won j)) (targets_of (from_space kind) h (win_at b.won j).cell) w) (sym (kept_win k low))
-                (subst (λ (v : Win). IsClaimOf h (is_in_old v) (targets_of (from_space kind) h v.cell) (win_at a.won k)) (sym (kept_win j jk)) claim)),
-          )) has
-
-      by_place : (k < length a.won) ⊎ (length a.won ≤ k) → IsRootClaim kind h roots (win_at b.won k) ⊎ ((j : ℕ) × (j < k) × IsClaimOf h (is_in_old (win_at b.won j)) (targets_of (from_space kind) h (win_at b.won j).cell) (win_at b.won k))
-      by_place (inl low) = old low (traced k low)
-      by_place (inr high) = carry (win_at b.won k) k (omega arith) (allowed (win_at b.won k) (new_win k high inside)) (λ j low. omega arith)
+  pub traced_more : ((w : Win) → reason w → HasReason kind h roots a.won (length a.won) w) → AreTraced kind h roots a.won → AreTraced kind h roots b.won
+  traced_more allowed traced k inside = ⊎_elim
+      (λ (low : k < length a.won). subst (λ (w : Win). HasReason kind h roots b.won k w) (sym (kept_win k low)) (carry k k (win_at a.won k) (omega arith) (omega arith) (traced k low)))
+      (λ (high : length a.won ≤ k). carry (length a.won) k (win_at b.won k) (omega arith) high (allowed (win_at b.won k) (new_win k high inside)))
+      (cases_lt k (length a.won))
 
 -- ---- what a trace says
 
@@ -202,11 +190,9 @@ module _ (h : SpaceList) (roots : List Root) (forward : List ℕ) (won : List Wi
     -- the pair of a forwarded cell, by its number
     found : (c : ℕ) → c < length forward → get_or forward c 0 ≢ 0 → (k : ℕ) × (k < length won) × ((win_at won k).cell ≡ c) × (get_or forward c 0 ≡ (win_at won k).word)
     found c low some =
-        let pair = words.every c low some in
+        let pair = pair_of won forward words c low some in
         let at : win_at won pair.1.0 ≡ pair.0 = get_or_default won pair.1.0 (win_at [] 0) pair.0 pair.1.1 ∙ pair.1.2 in
-        let cell : (win_at won pair.1.0).cell ≡ c = ap (λ (w : Win). w.cell) at ∙ pair.2 in
-        let st : StandsIn forward (win_at won pair.1.0) = All-contains (StandsIn forward) won (win_at won pair.1.0) words.stand (held_win pair.1.0 pair.1.1) in
-        (pair.1.0, pair.1.1, cell, ap (λ (n : ℕ). get_or forward n 0) (sym cell) ∙ st.word)
+        (pair.1.0, pair.1.1, ap (λ (w : Win). w.cell) at ∙ pair.2, pair.3 ∙ ap (λ (w : Win). w.word) (sym at))
 
     pub are_aged : length forward ≡ length (cells_of h) → AreSortedByAge h roots forward
     are_aged whole = record { aged = aged; to_aged = to_aged; to_old = to_old }

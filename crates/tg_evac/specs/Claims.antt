@@ -1,9 +1,9 @@
 -- What a collection claims: the cells that were won, in order, each with the word of its new place.
 use Rattle.std.specs.Prelude.{◌≡◌, ◌≢◌, ℕ, ◌+◌, ◌-◌, ◌*◌, ◌<◌, ◌≤◌, ◌↔◌, ◌⊎◌, ◌==◌, ◌||◌, Bool, true, false, if◌then◌else◌, not, eqb, List, length, map, slice_index, slice_index_or}
-use Rattle.std.specs.List.{All, Contains, IsDistinct, filter, flat_map, take_while}
+use Rattle.std.specs.List.{All, AllPairs, Contains, IsDistinct, filter, flat_map, take_while}
 use Rattle.tg_word.specs.declared.TheConstants.{CELLS, MOST_SPACE_CELLS}
 use Rattle.tg_word.specs.declared.Place.{Place}
-use Rattle.tg_word.specs.Word.{link_to, place_in}
+use Rattle.tg_word.specs.Word.{IsPlace, link_to, place_in}
 use Rattle.tg_space.specs.Closure.{IsInClosure}
 use Rattle.tg_space.specs.Collection.{copies_in}
 use Rattle.tg_space.specs.Soundness.{IsPointer}
@@ -64,12 +64,9 @@ pub record Claimed : Type 0 where
   pub won : List Win
   pub next : List ℕ
 
--- the cells, and the words, of pairs
+-- the cells of pairs
 abbrev pub cells_won : List Win → List ℕ
 cells_won won = map (λ w. w.cell) won
-
-abbrev pub words_won : List Win → List ℕ
-words_won won = map (λ w. w.word) won
 
 -- the pairs of these cells and the words that they have
 abbrev pub wins_at : List ℕ → List ℕ → List Win
@@ -90,18 +87,20 @@ pub record AreWordsOf (won : List Win) (forward : List ℕ) : Type 0 where
   pub stand : All (StandsIn forward) won
   pub every : (c : ℕ) → c < length forward → slice_index forward c ≢ 0 → (w : Win) × Contains won w × (w.cell ≡ c)
 
--- the word is the link to a cell of Old, behind the blocks that stay, or of Aged, that was given away
-pub record IsGiven (kept : ℕ) (next : List ℕ) (word : ℕ) : Type 0 where
-  pub space : ℕ
-  pub number : ℕ
-  pub two : space < 2
-  pub before : number < slice_index next space
-  pub behind : space ≡ 0 → CELLS * kept ≤ number
-  pub is : word ≡ link_to (place_in_space space number)
+-- the word of the pair is the link to a place of Old, behind the blocks that stay, or of Aged
+pub record HasNewPlace (kept : ℕ) (w : Win) : Type 0 where
+  pub place : IsPlace (place_in w.word)
+  pub link : w.word ≡ link_to (place_in w.word)
+  pub two : (place_in w.word).space < 2
+  pub behind : (place_in w.word).space ≡ 0 → kept ≤ (place_in w.word).block
 
--- no word is given twice
-abbrev pub AreApart : List ℕ → Type 0
-AreApart words = (i j : ℕ) → i < j → j < length words → slice_index words i ≢ slice_index words j
+-- the place was given away
+abbrev pub IsGiven : List ℕ → Place → Type 0
+IsGiven next p = CELLS * p.block + p.cell < slice_index next p.space
+
+-- no place is given twice
+abbrev pub AreApart : List Win → Type 0
+AreApart won = (v w : Win) → Contains won v → Contains won w → v.word ≡ w.word → v.cell ≡ w.cell
 
 -- the pairs whose copies are in a space
 abbrev pub won_in : ℕ → List Win → List Win
@@ -117,11 +116,11 @@ AreGivenInOrder space first won = (k : ℕ) → k < length won → (win_at won k
 
 pub record AreClaims (c : Claimed) : Type 0 where
   pub words : AreWordsOf c.won c.forward
-  pub given : All (IsGiven c.plan.kept c.next) (words_won c.won)
-  pub apart : AreApart (words_won c.won)
+  pub places : All (HasNewPlace c.plan.kept) c.won
+  pub given : All (λ w. IsGiven c.next (place_in w.word)) c.won
+  pub apart : (i j : ℕ) → i < length c.won → j < length c.won → (win_at c.won i).word ≡ (win_at c.won j).word → (win_at c.won i).cell ≡ (win_at c.won j).cell
+  pub distinct : AllPairs (λ v w. v.cell ≢ w.cell) c.won
   pub two : length c.next ≡ 2
-  pub counted : CELLS * c.plan.kept + length c.won ≡ slice_index c.next 0 + slice_index c.next 1
-  pub behind : CELLS * c.plan.kept ≤ slice_index c.next 0
   pub few : (space : ℕ) → slice_index c.next space ≤ MOST_SPACE_CELLS
   pub room : c.plan.room ≤ MOST_SPACE_CELLS
   -- the pairs of each space stand in order, up to the next number, and are all copies there

@@ -7,9 +7,10 @@ use Rattle.tg_block.specs.declared.TheConstants.{WORDS}
 use Rattle.tg_block.specs.Cells.{free_cell, cell_of}
 use Rattle.tg_word.specs.declared.TheConstants.{CELLS}
 use Rattle.tg_word.specs.declared.Place.{Place}
-use Rattle.tg_word.specs.Word.{IsPlace, link_to, place_in}
+use Rattle.tg_word.specs.Word.{IsPlace, place_in}
 use Rattle.tg_space.specs.Collection.{new_place}
-use Rattle.tg_space.specs.SpaceList.{SpaceList, BlockList, IsSpace, cell_at, cells_of}
+use Rattle.tg_space.specs.Numbering.{AreNumbersOf}
+use Rattle.tg_space.specs.SpaceList.{SpaceList, BlockList, IsSpace, cell_at}
 use Rattle.tg_space.specs.Targets.{from_space, image_of}
 use Rattle.tg_space.specs.declared.kind.Kind.{Kind}
 use Rattle.tg_evac.specs.Win.{Win}
@@ -28,22 +29,14 @@ copy_of kind h forward = image_at kind h (new_place forward)
 abbrev pub HavePlaces : List ℕ → Type 0
 HavePlaces forward = All (λ word. IsPlace (place_in word)) forward
 
--- what each cell names may be moved: it is a cell, which has a word, and each word that isn't 0 has a place in range
-pub record AreForwarded (h : SpaceList) (forward : List ℕ) : Type 0 where
+-- what each cell names may be moved: it is a cell, which has a word by its number
+pub record AreForwarded (h : SpaceList) (starts forward : List ℕ) : Type 0 where
   pub pointers : HavePointers h
-  pub whole : length forward ≡ length (cells_of h)
-  pub places : HavePlaces forward
+  pub numbers : AreNumbersOf h starts (length forward)
 
 -- each forwarding word is 0, or names a place of Old
 abbrev pub AreOld : List ℕ → Type 0
 AreOld forward = All (λ word. (place_in word).space ≡ 0) forward
-
--- the word of the pair is the link to a place of Old, behind the blocks that stay, or of Aged
-pub record HasNewPlace (kept : ℕ) (w : Win) : Type 0 where
-  pub place : IsPlace (place_in w.word)
-  pub link : w.word ≡ link_to (place_in w.word)
-  pub two : (place_in w.word).space < 2
-  pub behind : (place_in w.word).space ≡ 0 → kept ≤ (place_in w.word).block
 
 -- ---- new blocks, which stand behind as many other ones of their space
 

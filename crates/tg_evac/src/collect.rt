@@ -11,25 +11,12 @@ ghost use Rattle.tg_evac.specs.Walks.{MayWalk};
 
 use crate::claims::Claims;
 use crate::copies::{Copies, Reads};
-use crate::notes::Moves;
+use crate::notes::Made;
 use crate::plan::Plan;
 use crate::walk::Walk;
 use std::alloc::Global;
 use tg_block::Block;
-use tg_remember::Remembered;
-use tg_space::{Adoption, Forwarding, Kind, RoomFault, Root, Spaces, Spare};
-
-/// What a collection hands over.
-#[derive(Drop)]
-pub struct Copied {
-    /// For each cell the word of its new place: a link to it, or 0 where it wasn't copied.
-    pub forward: Forwarding,
-    /// The new blocks.
-    pub adoption: Adoption,
-    /// The cells of Old that will name young ones: of those that were remembered, and of the copies in Old. None after
-    /// a full collection.
-    pub remembered: Remembered,
-}
+use tg_space::{Copied, Kind, Moves, Numbering, RoomFault, Root, Spaces, Spare};
 
 /// Copies what the roots reach into new blocks, with one thread. The spaces are only read.
 ///
@@ -56,62 +43,57 @@ pub fn collect_one(
     requires { AreSound spaces.now.spaces roots.now }
     ensures { Collects RoomFault.HeapFull kind spaces.now roots.now 0 1 result }
 {
+    let walk = Walk {
+        spaces,
+        kind,
+        reads: Reads::of(spaces),
+    };
     match kind {
-        Kind::Full => collect_full(alloc, spaces, roots, spare),
-        Kind::Nursery => {
-            let reads = Reads::of(spaces);
-            Walk {
-                spaces,
-                kind: Kind::Nursery,
-                reads,
-            }
-            .collect(alloc, roots, spare)
-        }
-    }
-}
-
-// A full collection. Each way to read cells is compiled apart, and from all else, so that registers are left for it.
-#[inline(never)]
-fn collect_full(
-    alloc: Global,
-    spaces: &Spaces,
-    roots: &[Root],
-    spare: Spare,
-) -> Result<Copied, RoomFault>
-    requires { AreSound spaces.now.spaces roots.now }
-    ensures { Collects RoomFault.HeapFull Kind.Full spaces.now roots.now 0 1 result }
-{
-    match Reads::of(spaces) {
-        Reads::Each => Walk {
-            spaces,
-            kind: Kind::Full,
-            reads: Reads::Each,
+        Kind::Full => walk.collect_full(alloc, roots, spare),
+        Kind::Nursery => Walk {
+            kind: Kind::Nursery,
+            ..walk
         }
         .collect(alloc, roots, spare),
-        Reads::Ahead => collect_ahead(alloc, spaces, roots, spare),
     }
-}
-
-// A full collection that reads cells ahead.
-#[inline(never)]
-fn collect_ahead(
-    alloc: Global,
-    spaces: &Spaces,
-    roots: &[Root],
-    spare: Spare,
-) -> Result<Copied, RoomFault>
-    requires { AreSound spaces.now.spaces roots.now }
-    ensures { Collects RoomFault.HeapFull Kind.Full spaces.now roots.now 0 1 result }
-{
-    Walk {
-        spaces,
-        kind: Kind::Full,
-        reads: Reads::Ahead,
-    }
-    .collect(alloc, roots, spare)
 }
 
 impl Walk<'_> {
+    // A full collection. Each way to read cells is compiled apart, and from all else, so that registers are left for
+    // it.
+    #[inline(never)]
+    fn collect_full(self, alloc: Global, roots: &[Root], spare: Spare) -> Result<Copied, RoomFault>
+        requires { AreSound self.spaces.now.spaces roots.now }
+        ensures { Collects RoomFault.HeapFull Kind.Full self.entry.spaces.now roots.now 0 1 result }
+    {
+        let full = Walk {
+            kind: Kind::Full,
+            ..self
+        };
+        match self.reads {
+            Reads::Each => Walk {
+                reads: Reads::Each,
+                ..full
+            }
+            .collect(alloc, roots, spare),
+            Reads::Ahead => full.collect_ahead(alloc, roots, spare),
+        }
+    }
+
+    // A full collection that reads cells ahead.
+    #[inline(never)]
+    fn collect_ahead(self, alloc: Global, roots: &[Root], spare: Spare) -> Result<Copied, RoomFault>
+        requires { AreSound self.spaces.now.spaces roots.now }
+        ensures { Collects RoomFault.HeapFull Kind.Full self.entry.spaces.now roots.now 0 1 result }
+    {
+        Walk {
+            kind: Kind::Full,
+            reads: Reads::Ahead,
+            ..self
+        }
+        .collect(alloc, roots, spare)
+    }
+
     // The collection of a kind. It is compiled for each, so that a full one asks of no cell which kind this is, nor how
     // cells are read.
     #[inline(always)]
@@ -129,12 +111,14 @@ impl Walk<'_> {
         let Claims { forward, .. } = claims;
         let forward = forward.into_forwarding();
         let adoption = copies.finish()?;
+        let numbering = Numbering::of(spaces);
         let moves = Moves {
-            spaces,
+            numbering: &numbering,
             kind,
             forward: &forward,
         };
-        let remembered = moves.notes(alloc, roots, &adoption.old, plan.kept)?;
+        let made = Made { spaces, moves };
+        let remembered = made.notes(alloc, roots, &adoption.old, plan.kept)?;
         Ok(Copied {
             forward,
             adoption,

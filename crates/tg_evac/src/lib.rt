@@ -58,12 +58,12 @@
 
 pub use both::Both;
 pub use claimer::Claimer;
-pub use collect::{Copied, collect_one};
+pub use collect::collect_one;
 pub use copies::{Copies, Reads};
 pub use new_blocks::{NewBlocks, Original};
-pub use notes::Moves;
+pub use notes::Made;
 pub use plan::Plan;
-pub use tg_space::Root;
+pub use tg_space::{Copied, Root};
 pub use walk::Walk;
 
 mod both;

@@ -12,21 +12,19 @@ ghost use Rattle.tg_evac.specs.Inner.Steps.{MayNoteBlock, MayNoteRoot, MayNoteRo
 use std::alloc::{AllocError, Global};
 use tg_block::WORDS;
 use tg_remember::Remembered;
-use tg_space::{Forwarding, Kind, Root, Space, Spaces, first_pointer};
+use tg_space::{Kind, Moves, Root, Space, Spaces, first_pointer};
 use tg_word::{CELLS, OLD, Place, place_of};
 
 /// What a collection has made of cells of these spaces.
 #[derive(Clone, Copy)]
-pub struct Moves<'a> {
+pub struct Made<'a, 'b> {
     /// The spaces, which are only read.
     pub spaces: &'a Spaces,
-    /// Which cells are moved.
-    pub kind: Kind,
-    /// For each cell the word of its new place.
-    pub forward: &'a Forwarding,
+    /// Where it has their cells.
+    pub moves: Moves<'b>,
 }
 
-impl Moves<'_> {
+impl Made<'_, '_> {
     /// The remembered cells that will name young ones, and those of these blocks of Old that do, which stand behind as
     /// many others. A full collection leaves none.
     ///
@@ -38,15 +36,15 @@ impl Moves<'_> {
         old: &Space,
         kept: u64,
     ) -> Result<Remembered, AllocError>
-        requires forward { AreForwarded self.spaces.now.spaces self.forward.now.words }
+        requires forward { AreForwarded self.spaces.now.spaces self.moves.numbering.now.starts self.moves.forward.now.words }
         requires roots { All (IsRootIn self.spaces.now.spaces) roots.now }
         requires few { kept + length old.now ≤ MOST_SPACE_BLOCKS }
-        requires full { self.kind ≡ Kind.Full → (p : PlaceOf) → IsPlaceIn 0 kept old.now p → NamesYoung (new_cell kept old.now p) → ⊥ }
-        ensures { IfOk result (λ noted. (p : PlaceOf) → Contains noted.places p ↔ ((Contains roots.now (RememberedAt p) × NamesYoung (moved_cell self.entry.kind self.entry.spaces.now.spaces self.entry.forward.now.words p)) ⊎ (IsPlaceIn 0 kept old.now p × NamesYoung (new_cell kept old.now p)))) }
+        requires full { self.moves.kind ≡ Kind.Full → (p : PlaceOf) → IsPlaceIn 0 kept old.now p → NamesYoung (new_cell kept old.now p) → ⊥ }
+        ensures { IfOk result (λ noted. (p : PlaceOf) → Contains noted.places p ↔ ((Contains roots.now (RememberedAt p) × NamesYoung (moved_cell self.entry.moves.kind self.entry.spaces.now.spaces self.entry.moves.forward.now.words p)) ⊎ (IsPlaceIn 0 kept old.now p × NamesYoung (new_cell kept old.now p)))) }
     {
         let mut remembered = Remembered::new(alloc);
         self.note_roots(&mut remembered, roots)?;
-        match self.kind {
+        match self.moves.kind {
             Kind::Full => Ok(remembered),
             Kind::Nursery => {
                 note_blocks(&mut remembered, old, kept)?;
@@ -57,8 +55,8 @@ impl Moves<'_> {
 
     // Notes the remembered cells that will name young ones.
     fn note_roots(self, remembered: &mut Remembered, roots: &[Root]) -> Result<(), AllocError>
-        requires { MayNoteRoots self.spaces.now.spaces self.forward.now.words roots.now }
-        ensures { OnOk result ((p : PlaceOf) → Contains remembered.new.places p ↔ (Contains remembered.old.places p ⊎ (Contains roots.now (RememberedAt p) × NamesYoung (moved_cell self.entry.kind self.entry.spaces.now.spaces self.entry.forward.now.words p)))) }
+        requires { MayNoteRoots self.spaces.now.spaces self.moves.numbering.now.starts self.moves.forward.now.words roots.now }
+        ensures { OnOk result ((p : PlaceOf) → Contains remembered.new.places p ↔ (Contains remembered.old.places p ⊎ (Contains roots.now (RememberedAt p) × NamesYoung (moved_cell self.entry.moves.kind self.entry.spaces.now.spaces self.entry.moves.forward.now.words p)))) }
     {
         for root in roots {
             self.note_root(remembered, *root)?;
@@ -68,15 +66,13 @@ impl Moves<'_> {
 
     // Notes the cell of a root, where it is remembered and will name a young one.
     fn note_root(self, remembered: &mut Remembered, root: Root) -> Result<(), AllocError>
-        requires { MayNoteRoot self.spaces.now.spaces self.forward.now.words root }
-        ensures { OnOk result ((p : PlaceOf) → Contains remembered.new.places p ↔ (Contains remembered.old.places p ⊎ ((root ≡ RememberedAt p) × NamesYoung (moved_cell self.entry.kind self.entry.spaces.now.spaces self.entry.forward.now.words p)))) }
+        requires { MayNoteRoot self.spaces.now.spaces self.moves.numbering.now.starts self.moves.forward.now.words root }
+        ensures { OnOk result ((p : PlaceOf) → Contains remembered.new.places p ↔ (Contains remembered.old.places p ⊎ ((root ≡ RememberedAt p) × NamesYoung (moved_cell self.entry.moves.kind self.entry.spaces.now.spaces self.entry.moves.forward.now.words p)))) }
     {
         match root {
             Root::Row(_) => Ok(()),
             Root::Remembered(place) => {
-                let words = self
-                    .spaces
-                    .image(self.kind, self.forward, *self.spaces.words(place));
+                let words = self.moves.image(*self.spaces.words(place));
                 note_young(remembered, place, &words)
             }
         }

@@ -1,11 +1,13 @@
 -- A helper's own blocks of a space: one more block, one more place given away, and what changes elsewhere.
 use Rattle.std.proofs.Common.{◌≡◌, ◌≢◌, ℕ, zero, suc, ◌+◌, ◌-◌, ◌*◌, ◌/◌, ◌%◌, ◌^◌, ◌<◌, ◌≤◌, ◌==◌, ◌&&◌, ◌++◌, if◌then◌else◌, not, List, [], ◌∷◌, Bool, true, false, length, get_or, map, refl, sym, ap, subst, ◌∙◌, eqb-true, eq-eqb, ⊎_elim, arith}
-use Rattle.std.specs.List.{All, Contains, filter, list_all}
+use Rattle.std.specs.List.{All, Contains, list_all}
 use Rattle.std.proofs.lemmas.Bool.{cases_lt, cases_eq, and_parts, cond-true}
 use Rattle.std.proofs.lemmas.Bool.Decides.{nat_tests}
 use Rattle.std.proofs.lemmas.List.{length_push, get_or_append_left, get_or_push, get_or_default, append-nil}
+use Rattle.std.proofs.lemmas.List.Folds.{list_any_at}
 use Rattle.std.proofs.lemmas.List.Filters.{length-filter_both}
-use Rattle.std.proofs.lemmas.List.Elements.{All-contains, All-nil, All-push, Contains-append_left, Contains-append_right, Contains-push, filter-append}
+use Rattle.std.proofs.lemmas.List.Sums.{list_all-from_AllPass}
+use Rattle.std.proofs.lemmas.List.Elements.{Contains-get_or, All-contains, All-nil, All-push, Contains-append_left, Contains-append_right, Contains-push}
 use Rattle.tg_word.specs.declared.Place.{Place}
 use Rattle.tg_rights.specs.RightSet.{no_rights}
 use Rattle.tg_word.specs.Word.{IsPlace, link_to, place_in}
@@ -20,27 +22,13 @@ use Rattle.tg_evac.specs.Claimers.{IsLink}
 use Rattle.tg_parallel.specs.Parts.{HasPlaceOf, HasPlaces, cells_met}
 use Rattle.tg_parallel.specs.declared.own_blocks.OwnBlocks.{OwnBlocks}
 use Rattle.tg_parallel.specs.Seats.{AreFilled, AreRising, Finds, FindsNext, IsHeldBy, IsReady, KnowsNext, LeavesPlaces, OnlyBlocks, OtherStays, StayFilled, own_place, pair_at, pairs_in, used_of}
-use Rattle.tg_parallel.proofs.Lists.{any_at, any_found, map_has}
+use Rattle.tg_evac.proofs.Copying.{filter_has, filter_other, filter_push, map_has}
+use Rattle.tg_parallel.proofs.Lists.{any_found}
 
 -- ---- lists
 
 pub all_of : {A : Type 0} (f : A → Bool) (xs : List A) → ((x : A) → Contains xs x → f x ≡ true) → list_all f xs ≡ true
-all_of f [] h = refl
-all_of f (x ∷ xs) h =
-    let here : f x ≡ true = h x (0, omega arith, refl) in
-    let rest = all_of f xs (λ y held. h y (suc held.0, (let low = held.1 in omega arith), held.2)) in
-    rw (here, rest) refl
-
-filter_has : {A : Type 0} (p : A → Bool) (xs : List A) (x : A) → Contains xs x → p x ≡ true → Contains (filter p xs) x
-filter_has p [] x held t = absurd (let low = held.1 in omega arith)
-filter_has p (y ∷ ys) x (zero, low, is) t =
-    let here : p y ≡ true = ap p is ∙ t in
-    rw here (0, omega arith, is)
-filter_has p (y ∷ ys) x (suc i, low, is) t = go (p y) refl (filter_has p ys x (i, omega arith, is) t)
-  where
-    go : (b : Bool) → p y ≡ b → Contains (filter p ys) x → Contains (filter p (y ∷ ys)) x
-    go true e rest = rw e (Contains-append_right (y ∷ []) (filter p ys) x rest)
-    go false e rest = rw e rest
+all_of f xs h = list_all-from_AllPass f xs (λ k d low. h (get_or xs k d) (Contains-get_or xs k d low))
 
 -- ---- numbers that rise
 
@@ -71,7 +59,7 @@ rising_push xs n rising all i j lt low =
     (cases_lt j (length xs))
 
 pub has_index : (xs : List ℕ) (i : ℕ) → i < length xs → has_number (get_or xs i 0) xs ≡ true
-has_index xs i low = any_at (λ (y : ℕ). y == get_or xs i 0) xs i 0 low (eq-eqb (get_or xs i 0) (get_or xs i 0) refl)
+has_index xs i low = list_any_at (λ (y : ℕ). y == get_or xs i 0) xs i 0 low (eq-eqb (get_or xs i 0) (get_or xs i 0) refl)
 
 -- ---- when a block may be claimed, and a place be given away
 
@@ -175,18 +163,12 @@ used_one_more s b won q hs hb =
     omega (arith, push, one)
 
 pairs_push : (s : ℕ) (won : List (ℕ × Place)) (q : ℕ × Place) → q.1.space ≡ s → pairs_in s (won ++ q ∷ []) ≡ pairs_in s won ++ q ∷ []
-pairs_push s won q here =
-    let f = λ (x : ℕ × Place). x.1.space == s in
-    let t : (q.1.space == s) ≡ true = eq-eqb q.1.space s here in
-    let one : pairs_in s (q ∷ []) ≡ q ∷ [] = rw t refl in
-    filter-append f won (q ∷ []) ∙ ap (λ (l : List (ℕ × Place)). pairs_in s won ++ l) one
+pairs_push s won q here = filter_push (λ (x : ℕ × Place). x.1.space == s) won q (eq-eqb q.1.space s here)
 
 pairs_other : (s : ℕ) (won : List (ℕ × Place)) (q : ℕ × Place) → q.1.space ≢ s → pairs_in s (won ++ q ∷ []) ≡ pairs_in s won
 pairs_other s won q other =
-    let f = λ (x : ℕ × Place). x.1.space == s in
     let t : (q.1.space == s) ≡ false = grind (arith, nat_tests) in
-    let none : pairs_in s (q ∷ []) ≡ [] = rw t refl in
-    filter-append f won (q ∷ []) ∙ ap (λ (l : List (ℕ × Place)). pairs_in s won ++ l) none ∙ append-nil (pairs_in s won)
+    filter_other (λ (x : ℕ × Place). x.1.space == s) won q t
 
 other_space : (aged : Bool) → space_of_age aged ≢ space_of_age (not aged)
 other_space true e = absurd (omega arith)
@@ -308,7 +290,7 @@ module _ (v : Record) (cell : ℕ) (p : Place) where
 
 -- ---- the next place
 
-age_two : (aged : Bool) → space_of_age aged < 2
+pub age_two : (aged : Bool) → space_of_age aged < 2
 age_two true = omega arith
 age_two false = omega arith
 

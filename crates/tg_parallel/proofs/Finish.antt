@@ -1,15 +1,15 @@
 -- What one record that stands for all has won is a collection, where it is complete and its table was closed.
-use Rattle.std.proofs.Common.{◌≡◌, ◌≢◌, ◌↔◌, ℕ, ◌+◌, ◌-◌, ◌/◌, ◌^◌, ◌<◌, ◌≤◌, ◌==◌, ◌⊎◌, if◌then◌else◌, nat_lt, List, [], ◌∷◌, Bool, true, false, IsTrue, length, get_or, map, refl, sym, ap, subst, ◌∙◌, eqb-true, lit<, ⊎_elim, arith}
+use Rattle.std.proofs.Common.{◌≡◌, ◌≢◌, ℕ, ◌+◌, ◌-◌, ◌/◌, ◌^◌, ◌<◌, ◌≤◌, ◌==◌, if◌then◌else◌, nat_lt, List, [], ◌∷◌, Bool, true, false, IsTrue, length, get_or, map, refl, sym, ap, subst, ◌∙◌, eqb-true, ⊎_elim, arith}
 use Rattle.std.specs.List.{All, Contains}
 use Rattle.std.proofs.lemmas.Bool.{cases_lt, cases_eq, and_parts}
 use Rattle.std.proofs.lemmas.Bool.Decides.{nat_tests}
 use Rattle.std.proofs.lemmas.List.{get_or_past}
-use Rattle.std.proofs.lemmas.List.Elements.{All-contains, All-from_get_or, All-get_or, All-map, All-weaker, Contains-get_or, Contains-append_right, Contains-append_cases}
+use Rattle.std.proofs.lemmas.List.Elements.{All-contains, All-get_or, All-map, All-weaker, Contains-get_or, Contains-append_right, Contains-append_cases}
 use Rattle.tg_word.specs.declared.Place.{Place}
 use Rattle.tg_word.specs.Word.{IsPlace, link_to, place_in}
 use Rattle.tg_block.specs.Cells.{cell_of, free_cell}
 use Rattle.tg_space.specs.Closure.{IsComplete}
-use Rattle.tg_space.specs.Collection.{IsCollection, new_place}
+use Rattle.tg_space.specs.Collection.{Collected, IsCollection, new_place}
 use Rattle.tg_space.specs.Generations.{NamesYoung}
 use Rattle.tg_space.specs.SpaceList.{BlockList, IsSpace, SpaceList, cells_of}
 use Rattle.tg_space.specs.SpaceTable.{SpaceTable, IsSpaceTable, kept_blocks}
@@ -17,7 +17,6 @@ use Rattle.tg_space.specs.Targets.{from_space, targets_of, root_targets_of, all_
 use Rattle.tg_space.specs.declared.kind.Kind.{Kind}
 use Rattle.tg_space.specs.declared.kind.Kind.TheVariants.{Full, Nursery}
 use Rattle.tg_space.specs.declared.root.Root.{Root}
-use Rattle.tg_space.specs.declared.root.Root.TheVariants.{Remembered}
 use Rattle.tg_space.proofs.Tables.{table_list}
 use Rattle.tg_space.proofs.Tracing.{closure_is_won}
 use Rattle.tg_race.specs.declared.record.Counts.{Counts}
@@ -31,19 +30,27 @@ use Rattle.tg_race.proofs.Drawn.{number_found}
 use Rattle.tg_race.proofs.PlaceWords.{word_of-some}
 use Rattle.tg_race.proofs.Standing.{closed_pairs}
 use Rattle.tg_evac.specs.Win.{Win}
-use Rattle.tg_evac.specs.Claims.{AreTraced, AreWordsOf, StandsIn, cells_won}
-use Rattle.tg_evac.specs.Copies.{AreOld, HasCopy, HasNewPlace, HavePlaces, HoldCopies, IsPlaceIn, copy_of, moved_cell, new_cell}
-use Rattle.tg_evac.proofs.Collecting.{AreWins, is_collection}
-use Rattle.tg_evac.proofs.Copying.{same_place as place_from}
-use Rattle.tg_evac.proofs.InOrder.{none_young_block}
+use Rattle.tg_evac.specs.Claims.{AreApart, AreTraced, AreWordsOf, HasNewPlace, StandsIn, cells_won}
+use Rattle.tg_evac.specs.Copies.{HasCopy, HavePlaces, HoldCopies, IsPlaceIn, copy_of, new_cell}
+use Rattle.tg_evac.proofs.Collecting.{AreNotes, AreWins, is_collection, none_young}
+use Rattle.tg_evac.proofs.Claiming.{have_places}
+use Rattle.tg_evac.proofs.Copying.{map_found, map_has, same_place as place_from}
 use Rattle.tg_evac.proofs.Reasons.{all_in_old, traced_cells}
 use Rattle.tg_parallel.specs.Merged.{AreInOrder, AreMerged}
 use Rattle.tg_parallel.specs.Whole.{IsWholePart}
 use Rattle.tg_parallel.specs.Parts.{AreImages, HasCopies, HasPlaces, Numbered, cells_met, numbers_of, roots_in, roots_of_chunk, win_of, wins_of}
 use Rattle.tg_parallel.proofs.Joins.{owned_aged, owned_old}
-use Rattle.tg_parallel.proofs.Lists.{any_found, chunk_has, flat_found, flat_has, map_found, map_has, once_differ}
+use Rattle.tg_parallel.proofs.Lists.{any_found, chunk_has, flat_found, flat_has, once_differ}
 use Rattle.tg_parallel.proofs.Room.{blocks_long, numbers_within}
 use Rattle.tg_parallel.proofs.Wins.{link_is, place_back, traced_all, won_has, won_inside, won_word}
+
+-- what is handed over may be merged, and each word has a place
+pub record MayMerge (kept : ℕ) (words : List ℕ) (aged old : Numbered) : Type 0 where
+  pub aged_few : length aged ≤ 2 ^ 20
+  pub old_few : length old ≤ 2 ^ 20
+  pub in_aged : AreConsecutive 0 (numbers_of aged)
+  pub in_old : AreConsecutive kept (numbers_of old)
+  pub places : HavePlaces words
 
 -- a chunk past the last, where one was claimed
 past_found : (k : Counts) (xs : List ℕ) → 0 < weigh (λ c. if is_chunk k c then 0 else 1) xs → (c : ℕ) × Contains xs c × (chunks_of k ≤ c)
@@ -66,9 +73,6 @@ module _ (space start : ℕ) (copy : ℕ → List ℕ) (won : List (ℕ × Place
       let is = (numbers.exactly n).0 held in let from = is.0 in let below = is.1 in let long = sorted_long in
       (from, omega arith)
 
-  block_of_number : (n : ℕ) → Contains (numbers_of blocks) n → (b : ℕ × List (List ℕ)) × Contains blocks b × (b.0 ≡ n)
-  block_of_number n held = map_found (λ (b : ℕ × List (List ℕ)). b.0) blocks n held
-
   -- the block with a number stands at its place
   sorted_is : (n : ℕ) (found : (b : ℕ × List (List ℕ)) × Contains blocks b × (b.0 ≡ n)) → get_or sorted (n - start) [] ≡ found.0.1
   sorted_is n found = ap (λ (m : ℕ). get_or sorted (m - start) []) (sym found.2) ∙ All-contains (λ (b : ℕ × List (List ℕ)). get_or sorted (b.0 - start) [] ≡ b.1) blocks found.0 order.each found.1
@@ -76,7 +80,7 @@ module _ (space start : ℕ) (copy : ℕ → List ℕ) (won : List (ℕ × Place
   copy_there : (q : ℕ × Place) → Contains won q → q.1.space ≡ space → IsPlaceIn space start sorted q.1 × (new_cell start sorted q.1 ≡ copy q.0)
   copy_there q held s =
       let number = mine q held s in
-      let found = block_of_number q.1.block number in
+      let found = map_found (λ (b : ℕ × List (List ℕ)). b.0) blocks q.1.block number in
       let low = within q.1.block number in
       let has = All-contains (HasCopies space copy won) blocks found.0 all found.1 in (
         record { space = s; behind = low.0; block = low.1; cell = (inside q held).cell },
@@ -97,7 +101,7 @@ module _ (space start : ℕ) (copy : ℕ → List ℕ) (won : List (ℕ × Place
   rest : (p : Place) → IsPlaceIn space start sorted p → ((w : Win) → Contains (wins_of won) w → place_in w.word ≢ p) → new_cell start sorted p ≡ free_cell
   rest p place none =
       let low = place.block in let behind = place.behind in let long = sorted_long in
-      let found = block_of_number p.block ((numbers.exactly p.block).1 (behind, omega arith)) in
+      let found = map_found (λ (b : ℕ × List (List ℕ)). b.0) blocks p.block ((numbers.exactly p.block).1 (behind, omega arith)) in
       let has = All-contains (HasCopies space copy won) blocks found.0 all found.1 in
       ap (λ (b : List (List ℕ)). cell_of b p.cell) (sorted_is p.block found)
       ∙ has.rest p.cell place.cell (λ q held s e c.
@@ -134,17 +138,7 @@ module _ (k : Counts) (words : List ℕ) (done : Record) (closed : IsClosedTable
     every = λ c low some. let found = owner c some in (win_of found.0, map_has win_of done.won found.0 found.1, found.2);
   }
 
-  -- the place of each word
-  pub have_places : HavePlaces words
-  have_places = All-from_get_or (λ (word : ℕ). IsPlace (place_in word)) words 0 (λ n low. ⊎_elim
-      (λ (zero : get_or words n 0 ≡ 0). subst (λ (w : ℕ). IsPlace (place_in w)) (sym zero) (record { space = lit< tt; block = lit< tt; cell = lit< tt }))
-      (λ (some : get_or words n 0 ≢ 0).
-      let mine = owner n some in
-      let word : get_or words n 0 ≡ link_to mine.0.1 = ap (λ (m : ℕ). get_or words m 0) (sym mine.2) ∙ won_word k words done closed mine.0 mine.1 in
-      subst (λ (p : Place). IsPlace p) (sym (ap place_in word ∙ place_back mine.0.1 (won_inside k words done closed mine.0 mine.1))) (won_inside k words done closed mine.0 mine.1))
-      (cases_eq (get_or words n 0) 0))
-
-  apart : (v w : Win) → Contains (wins_of done.won) v → Contains (wins_of done.won) w → v.word ≡ w.word → v.cell ≡ w.cell
+  apart : AreApart (wins_of done.won)
   apart v w hv hw e =
       let x = map_found win_of done.won v hv in
       let y = map_found win_of done.won w hw in
@@ -257,7 +251,7 @@ module _ (kind : Kind) (t : SpaceTable) (roots : List Root) (k : Counts) (words 
         behind = subst (λ (p : Place). p.space ≡ 0 → kept ≤ p.block) (sym back) (λ z. ((kept_old.exactly q.1.block).0 (in_old_numbers q held z)).0);
       })
 
-  pub long : length words ≡ length (cells_of h)
+  long : length words ≡ length (cells_of h)
   long = whole.closed.rule.size ∙ whole.counts.cells
 
   are_wins : AreWins kind h roots words wins
@@ -282,17 +276,21 @@ module _ (kind : Kind) (t : SpaceTable) (roots : List Root) (k : Counts) (words 
       by_kind Full = omega arith
       by_kind Nursery = (All-get_or IsSpace h 0 [] (let some = table.enough in omega arith) table.blocks).0
 
-  pub numbered_aged : AreConsecutive 0 (numbers_of aged)
+  numbered_aged : AreConsecutive 0 (numbers_of aged)
   numbered_aged = subst (λ (l : List ℕ). AreConsecutive 0 l) (sym whole.part.aged_numbers) (numbers_aged k words done whole.closed)
 
-  pub numbered_old : AreConsecutive kept (numbers_of old)
+  numbered_old : AreConsecutive kept (numbers_of old)
   numbered_old = subst (λ (l : List ℕ). AreConsecutive kept l) (sym whole.part.old_numbers) kept_old
 
-  pub aged_few : length aged ≤ 2 ^ 20
-  aged_few = let low = numbers_within 0 done.aged_blocks (numbers_aged k words done whole.closed) t.limits.space_blocks whole.part.aged_few in omega (arith, blocks_long aged done.aged_blocks whole.part.aged_numbers)
-
-  pub old_few : length old ≤ 2 ^ 20
-  old_few = let low = numbers_within kept done.old_blocks kept_old t.limits.space_blocks whole.part.old_few in omega (arith, blocks_long old done.old_blocks whole.part.old_numbers)
+  -- what is asked of the blocks before they are put in order, and of the words
+  pub may_merge : MayMerge kept words aged old
+  may_merge = record {
+    aged_few = let low = numbers_within 0 done.aged_blocks (numbers_aged k words done whole.closed) t.limits.space_blocks whole.part.aged_few in omega (arith, blocks_long aged done.aged_blocks whole.part.aged_numbers);
+    old_few = let low = numbers_within kept done.old_blocks kept_old t.limits.space_blocks whole.part.old_few in omega (arith, blocks_long old done.old_blocks whole.part.old_numbers);
+    in_aged = numbered_aged;
+    in_old = numbered_old;
+    places = have_places kept wins words are_wins.words places;
+  }
 
   module _ (aged_blocks old_blocks : BlockList) (merged : AreMerged kind kept aged old aged_blocks old_blocks) where
     pub few : kept + length old_blocks ≤ 2 ^ 20
@@ -320,24 +318,20 @@ module _ (kind : Kind) (t : SpaceTable) (roots : List Root) (k : Counts) (words 
             (λ q held s. subst (λ (l : List ℕ). Contains l q.1.block) (sym whole.part.aged_numbers) (in_aged_numbers q held s)) (won_inside k words done whole.closed)
 
     -- in a full collection no copy in Old names a young cell
-    pub none_young : kind ≡ Full → (p : Place) → IsPlaceIn 0 kept old_blocks p → NamesYoung (new_cell kept old_blocks p) → ⊥
-    none_young full = by_kind kind full old_copies traced
-      where
-        by_kind : (kd : Kind) → kd ≡ Full → HoldCopies 0 (kept_blocks kd h) (copy_of kd h words) wins old_blocks → AreTraced kd h roots wins → (p : Place) → IsPlaceIn 0 (kept_blocks kd h) old_blocks p → NamesYoung (new_cell (kept_blocks kd h) old_blocks p) → ⊥
-        by_kind Full is hold traced = none_young_block h words (have_places k words done whole.closed) (words_old traced) wins old_blocks (table_list t table) long (are_words k words done whole.closed).stand hold
-          where
-            words_old : AreTraced Full h roots wins → AreOld words
-            words_old traced = All-from_get_or (λ (word : ℕ). (place_in word).space ≡ 0) words 0 (λ n low. ⊎_elim
-                (λ (zero : get_or words n 0 ≡ 0). ap (λ (w : ℕ). (place_in w).space) zero)
-                (λ (some : get_or words n 0 ≢ 0).
-                let mine = owner k words done whole.closed n some in
-                let word : get_or words n 0 ≡ link_to mine.0.1 = ap (λ (m : ℕ). get_or words m 0) (sym mine.2) ∙ won_word k words done whole.closed mine.0 mine.1 in
-                ap (λ (w : ℕ). (place_in w).space) word ∙ all_in_old h roots wins traced (win_of mine.0) (map_has win_of done.won mine.0 mine.1))
-                (cases_eq (get_or words n 0) 0))
-        by_kind Nursery is hold traced = absurd cc
+    pub none_young_in : kind ≡ Full → (p : Place) → IsPlaceIn 0 kept old_blocks p → NamesYoung (new_cell kept old_blocks p) → ⊥
+    none_young_in = none_young kind h roots words wins (table_list t table) are_wins old_blocks old_copies
 
-    pub finished : (notes : List Place) →
-        ((p : Place) → Contains notes p ↔ ((Contains roots (Remembered p) × NamesYoung (moved_cell kind h words p)) ⊎ (IsPlaceIn 0 kept old_blocks p × NamesYoung (new_cell kept old_blocks p)))) →
-        IsCollection kind h roots words aged_blocks old_blocks notes
-    finished notes noted = is_collection kind h roots words wins aged_blocks old_blocks notes (table_list t table) are_wins
-        (record { aged_copies = aged_copies; old_copies = old_copies; none_aged = merged.none_aged; few = few; noted = noted })
+-- ---- the collection
+
+module _ (kind : Kind) (t : SpaceTable) (roots : List Root) (k : Counts) (done : Record) (aged old : Numbered) (made : Collected)
+    (table : IsSpaceTable t) (limit : t.limits.space_blocks ≤ 2 ^ 20) (whole : IsWholePart kind t roots k made.forward done aged old)
+    (merged : AreMerged kind (kept_blocks kind t.spaces) aged old made.aged made.old) (noted : AreNotes kind t.spaces roots made.forward (kept_blocks kind t.spaces) made.old made.notes) where
+  pub finished : IsCollection kind t.spaces roots made
+  finished = is_collection kind t.spaces roots (wins_of done.won) made (table_list t table) (are_wins kind t roots k made.forward done aged old table limit whole)
+      (record {
+        aged_copies = aged_copies kind t roots k made.forward done aged old table limit whole made.aged made.old merged;
+        old_copies = old_copies kind t roots k made.forward done aged old table limit whole made.aged made.old merged;
+        none_aged = merged.none_aged;
+        few = few kind t roots k made.forward done aged old table limit whole made.aged made.old merged;
+        noted = noted;
+      })

@@ -1,7 +1,7 @@
 -- What a helper hands over: its copies stand in its blocks, each block with its number, which it has once.
 use Rattle.std.proofs.Common.{◌≡◌, ◌≢◌, ℕ, ◌+◌, ◌*◌, ◌/◌, ◌%◌, ◌^◌, ◌<◌, ◌≤◌, ◌==◌, ◌⊎◌, List, [], ◌∷◌, Bool, true, false, length, get_or, take, map, refl, sym, ap, subst, ◌∙◌, inl, inr, ⊎_elim, arith, nat_lt, Result, Ok, Err}
 use Rattle.std.specs.List.{All, Contains, list_all}
-use Rattle.std.specs.Result.{IfErr, IfOk, OnOk}
+use Rattle.std.specs.Result.{IfOk, OnOk}
 use Rattle.std.proofs.lemmas.Bool.{cases_eq, cases_lt}
 use Rattle.std.proofs.lemmas.Bool.Decides.{nat_tests}
 use Rattle.std.proofs.lemmas.List.{get_or-map, get_or-replicate, get_or_default, get_or_past, length-map, take_all}
@@ -52,13 +52,16 @@ are_laid_out cells numbers blocks laid hold are same each = record {
 }
 
 -- the numbers of a helper's own blocks, which rise, stand once
-pub filled_once : (aged : Bool) (v : Record) (numbers : List ℕ) (used : ℕ) → AreFilled aged v numbers used → AreOnce (blocks_of aged v)
+filled_once : (aged : Bool) (v : Record) (numbers : List ℕ) (used : ℕ) → AreFilled aged v numbers used → AreOnce (blocks_of aged v)
 filled_once aged v numbers used filled = subst (λ (l : List ℕ). AreOnce l) filled.same
     (once_differ numbers (λ i j d lt low e. (
     let rises = filled.rising i j lt low in
     let left : get_or numbers i 0 ≡ get_or numbers i d = get_or_default numbers i 0 d (omega arith) in
     let right : get_or numbers j 0 ≡ get_or numbers j d = get_or_default numbers j 0 d low in
     omega arith)))
+
+pub both_once : {v w : Record} {aged old : List ℕ} {m n : ℕ} → w ≡ v → AreFilled true v aged m → AreFilled false v old n → AreOnce w.aged_blocks × AreOnce w.old_blocks
+both_once {v} {aged = aged} {old = old} {m = m} {n = n} same in_aged in_old = subst (λ (x : Record). AreOnce x.aged_blocks × AreOnce x.old_blocks) (sym same) (filled_once true v aged m in_aged, filled_once false v old n in_old)
 
 -- ---- the copies of a space
 
@@ -197,14 +200,6 @@ one_past limit (b ∷ numbers) h = ⊎_elim
 pub parts_are : {A E : Type 0} (r : Result A E) {P Q R : A → Type 0} {B C : Type 0} → ((x : A) → P x → Q x → B → C → R x) → IfOk r P → IfOk r Q → OnOk r B → OnOk r C → IfOk r R
 parts_are (Ok x) f p q b c = f x p q b c
 parts_are (Err e) f p q b c = p
-
-pub ok_always : {A E P : Type 0} (r : Result A E) → P → OnOk r P
-ok_always (Ok x) p = p
-ok_always (Err e) p = tt
-
-pub err_weaker : {A E : Type 0} {P Q : E → Type 0} (r : Result A E) → ((e : E) → P e → Q e) → IfErr r P → IfErr r Q
-err_weaker (Ok x) f p = p
-err_weaker (Err e) f p = f e p
 
 -- a number past the limit is one of a block that was claimed
 pub past_limit : (limit : ℕ) (v : Record) (aged old : List ℕ) → aged ≡ v.aged_blocks → old ≡ v.old_blocks → (b : ℕ) × (Contains aged b ⊎ Contains old b) × (limit ≤ b) → HasClaimedPast limit v

@@ -19,7 +19,8 @@ use Rattle.tg_race.proofs.Sums.{weigh-append}
 use Rattle.tg_race.proofs.Parts.{claims_of, owns_claims, claims_owns}
 use Rattle.tg_evac.specs.Claimers.{image_at}
 use Rattle.tg_parallel.specs.Parts.{AreOnce, HasCopies, HasMetAll, HasPlaceOf, HasPlaces, IsPart, Numbered, cells_met, numbers_of, roots_in, roots_of_chunk}
-use Rattle.tg_parallel.proofs.Lists.{all_left, all_right, has_weighs, map_has, once_apart, once_left, once_right}
+use Rattle.tg_evac.proofs.Copying.{map_has}
+use Rattle.tg_parallel.proofs.Lists.{all_left, all_right, has_weighs, once_apart, once_left, once_right}
 
 abbrev cell_of_pair : ℕ × Place → ℕ
 cell_of_pair q = q.0

@@ -1,12 +1,13 @@
 -- Facts on lists: what one has, and numbers that stand once.
-use Rattle.std.proofs.Common.{◌≡◌, ◌≢◌, ℕ, zero, suc, ◌+◌, ◌-◌, ◌*◌, ◌/◌, ◌<◌, ◌≤◌, ◌==◌, ◌||◌, ◌++◌, if◌then◌else◌, List, [], ◌∷◌, Bool, true, false, length, get_or, take, drop, map, refl, sym, ap, subst, ◌∙◌, eqb, eqb-true, eq-eqb, ⊎_elim, arith}
+use Rattle.std.proofs.Common.{◌≡◌, ◌≢◌, ℕ, zero, suc, ◌+◌, ◌-◌, ◌*◌, ◌/◌, ◌<◌, ◌≤◌, ◌==◌, ◌||◌, ◌++◌, if◌then◌else◌, List, [], ◌∷◌, Bool, true, false, length, get_or, take, drop, refl, sym, ap, subst, ◌∙◌, eqb-true, ⊎_elim, arith}
 use Rattle.std.specs.List.{All, AllPairs, Contains, list_any, flat_map}
-use Rattle.std.proofs.lemmas.Bool.{cond-true, false≢true, cases_lt}
-use Rattle.std.proofs.lemmas.List.{get_or-map, get_or-take, length-map, length-append, length-take-le, get_or_append_left, get_or-append_right}
+use Rattle.std.proofs.lemmas.Bool.{false≢true}
+use Rattle.std.proofs.lemmas.List.{get_or-take, length-append, length-take-le, get_or_append_left, get_or-append_right}
+use Rattle.std.proofs.lemmas.List.Folds.{list_any_at}
 use Rattle.std.proofs.lemmas.List.Elements.{Contains-append_left, Contains-append_right, Contains-append_cases}
 use Rattle.tg_race.specs.Weights.{weigh, one_at}
 use Rattle.tg_race.proofs.Drawn.{number_found, weighs_at}
-use Rattle.tg_race.proofs.Sums.{weigh-append, weigh_two}
+use Rattle.tg_race.proofs.Sums.{weigh-append}
 use Rattle.tg_parallel.specs.Parts.{AreOnce}
 
 module _ {A : Type 0} where
@@ -23,17 +24,8 @@ module _ {A : Type 0} where
 
   -- ---- tests
 
-  pub any_at : (f : A → Bool) (xs : List A) (i : ℕ) (d : A) → i < length xs → f (get_or xs i d) ≡ true → list_any f xs ≡ true
-  any_at f [] i d low h = absurd (omega arith)
-  any_at f (x ∷ xs) zero d low h = rw h refl
-  any_at f (x ∷ xs) (suc i) d low h = go (f x) (any_at f xs i d (omega arith) h)
-    where
-      go : (b : Bool) → list_any f xs ≡ true → (b || list_any f xs) ≡ true
-      go true e = refl
-      go false e = e
-
   pub any_has : (f : A → Bool) (xs : List A) (x : A) → Contains xs x → f x ≡ true → list_any f xs ≡ true
-  any_has f xs x held h = any_at f xs held.0 x held.1 (ap f held.2 ∙ h)
+  any_has f xs x held h = list_any_at f xs held.0 x held.1 (ap f held.2 ∙ h)
 
   pub any_found : (f : A → Bool) (xs : List A) → list_any f xs ≡ true → (x : A) × Contains xs x × (f x ≡ true)
   any_found f [] h = absurd (false≢true h)
@@ -43,18 +35,7 @@ module _ {A : Type 0} where
       go true e h more = (x, (0, omega arith, refl), e)
       go false e h more = let found = more h in (found.0, Contains-append_right (x ∷ []) xs found.0 found.1, found.2)
 
--- ---- maps and pieces
-
-module _ {A B : Type 0} (f : A → B) where
-  pub map_has : (xs : List A) (x : A) → Contains xs x → Contains (map f xs) (f x)
-  map_has xs x held =
-      let low : held.0 < length (map f xs) = rw length-map held.1 in
-      (held.0, low, get_or-map f xs held.0 x (f x) held.1 ∙ ap f held.2)
-
-  pub map_found : (xs : List A) (y : B) → Contains (map f xs) y → (x : A) × Contains xs x × (f x ≡ y)
-  map_found [] y held = absurd (let low = held.1 in omega arith)
-  map_found (x ∷ xs) y (zero, low, is) = (x, (0, omega arith, refl), is)
-  map_found (x ∷ xs) y (suc k, low, is) = let found = map_found xs y (k, omega arith, is) in (found.0, Contains-append_right (x ∷ []) xs found.0 found.1, found.2)
+-- ---- pieces
 
 module _ {A B : Type 0} (f : A → List B) where
   pub flat_has : (xs : List A) (x : A) (y : B) → Contains xs x → Contains (f x) y → Contains (flat_map f xs) y
@@ -115,24 +96,6 @@ module _ (xs ys : List ℕ) (once : AreOnce (xs ++ ys)) where
 
   pub once_apart : (n : ℕ) → 0 < weigh (one_at n) xs → 0 < weigh (one_at n) ys → ⊥
   once_apart n left right = absurd (let o = once n in omega (arith, weigh-append (one_at n) xs ys))
-
--- and are at one index
-pub once_index : (xs : List ℕ) → AreOnce xs → (i j : ℕ) → i < length xs → j < length xs → get_or xs i 0 ≡ get_or xs j 0 → i ≡ j
-once_index xs once i j hi hj e = ⊎_elim
-    (λ (lt : i < j). absurd (clash i j lt hj e))
-    (λ (le : j ≤ i). ⊎_elim (λ (lt : j < i). absurd (clash j i lt hi (sym e))) (λ (ge : i ≤ j). omega arith) (cases_lt j i))
-    (cases_lt i j)
-  where
-    one : (x y : ℕ) → x ≡ y → one_at y x ≡ 1
-    one x y e = cond-true {A = ℕ} (eqb x y) 1 0 (eq-eqb x y e)
-
-    clash : (a b : ℕ) → a < b → b < length xs → get_or xs a 0 ≡ get_or xs b 0 → ⊥
-    clash a b lt low same = absurd (
-        let most = once (get_or xs b 0) in
-        let two = weigh_two (one_at (get_or xs b 0)) xs a b 0 lt low in
-        let l = one (get_or xs a 0) (get_or xs b 0) same in
-        let r = one (get_or xs b 0) (get_or xs b 0) refl in
-        omega arith)
 
 -- numbers that differ stand once
 pub once_differ : (xs : List ℕ) → AllPairs (λ m n. m ≢ n) xs → AreOnce xs

@@ -2,14 +2,12 @@
 use Rattle.std.proofs.Common.{◌≡◌, ℕ, ◌/◌, ◌%◌, ◌<◌, List, [], length, get_or, map, sym, ap, ◌∙◌, arith}
 use Rattle.std.specs.List.{All}
 use Rattle.std.proofs.lemmas.List.{get_or-map}
-use Rattle.tg_rights.specs.RightSet.{no_rights}
 use Rattle.tg_word.specs.declared.Place.{Place}
 use Rattle.tg_word.specs.Word.{IsPlace, place_in}
-use Rattle.tg_word.proofs.Packing.{place_in-word_at}
-use Rattle.tg_evac.specs.Win.{Win}
 use Rattle.tg_evac.specs.Claims.{win_at}
 use Rattle.tg_parallel.specs.Parts.{note_of, win_of, wins_of}
 use Rattle.tg_parallel.specs.Seats.{pair_at}
+use Rattle.tg_parallel.proofs.Wins.{place_back}
 
 module _ (won : List (ℕ × Place)) (places : All (λ q. IsPlace q.1 × (q.1.space < 2)) won) (k d : ℕ) (low : k < length won) where
   abbrev pair : ℕ × Place
@@ -25,14 +23,10 @@ module _ (won : List (ℕ × Place)) (places : All (λ q. IsPlace q.1 × (q.1.sp
   win_is = get_or-map win_of won k (pair_at [] 0) (win_at [] 0) low
 
   pub note_cell : get_or (map note_of won) k d / 2 ≡ (win_at (wins_of won) k).cell
-  note_cell =
-      let two = inside.1 in let note = note_is in
-      let half : get_or (map note_of won) k d / 2 ≡ pair.0 = omega arith in
-      half ∙ sym (ap (λ (w : Win). w.cell) win_is)
+  note_cell = rw (note_is, win_is) (let two = inside.1 in omega arith)
 
   pub note_space : get_or (map note_of won) k d % 2 ≡ (place_in (win_at (wins_of won) k).word).space
   note_space =
-      let two = inside.1 in let note = note_is in
-      let rest : get_or (map note_of won) k d % 2 ≡ pair.1.space = omega arith in
-      let back : place_in (win_of pair).word ≡ pair.1 = place_in-word_at no_rights pair.1 inside.0 in
-      rest ∙ sym (ap (λ (w : Win). (place_in w.word).space) win_is ∙ ap (λ (p : Place). p.space) back)
+      let two = inside.1 in
+      let rest : note_of pair % 2 ≡ pair.1.space = omega arith in
+      rw (note_is, win_is) (rest ∙ sym (ap (λ (p : Place). p.space) (place_back pair.1 inside.0)))

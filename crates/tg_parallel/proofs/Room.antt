@@ -1,6 +1,6 @@
 -- How many blocks a closed table has given away: they are within the limit, and nearly as few as the copies need; and a block
 -- past the limit tells of many cells that are reached.
-use Rattle.std.proofs.Common.{◌≡◌, ◌≢◌, ℕ, suc, ◌+◌, ◌-◌, ◌<◌, ◌≤◌, ◌==◌, List, [], ◌∷◌, Bool, true, false, cond, if◌then◌else◌, length, refl, sym, ap, ◌∙◌, eq-eqb, eqb-true, ⊎_elim, arith}
+use Rattle.std.proofs.Common.{◌≡◌, ◌≢◌, ℕ, suc, ◌+◌, ◌-◌, ◌<◌, ◌≤◌, ◌==◌, List, [], ◌∷◌, Bool, true, false, not, ◌&&◌, cond, if◌then◌else◌, length, refl, sym, ap, ◌∙◌, eq-eqb, eqb-true, ⊎_elim, arith}
 use Rattle.std.specs.List.{All, Contains}
 use Rattle.std.proofs.lemmas.Bool.{cases_eq}
 use Rattle.std.proofs.lemmas.List.{length-map}
@@ -8,7 +8,7 @@ use Rattle.std.proofs.lemmas.List.Elements.{All-contains}
 use Rattle.std.proofs.lemmas.List.Sums.{sum_by-cons}
 use Rattle.tg_word.specs.declared.Place.{Place}
 use Rattle.tg_word.specs.Word.{place_in}
-use Rattle.tg_space.specs.Collection.{AreFewBlocks, MayLackRoom, copies_in, is_copy_in, used_cells}
+use Rattle.tg_space.specs.Collection.{AreFewBlocks, Collected, MayLackRoom, copies_in, is_copy_in, used_cells}
 use Rattle.tg_space.specs.Soundness.{AreSound}
 use Rattle.tg_space.specs.SpaceList.{BlockList}
 use Rattle.tg_space.specs.SpaceTable.{SpaceTable, IsSpaceTable, kept_blocks}
@@ -41,20 +41,12 @@ use Rattle.tg_parallel.proofs.Wins.{cells_distinct, cells_long, traced_all}
 count_words : (s i : ℕ) (ws : List ℕ) → weigh_words (λ q. if q.1.space == s then 1 else 0) i ws ≡ copies_in ws s
 unfolding place_of
 count_words s i [] = refl
-count_words s i (w ∷ ws) = by_test (w == 0) refl (count_words s (suc i) ws)
+count_words s i (w ∷ ws) = omega (arith, sum_by-cons (λ (x : ℕ). cond (is_copy_in s x) 1 0) w ws, by_tests (w == 0) ((place_in w).space == s), count_words s (suc i) ws)
   where
-    cons : copies_in (w ∷ ws) s ≡ cond (is_copy_in s w) 1 0 + copies_in ws s
-    cons = sum_by-cons (λ (x : ℕ). cond (is_copy_in s x) 1 0) w ws
-
-    by_test : (z : Bool) → (w == 0) ≡ z → weigh_words (λ q. if q.1.space == s then 1 else 0) (suc i) ws ≡ copies_in ws s → (if w == 0 then 0 else (if (place_of w).space == s then 1 else 0)) + weigh_words (λ q. if q.1.space == s then 1 else 0) (suc i) ws ≡ copies_in (w ∷ ws) s
-    by_test true z ih =
-        let one : ◌≡◌ {A = ℕ} (cond (is_copy_in s w) 1 0) 0 = rw z refl in
-        let here : ◌≡◌ {A = ℕ} (if w == 0 then 0 else (if (place_in w).space == s then 1 else 0)) 0 = rw z refl in
-        omega (arith, cons, one, here, ih)
-    by_test false z ih =
-        let one : ◌≡◌ {A = ℕ} (cond (is_copy_in s w) 1 0) (cond ((place_in w).space == s) 1 0) = rw z refl in
-        let here : ◌≡◌ {A = ℕ} (if w == 0 then 0 else (if (place_in w).space == s then 1 else 0)) (cond ((place_in w).space == s) 1 0) = rw z refl in
-        omega (arith, cons, one, here, ih)
+    by_tests : (a b : Bool) → ◌≡◌ {A = ℕ} (if a then 0 else (if b then 1 else 0)) (cond (not a && b) 1 0)
+    by_tests true b = refl
+    by_tests false true = refl
+    by_tests false false = refl
 
 -- a copy is in one space
 two_spaces : (won : List (ℕ × Place)) → in_space 0 won + in_space 1 won ≤ length won
@@ -125,22 +117,22 @@ numbers_within start numbers are limit below = ⊎_elim
 pub blocks_long : (blocks : Numbered) (numbers : List ℕ) → numbers_of blocks ≡ numbers → length blocks ≡ length numbers
 blocks_long blocks numbers is = sym (length-map blocks (λ (b : ℕ × List (List ℕ)). b.0)) ∙ ap (λ (l : List ℕ). length l) is
 
-module _ (kind : Kind) (t : SpaceTable) (roots : List Root) (k : Counts) (words : List ℕ) (done : Record) (aged old : Numbered)
-    (whole : IsWholePart kind t roots k words done aged old) (aged_blocks old_blocks : BlockList) (merged : AreMerged kind (kept_blocks kind t.spaces) aged old aged_blocks old_blocks) where
-  copies_are : (s : ℕ) → in_space s done.won ≡ copies_in words s
-  copies_are s = copies_won k words done whole.closed s
+module _ (kind : Kind) (t : SpaceTable) (roots : List Root) (k : Counts) (done : Record) (aged old : Numbered) (made : Collected)
+    (whole : IsWholePart kind t roots k made.forward done aged old) (merged : AreMerged kind (kept_blocks kind t.spaces) aged old made.aged made.old) where
+  copies_are : (s : ℕ) → in_space s done.won ≡ copies_in made.forward s
+  copies_are s = copies_won k made.forward done whole.closed s
 
-  aged_at_most : length aged_blocks ≤ length done.aged_blocks
+  aged_at_most : length made.aged ≤ length done.aged_blocks
   aged_at_most = by_kind kind refl
     where
-      by_kind : (kd : Kind) → kind ≡ kd → length aged_blocks ≤ length done.aged_blocks
+      by_kind : (kd : Kind) → kind ≡ kd → length made.aged ≤ length done.aged_blocks
       by_kind Full is = let none = ap (λ (bs : BlockList). length bs) (merged.none_aged is) in omega arith
       by_kind Nursery is = let all = (merged.in_aged is).as_many in omega (arith, blocks_long aged done.aged_blocks whole.part.aged_numbers)
 
-  old_is : length old_blocks ≡ length done.old_blocks
+  old_is : length made.old ≡ length done.old_blocks
   old_is = merged.in_old.as_many ∙ blocks_long old done.old_blocks whole.part.old_numbers
 
-  pub few_blocks : AreFewBlocks t.limits.space_blocks (kept_blocks kind t.spaces) k.helpers words aged_blocks old_blocks
+  pub few_blocks : AreFewBlocks t.limits.space_blocks (kept_blocks kind t.spaces) k.helpers made
   few_blocks =
       let kept = whole.counts.kept in
       let aged_low = numbers_within 0 done.aged_blocks (consecutive 0 whole.closed.next_aged (λ v. v.aged_blocks) done whole.closed.rule.blocks_once.0) t.limits.space_blocks whole.part.aged_few in
@@ -148,6 +140,6 @@ module _ (kind : Kind) (t : SpaceTable) (roots : List Root) (k : Counts) (words 
       record {
         aged_within = omega (arith, aged_at_most);
         old_within = omega (arith, old_is);
-        aged_needed = omega (arith, aged_at_most, closed_aged_filled k words done whole.closed, copies_are 1);
-        old_needed = omega (arith, old_is, closed_old_filled k words done whole.closed, copies_are 0);
+        aged_needed = omega (arith, aged_at_most, closed_aged_filled k made.forward done whole.closed, copies_are 1);
+        old_needed = omega (arith, old_is, closed_old_filled k made.forward done whole.closed, copies_are 0);
       }

@@ -1,19 +1,13 @@
 -- A seat: what it holds at first and after a claim, and what a walk sees of it.
-use Rattle.std.proofs.Common.{◌≡◌, ◌≢◌, ℕ, suc, ◌-◌, ◌*◌, ◌^◌, ◌<◌, ◌≤◌, ◌==◌, ◌||◌, not, ◌++◌, List, [], ◌∷◌, Bool, true, false, length, get_or, map, refl, sym, ap, subst, ◌∙◌, eqb, eq-eqb, ⊎_elim, arith}
+use Rattle.std.proofs.Common.{◌≡◌, ◌≢◌, ℕ, suc, ◌-◌, ◌*◌, ◌^◌, ◌<◌, ◌≤◌, ◌==◌, ◌||◌, not, ◌++◌, List, [], ◌∷◌, Bool, true, false, length, get_or, map, refl, sym, ap, subst, ◌∙◌, eq-eqb, ⊎_elim, arith}
 use Rattle.std.specs.List.{All, AllPairs, Contains, list_any}
 use Rattle.std.specs.Prelude.{Result, IfErr, IfOk, OnOk, vec_capacity}
 use Rattle.std.proofs.lemmas.Bool.{cases_eq, false≢true}
-use Rattle.std.proofs.lemmas.Bool.Decides.{Decides-eqb}
 use Rattle.std.proofs.lemmas.List.{append-nil, get_or-map, length-map, length_push, map-append}
 use Rattle.std.proofs.lemmas.List.Elements.{All-append, All-contains, All-map, All-nil, All-push, All-weaker, Contains-append_cases, Contains-append_left, Contains-append_right, Contains-get_or}
 use Rattle.std.proofs.lemmas.List.Quantifiers.{all_pairs_push}
-use Rattle.std.proofs.lemmas.Map.Made.{IsDistinct-from_AllPairs}
-use Rattle.std.proofs.lemmas.Map.Steps.{length-le_from_distinct_below}
-use Rattle.std.proofs.lemmas.Map.Views.{Contains-from_any}
-use Rattle.tg_rights.specs.RightSet.{no_rights}
 use Rattle.tg_word.specs.declared.Place.{Place}
-use Rattle.tg_word.specs.Word.{IsPlace, link_to, place_in}
-use Rattle.tg_word.proofs.Packing.{place_in-word_at}
+use Rattle.tg_word.specs.Word.{IsPlace, place_in}
 use Rattle.tg_space.specs.declared.kind.Kind.{Kind}
 use Rattle.tg_race.specs.declared.record.Record.{Record}
 use Rattle.tg_race.specs.Course.{has_met}
@@ -32,10 +26,11 @@ use Rattle.tg_evac.specs.declared.both.Both.{Both}
 use Rattle.tg_evac.specs.Lending.{with_one}
 use Rattle.tg_parallel.specs.Parts.{HasClaimedPast, HasPlaceOf, HasPlaces, cells_met, win_of, wins_of}
 use Rattle.tg_parallel.specs.Seats.{AreFilled, Finds, HasRoomFor, HasRoomForNumbers, IsReady, IsSeat, KnowsNext, OtherStays, Sitting, StayFilled, pair_at, pairs_in, used_of, walked_at}
-use Rattle.tg_parallel.proofs.Lists.{all_left, any_has, map_found}
-
-place_back : (p : Place) → IsPlace p → place_in (link_to p) ≡ p
-place_back p inside = place_in-word_at no_rights p inside
+use Rattle.tg_evac.proofs.Claiming.{distinct_map, few_numbers}
+use Rattle.tg_evac.proofs.Copying.{map_found}
+use Rattle.tg_parallel.proofs.Filled.{age_two}
+use Rattle.tg_parallel.proofs.Lists.{all_left, any_has}
+use Rattle.tg_parallel.proofs.Wins.{place_back}
 
 -- ---- at first
 
@@ -59,24 +54,11 @@ knows_none limit b none next within = record {
 -- cells between two bounds that differ are no more than there are
 few_between : (low high : ℕ) (won : List (ℕ × Place)) → AllPairs (λ q r. q.0 ≢ r.0) won → All (λ q. low ≤ q.0) won → All (λ q. q.0 < high) won → length won ≤ high - low
 few_between low high won differ above below =
-    let f = λ (q : ℕ × Place). q.0 - low in
-    let cells = map f won in
-    let none = pair_at [] 0 in
-    let long : length cells ≡ length won = length-map won f in
-    let at = λ (i d : ℕ) (le : i < length won). get_or-map f won i none d le in
-    let few : length cells ≤ high - low = length-le_from_distinct_below cells (high - low)
-    (IsDistinct-from_AllPairs {eq = eqb} Decides-eqb cells (λ i j d lt le e.
-    let ai = at i d (omega arith) in
-    let aj = at j d (omega arith) in
-    let li = above i none (omega arith) in
-    let lj = above j none (omega arith) in
-    differ i j none lt (omega arith) (omega arith)))
-    (λ n any.
-    let found = map_found f won n (Contains-from_any {eq = eqb} (λ x y t. (Decides-eqb x y).0 t) n cells any) in
-    let is = found.2 in
-    let lo = All-contains (λ (x : ℕ × Place). low ≤ x.0) won found.0 above found.1 in
-    let hi = All-contains (λ (x : ℕ × Place). x.0 < high) won found.0 below found.1 in
-    omega arith) in
+    let f = λ (q : ℕ × Place). q.0 in
+    let long = length-map won f in
+    let few = few_numbers low high (map f won) (distinct_map f won (pair_at [] 0) differ) (λ n held.
+    let found = map_found f won n held in
+    subst (λ (m : ℕ). (low ≤ m) × (m < high)) found.2 (All-contains (λ (x : ℕ × Place). low ≤ x.0) won found.0 above found.1, All-contains (λ (x : ℕ × Place). x.0 < high) won found.0 below found.1)) in
     omega arith
 
 -- the pairs of a space are those of the collection
@@ -220,24 +202,17 @@ module _ (limit : ℕ) (board : Board) (before after : Seated) (aged old : OwnBl
     differ_now = subst (λ (l : List (ℕ × Place)). AllPairs (λ q r. q.0 ≢ r.0) l) (sym finds.is_won)
         (differ_more cell before.done unmet finds.won finds.one (All-weaker (λ (q : ℕ × Place). (q.0 ≡ cell) × (q.1.space ≡ space_of_age a) × IsPlace q.1) (λ (q : ℕ × Place). q.0 ≡ cell) (λ q r. r.0) finds.won finds.reasons) seat.differ)
 
-    inside_now : All (λ q. q.0 < board.counts.cells) after.done.won
-    inside_now = subst (λ (l : List (ℕ × Place)). All (λ q. q.0 < board.counts.cells) l) (sym finds.is_won)
-        (All-append (λ (q : ℕ × Place). q.0 < board.counts.cells) before.done.won finds.won seat.inside
-        (All-weaker (λ (q : ℕ × Place). (q.0 ≡ cell) × (q.1.space ≡ space_of_age a) × IsPlace q.1) (λ (q : ℕ × Place). q.0 < board.counts.cells) (λ q r. (let e = r.0 in let low = word.inside in omega arith)) finds.won finds.reasons))
-
-    behind_now : All (λ q. 64 * board.counts.kept ≤ q.0) after.done.won
-    behind_now = subst (λ (l : List (ℕ × Place)). All (λ q. 64 * board.counts.kept ≤ q.0) l) (sym finds.is_won)
-        (All-append (λ (q : ℕ × Place). 64 * board.counts.kept ≤ q.0) before.done.won finds.won seat.behind
-        (All-weaker (λ (q : ℕ × Place). (q.0 ≡ cell) × (q.1.space ≡ space_of_age a) × IsPlace q.1) (λ (q : ℕ × Place). 64 * board.counts.kept ≤ q.0) (λ q r. (let e = r.0 in let low = word.moved in omega arith)) finds.won finds.reasons))
-
-    two_of : (b : Bool) → space_of_age b < 2
-    two_of true = omega arith
-    two_of false = omega arith
+    all_now : (P : ℕ × Place → Type 0) → All P before.done.won → ((q : ℕ × Place) → (q.0 ≡ cell) × (q.1.space ≡ space_of_age a) × IsPlace q.1 → P q) → All P after.done.won
+    all_now P was new = subst (λ (l : List (ℕ × Place)). All P l) (sym finds.is_won) (All-append P before.done.won finds.won was (All-weaker (λ (q : ℕ × Place). (q.0 ≡ cell) × (q.1.space ≡ space_of_age a) × IsPlace q.1) P new finds.won finds.reasons))
 
     places_now : All (λ q. IsPlace q.1 × (q.1.space < 2)) after.done.won
-    places_now = subst (λ (l : List (ℕ × Place)). All (λ q. IsPlace q.1 × (q.1.space < 2)) l) (sym finds.is_won)
-        (All-append (λ (q : ℕ × Place). IsPlace q.1 × (q.1.space < 2)) before.done.won finds.won seat.places
-        (All-weaker (λ (q : ℕ × Place). (q.0 ≡ cell) × (q.1.space ≡ space_of_age a) × IsPlace q.1) (λ (q : ℕ × Place). IsPlace q.1 × (q.1.space < 2)) (λ q r. (r.2, (let e = r.1 in let t = two_of a in omega arith))) finds.won finds.reasons))
+    places_now = all_now (λ (q : ℕ × Place). IsPlace q.1 × (q.1.space < 2)) seat.places (λ q r. (r.2, (let e = r.1 in let t = age_two a in omega arith)))
+
+    inside_now : All (λ q. q.0 < board.counts.cells) after.done.won
+    inside_now = all_now (λ (q : ℕ × Place). q.0 < board.counts.cells) seat.inside (λ q r. (let e = r.0 in let low = word.inside in omega arith))
+
+    behind_now : All (λ q. 64 * board.counts.kept ≤ q.0) after.done.won
+    behind_now = all_now (λ (q : ℕ × Place). 64 * board.counts.kept ≤ q.0) seat.behind (λ q r. (let e = r.0 in let low = word.moved in omega arith))
 
     seat_now : (first second : OwnBlocks) → first.aged ≡ true → second.aged ≡ false → AreFilled true after.done first.numbers.items (used_of true after.done) → AreFilled false after.done second.numbers.items (used_of false after.done) → KnowsNext limit after.done first → KnowsNext limit after.done second → HasRoomForNumbers board.table.id.words first → HasRoomForNumbers board.table.id.words second → IsSeat limit board after first second
     seat_now first second is_aged is_old in_aged in_old aged_next old_next aged_room old_room =

@@ -2,10 +2,10 @@
 use Rattle.std.specs.Prelude.{◌≡◌, ℕ, List, Result}
 use Rattle.tg_space.specs.SpaceTable.{SpaceTable}
 use Rattle.tg_space.specs.Soundness.{AreSound}
+use Rattle.tg_space.specs.declared.copied.Copied.{Copied}
 use Rattle.tg_space.specs.declared.kind.Kind.{Kind}
 use Rattle.tg_space.specs.declared.root.Root.{Root}
 use Rattle.tg_space.specs.declared.room_fault.RoomFault.{RoomFault}
-use Rattle.tg_evac.specs.declared.collect.Copied.{Copied}
 use Rattle.tg_evac.specs.declared.copies.Copies.{Copies}
 use Rattle.tg_evac.specs.Collects.{Collects}
 use Rattle.tg_race.specs.Seats.{Board}

@@ -33,9 +33,9 @@ use std::sync::Wait;
 use std::thread;
 use std::thread::{Promise, PromisedHandle, Scope, Threads, join_promised};
 use tg_block::Block;
-use tg_evac::{Copied, Moves, Plan};
+use tg_evac::{Copied, Made, Plan};
 use tg_race::{Helper, Opened, RaceTable};
-use tg_space::{Forwarding, Kind, RoomFault, Root, Spaces, Spare};
+use tg_space::{Forwarding, Kind, Moves, Numbering, RoomFault, Root, Spaces, Spare};
 use tg_word::CELLS;
 
 /// The most helpers that a collection may have.
@@ -440,12 +440,17 @@ fn put_together<G: Gate>(
     ensures noted { IfOk result (λ copied. (p : PlaceOf) → Contains copied.remembered.places p ↔ ((Contains task.now.roots.now (RememberedAt p) × NamesYoung (moved_cell plan.kind task.now.spaces.now.spaces forward.words p)) ⊎ (IsPlaceIn 0 (kept_blocks plan.kind task.now.spaces.now.spaces) copied.adoption.old p × NamesYoung (new_cell (kept_blocks plan.kind task.now.spaces.now.spaces) copied.adoption.old p)))) }
 {
     let adoption = merged(alloc, plan.kind, part)?;
+    let numbering = Numbering::of(task.spaces);
     let moves = Moves {
-        spaces: task.spaces,
+        numbering: &numbering,
         kind: plan.kind,
         forward: &forward,
     };
-    let remembered = moves.notes(alloc, task.roots, &adoption.old, plan.kept)?;
+    let made = Made {
+        spaces: task.spaces,
+        moves,
+    };
+    let remembered = made.notes(alloc, task.roots, &adoption.old, plan.kept)?;
     Ok(Copied {
         forward,
         adoption,

@@ -87,7 +87,7 @@ fn laid_out(alloc: Global, numbers: &[u64], blocks: Space) -> Result<Vec<(u64, B
     let mut laid = Vec::with_capacity(alloc, numbers.len())?;
     for number in numbers {
         let block = next_block(alloc, &mut blocks)?;
-        laid.push((*number, block))?;
+        laid.push_reserved((*number, block));
     }
     Ok(laid)
 }

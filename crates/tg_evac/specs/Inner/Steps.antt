@@ -36,12 +36,12 @@ pub record MayClaimChunks {Fixed : Type 0} (kind : Kind) (h : SpaceList) (first 
 
 -- ---- the notes
 
-pub record MayNoteRoots (h : SpaceList) (words : List ℕ) (all : List Root) : Type 0 where
-  pub forward : AreForwarded h words
+pub record MayNoteRoots (h : SpaceList) (starts words : List ℕ) (all : List Root) : Type 0 where
+  pub forward : AreForwarded h starts words
   pub roots : All (IsRootIn h) all
 
-pub record MayNoteRoot (h : SpaceList) (words : List ℕ) (one : Root) : Type 0 where
-  pub forward : AreForwarded h words
+pub record MayNoteRoot (h : SpaceList) (starts words : List ℕ) (one : Root) : Type 0 where
+  pub forward : AreForwarded h starts words
   pub root : IsRootIn h one
 
 -- one of these blocks of Old, behind as many other ones

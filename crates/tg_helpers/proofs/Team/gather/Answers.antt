@@ -2,7 +2,7 @@
 use Rattle.std.proofs.Common.{◌≤◌, ◌+◌, List, subst}
 use Rattle.std.proofs.lemmas.Result.{err_from_is_err_and}
 use Rattle.tg_space.specs.SpaceTable.{SpaceTable, kept_blocks}
-use Rattle.tg_space.specs.Collection.{AreFewBlocks, IsCollection, copies_in, used_cells}
+use Rattle.tg_space.specs.Collection.{AreFewBlocks, IsCollection, collected_in, copies_in, used_cells}
 use Rattle.tg_space.specs.declared.root.Root.{Root}
 use Rattle.tg_store.specs.Collecting.{IsSwept}
 use Rattle.tg_store.specs.Room.{LacksRoomToCollect}
@@ -14,15 +14,15 @@ use Rattle.tg_helpers.proofs.Team.gather.Goals as goal
 
 pub returns-clause-blocks : goal.returns-clause-blocks
 returns-clause-blocks g c =
-    let made = c.in_ok-copied.copied in
+    let made = collected_in c.in_ok-copied.copied in
     let kind = c.args.kind in
-    let few = subst (λ (t : SpaceTable). AreFewBlocks t.limits.space_blocks (kept_blocks kind t.spaces) c.args.helpers made.forward.words made.adoption.aged made.adoption.old) c.spaces.ensures c.in_ok-copied.ensures.collects.few in
-    let moved = subst (λ (t : SpaceTable). copies_in made.forward.words 0 + copies_in made.forward.words 1 ≤ used_cells kind t.spaces) c.spaces.ensures c.in_ok-copied.ensures.collects.moved in
+    let few = subst (λ (t : SpaceTable). AreFewBlocks t.limits.space_blocks (kept_blocks kind t.spaces) c.args.helpers made) c.spaces.ensures c.in_ok-copied.ensures.collects.few in
+    let moved = subst (λ (t : SpaceTable). copies_in made.forward 0 + copies_in made.forward 1 ≤ used_cells kind t.spaces) c.spaces.ensures c.in_ok-copied.ensures.collects.moved in
     let adopted = c.in_ok-settle.ensures.adopted in
     let before = c.take_spare-spare.new.self.heap in
     let after = c.settle.new.self.heap.table in
     subst (λ (state : StoreState). HasFewBlocks kind c.args.helpers state.heap.table after) c.take_spare-spare.ensures
-    (few_left c.args.helpers before.table after made.forward.words made.adoption.aged made.adoption.old kind few moved adopted.full before adopted.nursery)
+    (few_left c.args.helpers before.table after made kind few moved adopted.full before adopted.nursery)
 
 pub returns-clause-swept : goal.returns-clause-swept
 returns-clause-swept g c =
@@ -31,13 +31,13 @@ returns-clause-swept g c =
 pub settle-requires : goal.settle-requires
 settle-requires g c =
     let kind = c.args.kind in
-    let made = c.in_ok-copied.copied in
+    let made = collected_in c.in_ok-copied.copied in
     let heap = c.take_spare-spare.new.self.heap in
-    let over_heap : IsCollection kind heap.table.spaces c.deref.result.now made.forward.words made.adoption.aged made.adoption.old made.remembered.places =
-    subst (λ (t : SpaceTable). IsCollection kind t.spaces c.deref.result.now made.forward.words made.adoption.aged made.adoption.old made.remembered.places) c.spaces.ensures c.in_ok-copied.ensures.collects.collected in
-    let collected : IsCollection kind heap.table.spaces c.in_ok-roots.roots.items made.forward.words made.adoption.aged made.adoption.old made.remembered.places =
-    subst (λ (roots : List Root). IsCollection kind heap.table.spaces roots made.forward.words made.adoption.aged made.adoption.old made.remembered.places) c.deref.ensures.value over_heap in
-    (c.in_ok-roots.ensures.roots made.forward.words made.adoption.aged made.adoption.old made.remembered.places).1 collected
+    let over_heap : IsCollection kind heap.table.spaces c.deref.result.now made =
+    subst (λ (t : SpaceTable). IsCollection kind t.spaces c.deref.result.now made) c.spaces.ensures c.in_ok-copied.ensures.collects.collected in
+    let collected : IsCollection kind heap.table.spaces c.in_ok-roots.roots.items made =
+    subst (λ (roots : List Root). IsCollection kind heap.table.spaces roots made) c.deref.ensures.value over_heap in
+    (c.in_ok-roots.ensures.roots made).1 collected
 
 pub returns-in_err-copied-clause-full : goal.returns-in_err-copied-clause-full
 returns-in_err-copied-clause-full g c is =

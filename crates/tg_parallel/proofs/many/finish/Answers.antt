@@ -1,8 +1,7 @@
-use Rattle.std.proofs.Common.{◌≡◌, ℕ, ◌+◌, ◌*◌, ◌++◌, ◌<◌, ◌≤◌, ◌∙◌, List, ap, replicate, subst, sym}
+use Rattle.std.proofs.Common.{◌≡◌, ℕ, ◌*◌, ◌++◌, ◌<◌, ◌∙◌, List, ap, replicate, subst, sym}
 use Rattle.tg_space.specs.Forwarding.{ForwardingWords}
 use Rattle.tg_race.specs.Board.{IsClosedTable}
-use Rattle.tg_space.specs.Collection.{AreFewBlocks, IsCollection, copies_in, used_cells}
-use Rattle.tg_space.specs.SpaceTable.{kept_blocks}
+use Rattle.tg_space.specs.Collection.{collected_in}
 use Rattle.tg_race.specs.Race.{past}
 use Rattle.tg_space.specs.declared.room_fault.RoomFault.{RoomFault}
 use Rattle.tg_space.specs.declared.room_fault.RoomFault.TheVariants.{HeapFull}
@@ -11,7 +10,7 @@ use Rattle.tg_parallel.specs.Parts.{IsPart, IsPastLimit}
 use Rattle.tg_parallel.specs.Whole.{IsWholePart}
 use Rattle.tg_evac.proofs.Passing.{collects_refused}
 use Rattle.tg_parallel.proofs.Finish.{finished}
-use Rattle.tg_parallel.proofs.Merging.{err_at, ok_at}
+use Rattle.std.proofs.lemmas.Result.{IfErr-at_err, IfOk-at_ok}
 use Rattle.tg_parallel.proofs.Room.{few_blocks, lacks, moved_few}
 use Rattle.tg_parallel.proofs.many.finish.Goals as goal
 use Rattle.tg_parallel.proofs.many.finish.Given.{Over}
@@ -21,29 +20,27 @@ use Rattle.tg_parallel.proofs.many.finish.Goals.{In_ok-put_together-in-Ok}
 words_are : (kept skipped : ℕ) → kept ≡ skipped → (ws : List ℕ) (f : ForwardingWords) → f ≡ record { skipped = 64 * skipped; words = replicate (64 * skipped) 0 ++ ws } → f.words ≡ replicate (64 * kept) 0 ++ ws
 words_are kept skipped same ws f is = ap (λ (x : ForwardingWords). x.words) is ∙ ap (λ (n : ℕ). replicate (64 * n) 0 ++ ws) (sym same)
 
-whole : (g : Over) (c : In_ok-put_together-in-Ok g) → IsWholePart c.args.plan.kind c.args.task.now.spaces.now c.args.task.now.roots.now c.args.table.counts c.of_closed-forward.result.words c.args.helped.helper.done c.in-Ok.part.aged.items c.in-Ok.part.old.items
+whole : (g : Over) (c : In_ok-put_together-in-Ok g) → IsWholePart c.args.plan.kind c.args.task.now.spaces.now c.args.task.now.roots.now c.args.table.counts c.in_ok-put_together-in-Ok.field-0.forward.words c.args.helped.helper.done c.in-Ok.part.aged.items c.in-Ok.part.old.items
 whole g c =
     let v = c.args.helped.helper.done in let p = c.in-Ok.part in
+    let words = c.in_ok-put_together-in-Ok.ensures.words ∙ words_are c.args.table.counts.kept c.args.plan.kept (c.requires.counts.kept ∙ sym c.requires.plan.planned.kept) c.close.result c.of_closed-forward.result c.of_closed-forward.ensures in
     record {
       counts = c.requires.counts;
-      closed = subst (λ (ws : List ℕ). IsClosedTable c.args.table.counts ws v) (sym (words_are c.args.table.counts.kept c.args.plan.kept (c.requires.counts.kept ∙ sym c.requires.plan.planned.kept) c.close.result c.of_closed-forward.result c.of_closed-forward.ensures)) c.close.ensures;
-      last = ok_at (λ (_ : Part). 0 < past c.args.table.counts v) c.args.helped.part p c.in-Ok.is c.requires.helped.last;
+      closed = subst (λ (ws : List ℕ). IsClosedTable c.args.table.counts ws v) (sym words) c.close.ensures;
+      last = IfOk-at_ok (λ (_ : Part). 0 < past c.args.table.counts v) c.in-Ok.is c.requires.helped.last;
       earned = c.requires.helped.earned;
-      part = ok_at (λ (q : Part). IsPart c.args.plan.kind c.args.task.now.spaces.now c.args.task.now.roots.now v q.aged.items q.old.items) c.args.helped.part p c.in-Ok.is c.requires.helped.whole;
+      part = IfOk-at_ok (λ (q : Part). IsPart c.args.plan.kind c.args.task.now.spaces.now c.args.task.now.roots.now v q.aged.items q.old.items) c.in-Ok.is c.requires.helped.whole;
     }
 
 pub returns-in_ok-put_together-in-Ok : goal.returns-in_ok-put_together-in-Ok
 returns-in_ok-put_together-in-Ok g c =
     let kind = c.args.plan.kind in let t = c.args.task.now.spaces.now in let roots = c.args.task.now.roots.now in let k = c.args.table.counts in
-    let v = c.args.helped.helper.done in let p = c.in-Ok.part in let made = c.in_ok-put_together-in-Ok.field-0 in let told = c.in_ok-put_together-in-Ok.ensures in
-    let words = c.of_closed-forward.result.words in let all = whole g c in
+    let v = c.args.helped.helper.done in let p = c.in-Ok.part in let told = c.in_ok-put_together-in-Ok.ensures in
+    let made = collected_in c.in_ok-put_together-in-Ok.field-0 in let all = whole g c in
     record {
-      collected = subst (λ (ws : List ℕ). IsCollection kind t.spaces roots ws made.adoption.aged made.adoption.old made.remembered.places) (sym told.words)
-          (finished kind t roots k words v p.aged.items p.old.items c.requires.plan.spaces c.requires.plan.limit all made.adoption.aged made.adoption.old told.merged made.remembered.places told.noted);
-      moved = subst (λ (ws : List ℕ). copies_in ws 0 + copies_in ws 1 ≤ used_cells kind t.spaces) (sym told.words)
-          (moved_few kind t roots k words v c.requires.plan.spaces c.requires.plan.sound c.requires.counts all.closed all.earned);
-      few = subst (λ (ws : List ℕ). AreFewBlocks t.limits.space_blocks (kept_blocks kind t.spaces) k.helpers ws made.adoption.aged made.adoption.old) (sym told.words)
-          (few_blocks kind t roots k words v p.aged.items p.old.items all made.adoption.aged made.adoption.old told.merged);
+      collected = finished kind t roots k v p.aged.items p.old.items made c.requires.plan.spaces c.requires.plan.limit all told.merged (λ p. rw told.words (told.noted p));
+      moved = moved_few kind t roots k made.forward v c.requires.plan.spaces c.requires.plan.sound c.requires.counts all.closed all.earned;
+      few = few_blocks kind t roots k v p.aged.items p.old.items made all told.merged;
       full = tt;
     }
 
@@ -57,6 +54,6 @@ returns-in-Err g c =
       moved = tt;
       few = tt;
       full = λ is.
-          let past = err_at (λ (fault : RoomFault). fault ≡ HeapFull → IsPastLimit c.args.task.now.spaces.now c.args.helped.helper.done) c.args.helped.part c.in-Err.fault c.in-Err.is c.requires.helped.full is in
+          let past = IfErr-at_err (λ (fault : RoomFault). fault ≡ HeapFull → IsPastLimit c.args.task.now.spaces.now c.args.helped.helper.done) c.in-Err.is c.requires.helped.full is in
           lacks c.args.plan.kind c.args.task.now.spaces.now c.args.task.now.roots.now c.args.table.counts _ c.args.helped.helper.done c.requires.counts c.close.ensures c.requires.helped.earned past;
     }

@@ -22,8 +22,9 @@ pub loop-number-preserved : goal.loop-number-preserved
 loop-number-preserved c =
     let before = c.loop-number.invariant in let numbers = c.args.numbers.now in let blocks = c.args.blocks in let i = c.loop-number.number-index in
     let laid = c.loop-number.laid.items in let block = c.in_ok-block.block in let n = get_or numbers i 0 in
-    let pushed : c.push.new.self.items ≡ laid ++ (n, block) ∷ [] = c.in_ok-push.ensures.items in
+    let pushed : c.push_reserved.new.self.items ≡ laid ++ (n, block) ∷ [] = c.push_reserved.ensures.items in
     record {
+      room = let same = c.push_reserved.ensures.capacity in omega (arith, before.room);
       long = ap length pushed ∙ length_push laid (n, block) ∙ ap (λ (k : ℕ). k + 1) before.long;
       numbered = ap numbers_of pushed ∙ map-append (λ (b : ℕ × List (List ℕ)). b.0) laid ((n, block) ∷ []) ∙ ap (λ (ns : List ℕ). ns ++ n ∷ []) before.numbered ∙ sym (take_more numbers i 0 c.loop-number-test.true);
       each = λ j low.

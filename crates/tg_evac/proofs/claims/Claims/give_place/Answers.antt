@@ -1,15 +1,14 @@
-use Rattle.std.proofs.Common.{Err, ◌≡◌, ℕ, ◌<◌, ◌≤◌, ◌+◌, ◌-◌, ◌*◌, List, [], ◌∷◌, ◌++◌, length, get_or, set, ap, ◌∙◌, subst, sym, refl, lit<, arith}
-use Rattle.std.specs.List.{Contains}
+use Rattle.std.proofs.Common.{Err, ◌≡◌, ℕ, ◌<◌, ◌≤◌, ◌+◌, ◌-◌, ◌*◌, [], ◌∷◌, ◌++◌, length, get_or, set, ap, ◌∙◌, subst, sym, refl, arith}
 use Rattle.std.specs.Vec.{vec_capacity}
 use Rattle.std.proofs.lemmas.List.{length_push, length-set}
-use Rattle.std.proofs.lemmas.List.Elements.{All-push, Contains-append_right}
+use Rattle.std.proofs.lemmas.List.Elements.{All-push, Contains-push}
 use Rattle.tg_word.specs.declared.Place.{Place}
 use Rattle.tg_word.specs.Word.{link_to, place_in}
 use Rattle.tg_space.specs.SpaceTable.{place_in_space}
 use Rattle.tg_evac.specs.Win.{Win}
 use Rattle.tg_evac.specs.Claims.{Claimed, HasFilledRoom, IsWinFor, wins_at}
 use Rattle.tg_space.specs.declared.room_fault.RoomFault.TheVariants.{HeapFull}
-use Rattle.tg_evac.specs.Claimers.{AddsWins, walked_of}
+use Rattle.tg_evac.specs.Claimers.{walked_of}
 use Rattle.tg_evac.specs.Walks.{HasClaimed}
 use Rattle.tg_evac.proofs.Claiming.{claims_more, adds_one, full_at, place_back, wins_more, won_behind, won_length, won_others}
 use Rattle.tg_evac.proofs.Walking.{wins_none}
@@ -76,18 +75,11 @@ returns c =
     let few = c.self.invariant.0.room in
     let is : c.link-word.result ≡ link_to (place_in_space space number) = c.link-word.ensures in
     let back : place_in c.link-word.result ≡ place_in_space space number = ap place_in is ∙ place_back space number c.requires.claim.two (omega arith) in
-    let to : IsWinFor cell space w = record { number = refl; to = ap (λ (n : ℕ). (place_in n).space) is ∙ ap (λ (p : Place). p.space) (place_back space number c.requires.claim.two (omega arith)) } in
-    let one = adds_one v c.self.invariant.0 w space number c.requires.claim.two refl free.low free.none room is (IsWinFor cell space) to in
+    let to : IsWinFor cell space w = record { number = refl; to = ap (λ (p : Place). p.space) back } in
     let more = wins_more v.forward inside.won.items w free.low (won_others v.forward inside.won.items c.self.invariant.0.words.stand cell free.none) in
-    let held : wins_at c.set.new.self.words c.push_reserved.new.self.items ≡ v.won ++ w ∷ [] =
-    ap (λ (words : List ℕ). wins_at words c.push_reserved.new.self.items) c.set.ensures.words ∙ ap (wins_at (set v.forward cell c.link-word.result)) c.push_reserved.ensures.items ∙ more in
-    let after : List Win → List ℕ → Claimed = λ (won : List Win) (forward : List ℕ). record { plan = v.plan; forward = forward; won = won; next = set v.next space (number + 1) } in
-    let first = subst (λ (won : List Win). AddsWins (IsWinFor cell space) (walked_of v) (walked_of (after won (set v.forward cell c.link-word.result)))) (sym held) one in
-    let then = subst (λ (forward : List ℕ). AddsWins (IsWinFor cell space) (walked_of v) (walked_of (after (wins_at c.set.new.self.words c.push_reserved.new.self.items) forward))) (sym c.set.ensures.words) first in
-    let here : Contains (v.won ++ w ∷ []) w = Contains-append_right v.won (w ∷ []) w (0, lit< tt, refl) in
-    record {
-      added = subst (λ (x : Claimed). AddsWins (IsWinFor cell space) (walked_of x) (walked_of (after (wins_at c.set.new.self.words c.push_reserved.new.self.items) c.set.new.self.words))) c.self.view_is then;
-      held = subst (λ (ws : List Win). Contains ws w) (sym held) here;
+    rw (← c.self.view_is, c.push_reserved.ensures.items, c.set.ensures.words, more) (record {
+      added = adds_one v c.self.invariant.0 w space number c.requires.claim.two refl free.low free.none room is (IsWinFor cell space) to;
+      held = Contains-push v.won w;
       link = is ∙ ap link_to (sym back);
       full = tt;
-    }
+    })

@@ -1,20 +1,18 @@
-use Rattle.std.proofs.Common.{◌≡◌, ◌∙◌, length, refl, sym, ap, arith}
-use Rattle.tg_evac.specs.Claims.{Claimed, win_at, wins_at}
-use Rattle.tg_evac.proofs.Claiming.{pair_at, stands}
+use Rattle.std.proofs.Common.{refl, subst}
+use Rattle.tg_evac.specs.Claims.{Claimed, wins_at}
+use Rattle.tg_evac.proofs.Claiming.{PairAt, pair_at}
 use Rattle.tg_evac.proofs.claims.ClaimsClaimer.won_cell.Goals as goal
+use Rattle.tg_evac.proofs.claims.ClaimsClaimer.won_cell.Goals.{After-index}
+
+-- the pair is there
+pair : (c : After-index) → PairAt c.args.self.now c.args.k c.index.result.now
+pair c =
+    let inside = c.self.inside in let cells = inside.won.items in
+    let v : Claimed = record { plan = inside.plan; forward = inside.forward.words; won = wins_at inside.forward.words cells; next = inside.next } in
+    subst (λ (x : Claimed). PairAt x c.args.k c.index.result.now) c.self.view_is (pair_at v c.args.self.now cells c.args.k c.index.result.now c.self.view_is c.self.invariant.0 c.self.invariant.2 refl c.requires c.index.ensures)
 
 pub returns-clause-cell : goal.returns-clause-cell
-returns-clause-cell c =
-    let forward = c.self.inside.forward.words in let cells = c.self.inside.won.items in
-    let v : Claimed = record { plan = c.self.inside.plan; forward = forward; won = wins_at forward cells; next = c.self.inside.next } in
-    let pair = pair_at v c.args.self.now cells c.args.k c.index.result.now c.self.view_is refl c.requires c.index.ensures in
-    sym pair.is ∙ ap (λ (x : Claimed). (win_at x.won c.args.k).cell) c.self.view_is
+returns-clause-cell c = (pair (goal.at.returns-clause-cell c).After-index).is
 
 pub returns-clause-inside : goal.returns-clause-inside
-returns-clause-inside c =
-    let forward = c.self.inside.forward.words in let cells = c.self.inside.won.items in
-    let v : Claimed = record { plan = c.self.inside.plan; forward = forward; won = wins_at forward cells; next = c.self.inside.next } in
-    let pair = pair_at v c.args.self.now cells c.args.k c.index.result.now c.self.view_is refl c.requires c.index.ensures in
-    let held = (stands v c.self.invariant.0 (win_at v.won c.args.k) pair.has).cell in
-    let longer : length forward ≡ length c.args.self.now.forward = ap (λ (x : Claimed). length x.forward) c.self.view_is in
-    omega (arith, pair.is, held, longer)
+returns-clause-inside c = (pair (goal.at.returns-clause-inside c).After-index).inside

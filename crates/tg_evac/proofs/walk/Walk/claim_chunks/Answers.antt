@@ -1,14 +1,13 @@
-use Rattle.std.proofs.Common.{◌≡◌, ℕ, ◌+◌, ◌-◌, [], length, ap, refl, subst, sym, arith, ◌∙◌, ⊎_elim}
+use Rattle.std.proofs.Common.{◌≡◌, ℕ, true, false, ◌+◌, ◌-◌, [], length, ap, refl, subst, sym, arith, ◌∙◌, ⊎_elim}
 use Rattle.tg_word.specs.declared.Place.{Place}
 use Rattle.tg_word.specs.Word.{place_in}
 use Rattle.tg_space.specs.SpaceList.{Holds, cells_of}
 use Rattle.tg_space.specs.Soundness.{IsPointer, NamesCell}
 use Rattle.tg_space.specs.Rows.{link_at}
 use Rattle.tg_space.specs.Targets.{from_space}
-use Rattle.tg_space.specs.declared.kind.Kind.{Kind}
 use Rattle.tg_evac.specs.Claims.{IsClaimOf, chunk_targets}
 use Rattle.tg_evac.proofs.Chunks.{ChunksPassed, all_passed, none_passed, chunks_none, chunks_moved}
-use Rattle.tg_evac.proofs.Passing.{claims_refused, walk_still}
+use Rattle.tg_evac.proofs.Passing.{claims_refused, moves_as, walk_still}
 use Rattle.tg_evac.proofs.Pieces.{wins_chunk, met_chunk}
 use Rattle.tg_evac.proofs.Walking.{wins_none}
 use Rattle.tg_evac.proofs.walk.Walk.claim_chunks.Goals as goal
@@ -36,8 +35,7 @@ returns-then-link-eq0 g c =
 pub returns-then-moves : goal.returns-then-moves
 returns-then-moves g c =
     let h = c.args.self.spaces.now.spaces in let kind = (g.C.Claimer.walked c.args.claimer.now).kind in let n = length (cells_of h) in
-    let same : c.args.self.kind ≡ kind = sym c.requires.walk.table.same in
-    let moved = ap (λ (k : Kind). from_space k (place_in c.loop.link).space) (sym same) ∙ ap (λ (p : Place). from_space c.args.self.kind p.space) (sym c.place_of-chunk.ensures) ∙ sym c.moves.ensures ∙ c.if-moves.true in
+    let moved = moves_as c.place_of-chunk.result c.loop.link c.moves.result true c.requires.walk.table c.place_of-chunk.ensures c.moves.ensures c.if-moves.true in
     record {
       added = c.loop.invariant.added;
       grows = c.loop.invariant.grows;
@@ -54,8 +52,7 @@ claim_targets-requires g c = record {
 pub returns-in_err-claim_targets : goal.returns-in_err-claim_targets
 returns-in_err-claim_targets g c =
     let m = g.C.Claimer in let h = c.args.self.spaces.now.spaces in let kind = (m.walked c.args.claimer.now).kind in let n = length (cells_of h) in
-    let same : c.args.self.kind ≡ kind = sym c.requires.walk.table.same in
-    let kept = ap (λ (k : Kind). from_space k (place_in c.loop.link).space) (sym same) ∙ ap (λ (p : Place). from_space c.args.self.kind p.space) (sym c.place_of-chunk.ensures) ∙ sym c.moves.ensures ∙ c.if-moves.false in
+    let kept = moves_as c.place_of-chunk.result c.loop.link c.moves.result false c.requires.walk.table c.place_of-chunk.ensures c.moves.ensures c.if-moves.false in
     claims_refused m.walked m.knows m.is_full c.from_residual.result _ c.from_residual.ensures.1
     (wins_chunk h c.args.straight n c.args.first c.loop.counter c.loop.link c.place_of-chunk.result c.place_of-chunk.ensures
     c.loop.invariant.added c.claim_targets.ensures.added c.loop.invariant.passed (omega (arith, c.cells-end.ensures.cells)) c.if-link-eq0.false kept)
@@ -64,8 +61,7 @@ returns-in_err-claim_targets g c =
 pub loop-preserved : goal.loop-preserved
 loop-preserved g c =
     let m = g.C.Claimer in let h = c.args.self.spaces.now.spaces in let kind = (m.walked c.args.claimer.now).kind in let n = length (cells_of h) in
-    let same : c.args.self.kind ≡ kind = sym c.requires.walk.table.same in
-    let kept = ap (λ (k : Kind). from_space k (place_in c.loop.link).space) (sym same) ∙ ap (λ (p : Place). from_space c.args.self.kind p.space) (sym c.place_of-chunk.ensures) ∙ sym c.moves.ensures ∙ c.if-moves.false in
+    let kept = moves_as c.place_of-chunk.result c.loop.link c.moves.result false c.requires.walk.table c.place_of-chunk.ensures c.moves.ensures c.if-moves.false in
     let held : Holds h (place_in c.loop.link) = ⊎_elim (λ none. absurd (c.if-link-eq0.false none)) (λ (names : NamesCell h c.loop.link). names.held) c.loop.invariant.pointer in
     let link : link_at h (place_in c.loop.link) ≡ c.read-link.result = ap (λ (p : Place). link_at h p) (sym c.place_of-chunk.ensures) ∙ sym c.read-link.ensures in
     let passed = met_chunk h c.args.straight n c.args.first c.loop.counter c.loop.link c.place_of-chunk.result c.place_of-chunk.ensures

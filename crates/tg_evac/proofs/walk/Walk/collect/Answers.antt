@@ -1,120 +1,106 @@
-use Rattle.std.proofs.Common.{◌≡◌, ◌↔◌, ◌⊎◌, ℕ, ◌+◌, ◌^◌, ◌<◌, ◌≤◌, length, List, ap, sym, subst, arith, lit<, ◌∙◌}
-use Rattle.std.specs.List.{All, Contains}
-use Rattle.std.proofs.lemmas.List.{length-map}
+use Rattle.std.proofs.Common.{◌≡◌, ◌^◌, ◌≤◌, ℕ, List, length, ap, sym, subst, arith, lit<, ◌∙◌}
+use Rattle.std.specs.List.{All}
 use Rattle.tg_word.specs.declared.Place.{Place}
 use Rattle.tg_space.proofs.Tables.{table_list}
-use Rattle.tg_space.specs.Collection.{AreFewBlocks, IsCollection, copies_in, new_place, used_cells}
-use Rattle.tg_space.specs.Forwarding.{ForwardingWords}
+use Rattle.tg_space.specs.Collection.{new_place}
 use Rattle.tg_space.specs.SpaceTable.{kept_blocks}
-use Rattle.tg_space.specs.Generations.{NamesYoung}
 use Rattle.tg_space.specs.declared.kind.Kind.{Kind}
-use Rattle.tg_space.specs.declared.kind.Kind.TheVariants.{Full}
-use Rattle.tg_space.specs.declared.root.Root.TheVariants.{Remembered}
 use Rattle.tg_evac.specs.declared.plan.Plan.{Plan}
-use Rattle.tg_evac.specs.Win.{Win}
-use Rattle.tg_evac.specs.Claims.{Claimed, IsTracedFrom, cells_won, won_in, wins_at}
-use Rattle.tg_evac.specs.Claimers.{HasPlacesOf, copies_to, image_at}
-use Rattle.tg_evac.specs.Copies.{AreForwarded, HoldCells, IsPlaceIn, moved_cell, new_cell}
-use Rattle.tg_evac.proofs.Claiming.{has_places, have_places, in_room}
+use Rattle.tg_evac.specs.Claims.{AreClaims, Claimed, IsTracedFrom, cells_won}
+use Rattle.tg_evac.specs.Claimers.{HasPlacesOf, copies_to}
+use Rattle.tg_evac.specs.Copies.{HoldCells}
 use Rattle.tg_evac.specs.Room.{IsReachedFrom}
-use Rattle.tg_evac.proofs.Passing.{collects_refused}
+use Rattle.tg_evac.proofs.Claiming.{has_places}
+use Rattle.tg_evac.proofs.Collecting.{AreEnded, AreFilled, collected, few, few_copies, none_young_in, old_few}
 use Rattle.tg_evac.proofs.Moved.{moved_few}
+use Rattle.tg_evac.proofs.Passing.{collects_refused}
 use Rattle.tg_evac.proofs.Sound.{have_pointers}
-use Rattle.tg_evac.proofs.Collecting.{collected, few, none_young, old_few}
 use Rattle.tg_evac.proofs.walk.Walk.collect.Goals as goal
-use Rattle.tg_evac.proofs.walk.Walk.collect.Goals.{In_ok-copies}
-
--- the claims, as fields
-claims_of : In_ok-copies → Claimed
-claims_of c = record { plan = c.claims.inside.plan; forward = c.claims.inside.forward.words; won = wins_at c.claims.inside.forward.words c.claims.inside.won.items; next = c.claims.inside.next }
-
-plan_is : (c : In_ok-copies) → c.claims.inside.plan ≡ c.of-plan.result
-plan_is c = ap (λ (v : Claimed). v.plan) c.claims.view_is ∙ c.trace.ensures.plan ∙ c.in_ok-claims.ensures.plan
-
-kind_is : (c : In_ok-copies) → c.in_ok-claims.claims.plan.kind ≡ c.args.self.kind
-kind_is c = ap (λ (p : Plan). p.kind) c.in_ok-claims.ensures.plan ∙ c.of-plan.ensures.plan.same
-
-traced : (c : In_ok-copies) → IsTracedFrom c.args.self.kind c.args.self.spaces.now.spaces c.args.roots.now (claims_of c)
-unfolding claims_of
-traced c =
-    let h = c.args.self.spaces.now.spaces in let roots = c.args.roots.now in
-    subst (λ (k : Kind). IsTracedFrom k h roots (claims_of c)) (kind_is c)
-    (subst (λ (v : Claimed). IsTracedFrom c.in_ok-claims.claims.plan.kind h roots v) (sym c.claims.view_is) c.in_ok-copies.ensures.traced)
-
--- the copies, by the table as it is in the end
-agrees : (c : In_ok-copies) → HasPlacesOf c.trace.new.claims.won (new_place c.claims.inside.forward.words)
-unfolding claims_of
-agrees c =
-    subst (λ (v : Claimed). HasPlacesOf v.won (new_place c.claims.inside.forward.words)) c.claims.view_is (has_places (claims_of c) c.claims.invariant.0)
-
-aged_is : (c : In_ok-copies) → c.in_ok-copies.copies.aged ≡ copies_to 1 c.args.self.kind c.args.self.spaces.now.spaces (new_place c.claims.inside.forward.words) (wins_at c.claims.inside.forward.words c.claims.inside.won.items)
-aged_is c =
-    let h = c.args.self.spaces.now.spaces in let to = new_place c.claims.inside.forward.words in
-    c.in_ok-copies.ensures.aged to (agrees c) ∙ ap (λ (k : Kind). copies_to 1 k h to c.trace.new.claims.won) (kind_is c) ∙ ap (λ (v : Claimed). copies_to 1 c.args.self.kind h to v.won) (sym c.claims.view_is)
-
-old_is : (c : In_ok-copies) → c.in_ok-copies.copies.old ≡ copies_to 0 c.args.self.kind c.args.self.spaces.now.spaces (new_place c.claims.inside.forward.words) (wins_at c.claims.inside.forward.words c.claims.inside.won.items)
-old_is c =
-    let h = c.args.self.spaces.now.spaces in let to = new_place c.claims.inside.forward.words in
-    c.in_ok-copies.ensures.old to (agrees c) ∙ ap (λ (k : Kind). copies_to 0 k h to c.trace.new.claims.won) (kind_is c) ∙ ap (λ (v : Claimed). copies_to 0 c.args.self.kind h to v.won) (sym c.claims.view_is)
+use Rattle.tg_evac.proofs.walk.Walk.collect.Goals.{After-into_forwarding-forward, In_ok-adoption}
 
 pub trace-requires-clause-walk : goal.trace-requires-clause-walk
 trace-requires-clause-walk c =
-    let h = c.args.self.spaces.now.spaces in let plan = c.of-plan.ensures.plan in
+    let h = c.args.self.spaces.now.spaces in let plan = c.of-plan.ensures.plan in let same = c.in_ok-claims.ensures.plan in
     record {
       pointers = have_pointers h c.args.roots.now c.requires (table_list c.args.self.spaces.now c.cells-cells.ensures.table);
       table = record {
-        same = ap (λ (p : Plan). p.kind) c.in_ok-claims.ensures.plan ∙ plan.same;
+        same = ap (λ (p : Plan). p.kind) same ∙ plan.same;
         whole = c.in_ok-claims.ensures.whole ∙ c.cells-cells.ensures.cells;
-        kept = ap (λ (p : Plan). p.kept) c.in_ok-claims.ensures.plan ∙ plan.kept ∙ ap (λ (k : Kind). kept_blocks k h) (sym plan.same ∙ ap (λ (p : Plan). p.kind) (sym c.in_ok-claims.ensures.plan));
+        kept = ap (λ (p : Plan). p.kept) same ∙ plan.kept ∙ ap (λ (k : Kind). kept_blocks k h) (sym plan.same ∙ ap (λ (p : Plan). p.kind) (sym same));
       };
     }
 
--- there are few enough copies of either space
-few_copies : (c : In_ok-copies) (space : ℕ) (images : List (List ℕ)) → images ≡ copies_to space c.args.self.kind c.args.self.spaces.now.spaces (new_place c.claims.inside.forward.words) (wins_at c.claims.inside.forward.words c.claims.inside.won.items) → space < 2 → length images ≤ 2 ^ 26
+-- the claims, with the words as they are handed over
+claims_of : After-into_forwarding-forward → Claimed
+claims_of c = record { plan = c.of-plan.result; forward = c.into_forwarding-forward.result.words; won = c.trace.new.claims.won; next = c.trace.new.claims.next }
+
+kind_is : (c : After-into_forwarding-forward) → c.in_ok-claims.claims.plan.kind ≡ c.args.self.kind
+kind_is c = ap (λ (p : Plan). p.kind) c.in_ok-claims.ensures.plan ∙ c.of-plan.ensures.plan.same
+
+ended : (c : After-into_forwarding-forward) → AreEnded c.args.self.kind c.args.self.spaces.now c.args.roots.now (claims_of c)
 unfolding claims_of
-few_copies c space images are two =
-    let long = ap (λ (l : List (List ℕ)). length l) are ∙ length-map (won_in space (wins_at c.claims.inside.forward.words c.claims.inside.won.items)) (λ (w : Win). image_at c.args.self.kind c.args.self.spaces.now.spaces (new_place c.claims.inside.forward.words) w.cell) in
-    let room = in_room (claims_of c) c.claims.invariant.0 space two in
-    omega arith
+ended c =
+    let h = c.args.self.spaces.now.spaces in let roots = c.args.roots.now in
+    let plan : c.of-plan.result ≡ c.trace.new.claims.plan = sym (c.trace.ensures.plan ∙ c.in_ok-claims.ensures.plan) in
+    let words : c.into_forwarding-forward.result.words ≡ c.trace.new.claims.forward = (let same = c.into_forwarding-forward.ensures in let view = c.claims.view_is in cc) in
+    let now : claims_of c ≡ c.trace.new.claims = λ i. record { plan = plan i; forward = words i; won = c.trace.new.claims.won; next = c.trace.new.claims.next } in
+    record {
+      table = c.cells-cells.ensures.table;
+      plan = c.of-plan.ensures.plan;
+      claims = subst (λ (v : Claimed). AreClaims v) (c.claims.view_is ∙ sym now) c.claims.invariant.0;
+      traced = subst (λ (v : Claimed). IsTracedFrom c.args.self.kind h roots v) (sym now) (subst (λ (k : Kind). IsTracedFrom k h roots c.trace.new.claims) (kind_is c) c.in_ok-copies.ensures.traced);
+    }
+
+-- the copies, by the words as they are in the end
+copies_are : (c : After-into_forwarding-forward) (space : ℕ) (copies : List (List ℕ)) → ((to : ℕ → Place) → HasPlacesOf c.trace.new.claims.won to → copies ≡ copies_to space c.in_ok-claims.claims.plan.kind c.args.self.spaces.now.spaces to c.trace.new.claims.won) →
+    copies ≡ copies_to space c.args.self.kind c.args.self.spaces.now.spaces (new_place c.into_forwarding-forward.result.words) c.trace.new.claims.won
+unfolding claims_of
+copies_are c space copies are =
+    let to = new_place c.into_forwarding-forward.result.words in
+    are to (has_places (claims_of c) (ended c).claims) ∙ ap (λ (k : Kind). copies_to space k c.args.self.spaces.now.spaces to c.trace.new.claims.won) (kind_is c)
+
+-- the blocks hold them
+filled : (c : In_ok-adoption) → AreFilled c.args.self.kind c.args.self.spaces.now.spaces (claims_of (goal.at.In_ok-adoption c).After-into_forwarding-forward) c.in_ok-adoption.adoption.aged c.in_ok-adoption.adoption.old
+unfolding claims_of
+filled c =
+    let from = (goal.at.In_ok-adoption c).After-into_forwarding-forward in let copies = c.in_ok-copies.copies in let adoption = c.in_ok-adoption.adoption in let told = c.in_ok-adoption.ensures in
+    record {
+      aged_whole = told.aged.1.1;
+      old_whole = told.old.1.1;
+      in_aged = subst (λ (cells : List (List ℕ)). HoldCells cells adoption.aged) (copies_are from 1 copies.aged c.in_ok-copies.ensures.aged) told.aged.0;
+      in_old = subst (λ (cells : List (List ℕ)). HoldCells cells adoption.old) (copies_are from 0 copies.old c.in_ok-copies.ensures.old) told.old.0;
+    }
 
 pub finish-requires-clause-aged : goal.finish-requires-clause-aged
-finish-requires-clause-aged c = let from = (goal.at.finish-requires-clause-aged c).In_ok-copies in few_copies from 1 _ (aged_is from) (lit< tt)
+unfolding claims_of
+finish-requires-clause-aged c =
+    subst (λ (cells : List (List ℕ)). length cells ≤ 2 ^ 26) (sym (copies_are c 1 c.in_ok-copies.copies.aged c.in_ok-copies.ensures.aged)) (few_copies c.args.self.kind c.args.self.spaces.now c.args.roots.now (claims_of c) (ended c) 1 (lit< tt))
 
 pub finish-requires-clause-old : goal.finish-requires-clause-old
-finish-requires-clause-old c = let from = (goal.at.finish-requires-clause-old c).In_ok-copies in few_copies from 0 _ (old_is from) (lit< tt)
+unfolding claims_of
+finish-requires-clause-old c =
+    subst (λ (cells : List (List ℕ)). length cells ≤ 2 ^ 26) (sym (copies_are c 0 c.in_ok-copies.copies.old c.in_ok-copies.ensures.old)) (few_copies c.args.self.kind c.args.self.spaces.now c.args.roots.now (claims_of c) (ended c) 0 (lit< tt))
 
 pub notes-requires-clause-forward : goal.notes-requires-clause-forward
 unfolding claims_of
 notes-requires-clause-forward c =
-    let from = (goal.at.notes-requires-clause-forward c).In_ok-copies in
-    subst (λ (f : ForwardingWords). AreForwarded c.args.self.spaces.now.spaces f.words) (sym c.into_forwarding-forward.ensures)
-    (record {
+    let from = (goal.at.notes-requires-clause-forward c).After-into_forwarding-forward in
+    record {
       pointers = have_pointers c.args.self.spaces.now.spaces c.args.roots.now c.requires (table_list c.args.self.spaces.now c.cells-cells.ensures.table);
-      whole = (traced from).whole;
-      places = have_places (claims_of from) c.claims.invariant.0;
-    })
+      numbers = record { before = c.of-numbering.ensures.starts; spaces = table_list c.args.self.spaces.now c.cells-cells.ensures.table; whole = (ended from).traced.whole };
+    }
 
 pub notes-requires-clause-few : goal.notes-requires-clause-few
 unfolding claims_of
 notes-requires-clause-few c =
-    let from = (goal.at.notes-requires-clause-few c).In_ok-copies in
-    let few = old_few c.args.self.kind c.args.self.spaces.now c.args.roots.now c.of-plan.result c.of-plan.ensures.plan c.cells-cells.ensures.table (claims_of from) c.claims.invariant.0 (plan_is from) (traced from)
-    c.in_ok-adoption.adoption.aged c.in_ok-adoption.adoption.old c.in_ok-adoption.ensures.aged.1.1 c.in_ok-adoption.ensures.old.1.1
-    (subst (λ (cells : List (List ℕ)). HoldCells cells c.in_ok-adoption.adoption.aged) (aged_is from) c.in_ok-adoption.ensures.aged.0)
-    (subst (λ (cells : List (List ℕ)). HoldCells cells c.in_ok-adoption.adoption.old) (old_is from) c.in_ok-adoption.ensures.old.0) in
-    let kept = c.of-plan.ensures.plan.kept in
-    omega arith
+    let at = goal.at.notes-requires-clause-few c in let from = at.After-into_forwarding-forward in
+    old_few c.args.self.kind c.args.self.spaces.now c.args.roots.now (claims_of from) (ended from) c.in_ok-adoption.adoption.aged c.in_ok-adoption.adoption.old (filled at.In_ok-adoption)
 
 pub notes-requires-clause-full : goal.notes-requires-clause-full
 unfolding claims_of
 notes-requires-clause-full c =
-    let from = (goal.at.notes-requires-clause-full c).In_ok-copies in
-    let old = c.in_ok-adoption.adoption.old in
-    subst (λ (n : ℕ). c.args.self.kind ≡ Full → (p : Place) → IsPlaceIn 0 n old p → NamesYoung (new_cell n old p) → ⊥) (sym c.of-plan.ensures.plan.kept)
-    (none_young c.args.self.kind c.args.self.spaces.now c.args.roots.now c.of-plan.result c.of-plan.ensures.plan c.cells-cells.ensures.table (claims_of from) c.claims.invariant.0 (plan_is from) (traced from)
-    c.in_ok-adoption.adoption.aged c.in_ok-adoption.adoption.old c.in_ok-adoption.ensures.aged.1.1 c.in_ok-adoption.ensures.old.1.1
-    (subst (λ (cells : List (List ℕ)). HoldCells cells c.in_ok-adoption.adoption.aged) (aged_is from) c.in_ok-adoption.ensures.aged.0)
-    (subst (λ (cells : List (List ℕ)). HoldCells cells c.in_ok-adoption.adoption.old) (old_is from) c.in_ok-adoption.ensures.old.0))
+    let at = goal.at.notes-requires-clause-full c in let from = at.After-into_forwarding-forward in
+    none_young_in c.args.self.kind c.args.self.spaces.now c.args.roots.now (claims_of from) (ended from) c.in_ok-adoption.adoption.aged c.in_ok-adoption.adoption.old (filled at.In_ok-adoption)
 
 pub returns-in_err-claims : goal.returns-in_err-claims
 returns-in_err-claims c = collects_refused c.from_residual.result _ c.from_residual.ensures.1 (λ is. absurd (let refused = c.in_err-claims.ensures.refused in cc))
@@ -145,28 +131,12 @@ returns-in_err-remembered c = collects_refused c.from_residual-in_err-remembered
 pub returns : goal.returns
 unfolding claims_of
 returns c =
-    let from = (goal.at.returns c).In_ok-copies in
-    let h = c.args.self.spaces.now.spaces in let old = c.in_ok-adoption.adoption.old in let forward = c.claims.inside.forward.words in let noted = c.in_ok-remembered.remembered.places in
-    let is = table_list c.args.self.spaces.now c.cells-cells.ensures.table in
-    let aged_cells = subst (λ (cells : List (List ℕ)). HoldCells cells c.in_ok-adoption.adoption.aged) (aged_is from) c.in_ok-adoption.ensures.aged.0 in
-    let old_cells = subst (λ (cells : List (List ℕ)). HoldCells cells c.in_ok-adoption.adoption.old) (old_is from) c.in_ok-adoption.ensures.old.0 in
+    let at = goal.at.returns c in let from = at.After-into_forwarding-forward in let done = ended from in let blocks = filled at.In_ok-adoption in
+    let kind = c.args.self.kind in let t = c.args.self.spaces.now in let roots = c.args.roots.now in let adoption = c.in_ok-adoption.adoption in let notes = c.in_ok-remembered.remembered.places in
+    let is = table_list t c.cells-cells.ensures.table in
     record {
-      collected =
-          subst (λ (f : ForwardingWords). IsCollection c.args.self.kind h c.args.roots.now f.words c.in_ok-adoption.adoption.aged old noted) (sym c.into_forwarding-forward.ensures)
-          (collected c.args.self.kind c.args.self.spaces.now c.args.roots.now c.of-plan.result c.of-plan.ensures.plan c.cells-cells.ensures.table (claims_of from) c.claims.invariant.0 (plan_is from) (traced from)
-          c.in_ok-adoption.adoption.aged c.in_ok-adoption.adoption.old c.in_ok-adoption.ensures.aged.1.1 c.in_ok-adoption.ensures.old.1.1
-          aged_cells
-          old_cells noted
-          (subst (λ (n : ℕ). (p : Place) → Contains noted p ↔ ((Contains c.args.roots.now (Remembered p) × NamesYoung (moved_cell c.args.self.kind h forward p)) ⊎ (IsPlaceIn 0 n old p × NamesYoung (new_cell n old p)))) c.of-plan.ensures.plan.kept
-          (subst (λ (f : ForwardingWords). (p : Place) → Contains noted p ↔ ((Contains c.args.roots.now (Remembered p) × NamesYoung (moved_cell c.args.self.kind h f.words p)) ⊎ (IsPlaceIn 0 c.of-plan.result.kept old p × NamesYoung (new_cell c.of-plan.result.kept old p)))) c.into_forwarding-forward.ensures c.in_ok-remembered.ensures)));
-      moved =
-          subst (λ (f : ForwardingWords). copies_in f.words 0 + copies_in f.words 1 ≤ used_cells c.args.self.kind c.args.self.spaces.now.spaces) (sym c.into_forwarding-forward.ensures)
-          (moved_few c.args.self.kind c.args.self.spaces.now.spaces is (have_pointers c.args.self.spaces.now.spaces c.args.roots.now c.requires is) c.args.roots.now c.requires.roots_held (claims_of from) c.claims.invariant.0 (traced from));
-      few =
-          subst (λ (f : ForwardingWords). AreFewBlocks c.args.self.spaces.now.limits.space_blocks (kept_blocks c.args.self.kind c.args.self.spaces.now.spaces) 0 f.words c.in_ok-adoption.adoption.aged c.in_ok-adoption.adoption.old) (sym c.into_forwarding-forward.ensures)
-          (few c.args.self.kind c.args.self.spaces.now c.args.roots.now c.of-plan.result c.of-plan.ensures.plan c.cells-cells.ensures.table (claims_of from) c.claims.invariant.0 (plan_is from) (traced from)
-          c.in_ok-adoption.adoption.aged c.in_ok-adoption.adoption.old c.in_ok-adoption.ensures.aged.1.1 c.in_ok-adoption.ensures.old.1.1
-          aged_cells
-          old_cells c.args.self.spaces.now.limits.space_blocks (ap (λ (p : Plan). p.room) (plan_is from) ∙ c.of-plan.ensures.plan.room));
+      collected = collected kind t roots (claims_of from) done adoption.aged adoption.old blocks notes c.in_ok-remembered.ensures;
+      moved = moved_few kind t.spaces is (have_pointers t.spaces roots c.requires is) roots c.requires.roots_held (claims_of from) done.claims done.traced;
+      few = few kind t roots (claims_of from) done adoption.aged adoption.old blocks notes;
       full = tt;
     }

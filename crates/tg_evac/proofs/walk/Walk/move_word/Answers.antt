@@ -5,18 +5,16 @@ use Rattle.tg_word.specs.Word.{place_in}
 use Rattle.tg_space.specs.SpaceList.{Holds, flat_of}
 use Rattle.tg_space.specs.Soundness.{NamesCell}
 use Rattle.tg_space.specs.Targets.{from_space, target_in}
-use Rattle.tg_space.specs.declared.kind.Kind.{Kind}
 use Rattle.tg_evac.specs.Claims.{space_for}
 use Rattle.tg_evac.proofs.OneCell.{claims_one, goes_to_two, met_one, one_moved, one_target}
 use Rattle.tg_evac.proofs.Behind.{moved_behind}
-use Rattle.tg_evac.proofs.Passing.{claims_refused}
+use Rattle.tg_evac.proofs.Passing.{claims_refused, moves_as}
 use Rattle.tg_evac.proofs.walk.Walk.move_word.Goals as goal
 
 pub returns-in_err-link-clause-claims : goal.returns-in_err-link-clause-claims
 returns-in_err-link-clause-claims g c =
     let m = g.C.Claimer in let h = c.args.self.spaces.now.spaces in let kind = (m.walked c.args.claimer.now).kind in let word = c.args.word.now in let some = c.if-old-eq0.false in
-    let moves : from_space kind (place_in word).space ≡ true =
-    ap (λ (k : Kind). from_space k (place_in word).space) c.requires.table.same ∙ ap (λ (p : Place). from_space c.args.self.kind p.space) (sym c.place_of-space.ensures) ∙ sym c.moves.ensures ∙ c.if-not-moves.false in
+    let moves : from_space kind (place_in word).space ≡ true = moves_as c.place_of-space.result word c.moves.result true c.requires.table c.place_of-space.ensures c.moves.ensures c.if-not-moves.false in
     let held : Holds h (place_in word) = ⊎_elim (λ none. absurd (some none)) (λ (names : NamesCell h word). names.held) c.requires.pointer in
     claims_refused m.walked m.knows m.is_full c.from_residual.result _ c.from_residual.ensures.1
     (claims_one h c.args.straight (place_in word) c.target_of.result c.space_for.result (target_in (from_space kind) h word) held c.target_of.ensures.flat
@@ -26,8 +24,7 @@ returns-in_err-link-clause-claims g c =
 pub returns-clause-claims : goal.returns-clause-claims
 returns-clause-claims g c =
     let m = g.C.Claimer in let h = c.args.self.spaces.now.spaces in let kind = (m.walked c.args.claimer.now).kind in let word = c.args.word.now in let some = c.if-old-eq0.false in
-    let moves : from_space kind (place_in word).space ≡ true =
-    ap (λ (k : Kind). from_space k (place_in word).space) c.requires.table.same ∙ ap (λ (p : Place). from_space c.args.self.kind p.space) (sym c.place_of-space.ensures) ∙ sym c.moves.ensures ∙ c.if-not-moves.false in
+    let moves : from_space kind (place_in word).space ≡ true = moves_as c.place_of-space.result word c.moves.result true c.requires.table c.place_of-space.ensures c.moves.ensures c.if-not-moves.false in
     let held : Holds h (place_in word) = ⊎_elim (λ none. absurd (some none)) (λ (names : NamesCell h word). names.held) c.requires.pointer in
     let met = (m.walked c.claim.new.self).met in
     record {
@@ -43,16 +40,14 @@ pub returns-clause-word : goal.returns-clause-word
 returns-clause-word g c =
     λ to knows.
     let h = c.args.self.spaces.now.spaces in let kind = (g.C.Claimer.walked c.args.claimer.now).kind in let word = c.args.word.now in
-    let moves : from_space kind (place_in word).space ≡ true =
-    ap (λ (k : Kind). from_space k (place_in word).space) c.requires.table.same ∙ ap (λ (p : Place). from_space c.args.self.kind p.space) (sym c.place_of-space.ensures) ∙ sym c.moves.ensures ∙ c.if-not-moves.false in
+    let moves : from_space kind (place_in word).space ≡ true = moves_as c.place_of-space.result word c.moves.result true c.requires.table c.place_of-space.ensures c.moves.ensures c.if-not-moves.false in
     let goes : to (flat_of h (place_in word)) ≡ place_in c.in_ok-link.link = ap to (sym c.target_of.ensures.flat) ∙ c.in_ok-link.ensures.known to knows in
     c.with_rights.ensures ∙ one_moved (from_space kind) h to word (place_in c.in_ok-link.link) c.if-old-eq0.false moves goes
 
 pub claim-requires : goal.claim-requires
 claim-requires g c =
     let h = c.args.self.spaces.now.spaces in let kind = (g.C.Claimer.walked c.args.claimer.now).kind in let word = c.args.word.now in
-    let moves : from_space kind (place_in word).space ≡ true =
-    ap (λ (k : Kind). from_space k (place_in word).space) c.requires.table.same ∙ ap (λ (p : Place). from_space c.args.self.kind p.space) (sym c.place_of-space.ensures) ∙ sym c.moves.ensures ∙ c.if-not-moves.false in
+    let moves : from_space kind (place_in word).space ≡ true = moves_as c.place_of-space.result word c.moves.result true c.requires.table c.place_of-space.ensures c.moves.ensures c.if-not-moves.false in
     let held : Holds h (place_in word) = ⊎_elim (λ none. absurd (c.if-old-eq0.false none)) (λ (names : NamesCell h word). names.held) c.requires.pointer in
     let low = moved_behind kind h (place_in word) held moves in
     let kept = c.requires.table.kept in

@@ -1,14 +1,16 @@
 use Rattle.std.proofs.Common.{rules, ◌≡◌, ◌<◌, List, ℕ, true, false, ap, sym, subst, ◌∙◌}
 use Rattle.std.specs.List.{All}
+use Rattle.std.proofs.lemmas.Result.{IfErr-weaker}
 use Rattle.tg_space.specs.SpaceTable.{BlockLimits}
 use Rattle.tg_space.proofs.Tables.{table_list}
 use Rattle.tg_race.specs.declared.record.Record.{Record}
 use Rattle.tg_race.specs.Race.{past}
 use Rattle.tg_race.specs.Seats.{Board}
+use Rattle.tg_evac.proofs.Pieces.{ok_always}
 use Rattle.tg_evac.proofs.Sound.{have_pointers}
-use Rattle.tg_parallel.specs.Parts.{AreCountsOf, AreEarned, AreOnce, HasClaimedPast, IsPart}
+use Rattle.tg_parallel.specs.Parts.{AreCountsOf, AreEarned, HasClaimedPast, IsPart}
 use Rattle.tg_parallel.specs.Seats.{AreFilled, Sitting}
-use Rattle.tg_parallel.proofs.Handing.{aged_room, err_weaker, filled_once, is_part, ok_always, old_room, parts_are, past_limit}
+use Rattle.tg_parallel.proofs.Handing.{aged_room, both_once, is_part, old_room, parts_are, past_limit}
 use Rattle.tg_parallel.proofs.job.Job.help_here.Goals as goal
 
 pub work-worked-requires : goal.work-worked-requires
@@ -60,15 +62,12 @@ returns-in-Ok-worked g c =
                 (is_part kind t roots s same_kind e.places c.in-Ok-worked.ensures.copied aged old e.aged.0 e.old.0 in_aged in_old part.aged.items part.old.items laid_aged laid_old
                 (subst (λ (n : ℕ). All (λ b. b < n) aged) limit few_aged) (subst (λ (n : ℕ). All (λ b. b < n) old) limit few_old)))
                 c.of.ensures.aged c.of.ensures.old c.of.ensures.aged_few c.of.ensures.old_few;
-            full = err_weaker c.of.result
+            full = IfErr-weaker c.of.result _ _
                 (λ fault told is. subst (λ (v : Record). HasClaimedPast t.limits.space_blocks v) (sym e.done)
                 (subst (λ (n : ℕ). HasClaimedPast n s.done) limit (past_limit c.space_blocks-limit.result s.done aged old in_aged.same in_old.same (told is))))
                 c.of.ensures.full;
           };
-      once =
-          let v = c.work-worked.new.seat.done in let e = c.into_left-helper.ensures in
-          subst (λ (w : Record). AreOnce w.aged_blocks × AreOnce w.old_blocks) (sym e.done)
-          (filled_once true v c.into_left-helper.result.lists.aged.items e.aged.0 e.aged.1, filled_once false v c.into_left-helper.result.lists.old.items e.old.0 e.old.1);
+      once = both_once e.done e.aged.1 e.old.1;
     }
 
 pub returns : goal.returns
@@ -88,8 +87,5 @@ returns g c =
             whole = tt;
             full = λ is. subst (λ (v : Record). HasClaimedPast t.limits.space_blocks v) (sym e.done) (subst (λ (n : ℕ). HasClaimedPast n s.done) limit (c.in-Err.ensures.worked.full is));
           };
-      once =
-          let v = c.work-worked.new.seat.done in let e = c.into_left-helper.ensures in
-          subst (λ (w : Record). AreOnce w.aged_blocks × AreOnce w.old_blocks) (sym e.done)
-          (filled_once true v c.into_left-helper.result.lists.aged.items e.aged.0 e.aged.1, filled_once false v c.into_left-helper.result.lists.old.items e.old.0 e.old.1);
+      once = both_once e.done e.aged.1 e.old.1;
     }

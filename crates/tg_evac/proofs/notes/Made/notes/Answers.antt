@@ -1,7 +1,7 @@
 use Rattle.std.proofs.Common.{◌≡◌, List, [], subst, arith, inl, inr, ⊎_elim}
 use Rattle.std.specs.List.{Contains}
 use Rattle.tg_word.specs.declared.Place.{Place}
-use Rattle.tg_evac.proofs.notes.Moves.notes.Goals as goal
+use Rattle.tg_evac.proofs.notes.Made.notes.Goals as goal
 
 nothing : (places : List Place) → places ≡ [] → (p : Place) → Contains places p → ⊥
 nothing places none p held = let empty : Contains [] p = subst (λ (ps : List Place). Contains ps p) none held in absurd (let low = empty.1 in omega arith)
