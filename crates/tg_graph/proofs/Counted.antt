@@ -1,131 +1,121 @@
 -- A heap has as many payloads as objects.
-use Rattle.std.proofs.Common.{◌≡◌, ℕ, zero, suc, ◌<◌, ◌≤◌, ◌+◌, ◌⊎◌, Bool, true, false, List, [], ◌∷◌, ◌++◌, length, get_or, map, Option, None, IsSome, is_some, eqb, ◌==◌, cond, ◌||◌, refl, sym, ap, subst, arith, ◌∙◌, inl, inr, ⊎_elim}
-use Rattle.std.specs.List.{All, Contains, IsDistinct, count_by, filter, flat_map, list_any, range_with_len}
-use Rattle.std.proofs.lemmas.Bool.{cases_Bool, cases_lt, eqb-true, eq-eqb}
-use Rattle.std.proofs.lemmas.Bool.Decides.{eqb_tells}
+use Rattle.std.proofs.Common.{◌≡◌, ◌≢◌, ℕ, zero, suc, ◌<◌, ◌≤◌, ◌+◌, ◌*◌, ◌⊎◌, Bool, List, [], ◌∷◌, ◌++◌, length, get_or, map, Option, None, IsSome, is_some, eqb, ◌==◌, cond, append_assoc, refl, sym, ap, subst, arith, ◌∙◌, inl, inr}
+use Rattle.std.specs.List.{Contains, IsDistinct, count_by, filter, flat_map, range_with_len}
+use Rattle.std.proofs.lemmas.Bool.{cases_lt, eqb-true}
+use Rattle.std.proofs.lemmas.Bool.Decides.{Decides-eqb}
 use Rattle.std.proofs.lemmas.Cmp.{nat_eq_equiv}
-use Rattle.std.proofs.lemmas.List.{get_or_default, get_or_past, length-map}
-use Rattle.std.proofs.lemmas.List.Elements.{recursion_from_All, Contains-append_cases}
+use Rattle.std.proofs.lemmas.List.{append-nil, ext_get_or, get_or-map, get_or_past, length-map, map-append}
+use Rattle.std.proofs.lemmas.List.Elements.{Contains-get_or}
 use Rattle.std.proofs.lemmas.List.FromFn.{fill_by_all, get_or-range_with_len, length-range_with_len}
+use Rattle.std.proofs.lemmas.List.Kept.{AllPairs-filter}
 use Rattle.std.proofs.lemmas.List.Sums.{length-filter, sum_by-cons}
-use Rattle.std.proofs.lemmas.Map.Keys.{IsDistinct-cons}
-use Rattle.std.proofs.lemmas.Map.Made.{length-le_from_is_member}
+use Rattle.std.proofs.lemmas.Simd.{map-map}
+use Rattle.std.proofs.lemmas.Map.Made.{IsDistinct-from_AllPairs, length-le_from_is_member}
+use Rattle.std.proofs.lemmas.Map.Views.{Contains-from_any, list_any-from_Contains}
 use Rattle.tg_model.proofs.PlainLaws.{is_subject}
 use Rattle.tg_model.specs.declared.value.Value.{Value}
 use Rattle.tg_word.specs.declared.Place.{Place}
-use Rattle.tg_space.specs.SpaceList.{SpaceList, IsSpaceList, cell_at, space_of}
+use Rattle.tg_space.specs.SpaceList.{SpaceList, IsSpaceList, blocks_before, cell_at, cells_of, flat_of, space_of}
+use Rattle.tg_space.proofs.Flat.{before_more, blocks_all, get_or-flat_of, length-cells_of}
 use Rattle.tg_payload.specs.Table.{Payloads, count, entry}
 use Rattle.tg_rows.specs.Rows.{is_object, key_at, name_at, objects_of, places_in, places_of}
 use Rattle.tg_rows.specs.Graph.{IsGraph}
-use Rattle.tg_rows.proofs.Members.{Contains-cases, Contains-filter, Contains-from_filter, Contains-from_flat_map, Contains-from_map, Contains-here, Contains-map, Contains-more, Contains-none}
+use Rattle.tg_rows.proofs.Members.{Contains-filter, Contains-from_filter, Contains-from_map, Contains-map}
 use Rattle.tg_rows.proofs.Lookups.{kind_from_objects, objects_from_kind}
+use Rattle.tg_rows.proofs.Places.{holds_from_places}
 
--- ---- lists in which each element stands once
+-- ---- numbers, one run behind the other
 
-abbrev IsOnce : {X : Type 0} → List X → Type 0
-IsOnce [] = Unit {0}
-IsOnce (x ∷ xs) = (Contains xs x → ⊥) × IsOnce xs
+range-append : (a n m : ℕ) → range_with_len a n ++ range_with_len (a + n) m ≡ range_with_len a (n + m)
+range-append a zero m =
+    let here : a + 0 ≡ a = omega arith in
+    let there : m ≡ 0 + m = omega arith in
+    ap (λ b. range_with_len b m) here ∙ ap (range_with_len a) there
+range-append a (suc n) m =
+    let here : a + suc n ≡ a + 1 + n = omega arith in
+    let there : suc (n + m) ≡ suc n + m = omega arith in
+    ap (λ (ns : List ℕ). a ∷ ns) (ap (λ b. range_with_len (a + 1) n ++ range_with_len b m) here ∙ range-append (a + 1) n m) ∙ ap (range_with_len a) there
 
-module _ {X : Type 0} where
-  once-append : (xs ys : List X) → IsOnce xs → IsOnce ys → ((z : X) → Contains xs z → Contains ys z → ⊥) → IsOnce (xs ++ ys)
-  once-append [] ys one two apart = two
-  once-append (x ∷ xs) ys one two apart = (
-    λ has. ⊎_elim one.0 (λ later. apart x (Contains-here x xs) later) (Contains-append_cases xs ys x has),
-    once-append xs ys one.1 two (λ z here later. apart z (Contains-more x xs z here) later),
-  )
+map-flat_map : {X Y Z : Type 0} (f : Y → Z) (g : X → List Y) (xs : List X) → map f (flat_map g xs) ≡ flat_map (λ x. map f (g x)) xs
+map-flat_map f g [] = refl
+map-flat_map f g (x ∷ xs) = map-append f (g x) (flat_map g xs) ∙ ap (λ ys. map f (g x) ++ ys) (map-flat_map f g xs)
 
-  once-filter : (p : X → Bool) (xs : List X) → IsOnce xs → IsOnce (filter p xs)
-  once-filter p [] one = one
-  once-filter p (x ∷ xs) one = by_test (cases_Bool (p x)) (once-filter p xs one.1)
-    where
-      by_test : (p x ≡ true) ⊎ (p x ≡ false) → IsOnce (filter p xs) → IsOnce (filter p (x ∷ xs))
-      by_test (inl t) rest =
-          let both : IsOnce (x ∷ filter p xs) = (λ has. one.0 (Contains-from_filter p xs x has).0, rest) in rw t both
-      by_test (inr f) rest = rw f rest
-
-module _ {X Y : Type 0} where
-  once-map : (f : X → Y) (xs : List X) → ((x y : X) → Contains xs x → Contains xs y → f x ≡ f y → x ≡ y) → IsOnce xs → IsOnce (map f xs)
-  once-map f [] same one = one
-  once-map f (x ∷ xs) same one = (
-    λ has.
-        let (y, among, e) = Contains-from_map f xs (f x) has in
-        one.0 (subst (λ z. Contains xs z) (same y x (Contains-more x xs y among) (Contains-here x xs) e) among),
-    once-map f xs (λ y z a b e. same y z (Contains-more x xs y a) (Contains-more x xs z b) e) one.1,
-  )
-
-  once-flat_map : (f : X → List Y) (xs : List X) → IsOnce xs → ((x : X) → IsOnce (f x)) → ((x y : X) (z : Y) → Contains (f x) z → Contains (f y) z → x ≡ y) → IsOnce (flat_map f xs)
-  once-flat_map f [] one each same = one
-  once-flat_map f (x ∷ xs) one each same =
-      once-append (f x) (flat_map f xs) (each x) (once-flat_map f xs one.1 each same)
-      (λ z here later.
-      let (y, among, inside) = Contains-from_flat_map f xs z later in
-      one.0 (subst (λ w. Contains xs w) (same y x z inside here) among))
-
-range_from : (a n k : ℕ) → Contains (range_with_len a n) k → a ≤ k
-range_from a n k (i, low, e) = omega (arith, length-range_with_len a n, get_or-range_with_len a n i k (omega (arith, length-range_with_len a n)))
-
-once-range : (a n : ℕ) → IsOnce (range_with_len a n)
-once-range a zero = tt
-once-range a (suc n) = (λ has. let low = range_from (a + 1) n a has in absurd (omega arith), once-range (a + 1) n)
+-- runs of so many numbers each, where each begins at the end of the one before
+runs : (f : ℕ → List ℕ) (at size : ℕ → ℕ) (z a n : ℕ) → ((k : ℕ) → k < a + n → (f k ≡ range_with_len (z + at k) (size k)) × (at (k + 1) ≡ at k + size k)) → range_with_len z (at a) ++ flat_map f (range_with_len a n) ≡ range_with_len z (at (a + n))
+runs f at size z a zero each = let here : a ≡ a + 0 = omega arith in append-nil (range_with_len z (at a)) ∙ ap (λ k. range_with_len z (at k)) here
+runs f at size z a (suc n) each =
+    let first = each a (omega arith) in
+    let here : a + 1 + n ≡ a + suc n = omega arith in
+    sym (append_assoc (range_with_len z (at a)) (f a) (flat_map f (range_with_len (a + 1) n)))
+    ∙ ap (λ (ns : List ℕ). ns ++ flat_map f (range_with_len (a + 1) n)) (ap (λ (ns : List ℕ). range_with_len z (at a) ++ ns) first.0 ∙ range-append z (at a) (size a) ∙ ap (range_with_len z) (sym first.1))
+    ∙ runs f at size z (a + 1) n (λ k low. each k (omega (arith, low)))
+    ∙ ap (λ k. range_with_len z (at k)) here
 
 -- ---- places
 
-module _ (h : SpaceList) where
-  in_block : (space block : ℕ) (p : Place) → Contains (map (λ (cell : ℕ). let q : Place = record { space = space; block = block; cell = cell } in q) (range_with_len 0 64)) p → (p.space ≡ space) × (p.block ≡ block)
-  in_block space block p has =
-      let (cell, among, e) = Contains-from_map (λ (cell : ℕ). let q : Place = record { space = space; block = block; cell = cell } in q) (range_with_len 0 64) p has in
-      (ap (λ (q : Place). q.space) (sym e), ap (λ (q : Place). q.block) (sym e))
+-- where a list that is too short would be read
+abbrev nowhere : Place
+nowhere = record { space = 0; block = 0; cell = 0 }
 
-  in_space : (space : ℕ) (p : Place) → Contains (places_in h space) p → p.space ≡ space
-  in_space space p has =
-      let (block, among, inside) = Contains-from_flat_map (λ (block : ℕ). map (λ (cell : ℕ). let q : Place = record { space = space; block = block; cell = cell } in q) (range_with_len 0 64)) (range_with_len 0 (length (space_of h space))) p has in
-      (in_block space block p inside).0
+module _ (h : SpaceList) (is : IsSpaceList h) where
+  abbrev block_places : ℕ → ℕ → List Place
+  block_places space block = map (λ (cell : ℕ). let q : Place = record { space = space; block = block; cell = cell } in q) (range_with_len 0 64)
 
-  once-space : (space : ℕ) → IsOnce (places_in h space)
-  once-space space =
-      once-flat_map (λ (block : ℕ). map (λ (cell : ℕ). let q : Place = record { space = space; block = block; cell = cell } in q) (range_with_len 0 64)) (range_with_len 0 (length (space_of h space))) (once-range 0 (length (space_of h space)))
-      (λ block. once-map (λ (cell : ℕ). let q : Place = record { space = space; block = block; cell = cell } in q) (range_with_len 0 64) (λ x y _ _ e. ap (λ (q : Place). q.cell) e) (once-range 0 64))
-      (λ a b p one two. sym (in_block space a p one).1 ∙ (in_block space b p two).1)
+  block_numbers : (space block : ℕ) → map (flat_of h) (block_places space block) ≡ range_with_len (64 * blocks_before h space + 64 * block) 64
+  block_numbers space block =
+      let first = 64 * blocks_before h space + 64 * block in
+      map-map (flat_of h) (λ (cell : ℕ). let q : Place = record { space = space; block = block; cell = cell } in q) (range_with_len 0 64)
+      ∙ sym (fill_by_all (λ (cell : ℕ). 64 * (blocks_before h space + block) + cell) (range_with_len first 64) 64 0 (length-range_with_len first 64) (λ k low. omega (arith, get_or-range_with_len first 64 k 0 low)))
 
-  once-places : IsOnce (places_of h)
-  once-places =
-      once-flat_map (places_in h) (range_with_len 0 (length h)) (once-range 0 (length h)) once-space (λ a b p one two. sym (in_space a p one) ∙ in_space b p two)
+  space_numbers : (space : ℕ) → map (flat_of h) (places_in h space) ≡ range_with_len (64 * blocks_before h space) (64 * length (space_of h space))
+  space_numbers space =
+      let blocks = length (space_of h space) in
+      let all : 0 + blocks ≡ blocks = omega arith in
+      map-flat_map (flat_of h) (block_places space) (range_with_len 0 blocks)
+      ∙ runs (λ block. map (flat_of h) (block_places space block)) (λ k. 64 * k) (λ _. 64) (64 * blocks_before h space) 0 blocks (λ block low. (block_numbers space block, omega arith))
+      ∙ ap (λ n. range_with_len (64 * blocks_before h space) (64 * n)) all
 
-  once-objects : IsOnce (objects_of h)
-  once-objects = once-filter (λ p. is_object (cell_at h p)) (places_of h) once-places
+  -- the numbers of the places are all numbers of cells, in order
+  numbers : map (flat_of h) (places_of h) ≡ range_with_len 0 (length (cells_of h))
+  numbers =
+      let at = λ (space : ℕ). 64 * blocks_before h space in
+      let size = λ (space : ℕ). 64 * length (space_of h space) in
+      let from : (space : ℕ) → at space ≡ 0 + at space = λ space. omega arith in
+      let more : (space : ℕ) → space < 0 + length h → at (space + 1) ≡ at space + size space = λ space low. omega (arith, before_more h space (omega (arith, low))) in
+      let end : at (0 + length h) ≡ length (cells_of h) = omega (arith, length-cells_of h is.spaces, blocks_all h (0 + length h) (omega arith)) in
+      map-flat_map (flat_of h) (places_in h) (range_with_len 0 (length h))
+      ∙ runs (λ space. map (flat_of h) (places_in h space)) at size 0 0 (length h) (λ space low. (space_numbers space ∙ ap (λ a. range_with_len a (size space)) (from space), more space low))
+      ∙ ap (range_with_len 0) end
 
--- ---- lists of numbers with the same members
+  long : length (places_of h) ≡ length (cells_of h)
+  long = sym (length-map (places_of h) (flat_of h)) ∙ ap (λ (ns : List ℕ). length ns) numbers ∙ length-range_with_len 0 (length (cells_of h))
 
-distinct_from_once : (ns : List ℕ) → IsOnce ns → IsDistinct eqb ns
-unfolding IsDistinct
-distinct_from_once [] one = tt
-distinct_from_once (n ∷ ns) one =
-    let others : All (λ m. eqb n m ≡ false) ns = λ k d low. ⊎_elim (λ t. absurd (one.0 (k, low, get_or_default ns k n d low ∙ sym t.1))) (λ f. f.0) (eqb_tells n (get_or ns k d)) in
-    IsDistinct-cons eqb n ns (recursion_from_All (λ m. eqb n m ≡ false) ns others) (distinct_from_once ns one.1)
+  number_at : (k : ℕ) (d : Place) → k < length (places_of h) → flat_of h (get_or (places_of h) k d) ≡ k
+  number_at k d low =
+      let here : 0 + k ≡ k = omega arith in
+      sym (get_or-map (flat_of h) (places_of h) k d 0 low) ∙ ap (λ (ns : List ℕ). get_or ns k 0) numbers ∙ get_or-range_with_len 0 (length (cells_of h)) k 0 (omega (arith, long, low)) ∙ here
 
-any_from_contains : (ns : List ℕ) (n : ℕ) → Contains ns n → list_any (eqb n) ns ≡ true
-any_from_contains [] n has = absurd (Contains-none n has)
-any_from_contains (m ∷ ns) n has = by_place (Contains-cases m ns n has) (any_from_contains ns n)
-  where
-    by_place : (m ≡ n) ⊎ Contains ns n → (Contains ns n → list_any (eqb n) ns ≡ true) → list_any (eqb n) (m ∷ ns) ≡ true
-    by_place (inl e) _ = let t : eqb n m ≡ true = eq-eqb n m (sym e) in rw t refl
-    by_place (inr later) again = let rest = again later in rw rest (or_true (eqb n m))
-      where
-        or_true : (b : Bool) → (b || true) ≡ true
-        or_true true = refl
-        or_true false = refl
+  -- the cells at the places are all cells, in order
+  pub places_cells : map (cell_at h) (places_of h) ≡ cells_of h
+  places_cells =
+      let all = length-map (places_of h) (cell_at h) in
+      ext_get_or [] (map (cell_at h) (places_of h)) (cells_of h) (all ∙ long) (λ k low.
+      let inside : k < length (places_of h) = omega (arith, all, low) in
+      let p = get_or (places_of h) k nowhere in
+      get_or-map (cell_at h) (places_of h) k nowhere [] inside
+      ∙ sym (get_or-flat_of h is.spaces p (holds_from_places h is p (Contains-get_or (places_of h) k nowhere inside)))
+      ∙ ap (λ n. get_or (cells_of h) n []) (number_at k nowhere inside))
 
-contains_from_any : (ns : List ℕ) (n : ℕ) → list_any (eqb n) ns ≡ true → Contains ns n
-contains_from_any [] n e = absurd (let no : false ≡ true = e in cc)
-contains_from_any (m ∷ ns) n e = by_test (cases_Bool (eqb n m)) (contains_from_any ns n)
-  where
-    by_test : (eqb n m ≡ true) ⊎ (eqb n m ≡ false) → (list_any (eqb n) ns ≡ true → Contains ns n) → Contains (m ∷ ns) n
-    by_test (inl t) _ = subst (λ k. Contains (m ∷ ns) k) (sym (eqb-true n m t)) (Contains-here m ns)
-    by_test (inr f) again = Contains-more m ns n (again (rw f at e))
-
-fewer : (ms ns : List ℕ) → IsOnce ms → ((k : ℕ) → Contains ms k → Contains ns k) → length ms ≤ length ns
-fewer ms ns once inside =
-    length-le_from_is_member nat_eq_equiv ms ns (distinct_from_once ms once) (λ k e. any_from_contains ns k (inside k (contains_from_any ms k e)))
+  -- no object's place stands twice, so neither do numbers that only one object has
+  objects_distinct : (f : Place → ℕ) → ((p q : Place) → Contains (objects_of h) p → Contains (objects_of h) q → f p ≡ f q → p ≡ q) → IsDistinct eqb (map f (objects_of h))
+  objects_distinct f apart =
+      let objects = objects_of h in
+      let once = AllPairs-filter (λ (p q : Place). p ≢ q) (λ p. is_object (cell_at h p)) (places_of h) (λ i j d below inside same. omega (arith, below, number_at i d (omega (arith, below, inside)), number_at j d inside, ap (flat_of h) same)) in
+      IsDistinct-from_AllPairs {eq = eqb} Decides-eqb (map f objects) (λ i j d below inside same.
+      let high : j < length objects = omega (arith, length-map objects f, inside) in
+      let low : i < length objects = omega (arith, below, high) in
+      once i j nowhere below high
+      (apart (get_or objects i nowhere) (get_or objects j nowhere) (Contains-get_or objects i nowhere low) (Contains-get_or objects j nowhere high) (sym (get_or-map f objects i nowhere d low) ∙ same ∙ get_or-map f objects j nowhere d high)))
 
 -- ---- keys
 
@@ -160,20 +150,27 @@ module _ (payloads : Payloads) where
   unfolding used_keys
   used_key key has = (Contains-from_filter (λ k. is_some (entry payloads k)) (range_with_len 0 (length payloads.entries)) key has).1
 
-  once-used_keys : IsOnce (used_keys payloads)
+  used_keys-distinct : IsDistinct eqb (used_keys payloads)
   unfolding used_keys
-  once-used_keys = once-filter (λ key. is_some (entry payloads key)) (range_with_len 0 (length payloads.entries)) (once-range 0 (length payloads.entries))
+  used_keys-distinct =
+      let n = length payloads.entries in
+      let long = length-range_with_len 0 n in
+      IsDistinct-from_AllPairs {eq = eqb} Decides-eqb (used_keys payloads) (AllPairs-filter (λ (a b : ℕ). a ≢ b) (λ key. is_some (entry payloads key)) (range_with_len 0 n)
+      (λ i j d below inside same. omega (arith, below, same, get_or-range_with_len 0 n i d (omega (arith, below, inside, long)), get_or-range_with_len 0 n j d (omega (arith, inside, long)))))
+
+fewer : (ms ns : List ℕ) → IsDistinct eqb ms → ((k : ℕ) → Contains ms k → Contains ns k) → length ms ≤ length ns
+fewer ms ns once inside =
+    length-le_from_is_member nat_eq_equiv ms ns once (λ k e. list_any-from_Contains nat_eq_equiv k ns (inside k (Contains-from_any eqb-true k ms e)))
 
 pub payloads_counted : (h : SpaceList) (payloads : Payloads) → IsSpaceList h → IsGraph h payloads → count payloads ≡ length (map (name_at h) (objects_of h))
 payloads_counted h payloads is graph =
     let keys = map (key_at h) (objects_of h) in
-    let once : IsOnce keys = once-map (key_at h) (objects_of h) (λ p q a b e. graph.keys p q (kind_from_objects h is p a) (kind_from_objects h is q b) e) (once-objects h) in
+    let once = objects_distinct h is (key_at h) (λ p q a b e. graph.keys p q (kind_from_objects h is p a) (kind_from_objects h is q b) e) in
     let le = fewer keys (used_keys payloads) once (λ key has. let (p, among, at) = Contains-from_map (key_at h) (objects_of h) key has in key_used payloads key ((graph.payloads_used key).1 (p, kind_from_objects h is p among, at))) in
-    let ge = fewer (used_keys payloads) keys (once-used_keys payloads) (λ key has. let (p, object, at) = (graph.payloads_used key).0 (used_key payloads key has) in subst (λ (k : ℕ). Contains keys k) at (Contains-map (key_at h) (objects_of h) p (objects_from_kind h is p object))) in
+    let ge = fewer (used_keys payloads) keys (used_keys-distinct payloads) (λ key has. let (p, object, at) = (graph.payloads_used key).0 (used_key payloads key has) in subst (λ (k : ℕ). Contains keys k) at (Contains-map (key_at h) (objects_of h) p (objects_from_kind h is p object))) in
     omega (arith, length-used_keys payloads, length-map (objects_of h) (key_at h), length-map (objects_of h) (name_at h))
 
 -- no name stands twice
 pub names_once : (h : SpaceList) (payloads : Payloads) → IsSpaceList h → IsGraph h payloads → IsDistinct (λ a b. a == b) (map (name_at h) (objects_of h))
 names_once h payloads is graph =
-    distinct_from_once (map (name_at h) (objects_of h))
-    (once-map (name_at h) (objects_of h) (λ p q a b e. graph.names p q (kind_from_objects h is p a) (kind_from_objects h is q b) e) (once-objects h))
+    objects_distinct h is (name_at h) (λ p q a b e. graph.names p q (kind_from_objects h is p a) (kind_from_objects h is q b) e)

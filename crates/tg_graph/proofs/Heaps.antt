@@ -26,11 +26,6 @@ use Rattle.tg_rows.specs.Steps.{ChangesTo}
 use Rattle.tg_rows.proofs.Growing.{graph_entries}
 use Rattle.tg_rows.proofs.Lookups.{name_of_vertex}
 use Rattle.tg_rows.proofs.Members.{Contains-filter, Contains-from_filter}
-use Rattle.tg_space.specs.declared.kind.Kind.TheVariants.{Full, Nursery}
-
--- a full collection isn't one of the nurseries
-pub full_or_nursery : Full ≡ Nursery → ⊥
-full_or_nursery same = cc
 
 -- an active subject is the vertex with its name
 pub subject_vertex : (s : HeapState) → IsWellFormed s → (x : ℕ) (subject : Subject) → IsSubjectNamed s.subjects x subject → IsVertexAt s.table.spaces x subject.place
@@ -50,15 +45,6 @@ heap_with s table payloads places indexed = record { table = table; payloads = p
 
 pub heap_same : (s : HeapState) (table : SpaceTable) (payloads : Payloads) (places : List Place) (indexed : List ℕ) → table ≡ s.table → payloads ≡ s.payloads → places ≡ s.remembered → indexed ≡ s.indexed → heap_with s table payloads places indexed ≡ s
 heap_same s table payloads places indexed cells stored noted same = λ i. record { table = cells i; payloads = stored i; subjects = s.subjects; remembered = noted i; indexed = same i }
-
--- what is well formed doesn't depend on the indexes
-pub well_formed_indexed : (s : HeapState) (indexed : List ℕ) → IsWellFormed s → IsWellFormed (heap_with s s.table s.payloads s.remembered indexed)
-well_formed_indexed s indexed formed = record { graph = formed.graph; subjects = formed.subjects; vertices = formed.vertices; nurseries = formed.nurseries; remembered = formed.remembered }
-
-pub well_formed_same : (s : HeapState) (table : SpaceTable) (payloads : Payloads) (places : List Place) (indexed : List ℕ) → IsWellFormed s → table ≡ s.table → payloads ≡ s.payloads → places ≡ s.remembered → IsWellFormed (heap_with s table payloads places indexed)
-well_formed_same s table payloads places indexed formed cells stored noted =
-    let is : heap_with s table payloads places indexed ≡ heap_with s s.table s.payloads s.remembered indexed = λ i. record { table = cells i; payloads = stored i; subjects = s.subjects; remembered = noted i; indexed = indexed } in
-    subst IsWellFormed (sym is) (well_formed_indexed s indexed formed)
 
 -- room for more payloads keeps it well formed
 pub well_formed_roomy : (s : HeapState) (table : SpaceTable) (payloads : Payloads) (places : List Place) (indexed : List ℕ) → IsWellFormed s → table ≡ s.table → payloads.entries ≡ s.payloads.entries → places ≡ s.remembered → IsWellFormed (heap_with s table payloads places indexed)

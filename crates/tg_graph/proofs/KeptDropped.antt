@@ -1,6 +1,6 @@
 -- The payloads that a collection drops.
 use Rattle.std.proofs.Common.{◌≡◌, ◌≢◌, ◌↔◌, ℕ, ◌<◌, ◌≤◌, ◌+◌, ◌*◌, ◌⊎◌, ◌++◌, true, List, [], ◌∷◌, length, get_or, slice_index, Option, None, IsSome, refl, sym, ap, subst, arith, ◌∙◌, inl, inr, ⊎_elim}
-use Rattle.std.specs.List.{AllPairs, Contains}
+use Rattle.std.specs.List.{All, AllPairs, Contains}
 use Rattle.std.proofs.lemmas.Bool.{cases_eq, cases_lt}
 use Rattle.std.proofs.lemmas.List.Elements.{Contains-append_left, Contains-get_or, Contains-push, Contains-push_cases}
 use Rattle.std.proofs.lemmas.List.Quantifiers.{all_pairs_push}
@@ -227,6 +227,9 @@ module _ (h : SpaceList) (whole : IsSpaceList h) (forward : List ℕ) where
     -- a dead cell has a payload before
     pub dead_some : (n key : ℕ) → IsDeadAt h forward n key → IsSome (entry payloads key)
     dead_some n key is = (graph.payloads_used key).1 (is.place, is.object, is.key_is)
+
+    pub dead_there : (kind : Kind) (keys : List ℕ) → ((key : ℕ) → Contains keys key ↔ IsDeadKey kind h forward key) → All (λ key. IsSome (entry payloads key)) keys
+    dead_there kind keys dead k d low = let is = (dead (get_or keys k d)).0 (Contains-get_or keys k d low) in dead_some is.number (get_or keys k d) is.dead
 
     pub dropped_keeps : (kind : Kind) (left : Payloads) → Drops payloads left (IsDeadKey kind h forward) → KeepsPayloads h (IsKept kind h forward) payloads left
     dropped_keeps kind left drops = record {

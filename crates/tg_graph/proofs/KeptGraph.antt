@@ -19,7 +19,7 @@ use Rattle.tg_rows.specs.Rows.{IsChain, IsVertexAt, key_at, name_at, name_in, na
 use Rattle.tg_space.specs.Rows.{chunks_from, link_at}
 use Rattle.tg_rows.specs.Graph.{IsGraph, content_in}
 use Rattle.tg_graph.specs.Kept.{KeepsPayloads}
-use Rattle.tg_rows.specs.Index.{moved_place}
+use Rattle.tg_space.specs.Numbering.{moved_place}
 use Rattle.tg_rows.proofs.Members.{Contains-here, Contains-more}
 use Rattle.tg_rows.proofs.Lookups.{vertex_of_name, name_of_vertex, label_at, value_at}
 use Rattle.tg_rows.proofs.KeptCells.{Moves, IsKeptWord, is_copied, name_kept, key_kept, kind_at_after, sound_after}

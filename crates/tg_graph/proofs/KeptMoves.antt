@@ -11,13 +11,13 @@ use Rattle.tg_word.proofs.Packing.{place_in-word_at, word_at-above_zero}
 use Rattle.tg_rights.specs.RightSet.{no_rights}
 use Rattle.tg_block.specs.Cells.{free_cell}
 use Rattle.tg_block.specs.declared.CellKind.{CellKind}
-use Rattle.tg_space.specs.SpaceList.{SpaceList, BlockList, IsSpaceList, Holds, cell_at, cells_of, flat_of}
+use Rattle.tg_space.specs.SpaceList.{SpaceList, IsSpaceList, Holds, cell_at, cells_of, flat_of}
 use Rattle.tg_space.specs.SpaceTable.{adopted}
 use Rattle.tg_space.specs.Targets.{from_space, first_pointer, moved_word, root_targets_of, all_root_targets, targets_of, pointers_of, image_of}
 use Rattle.tg_space.specs.Soundness.{HasLayout, HasLayoutOf, IsOldCell, NamesCell}
 use Rattle.tg_space.specs.Closure.{IsInClosure}
 use Rattle.tg_space.specs.Generations.{AreNeeded, AreRemembered, NamesYoung}
-use Rattle.tg_space.specs.Collection.{IsCollection, IsMadeInOld, IsNewPlace, new_place}
+use Rattle.tg_space.specs.Collection.{Collected, IsCollection, IsMadeInOld, IsNewPlace, new_place}
 use Rattle.tg_space.specs.declared.kind.Kind.{Kind}
 use Rattle.tg_space.specs.declared.root.Root.{Root}
 use Rattle.tg_space.specs.declared.root.Root.TheVariants.{Remembered}
@@ -25,7 +25,7 @@ use Rattle.tg_space.proofs.Flat.{flat_inside, get_or-flat_of, same_place}
 use Rattle.tg_payload.specs.Table.{Payloads}
 use Rattle.tg_rows.specs.Graph.{IsGraph}
 use Rattle.tg_graph.specs.Kept.{IsKept}
-use Rattle.tg_rows.specs.Index.{moved_place}
+use Rattle.tg_space.specs.Numbering.{moved_place}
 use Rattle.tg_rows.proofs.Members.{Contains-flat_map, Contains-here, Contains-more}
 use Rattle.tg_rows.proofs.Places.{cell_long, layout_at, held_place}
 use Rattle.tg_rows.proofs.Layouts.{KindCases, is_free, is_object, is_chunk, is_bad, kind_cases, object_tagged, chunk_tagged, free_zero}
@@ -92,60 +92,60 @@ pub record AreRooted (from : ℕ → Bool) (h : SpaceList) (roots : List Root) :
   pub all : (p : Place) → Holds h p → from p.space ≡ false → (word : ℕ) → Contains (pointers_of (cell_at h p)) word → from (place_in word).space ≡ true → Contains roots (Remembered p)
 
 -- the words that a place has after a collection: a remembered cell was written, and any other is as it was adopted
-abbrev pub HasWordsAfter : Kind → SpaceList → List Root → List ℕ → BlockList → BlockList → SpaceList → Place → Type 0
-HasWordsAfter kind h roots forward aged old after q =
-    (Contains roots (Remembered q) × (cell_at after q ≡ image_of (from_space kind) h (new_place forward) (cell_at h q)))
-    ⊎ ((Contains roots (Remembered q) → ⊥) × (cell_at after q ≡ cell_at (adopted kind h aged old) q))
+abbrev pub HasWordsAfter : Kind → SpaceList → List Root → Collected → SpaceList → Place → Type 0
+HasWordsAfter kind h roots made after q =
+    (Contains roots (Remembered q) × (cell_at after q ≡ image_of (from_space kind) h (new_place made.forward) (cell_at h q)))
+    ⊎ ((Contains roots (Remembered q) → ⊥) × (cell_at after q ≡ cell_at (adopted kind h made.aged made.old) q))
 
-pub record IsAfter (kind : Kind) (h : SpaceList) (roots : List Root) (forward : List ℕ) (aged old : BlockList) (after : SpaceList) : Type 0 where
+pub record IsAfter (kind : Kind) (h : SpaceList) (roots : List Root) (made : Collected) (after : SpaceList) : Type 0 where
   pub whole : IsSpaceList after
-  pub held : (q : Place) → Holds after q ↔ Holds (adopted kind h aged old) q
-  pub words : (q : Place) → Holds after q → HasWordsAfter kind h roots forward aged old after q
+  pub held : (q : Place) → Holds after q ↔ Holds (adopted kind h made.aged made.old) q
+  pub words : (q : Place) → Holds after q → HasWordsAfter kind h roots made after q
 
 module _ (kind : Kind) (h after : SpaceList) (payloads : Payloads) (whole : IsSpaceList h) (some : 0 < length h) (graph : IsGraph h payloads) (roots : List Root) (rooted : AreRooted (from_space kind) h roots)
-    (forward : List ℕ) (aged old : BlockList) (notes : List Place) (is : IsCollection kind h roots forward aged old notes) (now : IsAfter kind h roots forward aged old after) where
+    (made : Collected) (is : IsCollection kind h roots made) (now : IsAfter kind h roots made after) where
   abbrev from : ℕ → Bool
   from = from_space kind
 
   abbrev to : ℕ → Place
-  to = new_place forward
+  to = new_place made.forward
 
   abbrev IsReachedNumber : ℕ → Type 0
   IsReachedNumber = IsInClosure (all_root_targets from h roots) (targets_of from h)
 
   -- ---- the words after the collection
 
-  new_cell : (q : Place) → IsNewPlace kind h aged old q → cell_at after q ≡ cell_at (adopted kind h aged old) q
+  new_cell : (q : Place) → IsNewPlace kind h made.aged made.old q → cell_at after q ≡ cell_at (adopted kind h made.aged made.old) q
   new_cell q new =
       ⊎_elim
-      (λ written. let stays = rooted.stay q written.0 in absurd (new_apart h aged old kind q new stays.0.held stays.1))
+      (λ written. let stays = rooted.stay q written.0 in absurd (new_apart h made.aged made.old kind q new stays.0.held stays.1))
       (λ adopted_as. adopted_as.1)
       (now.words q ((now.held q).1 new.held))
 
   old_held : (p : Place) → Holds h p → from p.space ≡ false → Holds after p
-  old_held p held stays = (now.held p).1 (stays_held h aged old kind p held stays)
+  old_held p held stays = (now.held p).1 (stays_held h made.aged made.old kind p held stays)
 
   old_cell : (p : Place) → Holds h p → from p.space ≡ false → cell_at after p ≡ image_of from h to (cell_at h p)
   old_cell p held stays = by_words (now.words p (old_held p held stays))
     where
-      by_words : HasWordsAfter kind h roots forward aged old after p → cell_at after p ≡ image_of from h to (cell_at h p)
+      by_words : HasWordsAfter kind h roots made after p → cell_at after p ≡ image_of from h to (cell_at h p)
       by_words (inl written) = written.1
       by_words (inr (apart, same)) =
-          same ∙ stays_cell h aged old kind p held stays
+          same ∙ stays_cell h made.aged made.old kind p held stays
           ∙ sym (image_same from h to (cell_at h p) (λ word among. ⊎_elim (λ moves. absurd (apart (rooted.all p held stays word among moves))) (λ f. f) (cases_Bool (from (place_in word).space))))
 
   -- ---- what was copied
 
-  pub reached_word : (p : Place) → Holds h p → IsReachedNumber (flat_of h p) → get_or forward (flat_of h p) 0 ≢ 0
+  pub reached_word : (p : Place) → Holds h p → IsReachedNumber (flat_of h p) → get_or made.forward (flat_of h p) 0 ≢ 0
   reached_word p held reached = (is.reached (flat_of h p) (flat_inside h whole.spaces p held)).1 reached
 
-  pub word_reached : (p : Place) → Holds h p → get_or forward (flat_of h p) 0 ≢ 0 → IsReachedNumber (flat_of h p)
+  pub word_reached : (p : Place) → Holds h p → get_or made.forward (flat_of h p) 0 ≢ 0 → IsReachedNumber (flat_of h p)
   word_reached p held ne = (is.reached (flat_of h p) (flat_inside h whole.spaces p held)).0 ne
 
-  place_new : (p : Place) → Holds h p → get_or forward (flat_of h p) 0 ≢ 0 → IsNewPlace kind h aged old (to (flat_of h p))
+  place_new : (p : Place) → Holds h p → get_or made.forward (flat_of h p) 0 ≢ 0 → IsNewPlace kind h made.aged made.old (to (flat_of h p))
   place_new p held ne = is.placed (flat_of h p) (flat_inside h whole.spaces p held, ne)
 
-  place_cell : (p : Place) → Holds h p → get_or forward (flat_of h p) 0 ≢ 0 → cell_at after (to (flat_of h p)) ≡ image_of from h to (cell_at h p)
+  place_cell : (p : Place) → Holds h p → get_or made.forward (flat_of h p) 0 ≢ 0 → cell_at after (to (flat_of h p)) ≡ image_of from h to (cell_at h p)
   place_cell p held ne =
       new_cell (to (flat_of h p)) (place_new p held ne)
       ∙ is.copied (flat_of h p) (flat_inside h whole.spaces p held, ne)
@@ -159,7 +159,7 @@ module _ (kind : Kind) (h after : SpaceList) (payloads : Payloads) (whole : IsSp
 
   -- ---- the moves
 
-  target_kept : (p : Place) → IsKept kind h forward p → (word : ℕ) → Contains (pointers_of (cell_at h p)) word → word ≢ 0 → IsKept kind h forward (place_in word)
+  target_kept : (p : Place) → IsKept kind h made.forward p → (word : ℕ) → Contains (pointers_of (cell_at h p)) word → word ≢ 0 → IsKept kind h made.forward (place_in word)
   target_kept p keep word among ne = record {
     held = names.held;
     used = names.used;
@@ -175,73 +175,73 @@ module _ (kind : Kind) (h after : SpaceList) (payloads : Payloads) (whole : IsSp
       by_space moves (inr f) =
           begins (Contains-flat_map (root_targets_of from h) roots (Remembered p) (flat_of h (place_in word)) (rooted.all p keep.held f word among moves) (target_of_word from h (pointers_of (cell_at h p)) word among ne moves))
 
-  kept_stands : (p : Place) → IsKept kind h forward p → Holds after (moved_place from h to p)
+  kept_stands : (p : Place) → IsKept kind h made.forward p → Holds after (moved_place from h to p)
   kept_stands p keep = by_space (cases_Bool (from p.space))
     where
       by_space : (from p.space ≡ true) ⊎ (from p.space ≡ false) → Holds after (moved_place from h to p)
       by_space (inl t) = subst (Holds after) (sym (moved_to p t)) ((now.held (to (flat_of h p))).1 (place_new p keep.held (keep.copied t)).held)
       by_space (inr f) = subst (Holds after) (sym (not_moved p f)) (old_held p keep.held f)
 
-  kept_copied : (p : Place) → IsKept kind h forward p → cell_at after (moved_place from h to p) ≡ image_of from h to (cell_at h p)
+  kept_copied : (p : Place) → IsKept kind h made.forward p → cell_at after (moved_place from h to p) ≡ image_of from h to (cell_at h p)
   kept_copied p keep = by_space (cases_Bool (from p.space))
     where
       by_space : (from p.space ≡ true) ⊎ (from p.space ≡ false) → cell_at after (moved_place from h to p) ≡ image_of from h to (cell_at h p)
       by_space (inl t) = ap (cell_at after) (moved_to p t) ∙ place_cell p keep.held (keep.copied t)
       by_space (inr f) = ap (cell_at after) (not_moved p f) ∙ old_cell p keep.held f
 
-  kept_apart : (p q : Place) → IsKept kind h forward p → IsKept kind h forward q → moved_place from h to p ≡ moved_place from h to q → p ≡ q
+  kept_apart : (p q : Place) → IsKept kind h made.forward p → IsKept kind h made.forward q → moved_place from h to p ≡ moved_place from h to q → p ≡ q
   kept_apart p q keep_p keep_q same = by_spaces (cases_Bool (from p.space)) (cases_Bool (from q.space))
     where
-      new_old : (a b : Place) → IsKept kind h forward a → IsKept kind h forward b → from a.space ≡ true → from b.space ≡ false → to (flat_of h a) ≡ b → ⊥
+      new_old : (a b : Place) → IsKept kind h made.forward a → IsKept kind h made.forward b → from a.space ≡ true → from b.space ≡ false → to (flat_of h a) ≡ b → ⊥
       new_old a b keep_a keep_b t f at =
-          let new = subst (IsNewPlace kind h aged old) at (place_new a keep_a.held (keep_a.copied t)) in
-          new_apart h aged old kind b new keep_b.held f
+          let new = subst (IsNewPlace kind h made.aged made.old) at (place_new a keep_a.held (keep_a.copied t)) in
+          new_apart h made.aged made.old kind b new keep_b.held f
 
       by_spaces : (from p.space ≡ true) ⊎ (from p.space ≡ false) → (from q.space ≡ true) ⊎ (from q.space ≡ false) → p ≡ q
       by_spaces (inl tp) (inl tq) =
           let at_p = flat_inside h whole.spaces p keep_p.held in
           let at_q = flat_inside h whole.spaces q keep_q.held in
-          let words : get_or forward (flat_of h p) 0 ≡ get_or forward (flat_of h q) 0 = is.words (flat_of h p) (at_p, keep_p.copied tp) ∙ ap link_to (sym (moved_to p tp) ∙ same ∙ moved_to q tq) ∙ sym (is.words (flat_of h q) (at_q, keep_q.copied tq)) in
+          let words : get_or made.forward (flat_of h p) 0 ≡ get_or made.forward (flat_of h q) 0 = is.words (flat_of h p) (at_p, keep_p.copied tp) ∙ ap link_to (sym (moved_to p tp) ∙ same ∙ moved_to q tq) ∙ sym (is.words (flat_of h q) (at_q, keep_q.copied tq)) in
           same_place h whole.spaces p q keep_p.held keep_q.held (is.apart (flat_of h p) (flat_of h q) (at_p, keep_p.copied tp) at_q words)
       by_spaces (inl tp) (inr fq) = absurd (new_old p q keep_p keep_q tp fq (sym (moved_to p tp) ∙ same ∙ not_moved q fq))
       by_spaces (inr fp) (inl tq) = absurd (new_old q p keep_q keep_p tq fp (sym (moved_to q tq) ∙ sym same ∙ not_moved p fp))
       by_spaces (inr fp) (inr fq) = sym (not_moved p fp) ∙ same ∙ not_moved q fq
 
   -- a cell that has an image at a place is free there, or was kept
-  free_or_kept : (p q : Place) → Holds h p → (from p.space ≡ true → get_or forward (flat_of h p) 0 ≢ 0) → moved_place from h to p ≡ q → cell_at after q ≡ image_of from h to (cell_at h p) →
-      (cell_at after q ≡ free_cell) ⊎ ((a : Place) × IsKept kind h forward a × (moved_place from h to a ≡ q))
+  free_or_kept : (p q : Place) → Holds h p → (from p.space ≡ true → get_or made.forward (flat_of h p) 0 ≢ 0) → moved_place from h to p ≡ q → cell_at after q ≡ image_of from h to (cell_at h p) →
+      (cell_at after q ≡ free_cell) ⊎ ((a : Place) × IsKept kind h made.forward a × (moved_place from h to a ≡ q))
   free_or_kept p q held copied at words = by_tag (cases_eq (get_or (cell_at h p) 0 0) 0)
     where
-      by_tag : (get_or (cell_at h p) 0 0 ≡ 0) ⊎ (get_or (cell_at h p) 0 0 ≢ 0) → (cell_at after q ≡ free_cell) ⊎ ((a : Place) × IsKept kind h forward a × (moved_place from h to a ≡ q))
+      by_tag : (get_or (cell_at h p) 0 0 ≡ 0) ⊎ (get_or (cell_at h p) 0 0 ≢ 0) → (cell_at after q ≡ free_cell) ⊎ ((a : Place) × IsKept kind h made.forward a × (moved_place from h to a ≡ q))
       by_tag (inl none) =
           let free = free_from_tag h (cell_at h p) (cell_long h whole p held) (layout_at h whole [] graph.sound p held) none in
           inl (words ∙ ap (image_of from h to) free)
       by_tag (inr used) = inr (p, record { held = held; used = omega arith; copied = copied }, at)
 
-  rest_after : (q : Place) → Holds after q → (cell_at after q ≡ free_cell) ⊎ ((a : Place) × IsKept kind h forward a × (moved_place from h to a ≡ q))
-  rest_after q holds = by_place (adopted_cases h aged old kind q some ((now.held q).0 holds))
+  rest_after : (q : Place) → Holds after q → (cell_at after q ≡ free_cell) ⊎ ((a : Place) × IsKept kind h made.forward a × (moved_place from h to a ≡ q))
+  rest_after q holds = by_place (adopted_cases h made.aged made.old kind q some ((now.held q).0 holds))
     where
-      found : IsPlace q → (c : ℕ) → c < length (cells_of h) → get_or forward c 0 ≡ link_to q → (cell_at after q ≡ free_cell) ⊎ ((a : Place) × IsKept kind h forward a × (moved_place from h to a ≡ q))
+      found : IsPlace q → (c : ℕ) → c < length (cells_of h) → get_or made.forward c 0 ≡ link_to q → (cell_at after q ≡ free_cell) ⊎ ((a : Place) × IsKept kind h made.forward a × (moved_place from h to a ≡ q))
       found inside c low link =
           let high = word_at-above_zero no_rights q inside in
-          let ne : get_or forward c 0 ≢ 0 = λ z. let none : link_to q ≡ 0 = sym link ∙ z in omega arith in
+          let ne : get_or made.forward c 0 ≢ 0 = λ z. let none : link_to q ≡ 0 = sym link ∙ z in omega arith in
           let at : IsInFrom from h c = reached_in_from from h whole graph.sound payloads graph roots rooted.held c ((is.reached c low).0 ne) in
-          let here : get_or forward (flat_of h at.place) 0 ≡ link_to q = ap (λ (n : ℕ). get_or forward n 0) at.at ∙ link in
-          let some_word : get_or forward (flat_of h at.place) 0 ≢ 0 = λ z. let none : link_to q ≡ 0 = sym here ∙ z in omega arith in
+          let here : get_or made.forward (flat_of h at.place) 0 ≡ link_to q = ap (λ (n : ℕ). get_or made.forward n 0) at.at ∙ link in
+          let some_word : get_or made.forward (flat_of h at.place) 0 ≢ 0 = λ z. let none : link_to q ≡ 0 = sym here ∙ z in omega arith in
           let goes_to : to (flat_of h at.place) ≡ q = ap place_in here ∙ place_in-word_at no_rights q inside in
           free_or_kept at.place q at.held (λ _. some_word) (moved_to at.place at.moves ∙ goes_to) (ap (cell_at after) (sym goes_to) ∙ place_cell at.place at.held some_word)
 
-      by_search : IsNewPlace kind h aged old q → ((c : ℕ) × (c < length (cells_of h)) × (get_or forward c 0 ≡ link_to q)) ⊎ ((c : ℕ) → c < length (cells_of h) → get_or forward c 0 ≢ link_to q) →
-          (cell_at after q ≡ free_cell) ⊎ ((a : Place) × IsKept kind h forward a × (moved_place from h to a ≡ q))
+      by_search : IsNewPlace kind h made.aged made.old q → ((c : ℕ) × (c < length (cells_of h)) × (get_or made.forward c 0 ≡ link_to q)) ⊎ ((c : ℕ) → c < length (cells_of h) → get_or made.forward c 0 ≢ link_to q) →
+          (cell_at after q ≡ free_cell) ⊎ ((a : Place) × IsKept kind h made.forward a × (moved_place from h to a ≡ q))
       by_search new (inl (c, low, link)) = found (held_place after now.whole q holds) c low link
       by_search new (inr none) = inl (new_cell q new ∙ is.rest q new none)
 
-      by_place : (Holds h q × (from q.space ≡ false)) ⊎ IsNewPlace kind h aged old q → (cell_at after q ≡ free_cell) ⊎ ((a : Place) × IsKept kind h forward a × (moved_place from h to a ≡ q))
+      by_place : (Holds h q × (from q.space ≡ false)) ⊎ IsNewPlace kind h made.aged made.old q → (cell_at after q ≡ free_cell) ⊎ ((a : Place) × IsKept kind h made.forward a × (moved_place from h to a ≡ q))
       by_place (inl (held, stays)) =
           free_or_kept q q held (λ t. let no : true ≡ false = sym t ∙ stays in absurd cc) (not_moved q stays) (old_cell q held stays)
-      by_place (inr new) = by_search new (found_below forward (link_to q) (length (cells_of h)))
+      by_place (inr new) = by_search new (found_below made.forward (link_to q) (length (cells_of h)))
 
-  pub collection_moves : Moves from h after to (IsKept kind h forward)
+  pub collection_moves : Moves from h after to (IsKept kind h made.forward)
   collection_moves = record {
     whole = whole;
     whole_after = now.whole;
@@ -257,40 +257,40 @@ module _ (kind : Kind) (h after : SpaceList) (payloads : Payloads) (whole : IsSp
 
   -- ---- remembered cells
 
-  pub remembered_after : AreRemembered after notes
+  pub remembered_after : AreRemembered after made.notes
   remembered_after = record { cells = cells; all = all }
     where
-      cells : (p : Place) → Contains notes p → IsOldCell after p
+      cells : (p : Place) → Contains made.notes p → IsOldCell after p
       cells p has = by_made ((is.noted p).0 has).1
         where
-          by_made : IsMadeInOld kind h roots forward aged old p ((is.noted p).0 has).0 → IsOldCell after p
+          by_made : IsMadeInOld kind h roots made.forward made.aged made.old p ((is.noted p).0 has).0 → IsOldCell after p
           by_made (inl (new, at, _)) = record { held = (now.held p).1 new.held; space = at }
           by_made (inr (root, _)) = let stays = rooted.stay p root in record { held = old_held p stays.0.held stays.1; space = stays.0.space }
 
-      all : (p : Place) → IsOldCell after p → NamesYoung (cell_at after p) → Contains notes p
-      all p cell names = by_place (adopted_cases h aged old kind p some ((now.held p).0 cell.held))
+      all : (p : Place) → IsOldCell after p → NamesYoung (cell_at after p) → Contains made.notes p
+      all p cell names = by_place (adopted_cases h made.aged made.old kind p some ((now.held p).0 cell.held))
         where
-          by_words : Holds h p → from p.space ≡ false → HasWordsAfter kind h roots forward aged old after p → Contains notes p
+          by_words : Holds h p → from p.space ≡ false → HasWordsAfter kind h roots made after p → Contains made.notes p
           by_words held stays (inl (root, same)) = (is.noted p).1 (cell_at after p, inr (root, same), names)
           by_words held stays (inr (apart, same)) =
-              let words : cell_at after p ≡ cell_at h p = same ∙ stays_cell h aged old kind p held stays in
+              let words : cell_at after p ≡ cell_at h p = same ∙ stays_cell h made.aged made.old kind p held stays in
               let among : Contains (pointers_of (cell_at h p)) names.0 = subst (λ (ws : List ℕ). Contains (pointers_of ws) names.0) words names.1 in
               absurd (apart (rooted.all p held stays names.0 among (young_moves kind (place_in names.0).space names.2)))
 
-          by_place : (Holds h p × (from p.space ≡ false)) ⊎ IsNewPlace kind h aged old p → Contains notes p
+          by_place : (Holds h p × (from p.space ≡ false)) ⊎ IsNewPlace kind h made.aged made.old p → Contains made.notes p
           by_place (inl (held, stays)) = by_words held stays (now.words p cell.held)
           by_place (inr new) = (is.noted p).1 (cell_at after p, inl (new, cell.space, new_cell p new), names)
 
-  pub needed_after : AreNeeded after notes
-  needed_after p has = by_made made.1
+  pub needed_after : AreNeeded after made.notes
+  needed_after p has = by_made given.1
     where
-      made : (words : List ℕ) × IsMadeInOld kind h roots forward aged old p words × NamesYoung words
-      made = (is.noted p).0 has
+      given : (words : List ℕ) × IsMadeInOld kind h roots made.forward made.aged made.old p words × NamesYoung words
+      given = (is.noted p).0 has
 
-      by_words : Contains roots (Remembered p) → made.0 ≡ image_of from h to (cell_at h p) → HasWordsAfter kind h roots forward aged old after p → NamesYoung (cell_at after p)
-      by_words root is_image (inl (_, same)) = subst NamesYoung (is_image ∙ sym same) made.2
+      by_words : Contains roots (Remembered p) → given.0 ≡ image_of from h to (cell_at h p) → HasWordsAfter kind h roots made after p → NamesYoung (cell_at after p)
+      by_words root is_image (inl (_, same)) = subst NamesYoung (is_image ∙ sym same) given.2
       by_words root is_image (inr (apart, _)) = absurd (apart root)
 
-      by_made : IsMadeInOld kind h roots forward aged old p made.0 → NamesYoung (cell_at after p)
-      by_made (inl (new, at, words)) = subst NamesYoung (words ∙ sym (new_cell p new)) made.2
+      by_made : IsMadeInOld kind h roots made.forward made.aged made.old p given.0 → NamesYoung (cell_at after p)
+      by_made (inl (new, at, words)) = subst NamesYoung (words ∙ sym (new_cell p new)) given.2
       by_made (inr (root, words)) = let stays = rooted.stay p root in by_words root words (now.words p (old_held p stays.0.held stays.1))

@@ -1,25 +1,29 @@
--- The cells of Old that a nursery collection writes.
-use Rattle.std.proofs.Common.{◌≡◌, ◌≢◌, ℕ, ◌<◌, ◌⊎◌, ◌+◌, ◌++◌, List, [], ◌∷◌, length, get_or, map, take, Some, refl, sym, ap, subst, ◌∙◌, inl, inr, ⊎_elim}
-use Rattle.std.specs.List.{All, Contains, slice_get}
-use Rattle.std.proofs.lemmas.List.{get_or-set_other, map-append, take_more}
-use Rattle.std.proofs.lemmas.Option.{slice_get-get_or, slice_get_within}
-use Rattle.std.proofs.lemmas.List.Elements.{All-map, Contains-append_left, Contains-push, Contains-push_cases}
+-- The cells of Old that a nursery collection writes, and the heap that is left.
+use Rattle.std.proofs.Common.{◌≡◌, ◌≢◌, ℕ, ◌<◌, ◌⊎◌, ◌+◌, ◌++◌, false, List, [], ◌∷◌, get_or, map, take, Some, refl, sym, ap, subst, arith, ◌∙◌, inl, inr, ⊎_elim}
+use Rattle.std.specs.List.{All, AllPairs, Contains, slice_get}
+use Rattle.std.proofs.lemmas.List.{get_or-set_other, get_or-take, length-take-le, map-append, take_more}
+use Rattle.std.proofs.lemmas.Option.{get_or_from_slice_get, slice_get-get_or, slice_get_within}
+use Rattle.std.proofs.lemmas.List.Elements.{Contains-append_left, Contains-push, Contains-push_cases}
 use Rattle.tg_word.specs.declared.Place.{Place}
-use Rattle.tg_space.specs.SpaceList.{SpaceList, BlockList, Holds, cell_at, with_cell_at}
+use Rattle.tg_space.specs.SpaceList.{SpaceList, BlockList, Holds, IsSpaceList, cell_at, with_cell_at}
 use Rattle.tg_space.specs.SpaceTable.{SpaceTable, IsSpaceTable, adopted, with_adopted, with_spaces}
-use Rattle.tg_space.specs.Soundness.{IsOldCell}
-use Rattle.tg_space.specs.Targets.{from_space, image_of}
-use Rattle.tg_space.specs.Collection.{new_place}
+use Rattle.tg_space.specs.Soundness.{AreSound, IsOldCell}
+use Rattle.tg_space.specs.Targets.{from_space, image_of, young_spaces}
+use Rattle.tg_space.specs.Collection.{Collected, IsCollection, new_place}
+use Rattle.tg_space.specs.declared.kind.Kind.{Kind}
 use Rattle.tg_space.specs.declared.kind.Kind.TheVariants.{Full, Nursery}
+use Rattle.tg_space.proofs.Pointing.{pointers_from_layout}
 use Rattle.tg_space.proofs.Tables.{holds_same, same_holds, shape_cell, table_list}
 use Rattle.tg_space.proofs.Writing.{other_cell}
-use Rattle.tg_graph.specs.declared.settle.Rewritten.{Rewritten}
 use Rattle.tg_graph.specs.Heap.{HeapState, IsWellFormed, roots_of}
-use Rattle.tg_graph.specs.Kept.{AreWritten, HasStayed, HasWritten, rewritten_at}
-use Rattle.tg_rows.proofs.Members.{Contains-from_map, Contains-map}
+use Rattle.tg_graph.specs.Kept.{AreWritten, Drops, HasStayed, HasWritten, IsDeadKey, IsLeftInOld, Rewritten, rewritten, rewritten_at}
+use Rattle.tg_rows.specs.declared.indexed_row.IndexedRow.{IndexedRow}
+use Rattle.tg_rows.proofs.Members.{Contains-from_map, Contains-map, Contains-none}
 use Rattle.tg_rows.proofs.Changes.{cell_written, same_or_other}
-use Rattle.tg_graph.proofs.KeptAdopted.{stays_held}
-use Rattle.tg_graph.proofs.KeptHeap.{no_row, remembered_cells, remembered_root}
+use Rattle.tg_rows.proofs.Places.{cell_long, layout_at}
+use Rattle.tg_graph.proofs.KeptAdopted.{adopted_length, stays_cell, stays_held}
+use Rattle.tg_graph.proofs.KeptDropped.{dropped_keeps}
+use Rattle.tg_graph.proofs.KeptHeap.{AreFollowedTo, IsLeft, left_by, no_row, remembered_root}
 use Rattle.tg_graph.proofs.KeptMoves.{HasWordsAfter, IsAfter}
 
 -- ---- cell by cell
@@ -83,51 +87,96 @@ module _ (t now : SpaceTable) (cells : List Rewritten) (cell : Rewritten) (table
         written = λ p. written_at p (same_or_other p cell.place);
       }
 
--- the next of these cells is written
-pub written_next : (t now new : SpaceTable) (cells : List Rewritten) (i : ℕ) (d : Rewritten) → i < length cells → All (λ cell. IsOldCell t.spaces cell.place) cells → IsSpaceTable now → AreWritten t now (take i cells) →
-    new ≡ with_spaces now (with_cell_at now.spaces (get_or cells i d).place (get_or cells i d).words) → AreWritten t new (take (i + 1) cells)
-written_next t now new cells i d low old table before same =
-    let more : AreWritten t (with_spaces now (with_cell_at now.spaces (get_or cells i d).place (get_or cells i d).words)) (take i cells ++ get_or cells i d ∷ []) = written_more t now (take i cells) (get_or cells i d) table before (old i d low) in
-    subst (λ (table : SpaceTable). AreWritten t table (take (i + 1) cells)) (sym same)
-    (subst (λ (cs : List Rewritten). AreWritten t (with_spaces now (with_cell_at now.spaces (get_or cells i d).place (get_or cells i d).words)) cs) (sym (take_more cells i d low)) more)
+-- a place that comes later isn't among those before it
+not_before : (places : List Place) (i : ℕ) (p : Place) → AllPairs (λ p q. p ≢ q) places → slice_get places i ≡ Some p → Contains (take i places) p → ⊥
+not_before places i p once here (k, low, same) =
+    let inside = slice_get_within places i p here in
+    let before : k < i = omega (arith, low, length-take-le i places (omega (arith, inside))) in
+    once k i p before inside (sym (get_or-take i places k p before) ∙ same ∙ sym (get_or_from_slice_get places i p p here))
 
--- ---- all of them
+-- nothing is written
+pub none_written : (t : SpaceTable) → AreWritten t t []
+none_written t = record {
+  limits = refl;
+  used = refl;
+  long = refl;
+  others = λ space young. refl;
+  held = λ p. (λ held. held, λ held. held);
+  written = λ p. inr (record { apart = λ cell has. absurd (Contains-none cell has); words = refl });
+}
 
-module _ (s : HeapState) (is : IsWellFormed s) (forward : List ℕ) (aged old : BlockList) where
-  -- the remembered cells are cells of Old once the new blocks were adopted
-  pub cells_held : All (λ cell. IsOldCell (adopted Nursery s.table.spaces aged old) cell.place) (map (rewritten_at s.table.spaces forward) s.remembered)
-  cells_held =
-      All-map (λ cell. IsOldCell (adopted Nursery s.table.spaces aged old) cell.place) (rewritten_at s.table.spaces forward) s.remembered
-      (λ k d low.
-      let cell = remembered_cells s is k d low in
-      record { held = stays_held s.table.spaces aged old Nursery (get_or s.remembered k d) cell.held (ap (λ (space : ℕ). from_space Nursery space) cell.space); space = cell.space })
+-- ---- one remembered cell after the other
 
-  pub after_written : (now : SpaceTable) → IsSpaceTable now → AreWritten (with_adopted s.table Nursery aged old) now (map (rewritten_at s.table.spaces forward) s.remembered) → IsAfter Nursery s.table.spaces (roots_of Nursery s) forward aged old now.spaces
-  after_written now table written = record {
-    whole = table_list now table;
-    held = written.held;
-    words = λ q held. by_cell q (written.written q);
-  }
+module _ (h : SpaceList) (forward : List ℕ) (t now : SpaceTable) (places : List Place) (left : All (IsLeftInOld h t) places) (once : AllPairs (λ p q. p ≢ q) places)
+    (i : ℕ) (p : Place) (here : slice_get places i ≡ Some p) (before : AreWritten t now (map (rewritten_at h forward) (take i places))) where
+  pub is_left : IsLeftInOld h t p
+  is_left = subst (IsLeftInOld h t) (get_or_from_slice_get places i p p here) (left i p (slice_get_within places i p here))
+
+  pub held_still : Holds now.spaces p
+  held_still = (before.held p).1 is_left.old.held
+
+  -- the cell wasn't written yet
+  pub words_still : cell_at now.spaces p ≡ cell_at h p
+  words_still =
+      ⊎_elim
+      (λ (was : HasWritten now.spaces (map (rewritten_at h forward) (take i places)) p).
+      let origin = Contains-from_map (rewritten_at h forward) (take i places) was.cell was.among in
+      absurd (not_before places i p once here (subst (Contains (take i places)) (ap (λ (c : Rewritten). c.place) origin.2 ∙ was.at) origin.1)))
+      (λ (stayed : HasStayed t.spaces now.spaces (map (rewritten_at h forward) (take i places)) p). stayed.words ∙ is_left.words)
+      (before.written p)
+
+  pub written_next : (new : SpaceTable) (words : List ℕ) → IsSpaceTable now → words ≡ image_of young_spaces h (new_place forward) (cell_at h p) → new ≡ with_spaces now (with_cell_at now.spaces p words) → AreWritten t new (map (rewritten_at h forward) (take (i + 1) places))
+  written_next new words table image same =
+      subst (λ (cells : List Rewritten). AreWritten t new cells) (sym (mapped_more (rewritten_at h forward) places i p here))
+      (subst (λ (u : SpaceTable). AreWritten t u (map (rewritten_at h forward) (take i places) ++ rewritten_at h forward p ∷ [])) (sym (same ∙ ap (λ (ws : List ℕ). with_spaces now (with_cell_at now.spaces p ws)) image))
+      (written_more t now (map (rewritten_at h forward) (take i places)) (rewritten_at h forward p) table before is_left.old))
+
+-- the remembered cells are still there once the new blocks were adopted
+pub left_in_old : (h : SpaceList) (t : SpaceTable) (places : List Place) (aged old : BlockList) → IsSpaceList h → AreSound h [] → All (IsOldCell h) places → t.spaces ≡ adopted Nursery h aged old → All (IsLeftInOld h t) places
+left_in_old h t places aged old whole sound cells same k d low =
+    let p = get_or places k d in
+    let cell = cells k d low in
+    let stays : from_space Nursery p.space ≡ false = ap (λ (space : ℕ). from_space Nursery space) cell.space in
+    record {
+      old = record { held = subst (λ (u : SpaceList). Holds u p) (sym same) (stays_held h aged old Nursery p cell.held stays); space = cell.space };
+      words = ap (λ (u : SpaceList). cell_at u p) same ∙ stays_cell h aged old Nursery p cell.held stays;
+      pointers = pointers_from_layout h (cell_at h p) (cell_long h whole p cell.held) (layout_at h whole [] sound p cell.held);
+    }
+
+-- ---- the heap that is left
+
+module _ (s : HeapState) (is : IsWellFormed s) (table : IsSpaceTable s.table) (kind : Kind) (made : Collected) where
+  abbrev h : SpaceList
+  h = s.table.spaces
+
+  after_written : (now : SpaceTable) → IsSpaceTable now → AreWritten (with_adopted s.table kind made.aged made.old) now (rewritten kind h made.forward s.remembered) → IsAfter kind h (roots_of kind s) made now.spaces
+  after_written now table_now written = record { whole = table_list now table_now; held = written.held; words = λ q held. by_cell kind q (written.written q) }
     where
-      by_cell : (q : Place) → HasWritten now.spaces (map (rewritten_at s.table.spaces forward) s.remembered) q ⊎ HasStayed (adopted Nursery s.table.spaces aged old) now.spaces (map (rewritten_at s.table.spaces forward) s.remembered) q →
-          HasWordsAfter Nursery s.table.spaces (roots_of Nursery s) forward aged old now.spaces q
-      by_cell q (inl was) =
-          let origin = Contains-from_map (rewritten_at s.table.spaces forward) s.remembered was.cell was.among in
+      by_cell : (k : Kind) (q : Place) → HasWritten now.spaces (rewritten k h made.forward s.remembered) q ⊎ HasStayed (adopted k h made.aged made.old) now.spaces (rewritten k h made.forward s.remembered) q → HasWordsAfter k h (roots_of k s) made now.spaces q
+      by_cell Full q (inl was) = absurd (Contains-none was.cell was.among)
+      by_cell Full q (inr stayed) = inr (no_row s is q, stayed.words)
+      by_cell Nursery q (inl was) =
+          let origin = Contains-from_map (rewritten_at h made.forward) s.remembered was.cell was.among in
           let at : origin.0 ≡ q = ap (λ (c : Rewritten). c.place) origin.2 ∙ was.at in
           inl (
             (remembered_root s is q).1 (subst (λ (p : Place). Contains s.remembered p) at origin.1),
-            was.words ∙ ap (λ (c : Rewritten). c.words) (sym origin.2) ∙ ap (λ (p : Place). image_of (from_space Nursery) s.table.spaces (new_place forward) (cell_at s.table.spaces p)) at,
+            was.words ∙ ap (λ (c : Rewritten). c.words) (sym origin.2) ∙ ap (λ (p : Place). image_of (from_space Nursery) h (new_place made.forward) (cell_at h p)) at,
           )
-      by_cell q (inr stayed) =
+      by_cell Nursery q (inr stayed) =
           inr (
-            λ root. stayed.apart (rewritten_at s.table.spaces forward q) (Contains-map (rewritten_at s.table.spaces forward) s.remembered q ((remembered_root s is q).0 root)) refl,
+            λ root. stayed.apart (rewritten_at h made.forward q) (Contains-map (rewritten_at h made.forward) s.remembered q ((remembered_root s is q).0 root)) refl,
             stayed.words,
           )
 
-  -- a full collection writes nothing
-  pub after_adopted : (now : SpaceTable) → IsSpaceTable now → now.spaces ≡ adopted Full s.table.spaces aged old → IsAfter Full s.table.spaces (roots_of Full s) forward aged old now.spaces
-  after_adopted now table same = record {
-    whole = table_list now table;
-    held = λ q. (λ held. subst (λ (h : SpaceList). Holds h q) same held, λ held. subst (λ (h : SpaceList). Holds h q) (sym same) held);
-    words = λ q held. inr (λ root. no_row s is q root, ap (λ (h : SpaceList). cell_at h q) same);
-  }
+  pub left : IsCollection kind h (roots_of kind s) made → (now : HeapState) → AreWritten (with_adopted s.table kind made.aged made.old) now.table (rewritten kind h made.forward s.remembered) → IsSpaceTable now.table → Drops s.payloads now.payloads (IsDeadKey kind h made.forward) →
+      (later : List (ℕ × IndexedRow)) → AreFollowedTo kind s made now later → IsLeft kind s now later
+  left collected now written table_now drops later follows =
+      left_by kind s now is table made collected
+      (record {
+        after = after_written now.table table_now written;
+        limits = written.limits;
+        long = written.long ∙ adopted_length h made.aged made.old kind (let enough = table.enough in omega arith);
+        others = written.others;
+        payloads = dropped_keeps h (table_list s.table table) made.forward s.payloads is.graph kind now.payloads drops;
+      })
+      later follows

@@ -1,16 +1,14 @@
 -- The names of a heap, read off its cells one after the other, and put into a slice as far as there is room.
 use Rattle.std.proofs.Common.{◌≡◌, ℕ, zero, suc, ◌<◌, ◌≤◌, ◌+◌, ◌⊎◌, inl, inr, true, false, List, [], ◌∷◌, ◌++◌, length, map, take, set, get_or, refl, sym, ap, arith, ◌∙◌}
-use Rattle.std.specs.List.{filter, flat_map, range_with_len}
+use Rattle.std.specs.List.{filter}
 use Rattle.std.proofs.lemmas.Bool.{cases_Bool, eq-eqb, eqb-true}
 use Rattle.std.proofs.lemmas.List.{append-nil, length-append, map-append, take_all, take_more}
-use Rattle.std.proofs.lemmas.List.Elements.{All-get_or, filter-append}
-use Rattle.std.proofs.lemmas.List.Folds.{flat_map-map}
-use Rattle.std.proofs.lemmas.List.FromFn.{fill_by_all}
+use Rattle.std.proofs.lemmas.List.Elements.{filter-append}
 use Rattle.tg_word.specs.declared.Place.{Place}
-use Rattle.tg_block.specs.Cells.{IsBlock}
-use Rattle.tg_space.specs.SpaceList.{BlockList, SpaceList, IsSpace, IsSpaceList, cell_at, cells_of, space_of}
-use Rattle.tg_rows.specs.Rows.{is_object, name_at, objects_of, places_in, places_of}
+use Rattle.tg_space.specs.SpaceList.{SpaceList, IsSpaceList, cell_at, cells_of}
+use Rattle.tg_rows.specs.Rows.{is_object, name_at, objects_of, places_of}
 use Rattle.tg_graph.specs.Shown.{shown_in}
+use Rattle.tg_graph.proofs.Counted.{places_cells}
 
 -- ---- names of cells
 
@@ -42,47 +40,9 @@ module _ (h : SpaceList) where
       by_kind (inl t) rest = rw t (ap (λ (xs : List ℕ). name_at h p ∷ xs) rest)
       by_kind (inr f) rest = rw f rest
 
-  map_flat : {X Y Z : Type 0} (f : Y → Z) (g : X → List Y) (xs : List X) → map f (flat_map g xs) ≡ flat_map (λ x. map f (g x)) xs
-  map_flat f g [] = refl
-  map_flat f g (x ∷ xs) = map-append f (g x) (flat_map g xs) ∙ ap (λ ys. map f (g x) ++ ys) (map_flat f g xs)
-
-  map_twice : {X Y Z : Type 0} (f : Y → Z) (g : X → Y) (xs : List X) → map f (map g xs) ≡ map (λ x. f (g x)) xs
-  map_twice f g [] = refl
-  map_twice f g (x ∷ xs) = ap (λ ys. f (g x) ∷ ys) (map_twice f g xs)
-
-  flat_below : {X : Type 0} (f g : ℕ → List X) (a n : ℕ) → ((k : ℕ) → k < a + n → f k ≡ g k) → flat_map f (range_with_len a n) ≡ flat_map g (range_with_len a n)
-  flat_below f g a zero same = refl
-  flat_below f g a (suc n) same = λ i. same a (omega arith) i ++ flat_below f g (a + 1) n (λ k low. same k (omega arith)) i
-
-  module _ (is : IsSpaceList h) where
-    block_cells : (space block : ℕ) → space < length h → block < length (space_of h space) → map (cell_at h) (map (λ cell. record { space = space; block = block; cell = cell }) (range_with_len 0 64)) ≡ get_or (space_of h space) block []
-    block_cells space block inside low =
-        let whole : IsSpace (space_of h space) = All-get_or IsSpace h space [] inside is.spaces in
-        let long : length (get_or (space_of h space) block []) ≡ 64 = (All-get_or IsBlock (space_of h space) block [] low whole.1).0 in
-        map_twice (cell_at h) (λ (cell : ℕ). let q : Place = record { space = space; block = block; cell = cell } in q) (range_with_len 0 64)
-        ∙ sym (fill_by_all (λ (cell : ℕ). get_or (get_or (space_of h space) block []) cell []) (get_or (space_of h space) block []) 64 [] long (λ k lt. refl))
-
-    space_cells : (space : ℕ) → space < length h → map (cell_at h) (places_in h space) ≡ flat_map (λ (block : List (List ℕ)). block) (space_of h space)
-    space_cells space inside =
-        let blocks = space_of h space in
-        map_flat (cell_at h) (λ (block : ℕ). map (λ (cell : ℕ). let q : Place = record { space = space; block = block; cell = cell } in q) (range_with_len 0 64)) (range_with_len 0 (length blocks))
-        ∙ flat_below (λ (block : ℕ). map (cell_at h) (map (λ (cell : ℕ). let q : Place = record { space = space; block = block; cell = cell } in q) (range_with_len 0 64))) (λ (block : ℕ). get_or blocks block []) 0 (length blocks)
-        (λ block low. block_cells space block inside (omega arith))
-        ∙ sym (flat_map-map (λ (block : List (List ℕ)). block) (λ (block : ℕ). get_or blocks block []) (range_with_len 0 (length blocks)))
-        ∙ ap (flat_map (λ (block : List (List ℕ)). block)) (sym (fill_by_all (λ (block : ℕ). get_or blocks block []) blocks (length blocks) [] refl (λ k lt. refl)))
-
-    -- the cells at the places are all cells, in their order
-    places_cells : map (cell_at h) (places_of h) ≡ cells_of h
-    places_cells =
-        let cells = λ (blocks : BlockList). flat_map (λ (block : List (List ℕ)). block) blocks in
-        map_flat (cell_at h) (places_in h) (range_with_len 0 (length h))
-        ∙ flat_below (λ (space : ℕ). map (cell_at h) (places_in h space)) (λ (space : ℕ). cells (space_of h space)) 0 (length h) (λ space low. space_cells space (omega arith))
-        ∙ sym (flat_map-map cells (space_of h) (range_with_len 0 (length h)))
-        ∙ ap (flat_map cells) (sym (fill_by_all (space_of h) h (length h) [] refl (λ k lt. refl)))
-
-    -- so the names of the objects are those of the cells
-    pub names_all : (n : ℕ) → length (cells_of h) ≤ n → names_of (take n (cells_of h)) ≡ map (name_at h) (objects_of h)
-    names_all n end = ap names_of (take_all n (cells_of h) end ∙ sym places_cells) ∙ names_at (places_of h)
+  -- so the names of the objects are those of the cells
+  pub names_all : IsSpaceList h → (n : ℕ) → length (cells_of h) ≤ n → names_of (take n (cells_of h)) ≡ map (name_at h) (objects_of h)
+  names_all is n end = ap names_of (take_all n (cells_of h) end ∙ sym (places_cells h is)) ∙ names_at (places_of h)
 
 -- ---- a slice with room
 

@@ -35,7 +35,8 @@ use Rattle.tg_graph.specs.Opened.{HasBlocks, HasNoBlocks, IsOpened, Relabels, la
 use Rattle.tg_rows.specs.Rows.{IsVertexAt}
 use Rattle.tg_graph.specs.Standing.{IsContentOf}
 use Rattle.tg_rows.specs.Steps.{ChangesTo}
-use Rattle.tg_rows.proofs.Growing.{becomes_from, becomes_then, changes}
+use Rattle.tg_rows.proofs.Changed.{becomes_then}
+use Rattle.tg_rows.proofs.Growing.{becomes_from, changes}
 use Rattle.tg_rows.proofs.Lookups.{content_from, label_is, value_is}
 use Rattle.tg_rows.proofs.Places.{sound_from_places}
 
@@ -378,15 +379,6 @@ edges_opened t after payloads places workers limits label values opened to block
   all = same_count t.spaces after.spaces to.spaces blocks ∙ opened.all;
   old = blocks 0 ∙ opened.old;
 }
-
-pub opened_same : (t : SpaceTable) (payloads payloads' : Payloads) (places : List Place) (workers workers' : ℕ) (limits limits' : BlockLimits) (edges edges' : List Edge) (values values' : List Value) → payloads' ≡ payloads → workers ≡ workers' → limits ≡ limits' → edges ≡ edges' → values ≡ values' →
-    IsOpened t payloads places workers limits (label_in edges) values → IsOpened t payloads' places workers' limits' (label_in edges') values'
-opened_same t payloads payloads' places workers workers' limits limits' edges edges' values values' same_payloads same_workers same_limits same_edges same_values opened =
-    subst (λ p. IsOpened t p places workers' limits' (label_in edges') values') (sym same_payloads)
-    (subst (λ w. IsOpened t payloads places w limits' (label_in edges') values') same_workers
-    (subst (λ l. IsOpened t payloads places workers l (label_in edges') values') same_limits
-    (subst (λ es. IsOpened t payloads places workers limits (label_in es) values') same_edges
-    (subst (λ vs. IsOpened t payloads places workers limits (label_in edges) vs) same_values opened))))
 
 -- ---- the heap
 

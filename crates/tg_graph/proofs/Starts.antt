@@ -11,24 +11,28 @@ use Rattle.tg_model.specs.Walks.{Walk-map}
 use Rattle.tg_word.specs.declared.Place.{Place}
 use Rattle.tg_word.specs.Word.{place_in}
 use Rattle.tg_subjects.specs.Subjects.{places_of}
+use Rattle.tg_subjects.specs.declared.subject.Subject.{Subject}
 use Rattle.tg_block.specs.declared.CellKind.TheVariants.{Object, Chunk}
 use Rattle.tg_index.specs.Bits.{bit_of}
-use Rattle.tg_space.specs.SpaceList.{SpaceList, IsSpaceList, BlockList, Holds, cell_at, cells_of, flat_of}
+use Rattle.tg_space.specs.SpaceList.{SpaceList, IsSpaceList, Holds, cell_at, cells_of, flat_of}
 use Rattle.tg_space.specs.Soundness.{AreSound, HasLayout, HasLayoutOf, IsLink, IsReference, IsRootIn, LinksTo, RefersTo}
 use Rattle.tg_space.specs.Closure.{IsInClosure}
-use Rattle.tg_space.specs.Collection.{IsCollection, IsMadeInOld}
+use Rattle.tg_space.specs.Collection.{Collected, IsCollection, IsMadeInOld}
 use Rattle.tg_space.specs.Generations.{IsRowTarget, NamesYoung}
 use Rattle.tg_space.specs.Rows.{chunks_from, link_at, link_of, row_of}
 use Rattle.tg_space.specs.Targets.{all_root_targets, named_by, pointers_of, root_targets_of, target_in, targets_at, targets_of, young_spaces}
 use Rattle.tg_space.specs.declared.kind.Kind.TheVariants.{Nursery}
 use Rattle.tg_space.specs.declared.root.Root.{Root}
 use Rattle.tg_space.specs.declared.root.Root.TheVariants.{Row, Remembered}
+use Rattle.tg_space.specs.SpaceTable.{IsSpaceTable}
 use Rattle.tg_space.proofs.Pointing.{parts}
+use Rattle.tg_space.proofs.Tables.{table_list}
 use Rattle.tg_graph.specs.Heap.{AddsRoots, CollectAlike, HeapState, IsRowRoot, IsWellFormed, NamesRow, roots_of}
 use Rattle.tg_rows.specs.Index.{IsIndexed, IsOldPlace}
 use Rattle.tg_rows.specs.Rows.{IsChain, IsVertexAt}
 use Rattle.tg_rows.specs.declared.indexed_row.IndexedRow.{IndexedRow}
 use Rattle.tg_rows.proofs.Chains.{chain_chunks, chain_enough, chain_short, row_held}
+use Rattle.tg_graph.proofs.Heaps.{subject_vertex}
 use Rattle.tg_graph.proofs.KeptAdopted.{old_stays}
 use Rattle.tg_graph.proofs.KeptHeap.{remembered_cells, remembered_root}
 use Rattle.tg_rows.proofs.Places.{layout_at}
@@ -155,9 +159,6 @@ module _ (h : SpaceList) (p : Place) (ps : List Place) (ends : IsChain h (link_a
 
 -- ---- roots that come behind others
 
-pub none_added : (h : SpaceList) (roots : List Root) → AddsRoots h [] roots roots
-none_added h roots = record { more = []; is = sym (append-nil roots); rows = All-nil (IsRowRoot h); targets = refl }
-
 pub both_added : (h : SpaceList) (ts us : List ℕ) (roots mid later : List Root) → AddsRoots h ts roots mid → AddsRoots h us mid later → AddsRoots h (ts ++ us) roots later
 both_added h ts us roots mid later one two = record {
   more = one.more ++ two.more;
@@ -184,20 +185,10 @@ word_added h word moves = by_word (cases_eq word 0)
     by_word (inl none) = let no : young_spaces (place_in 0).space ≡ true = subst (λ w. young_spaces (place_in w).space ≡ true) none moves in absurd (false≢true no)
     by_word (inr some) = rw (ne_eqb word 0 some, moves) refl
 
-word_silent : (h : SpaceList) (word : ℕ) → young_spaces (place_in word).space ≡ false → target_in young_spaces h word ≡ []
-word_silent h word stays = by_test (word == 0)
-  where
-    by_test : (b : Bool) → cond b [] (cond (young_spaces (place_in word).space) (flat_of h (place_in word) ∷ []) []) ≡ []
-    by_test true = refl
-    by_test false = rw stays refl
-
 -- what a word names came to the roots
 pub word_named : (h : SpaceList) (word : ℕ) → young_spaces (place_in word).space ≡ true → NamesRow h word → (roots later : List Root) → later ≡ roots ++ Row (place_in word) ∷ [] → AddsRoots h (target_in young_spaces h word) roots later
 word_named h word moves names roots later is =
     subst (λ (ts : List ℕ). AddsRoots h ts roots later) (sym (word_added h word moves)) (row_added h roots later (place_in word) (names (λ none. false≢true (sym (ap young_spaces none) ∙ moves))) is)
-
-pub word_passed : (h : SpaceList) (word : ℕ) → young_spaces (place_in word).space ≡ false → (roots : List Root) → AddsRoots h (target_in young_spaces h word) roots roots
-word_passed h word stays roots = subst (λ (ts : List ℕ). AddsRoots h ts roots roots) (sym (word_silent h word stays)) (none_added h roots)
 
 -- one more word
 pub words_more : (h : SpaceList) (words : List ℕ) (i d : ℕ) → i < length words → (roots mid later : List Root) → AddsRoots h (named_by young_spaces h (take i words)) roots mid → AddsRoots h (target_in young_spaces h (get_or words i d)) mid later →
@@ -244,27 +235,48 @@ cell_names_rows h words long layout = by_tests (get_or words 0 0 == 0) refl (get
 
 -- ---- the row of an active subject
 
-module _ (s : HeapState) (formed : IsWellFormed s) (is : IsSpaceList s.table.spaces) (x : ℕ) (p : Place) (vertex : IsVertexAt s.table.spaces x p) (row : IndexedRow) (indexed : IsIndexed s.table.spaces s.remembered x row) where
+-- the index is that of the row of an active subject
+pub record IsRowOf (s : HeapState) (x : Subject) (row : IndexedRow) : Type 0 where
+  pub formed : IsWellFormed s
+  pub whole : IsSpaceList s.table.spaces
+  pub vertex : IsVertexAt s.table.spaces x.name x.place
+  pub indexed : IsIndexed s.table.spaces s.remembered x.name row
+
+-- of a heap s, which contracts see as `seen`
+pub row_is : (s seen : HeapState) → s ≡ seen → IsWellFormed s → IsSpaceTable s.table → (x : Subject) (row : IndexedRow) → Contains seen.subjects x → IsIndexed seen.table.spaces seen.remembered x.name row → IsRowOf seen x row
+row_is s seen same formed table x row there indexed =
+    let formed_too = subst IsWellFormed same formed in
+    record {
+      formed = formed_too;
+      whole = subst (λ (heap : HeapState). IsSpaceList heap.table.spaces) same (table_list s.table table);
+      vertex = subject_vertex seen formed_too x.name x (record { there = there; named = refl });
+      indexed = indexed;
+    }
+
+module _ (s : HeapState) (x : Subject) (row : IndexedRow) (is : IsRowOf s x row) where
   abbrev h : SpaceList
   h = s.table.spaces
+
+  abbrev p : Place
+  p = x.place
 
   abbrev qs : List Place
   qs = chunks_from h (length (cells_of h)) (link_at h p)
 
   ends : IsChain h (link_at h p) qs
-  ends = formed.graph.ends p vertex.object
+  ends = is.formed.graph.ends p is.vertex.object
 
   pub row_cells : row.cells.items ≡ p ∷ qs
-  row_cells = subst (λ (r : Place). row.cells.items ≡ row_of h r) (formed.graph.names indexed.place p indexed.vertex.object vertex.object (indexed.vertex.named ∙ sym vertex.named)) indexed.index.cells
+  row_cells = subst (λ (r : Place). row.cells.items ≡ row_of h r) (is.formed.graph.names is.indexed.place p is.indexed.vertex.object is.vertex.object (is.indexed.vertex.named ∙ sym is.vertex.named)) is.indexed.index.cells
 
   held : All (Holds h) (p ∷ qs)
-  held = row_held h p qs vertex.object ends
+  held = row_held h p qs is.vertex.object ends
 
   short : length (p ∷ qs) ≤ length (cells_of h)
-  short = chain_short h is [] formed.graph.sound p qs vertex.object ends
+  short = chain_short h is.whole [] is.formed.graph.sound p qs is.vertex.object ends
 
   kind : (k : ℕ) (d : Place) → k < length (p ∷ qs) → IsRootIn h (Row (get_or (p ∷ qs) k d))
-  kind zero d low = inl vertex.object
+  kind zero d low = inl is.vertex.object
   kind (suc k) d low = inr (chain_chunks h qs (link_at h p) ends k d (omega arith))
 
   -- a cell of the row by its number
@@ -272,7 +284,7 @@ module _ (s : HeapState) (formed : IsWellFormed s) (is : IsSpaceList s.table.spa
   cell_held k d low = subst (λ (ps : List Place). Holds h (get_or ps k d)) (sym row_cells) (held k d (subst (λ (ps : List Place). k < length ps) row_cells low))
 
   pub cell_layout : (k : ℕ) (d : Place) → k < length row.cells.items → HasLayout h (cell_at h (get_or row.cells.items k d))
-  cell_layout k d low = layout_at h is [] formed.graph.sound (get_or row.cells.items k d) (cell_held k d low)
+  cell_layout k d low = layout_at h is.whole [] is.formed.graph.sound (get_or row.cells.items k d) (cell_held k d low)
 
   pub cell_root : (k : ℕ) (d : Place) → k < length row.cells.items → IsRootIn h (Row (get_or row.cells.items k d))
   cell_root k d low = subst (λ (ps : List Place). IsRootIn h (Row (get_or ps k d))) (sym row_cells) (kind k d (subst (λ (ps : List Place). k < length ps) row_cells low))
@@ -280,23 +292,23 @@ module _ (s : HeapState) (formed : IsWellFormed s) (is : IsSpaceList s.table.spa
   -- one that isn't marked, and is known to lie in Old, has no young target
   unmarked_silent : (k : ℕ) (d : Place) → k < row.old_cells → bit_of row.noted k ≡ 0 → targets_at young_spaces h (get_or row.cells.items k d) ≡ []
   unmarked_silent k d low none =
-      let within = indexed.marked.aged.within in
-      let old : IsOldPlace (get_or row.cells.items k d) = subst IsOldPlace (get_or-take row.old_cells row.cells.items k d low) (indexed.marked.aged.cells k d (omega (arith, low, length-take-le row.old_cells row.cells.items within))) in
+      let within = is.indexed.marked.aged.within in
+      let old : IsOldPlace (get_or row.cells.items k d) = subst IsOldPlace (get_or-take row.old_cells row.cells.items k d low) (is.indexed.marked.aged.cells k d (omega (arith, low, length-take-le row.old_cells row.cells.items within))) in
       let there = cell_held k d (omega arith) in
       let space = old_stays (get_or row.cells.items k d).space old in
       silent_targets h (get_or row.cells.items k d) (record {
         held = there;
         old = space;
         none = λ names.
-            let noted = formed.remembered.all (get_or row.cells.items k d) (record { held = there; space = space }) names in
-            let one = indexed.marked.marked k d low noted in
+            let noted = is.formed.remembered.all (get_or row.cells.items k d) (record { held = there; space = space }) names in
+            let one = is.indexed.marked.marked k d low noted in
             omega (arith, none, one);
       })
 
   -- the targets up to the next marked cell are those of the cells before
   pub skipped : (from later : ℕ) → from ≤ later → later ≤ row.old_cells → ((m : ℕ) → from ≤ m → m < later → bit_of row.noted m ≡ 0) → all_targets h (take later row.cells.items) ≡ all_targets h (take from row.cells.items)
   skipped from later low within unset =
-      let inside = indexed.marked.aged.within in
+      let inside = is.indexed.marked.aged.within in
       let sum : from + (later - from) ≡ later = omega arith in
       ap (λ n. all_targets h (take n row.cells.items)) (sym sum)
       ∙ silent_between h row.cells.items from (later - from) (omega arith) (λ k d above below. unmarked_silent k d (omega arith) (unset k above (omega arith)))
@@ -305,7 +317,7 @@ module _ (s : HeapState) (formed : IsWellFormed s) (is : IsSpaceList s.table.spa
   pub stepped : (from number : ℕ) (d : Place) → from ≤ number → number < row.old_cells → ((m : ℕ) → from ≤ m → m < number → bit_of row.noted m ≡ 0) → (roots mid later : List Root) → AddsRoots h (all_targets h (take from row.cells.items)) roots mid →
       AddsRoots h (targets_at young_spaces h (get_or row.cells.items number d)) mid later → AddsRoots h (all_targets h (take (number + 1) row.cells.items)) roots later
   stepped from number d low within unset roots mid later before here =
-      let inside = indexed.marked.aged.within in
+      let inside = is.indexed.marked.aged.within in
       subst (λ (ts : List ℕ). AddsRoots h ts roots later)
       (sym (ap (all_targets h) (take_more row.cells.items number d (omega arith)) ∙ flat_map-append (targets_at young_spaces h) (take number row.cells.items) (get_or row.cells.items number d ∷ [])
       ∙ ap (λ (ts : List ℕ). ts ++ (targets_at young_spaces h (get_or row.cells.items number d) ++ [])) (skipped from number low (omega arith) unset)
@@ -314,10 +326,10 @@ module _ (s : HeapState) (formed : IsWellFormed s) (is : IsSpaceList s.table.spa
 
   -- the whole row
   known : All IsOldPlace (take row.old_cells (p ∷ qs))
-  known = subst (λ (ps : List Place). All IsOldPlace (take row.old_cells ps)) row_cells indexed.marked.aged.cells
+  known = subst (λ (ps : List Place). All IsOldPlace (take row.old_cells ps)) row_cells is.indexed.marked.aged.cells
 
   within_row : row.old_cells ≤ length (p ∷ qs)
-  within_row = subst (λ (ps : List Place). row.old_cells ≤ length ps) row_cells indexed.marked.aged.within
+  within_row = subst (λ (ps : List Place). row.old_cells ≤ length ps) row_cells is.indexed.marked.aged.within
 
   all_known : (from : ℕ) → from ≤ row.old_cells → ((m : ℕ) → from ≤ m → bit_of row.noted m ≡ 0) → all_targets h (take row.old_cells (p ∷ qs)) ≡ all_targets h (take from row.cells.items)
   all_known from low unset = ap (λ (ps : List Place). all_targets h (take row.old_cells ps)) (sym row_cells) ∙ skipped from row.old_cells low (omega arith) (λ m above below. unset m above)
@@ -339,7 +351,7 @@ module _ (s : HeapState) (formed : IsWellFormed s) (is : IsSpaceList s.table.spa
 
   pub row_rest : (from : ℕ) → from ≤ row.old_cells → ((m : ℕ) → from ≤ m → bit_of row.noted m ≡ 0) → (d : Place) → row.old_cells < length row.cells.items → (row.old_cells ≡ 0) ⊎ IsOldPlace (get_or row.cells.items row.old_cells d) →
       (roots mid later : List Root) → AddsRoots h (all_targets h (take from row.cells.items)) roots mid → later ≡ mid ++ Row (get_or row.cells.items row.old_cells d) ∷ [] → AddsRoots h (targets h p) roots later
-  row_rest from low unset d inside either roots mid later added is =
+  row_rest from low unset d inside either roots mid later added pushed =
       let few = short in
       let rest = get_or row.cells.items row.old_cells d in
       subst (λ (ts : List ℕ). AddsRoots h ts roots later)
@@ -347,7 +359,7 @@ module _ (s : HeapState) (formed : IsWellFormed s) (is : IsSpaceList s.table.spa
       ∙ ap (λ (ps : List Place). all_targets h (take row.old_cells (p ∷ qs)) ++ targets h (get_or ps row.old_cells d)) row_cells
       ∙ ends_row h p qs ends (omega arith) row.old_cells within_row known d (subst (λ (ps : List Place). row.old_cells < length ps) row_cells inside)
       (subst (λ (ps : List Place). (row.old_cells ≡ 0) ⊎ IsOldPlace (get_or ps row.old_cells d)) row_cells either))
-      (both_added h (all_targets h (take from row.cells.items)) (targets h rest) roots mid later added (row_added h mid later rest (cell_root row.old_cells d inside) is))
+      (both_added h (all_targets h (take from row.cells.items)) (targets h rest) roots mid later added (row_added h mid later rest (cell_root row.old_cells d inside) pushed))
 
 -- ---- all rows
 
@@ -371,10 +383,10 @@ record HaveTargetsIn (h : SpaceList) (roots others : List Root) : Type 0 where
 
 -- what is a collection from some roots is one from others with the same targets
 collected_from : (h : SpaceList) (roots others : List Root) → all_root_targets young_spaces h roots ≡ all_root_targets young_spaces h others → HaveTargetsIn h roots others → HaveTargetsIn h others roots →
-    (forward : List ℕ) (aged old : BlockList) (notes : List Place) → IsCollection Nursery h roots forward aged old notes → IsCollection Nursery h others forward aged old notes
-collected_from h roots others same to back forward aged old notes is = record {
+    (made : Collected) → IsCollection Nursery h roots made → IsCollection Nursery h others made
+collected_from h roots others same to back made is = record {
   whole = is.whole;
-  reached = λ c low. subst (λ (ts : List ℕ). (get_or forward c 0 ≢ 0) ↔ IsInClosure ts (targets_of young_spaces h) c) same (is.reached c low);
+  reached = λ c low. subst (λ (ts : List ℕ). (get_or made.forward c 0 ≢ 0) ↔ IsInClosure ts (targets_of young_spaces h) c) same (is.reached c low);
   words = is.words;
   placed = is.placed;
   copied = is.copied;
@@ -386,15 +398,15 @@ collected_from h roots others same to back forward aged old notes is = record {
     to_old = λ c nursery goes. Walk-map (λ x. ⊎_elim (λ target. inl (target.0, to.cells target.0 target.1, target.2)) (λ aged_cell. inr aged_cell)) (λ b d edge. edge) c (is.generations.to_old c nursery goes);
   };
   noted = λ p. (
-    λ has. let given = (is.noted p).0 has in (given.0, made roots others to p given.0 given.1, given.2),
-    λ given. (is.noted p).1 (given.0, made others roots back p given.0 given.1, given.2),
+    λ has. let given = (is.noted p).0 has in (given.0, in_old roots others to p given.0 given.1, given.2),
+    λ given. (is.noted p).1 (given.0, in_old others roots back p given.0 given.1, given.2),
   );
   none_aged = is.none_aged;
   few = is.few;
 }
   where
-    made : (some more : List Root) → HaveTargetsIn h some more → (p : Place) (words : List ℕ) → IsMadeInOld Nursery h some forward aged old p words → IsMadeInOld Nursery h more forward aged old p words
-    made some more among p words = ⊎_elim (λ new. inl new) (λ cell. inr (among.cells p cell.0, cell.1))
+    in_old : (some more : List Root) → HaveTargetsIn h some more → (p : Place) (words : List ℕ) → IsMadeInOld Nursery h some made.forward made.aged made.old p words → IsMadeInOld Nursery h more made.forward made.aged made.old p words
+    in_old some more among p words = ⊎_elim (λ new. inl new) (λ cell. inr (among.cells p cell.0, cell.1))
 
 -- ---- a collection from them
 
@@ -467,7 +479,7 @@ module _ (s : HeapState) (formed : IsWellFormed s) (starts : List Root) (are : A
   }
 
   pub starts_collect : CollectAlike Nursery spaces (roots_of Nursery s) (starts ++ cells)
-  starts_collect forward aged old notes = (
-    collected_from spaces (roots_of Nursery s) (starts ++ cells) (sym all_same) whole_targets start_targets forward aged old notes,
-    collected_from spaces (starts ++ cells) (roots_of Nursery s) all_same start_targets whole_targets forward aged old notes,
+  starts_collect made = (
+    collected_from spaces (roots_of Nursery s) (starts ++ cells) (sym all_same) whole_targets start_targets made,
+    collected_from spaces (starts ++ cells) (roots_of Nursery s) all_same start_targets whole_targets made,
   )

@@ -11,10 +11,10 @@ use Rattle.tg_word.specs.declared.TheConstants.{SPACES}
 use Rattle.tg_subjects.specs.Subjects.{AreSubjects, IsLeastFree, names_of, nursery_held, places_of}
 use Rattle.tg_subjects.specs.declared.subject.Subject.{Subject}
 use Rattle.tg_block.specs.declared.CellKind.TheVariants.{Object}
-use Rattle.tg_space.specs.SpaceList.{SpaceList, BlockList}
+use Rattle.tg_space.specs.SpaceList.{SpaceList}
 use Rattle.tg_space.specs.SpaceTable.{SpaceTable}
 use Rattle.tg_space.specs.Soundness.{IsKindAt, IsRootIn}
-use Rattle.tg_space.specs.Collection.{IsCollection}
+use Rattle.tg_space.specs.Collection.{Collected, IsCollection}
 use Rattle.tg_space.specs.Targets.{all_root_targets, young_spaces}
 use Rattle.tg_space.specs.declared.root.Root.{Root}
 use Rattle.tg_space.specs.declared.root.Root.TheVariants.{Row, Remembered}
@@ -24,7 +24,10 @@ use Rattle.tg_space.specs.Generations.{AreRemembered}
 use Rattle.tg_payload.specs.Table.{Payloads}
 use Rattle.tg_space.specs.declared.room_fault.RoomFault.{RoomFault}
 use Rattle.tg_space.specs.declared.room_fault.RoomFault.TheVariants.{HeapFull}
+use Rattle.tg_rows.specs.declared.cells.Cells.{Cells}
 use Rattle.tg_rows.specs.declared.cells.VertexRefused.{VertexRefused}
+use Rattle.tg_rows.specs.declared.indexed_row.IndexedRow.{IndexedRow}
+use Rattle.tg_rows.specs.Index.{names_indexed}
 use Rattle.tg_rows.specs.Content.{Content, IsContent, IsNamed}
 use Rattle.tg_rows.specs.Spots.{IsMadeInRow, IsPutInRow, LacksCellsFor}
 use Rattle.tg_rows.specs.Rows.{IsVertexAt, name_at}
@@ -38,6 +41,10 @@ pub record HeapState : Type 0 where
   pub subjects : List Subject
   pub remembered : List Place
   pub indexed : List ℕ
+
+-- the heap with these cells, subjects and indexes
+abbrev pub heap_of : {P : Type 0} → Cells P → List Subject → List (ℕ × IndexedRow) → HeapState
+heap_of cells subjects rows = record { table = cells.spaces; payloads = cells.payloads; subjects = subjects; remembered = cells.remembered.places; indexed = names_indexed cells.spaces.spaces rows }
 
 -- ---- active subjects
 
@@ -69,7 +76,7 @@ roots_of Nursery s = map (λ p. Row p) (places_of s.subjects) ++ map (λ p. Reme
 -- the collections from these roots are those from the others
 abbrev pub CollectAlike : Kind → SpaceList → List Root → List Root → Type 0
 CollectAlike kind h roots others =
-    (forward : List ℕ) (aged old : BlockList) (notes : List Place) → IsCollection kind h roots forward aged old notes ↔ IsCollection kind h others forward aged old notes
+    (made : Collected) → IsCollection kind h roots made ↔ IsCollection kind h others made
 
 -- the root stands for a row from a cell on
 pub record IsRowRoot (h : SpaceList) (root : Root) : Type 0 where

@@ -1,27 +1,27 @@
 -- What a collection keeps of a heap, and what is written and dropped once nothing more can be refused.
-use Rattle.std.specs.Prelude.{[], ◌≡◌, ◌≢◌, ◌↔◌, ℕ, ◌<◌, ◌≤◌, ◌⊎◌, true, List, None, IsSome, AllPairs, length, map, slice_index, OnErr, OnOk, Result}
+use Rattle.std.specs.Prelude.{[], ◌≡◌, ◌≢◌, ◌↔◌, ℕ, ◌+◌, ◌<◌, ◌≤◌, ◌⊎◌, true, List, None, IsSome, length, map, slice_index}
 use Rattle.std.specs.List.{Contains, All}
 use Rattle.tg_word.specs.declared.Place.{Place}
+use Rattle.tg_word.specs.declared.TheConstants.{MOST_SPACE_BLOCKS}
 use Rattle.tg_block.specs.declared.CellKind.TheVariants.{Object}
-use Rattle.tg_space.specs.SpaceList.{SpaceList, Holds, cell_at, flat_of, space_of, BlockList, cells_of}
-use Rattle.tg_space.specs.SpaceTable.{SpaceTable, IsSpaceTable, with_adopted}
-use Rattle.tg_space.specs.Soundness.{IsKindAt, AreSound, IsOldCell}
-use Rattle.tg_space.specs.Targets.{from_space, image_of, young_spaces}
+use Rattle.tg_space.specs.SpaceList.{SpaceList, BlockList, Holds, cell_at, flat_of, space_of, cells_of}
+use Rattle.tg_space.specs.SpaceTable.{SpaceTable, IsSpaceTable, kept_blocks, with_adopted}
+use Rattle.tg_space.specs.Numbering.{AreNumbersOf}
+use Rattle.tg_space.specs.Soundness.{IsKindAt, IsOldCell, IsPointer}
+use Rattle.tg_space.specs.Targets.{from_space, image_of, pointers_of, young_spaces}
 use Rattle.tg_space.specs.Collection.{new_place}
 use Rattle.tg_space.specs.declared.kind.Kind.{Kind}
 use Rattle.tg_space.specs.declared.kind.Kind.TheVariants.{Full, Nursery}
 use Rattle.tg_payload.specs.Table.{Payloads, entry}
-use Rattle.tg_graph.specs.declared.settle.Prepared.{Prepared}
-use Rattle.tg_graph.specs.declared.settle.Rewritten.{Rewritten}
 use Rattle.tg_space.specs.Generations.{AreNeeded}
 use Rattle.tg_rows.specs.Rows.{IsVertexAt, key_at}
+use Rattle.tg_rows.specs.Graph.{IsGraph}
+use Rattle.tg_rows.specs.declared.cells.Cells.{Cells}
 use Rattle.tg_subjects.specs.Subjects.{nurseries_of, places_of, AreSubjects, names_of}
 use Rattle.tg_graph.specs.Heap.{HeapState, content_of, subject_names}
 use Rattle.tg_rows.specs.Content.{IsNamed}
 use Rattle.tg_graph.specs.Standing.{KeepsReached}
 use Rattle.tg_subjects.specs.declared.subject.Subject.{Subject}
-use Rattle.tg_word.specs.Word.{IsPlace, place_in}
-use Rattle.tg_rows.specs.Index.{moved_place}
 
 -- ---- cells
 
@@ -31,10 +31,20 @@ pub record IsKept (kind : Kind) (h : SpaceList) (forward : List ℕ) (p : Place)
   pub used : 0 < slice_index (cell_at h p) 0
   pub copied : from_space kind p.space ≡ true → slice_index forward (flat_of h p) ≢ 0
 
+-- a cell of Old, and the words that it is to have
+pub record Rewritten : Type 0 where
+  pub place : Place
+  pub words : List ℕ
+
 -- what the cell of Old at a place is to be, with its references and its link moved
 abbrev pub rewritten_at : SpaceList → List ℕ → Place → Rewritten
 rewritten_at h forward p =
     record { place = p; words = image_of young_spaces h (new_place forward) (cell_at h p) }
+
+-- the cells of Old that a collection writes: those that were remembered, where they stay
+abbrev pub rewritten : Kind → SpaceList → List ℕ → List Place → List Rewritten
+rewritten Full h forward places = []
+rewritten Nursery h forward places = map (rewritten_at h forward) places
 
 -- one of these cells is at the place, and has its words
 pub record HasWritten (after : SpaceList) (cells : List Rewritten) (p : Place) : Type 0 where
@@ -100,14 +110,6 @@ Drops payloads left dead =
 
 -- ---- the heap
 
--- What a nursery collection leaves of a heap was made ready: the keys whose payloads go, each once, the words that the
--- remembered cells are to have, and where the active subjects are then.
-pub record IsPrepared (s : HeapState) (forward : List ℕ) (prepared : Prepared) : Type 0 where
-  pub keys : (key : ℕ) → Contains prepared.dead.items key ↔ IsDeadKey Nursery s.table.spaces forward key
-  pub each_once : AllPairs (λ a b. a ≢ b) prepared.dead.items
-  pub cells : prepared.cells.items ≡ map (rewritten_at s.table.spaces forward) s.remembered
-  pub places : prepared.places.items ≡ map (moved_place young_spaces s.table.spaces (new_place forward)) (places_of s.subjects)
-
 -- each vertex in Old is where it was
 abbrev pub VerticesOfOldStay : SpaceList → SpaceList → Type 0
 VerticesOfOldStay h after =
@@ -129,22 +131,32 @@ pub record IsSettled (kind : Kind) (old new : HeapState) : Type 0 where
 
 -- ---- what the steps are handed, and what they make
 
--- there is a forwarding word for each cell, and a cell at the place
-pub record CanMove (h : SpaceList) (forward : List ℕ) (p : Place) : Type 0 where
-  pub held : Holds h p
-  pub whole : length forward ≡ length (cells_of h)
+-- The cell that stood at a place is one of Old, has the words that it had, and its pointers name cells that stood there too.
+pub record IsLeftInOld (h : SpaceList) (t : SpaceTable) (p : Place) : Type 0 where
+  pub old : IsOldCell t.spaces p
+  pub words : cell_at t.spaces p ≡ cell_at h p
+  pub pointers : All (IsPointer h) (pointers_of (cell_at h p))
 
--- the same, at each of these places
-pub record CanMoveAll (h : SpaceList) (forward : List ℕ) (ps : List Place) : Type 0 where
-  pub held : All (Holds h) ps
-  pub whole : length forward ≡ length (cells_of h)
+-- A nursery collection left these cells of Old as they were, and there is a word by its number for each cell that was there.
+pub record CanRewrite (kind : Kind) (h : SpaceList) (t : SpaceTable) (starts : List ℕ) (words : ℕ) (ps : List Place) : Type 0 where
+  pub numbers : AreNumbersOf h starts words
+  pub nursery : kind ≡ Nursery
+  pub cells : All (IsLeftInOld h t) ps
 
--- the cells are sound, there is a forwarding word with a place for each, and these places are of cells of Old
-pub record CanPrepareCells (h : SpaceList) (forward : List ℕ) (ps : List Place) : Type 0 where
-  pub sound : AreSound h []
-  pub whole : length forward ≡ length (cells_of h)
-  pub places : All (λ word. IsPlace (place_in word)) forward
-  pub held : All (IsOldCell h) ps
+-- The cells are those of a graph, with a word for each by its number. The remembered ones are of Old, which has room for this many new
+-- blocks.
+pub record CanMove {P : Type 0} (kind : Kind) (h : SpaceList) (cells : Cells P) (starts : List ℕ) (words grown : ℕ) : Type 0 where
+  pub before : h ≡ cells.spaces.spaces
+  pub graph : IsGraph cells.spaces.spaces cells.payloads
+  pub numbers : AreNumbersOf h starts words
+  pub remembered : All (IsOldCell cells.spaces.spaces) cells.remembered.places
+  pub few : kept_blocks kind cells.spaces.spaces + grown ≤ MOST_SPACE_BLOCKS
+
+-- Payloads of what wasn't copied were dropped, the new blocks adopted, and the remembered cells that stay written.
+pub record AreMoved {P : Type 0} (kind : Kind) (old new : Cells P) (forward : List ℕ) (aged grown : BlockList) : Type 0 where
+  pub dropped : Drops old.payloads new.payloads (IsDeadKey kind old.spaces.spaces forward)
+  pub written : AreWritten (with_adopted old.spaces kind aged grown) new.spaces (rewritten kind old.spaces.spaces forward old.remembered.places)
+  pub table : IsSpaceTable new.spaces
 
 -- a cell has this number
 pub record HasNumber (t : SpaceTable) (number : ℕ) : Type 0 where
@@ -157,9 +169,3 @@ pub record ArePlaced (old new : List Subject) (places : List Place) : Type 0 whe
   pub nurseries : nurseries_of new ≡ nurseries_of old
   pub places_are : places_of new ≡ places
   pub subjects : AreSubjects new
-
--- What a nursery collection's forwarding words and new blocks make of a heap; where memory was refused, it is as it was.
-pub record SettlesNursery {A E : Type 0} (old new : HeapState) (forward : List ℕ) (aged grown : BlockList) (result : Result A E) : Type 0 where
-  pub written : OnOk result (AreWritten (with_adopted old.table Nursery aged grown) new.table (map (rewritten_at old.table.spaces forward) old.remembered))
-  pub settled : OnOk result (IsSettled Nursery old new)
-  pub refused : OnErr result (new ≡ old)

@@ -6,7 +6,7 @@ use Rattle.std.specs.List.{All, AllPairs, Contains, remove}
 use Rattle.std.proofs.lemmas.Bool.{cases_eq}
 use Rattle.std.proofs.lemmas.List.{map-append}
 use Rattle.std.proofs.lemmas.List.Elements.{All-cons, Contains-append_left, Contains-push, Contains-push_cases}
-use Rattle.std.proofs.lemmas.Nat.Bits.{bit_at-trailing_ones, bit_at-zero, bit_at_clear_other, bit_at_clear_same, bit_at_ones, bit_at_set_other, bit_at_set_same}
+use Rattle.std.proofs.lemmas.Nat.Bits.{bit_at-trailing_ones, bit_at_clear_other, bit_at_clear_same, bit_at_ones, bit_at_set_other, bit_at_set_same}
 use Rattle.tg_word.specs.declared.TheConstants.{MAX_NURSERIES}
 use Rattle.tg_subjects.specs.declared.subject.Subject.{Subject}
 use Rattle.tg_subjects.specs.Subjects.{AreSubjects, IsLeastFree, MarksHeld, nurseries_of}
@@ -37,17 +37,14 @@ pub marks_more : (ss : List Subject) (s : Subject) (word : ℕ) → s.nursery < 
 marks_more ss s word within marks =
     subst (MarksHeld (bit_or word (1 * 2 ^ s.nursery % 2 ^ 64))) (sym (map-append (λ (t : Subject). t.nursery) ss (s ∷ []))) (λ n low. ⊎_elim
     (λ (same : n ≡ s.nursery). (
-      λ one. subst (Contains (held ++ s.nursery ∷ [])) (sym same) (Contains-push held s.nursery),
+      λ one. subst (Contains (nurseries_of ss ++ s.nursery ∷ [])) (sym same) (Contains-push (nurseries_of ss) s.nursery),
       λ there. ap (bit_at (bit_or word (1 * 2 ^ s.nursery % 2 ^ 64))) same ∙ bit_at_set_same w64 word s.nursery within,
     ))
     (λ other. let kept = bit_at_set_other w64 word s.nursery within n other in (
-      λ one. Contains-append_left held (s.nursery ∷ []) n ((marks n low).0 (sym kept ∙ one)),
-      λ there. ⊎_elim (λ before. kept ∙ (marks n low).1 before) (λ (is : s.nursery ≡ n). absurd (other (sym is))) (Contains-push_cases held s.nursery n there),
+      λ one. Contains-append_left (nurseries_of ss) (s.nursery ∷ []) n ((marks n low).0 (sym kept ∙ one)),
+      λ there. ⊎_elim (λ before. kept ∙ (marks n low).1 before) (λ (is : s.nursery ≡ n). absurd (other (sym is))) (Contains-push_cases (nurseries_of ss) s.nursery n there),
     ))
     (cases_eq n s.nursery))
-  where
-    held : List ℕ
-    held = nurseries_of ss
 
 -- ---- one less
 

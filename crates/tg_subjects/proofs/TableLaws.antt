@@ -4,12 +4,12 @@ use Rattle.std.specs.Prelude.{◌↔◌, Option, None, Some, IfSome, IsSome, not
 use Rattle.std.specs.Cmp.{nat_eq_equiv}
 use Rattle.std.specs.List.{All, AllPairs, Contains}
 use Rattle.std.proofs.lemmas.Bool.{cond-true, cond-false}
-use Rattle.std.proofs.lemmas.List.{length-map, map-set}
-use Rattle.std.proofs.Math.ListN.{get_or-map}
+use Rattle.std.proofs.lemmas.List.{get_or-map, length-map, map-set}
+use Rattle.std.proofs.lemmas.List.Quantifiers.{all_pairs_push}
 use Rattle.std.proofs.Math.Seq.{map-set_same}
 use Rattle.tg_word.specs.declared.Place.{Place}
-use Rattle.std.proofs.lemmas.List.Elements.{All-head, All-tail, All-nil, All-cons, All-filter, All-push, All-contains}
-use Rattle.std.proofs.lemmas.List.Kept.{AllPairs-cons, AllPairs-filter}
+use Rattle.std.proofs.lemmas.List.Elements.{All-head, All-tail, All-filter, All-push, All-contains}
+use Rattle.std.proofs.lemmas.List.Kept.{AllPairs-filter}
 use Rattle.std.proofs.lemmas.Map.Steps.{le-length_from_below}
 use Rattle.std.proofs.lemmas.Map.Views.{list_any-from_Contains}
 use Rattle.tg_subjects.specs.declared.subject.Subject.{Subject}
@@ -24,15 +24,10 @@ not_in_column f (t ∷ ss) n others (zero, inside, at) = All-head (λ u. f u ≢
 not_in_column f (t ∷ ss) n others (suc k, inside, at) = not_in_column f ss n (All-tail (λ u. f u ≢ n) t ss others) (k, omega (arith, inside), at)
 
 pub others_in_column : (f : Subject → ℕ) (ss : List Subject) (n : ℕ) → ¬ Contains (map f ss) n → All (λ t. f t ≢ n) ss
-others_in_column f [] n none = All-nil (λ (t : Subject). f t ≢ n)
-others_in_column f (t ∷ ss) n none =
-    All-cons (λ (u : Subject). f u ≢ n) t ss (λ is. none (0, omega arith, is))
-    (others_in_column f ss n (λ (k, inside, at). none (suc k, omega (arith, inside), at)))
+others_in_column f ss n none = λ i d low same. none (i, omega (arith, low, length-map ss f), get_or-map f ss i d n low ∙ same)
 
 pub in_column : (f : Subject → ℕ) (ss : List Subject) (s : Subject) → Contains ss s → Contains (map f ss) (f s)
-in_column f [] s (k, inside, at) = absurd (omega (arith, inside))
-in_column f (t ∷ ss) s (zero, inside, at) = (0, omega arith, ap f at)
-in_column f (t ∷ ss) s (suc k, inside, at) = let r = in_column f ss s (k, omega (arith, inside), at) in (suc r.0, omega (arith, r.1), r.2)
+in_column f ss s (k, inside, at) = (k, omega (arith, inside, length-map ss f), get_or-map f ss k s (f s) inside ∙ ap f at)
 
 -- ---- one less
 
@@ -73,18 +68,11 @@ subjects_without ss name are = record {
 
 -- ---- one more
 
-pairs_push : (R : Subject → Subject → Type 0) (ss : List Subject) (s : Subject) → AllPairs R ss → All (λ t. R t s) ss → AllPairs R (ss ++ s ∷ [])
-pairs_push R [] s pairs all = λ i j d lt low. absurd (omega (arith, lt, low))
-pairs_push R (t ∷ ss) s pairs all =
-    AllPairs-cons R t (ss ++ s ∷ [])
-    (All-push (R t) ss s (λ i d low. pairs 0 (suc i) d (omega arith) (omega (arith, low))) (All-head (λ u. R u s) t ss all))
-    (pairs_push R ss s (λ i j d lt low. pairs (suc i) (suc j) d (omega (arith, lt)) (omega (arith, low))) (All-tail (λ u. R u s) t ss all))
-
 pub subjects_push : (ss : List Subject) (s : Subject) → AreSubjects ss → IsLeastFree ss s.nursery → All (λ t. t.name < s.name) ss → AreSubjects (ss ++ s ∷ [])
 subjects_push ss s are free above = record {
-  rising = pairs_push (λ a b. a.name < b.name) ss s are.rising above;
+  rising = all_pairs_push (λ a b. a.name < b.name) ss s are.rising above;
   nurseries = All-push (λ t. t.nursery < MAX_NURSERIES) ss s are.nurseries free.few;
-  apart = pairs_push (λ a b. a.nursery ≢ b.nursery) ss s are.apart (others_in_column (λ t. t.nursery) ss s.nursery free.free);
+  apart = all_pairs_push (λ a b. a.nursery ≢ b.nursery) ss s are.apart (others_in_column (λ t. t.nursery) ss s.nursery free.free);
 }
 
 -- ---- a number is free
@@ -96,19 +84,16 @@ all_held ss held =
 
 -- ---- the nursery of a name
 
-pub held_by : (ss : List Subject) (name : ℕ) (s : Subject) → AreSubjects ss → IsSubjectNamed ss name s → nursery_held ss name ≡ s.nursery
-held_by ss name s are named = held_rising ss name s are.rising named.there named.named
-  where
-    held_rising : (ss : List Subject) (name : ℕ) (s : Subject) → AllPairs (λ a b. a.name < b.name) ss → Contains ss s → s.name ≡ name → nursery_held ss name ≡ s.nursery
-    held_rising [] name s rising (k, inside, at) is = absurd (omega (arith, inside))
-    held_rising (t ∷ ss) name s rising (zero, inside, at) is =
-        cond-true (t.name == name) t.nursery (nursery_held ss name) (eq-eqb t.name name (ap (λ (u : Subject). u.name) at ∙ is))
-        ∙ ap (λ (u : Subject). u.nursery) at
-    held_rising (t ∷ ss) name s rising (suc k, inside, at) is =
-        let there : Contains ss s = (k, omega (arith, inside), at) in
-        let above : t.name < s.name = All-contains (λ u. t.name < u.name) ss s (rising_head t ss rising) there in
-        cond-false (t.name == name) t.nursery (nursery_held ss name) (ne_eqb t.name name (λ same. omega (arith, above, same, is)))
-        ∙ held_rising ss name s (rising_tail t ss rising) there is
+held_by : (ss : List Subject) (name : ℕ) (s : Subject) → AllPairs (λ a b. a.name < b.name) ss → Contains ss s → s.name ≡ name → nursery_held ss name ≡ s.nursery
+held_by [] name s rising (k, inside, at) is = absurd (omega (arith, inside))
+held_by (t ∷ ss) name s rising (zero, inside, at) is =
+    cond-true (t.name == name) t.nursery (nursery_held ss name) (eq-eqb t.name name (ap (λ (u : Subject). u.name) at ∙ is))
+    ∙ ap (λ (u : Subject). u.nursery) at
+held_by (t ∷ ss) name s rising (suc k, inside, at) is =
+    let there : Contains ss s = (k, omega (arith, inside), at) in
+    let above : t.name < s.name = All-contains (λ u. t.name < u.name) ss s (rising_head t ss rising) there in
+    cond-false (t.name == name) t.nursery (nursery_held ss name) (ne_eqb t.name name (λ same. omega (arith, above, same, is)))
+    ∙ held_by ss name s (rising_tail t ss rising) there is
 
 -- ---- what a look-up found
 
@@ -118,7 +103,7 @@ found_by ss name (Some s) there none = (λ some. subst (Contains (names_of ss)) 
 
 pub nursery_found : (ss : List Subject) (name : ℕ) (found : Option Subject) → AreSubjects ss → IfSome found (IsSubjectNamed ss name) → IfSome found (λ s. s.nursery ≡ nursery_held ss name)
 nursery_found ss name None are there = tt
-nursery_found ss name (Some s) are there = sym (held_by ss name s are there)
+nursery_found ss name (Some s) are there = sym (held_by ss name s are.rising there.there there.named)
 
 -- ---- where objects are
 
@@ -127,22 +112,22 @@ pub subjects_same : (old new : List Subject) → names_of new ≡ names_of old �
 subjects_same old new names nurseries are = record {
   rising = λ i j d lt low.
       let before = are.rising i j d lt (omega (arith, low, many)) in
-      let first = column (λ s. s.name) names i d in
-      let second = column (λ s. s.name) names j d in
+      let first = column (λ s. s.name) names i d (omega (arith, lt, low)) in
+      let second = column (λ s. s.name) names j d low in
       omega (arith, before, first, second);
   nurseries = λ i d low.
       let before = are.nurseries i d (omega (arith, low, many)) in
-      let here = column (λ s. s.nursery) nurseries i d in
+      let here = column (λ s. s.nursery) nurseries i d low in
       omega (arith, before, here);
   apart = λ i j d lt low same. are.apart i j d lt (omega (arith, low, many))
-      (sym (column (λ s. s.nursery) nurseries i d) ∙ same ∙ column (λ s. s.nursery) nurseries j d);
+      (sym (column (λ s. s.nursery) nurseries i d (omega (arith, lt, low))) ∙ same ∙ column (λ s. s.nursery) nurseries j d low);
 }
   where
     many : length new ≡ length old
     many = sym (length-map new (λ (s : Subject). s.name)) ∙ ap length names ∙ length-map old (λ (s : Subject). s.name)
 
-    column : (f : Subject → ℕ) → map f new ≡ map f old → (i : ℕ) (d : Subject) → f (get_or new i d) ≡ f (get_or old i d)
-    column f same i d = sym (get_or-map f new i d) ∙ ap (λ l. get_or l i (f d)) same ∙ get_or-map f old i d
+    column : (f : Subject → ℕ) → map f new ≡ map f old → (i : ℕ) (d : Subject) → i < length new → f (get_or new i d) ≡ f (get_or old i d)
+    column f same i d low = sym (get_or-map f new i d (f d) low) ∙ ap (λ l. get_or l i (f d)) same ∙ get_or-map f old i d (f d) (omega (arith, low, many))
 
 -- only the place of one subject changes
 pub record Moves (old new : List Subject) (at : ℕ) (place : Place) : Type 0 where
@@ -150,14 +135,12 @@ pub record Moves (old new : List Subject) (at : ℕ) (place : Place) : Type 0 wh
   pub nurseries : nurseries_of new ≡ nurseries_of old
   pub places : places_of new ≡ slice_set (places_of old) at place
 
-pub moved : (ss old : List Subject) (at : ℕ) (place : Place) (s : Subject) → ss ≡ old → s ≡ get_or ss at s → Moves old (slice_set ss at (record { name = s.name; nursery = s.nursery; place = place })) at place
-moved ss old at place s same is =
-    subst (λ l. Moves l (slice_set ss at now) at place) same
-    (record {
-      names = map-set_same (λ (t : Subject). t.name) ss at now s (ap (λ (t : Subject). t.name) is);
-      nurseries = map-set_same (λ (t : Subject). t.nursery) ss at now s (ap (λ (t : Subject). t.nursery) is);
-      places = map-set (λ (t : Subject). t.place) ss at now;
-    })
+pub moved : (ss : List Subject) (at : ℕ) (place : Place) (s : Subject) → s ≡ get_or ss at s → Moves ss (slice_set ss at (record { name = s.name; nursery = s.nursery; place = place })) at place
+moved ss at place s is = record {
+  names = map-set_same (λ (t : Subject). t.name) ss at now s (ap (λ (t : Subject). t.name) is);
+  nurseries = map-set_same (λ (t : Subject). t.nursery) ss at now s (ap (λ (t : Subject). t.nursery) is);
+  places = map-set (λ (t : Subject). t.place) ss at now;
+}
   where
     now : Subject
     now = record { name = s.name; nursery = s.nursery; place = place }

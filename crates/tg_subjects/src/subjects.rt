@@ -126,21 +126,6 @@ impl Subjects {
     {
         self.items[at].place = place;
     }
-
-    /// Puts all objects somewhere else: the place of each subject, in the table's order. It takes no memory.
-    ///
-    /// There have to be as many places as subjects. All else stays.
-    pub fn put_places(&mut self, places: &[Place])
-        requires number { length places.now ≡ length self.old }
-        ensures names { names_of self.new ≡ names_of self.old }
-        ensures nurseries { nurseries_of self.new ≡ nurseries_of self.old }
-        ensures places { places_of self.new ≡ places.now }
-        ensures subjects { AreSubjects self.new }
-    {
-        for at in 0..self.len() {
-            self.set_place(at, places[at]);
-        }
-    }
 }
 
 // The subject with a name, if it is there. Where none was retired, it stands at the place with the name's number.

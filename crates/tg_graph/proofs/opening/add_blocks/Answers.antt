@@ -1,7 +1,6 @@
 use Rattle.std.proofs.Common.{ℕ, List, length, refl, ap, arith}
 use Rattle.tg_word.specs.Word.{nursery_space}
 use Rattle.tg_graph.proofs.Openings.{no_cell, no_count}
-use borrow.Author.Count.{falls}
 use Rattle.tg_graph.proofs.opening.add_blocks.Goals as goal
 
 pub loop-worker-init : goal.loop-worker-init
@@ -19,6 +18,3 @@ loop-worker-init c =
       count = let zero = no_count h none in omega (arith, zero);
       free = λ p held. absurd (no_cell h none p held);
     }
-
-pub loop-worker-smaller : goal.loop-worker-smaller
-loop-worker-smaller c = falls c.args.workers c.loop-worker.worker c.loop-worker-test.true

@@ -1,19 +1,13 @@
-use Rattle.std.proofs.Common.{◌≡◌, ◌≢◌, ◌∙◌, ◌+◌, length, ap, subst, arith, sym, ℕ, Bool, cond}
-use Rattle.tg_model.specs.Opened.{label_in, JoinsWorkers}
+use Rattle.std.proofs.Common.{◌≡◌, ◌≢◌, ◌∙◌, ◌+◌, length, ap, subst, arith, sym, Bool, cond}
+use Rattle.tg_model.specs.Opened.{label_in}
 use Rattle.tg_word.specs.Word.{nursery_space}
 use Rattle.tg_payload.specs.Table.{Payloads}
 use Rattle.tg_rows.specs.Graph.{content_in, IsGraph}
 use Rattle.tg_graph.specs.Opened.{labels_before, with_row}
-use Rattle.tg_graph.proofs.Openings.{labels_before-all, labels_before-more, relabels_more, relabels_none, relabels_to, row_no_loop}
-use borrow.Author.Count.{falls}
-use Rattle.std.specs.List.{All}
+use Rattle.tg_graph.proofs.Openings.{labels_before-all, labels_before-more, relabels_more, relabels_to, row_no_loop}
 use Rattle.std.proofs.lemmas.Bool.{le-ltb}
 use Rattle.tg_rights.specs.RightSet.{no_rights}
 use Rattle.tg_graph.proofs.opening.add_edges.Goals as goal
-
-pub add_row-requires-clause-no_loop : goal.add_row-requires-clause-no_loop
-add_row-requires-clause-no_loop g c =
-    c.read_row.ensures c.loop-from.from ∙ row_no_loop c.args.edges.now (length c.args.subjects.now) c.loop-from.from c.requires.edges
 
 pub loop-from-preserved : goal.loop-from-preserved
 loop-from-preserved g c =
@@ -60,17 +54,6 @@ add_row-requires-clause-worker g c =
           omega (arith, some, same);
     }
 
-pub loop-from-init : goal.loop-from-init
-loop-from-init g c = record {
-  labels = relabels_none c.args.cells.now (labels_before c.args.edges.now 0) c.requires.workers.graph (λ x y. c.requires.labels x y ∙ ap (λ (b : Bool). cond b (label_in c.args.edges.now x y) no_rights) (sym (le-ltb x 0 (omega arith))));
-  unused = λ x from. c.requires.unused x;
-}
-
-pub read_row-requires : goal.read_row-requires
-read_row-requires g c = subst (λ (n : ℕ). All (JoinsWorkers n) c.args.edges.now) (sym (c.loop-from.auto.row ∙ c.requires.row)) c.requires.edges
-
-pub add_row-requires-clause-row : goal.add_row-requires-clause-row
-add_row-requires-clause-row g c = c.read_row.auto.row ∙ c.loop-from.auto.row ∙ c.requires.row
-
-pub loop-from-smaller : goal.loop-from-smaller
-loop-from-smaller g c = falls (length c.args.subjects.now) c.loop-from.from c.loop-from-test.true
+pub add_row-requires-clause-no_loop : goal.add_row-requires-clause-no_loop
+add_row-requires-clause-no_loop g c =
+    c.read_row.ensures c.loop-from.from ∙ row_no_loop c.args.edges.now (length c.args.subjects.now) c.loop-from.from c.requires.edges

@@ -29,55 +29,38 @@ vertex_numbered h subjects x at low =
     let within : x < length places = let many = length-map subjects (λ (s : Subject). s.place) in omega (arith, many, low) in
     subst (IsVertexAt h x) (get_or-map (λ (s : Subject). s.place) subjects x nobody nobody.place low) (at x (slice_index_or places x nobody.place) (slice_get-get_or places x nobody.place within))
 
-pub add_some-requires-clause-from : goal.add_some-requires-clause-from
-add_some-requires-clause-from g c =
-    let subjects = c.args.subjects.now in
-    let vertex = vertex_numbered c.args.cells.now.spaces.spaces subjects c.args.from c.requires.worker.workers.vertices c.requires.worker.inside in
-    (c.loop-to.invariant.labels.changed.vertices c.args.from (slice_index_or subjects c.args.from nobody).place vertex).object
-
-pub add_some-requires-clause-to : goal.add_some-requires-clause-to
-add_some-requires-clause-to g c =
-    let subjects = c.args.subjects.now in
-    let to = c.loop-to.to in
-    let low : to < length subjects = let a = c.loop-to-test.true in let b = c.requires.row in omega (arith, a, b) in
-    let vertex = vertex_numbered c.args.cells.now.spaces.spaces subjects to c.requires.worker.workers.vertices low in
-    (c.loop-to.invariant.labels.changed.vertices to (slice_index_or subjects to nobody).place vertex).object
-
-pub add_some-requires-clause-nursery : goal.add_some-requires-clause-nursery
-add_some-requires-clause-nursery g c =
-    let kept = c.loop-to.invariant.labels.changed.spaces in let spaces = c.requires.worker.workers.spaces in let from = c.requires.worker.inside in omega (arith, kept, spaces, from)
-
-pub add_some-requires-clause-graph : goal.add_some-requires-clause-graph
-add_some-requires-clause-graph g c =
+pub add_some-requires : goal.add_some-requires
+add_some-requires g c =
     let before = c.loop-to.invariant in
-    subst (λ (s : Payloads). IsGraph c.loop-to.cells.spaces.spaces s) (sym before.labels.payloads) before.labels.changed.graph
-
-pub add_some-requires-clause-room : goal.add_some-requires-clause-room
-add_some-requires-clause-room g c =
-    λ some.
-    let before = c.loop-to.invariant in
+    let worker = c.requires.worker in
+    let workers = worker.workers in
+    let subjects = c.args.subjects.now in
+    let h = c.args.cells.now.spaces.spaces in
     let from = c.args.from in
     let to = c.loop-to.to in
-    let row = c.args.row.now in
-    let r = c.index-row-to.result in
     let inside = c.loop-to-test.true in
-    let used = before.used in
-    let blocks = before.labels.blocks (nursery_space from) in
-    let block = c.requires.worker.block in
-    let few = c.requires.worker.workers.few in
     let long = c.requires.row in
-    let low = c.requires.worker.inside in
-    ⊎_elim
-    (λ earlier. let past = before.used_past earlier in omega (arith, past, blocks, block, few, long, inside))
-    (λ later.
-    ⊎_elim
-    (λ (same : to ≡ from).
-    let none : r ≡ no_rights = get_or_read row to r inside c.index-row-to.is no_rights ∙ ap (λ n. slice_index_or row n no_rights) same ∙ c.requires.no_loop in
-    let held : is_none_held r ≡ true = ap is_none_held none in
-    absurd (true≢false (sym held ∙ some)))
-    (λ ne. omega (arith, ne, later, used, blocks, block, few, low))
-    (cases_eq to from))
-    (cases_lt from to)
+    let low = worker.inside in
+    let vertices = before.labels.changed.vertices in
+    record {
+      nursery = let kept = before.labels.changed.spaces in let spaces = workers.spaces in let few = workers.few in omega (arith, kept, spaces, few, low);
+      graph = subst (λ (s : Payloads). IsGraph c.loop-to.cells.spaces.spaces s) (sym before.labels.payloads) before.labels.changed.graph;
+      from = (vertices from (slice_index_or subjects from nobody).place (vertex_numbered h subjects from workers.vertices low)).object;
+      to = (vertices to (slice_index_or subjects to nobody).place (vertex_numbered h subjects to workers.vertices (omega (arith, inside, long)))).object;
+      room = λ some.
+          let blocks = before.labels.blocks (nursery_space from) in
+          ⊎_elim
+          (λ earlier. let past = before.used_past earlier in omega (arith, past, blocks, worker.block, workers.few, long, inside))
+          (λ later.
+          ⊎_elim
+          (λ (same : to ≡ from).
+          let none : c.index-row-to.result ≡ no_rights = get_or_read c.args.row.now to c.index-row-to.result inside c.index-row-to.is no_rights ∙ ap (λ n. slice_index_or c.args.row.now n no_rights) same ∙ c.requires.no_loop in
+          absurd (true≢false (sym (ap is_none_held none) ∙ some)))
+          (λ ne. omega (arith, ne, later, before.used, blocks, worker.block, workers.few, low))
+          (cases_eq to from))
+          (cases_lt from to);
+      old = before.labels.blocks 0 ∙ workers.old;
+    }
 
 pub loop-to-preserved : goal.loop-to-preserved
 loop-to-preserved g c =
@@ -117,12 +100,6 @@ loop-to-preserved g c =
           (cases_lt from to);
     }
 
-pub returns-clause-others : goal.returns-clause-others
-returns-clause-others g c = c.loop-to.invariant.others
-
-pub add_some-requires-clause-old : goal.add_some-requires-clause-old
-add_some-requires-clause-old g c = c.loop-to.invariant.labels.blocks 0 ∙ c.requires.worker.workers.old
-
 pub loop-to-init : goal.loop-to-init
 loop-to-init g c =
     let cells = c.args.cells.now in
@@ -136,8 +113,11 @@ loop-to-init g c =
       used_past = λ past. absurd (omega arith);
     }
 
-pub returns-clause-added : goal.returns-clause-added
-returns-clause-added g c =
+pub returns : goal.returns
+returns g c =
     let row = c.args.row.now in
     let past : length row ≤ c.loop-to.to = c.loop-to-test.false in
-    subst (λ (rs : List RightSet). Relabels c.args.cells.now c.loop-to.cells (with_row (labels_in c.args.cells.now) c.args.from rs)) (take_all c.loop-to.to row past) c.loop-to.invariant.labels
+    record {
+      added = subst (λ (rs : List RightSet). Relabels c.args.cells.now c.loop-to.cells (with_row (labels_in c.args.cells.now) c.args.from rs)) (take_all c.loop-to.to row past) c.loop-to.invariant.labels;
+      others = c.loop-to.invariant.others;
+    }

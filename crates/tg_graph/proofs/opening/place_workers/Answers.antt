@@ -27,9 +27,22 @@ next_inside yielded rest more items x left next =
     let long = ap (λ (l : List Value). length l) next in
     omega (arith, all, long, length-append yielded rest)
 
-pub place_vertex-place-requires-clause-fresh : goal.place_vertex-place-requires-clause-fresh
-place_vertex-place-requires-clause-fresh g c =
-    λ named. let low = (c.loop-draft.invariant.opened.content.names c.len-name.result).0 named in let counted = length-map c.loop-draft.subjects (λ (s : Subject). s.place) in omega (arith, low, counted, c.len-name.ensures.number)
+pub place_vertex-place-requires : goal.place_vertex-place-requires
+place_vertex-place-requires g c =
+    let before = c.loop-draft.invariant in
+    let inside = next_inside c.loop-draft.yielded c.loop-draft.draft-iterator.rest.items c.next.new.self.rest.items c.args.drafts.items c.in-Some.draft before.left c.in-Some.ensures.steps.0 in
+    let few = c.requires.few in
+    let count = before.count in
+    let name = c.len-name.ensures.number in
+    record {
+      table = before.table;
+      graph = before.opened.graph;
+      fresh = λ named. let low = (before.opened.content.names c.len-name.result).0 named in let counted = length-map c.loop-draft.subjects (λ (s : Subject). s.place) in omega (arith, low, counted, name);
+      few = omega (arith, few, count, name, inside);
+      nursery = let spaces = before.opened.spaces in omega (arith, spaces, few, count, name, inside);
+      left = let none = before.unused c.len-name.result (omega (arith, count, name)) in let some = before.opened.blocks c.len-name.result (omega (arith, count, name, inside)) in omega (arith, none, some);
+      spare = let spare = before.spare in omega (arith, spare, inside);
+    }
 
 pub loop-draft-init : goal.loop-draft-init
 loop-draft-init g c =
@@ -89,70 +102,25 @@ loop-draft-preserved g c =
       remembered = step.notes ∙ before.remembered;
     }
 
-pub place_vertex-place-requires-clause-few : goal.place_vertex-place-requires-clause-few
-place_vertex-place-requires-clause-few g c =
+pub add-requires : goal.add-requires
+add-requires g c =
     let before = c.loop-draft.invariant in
     let inside = next_inside c.loop-draft.yielded c.loop-draft.draft-iterator.rest.items c.next.new.self.rest.items c.args.drafts.items c.in-Some.draft before.left c.in-Some.ensures.steps.0 in
-    let few = c.requires.few in let count = before.count in let name = c.len-name.ensures.number in omega (arith, few, count, name, inside)
+    record {
+      few = let few = c.requires.few in let count = before.count in omega (arith, few, count, inside);
+      above = next_above c.loop-draft.subjects (length c.loop-draft.yielded) c.len-name.result before.names (c.len-name.ensures.number ∙ before.count);
+    }
 
-pub place_vertex-place-requires-clause-nursery : goal.place_vertex-place-requires-clause-nursery
-place_vertex-place-requires-clause-nursery g c =
-    let before = c.loop-draft.invariant in
-    let inside = next_inside c.loop-draft.yielded c.loop-draft.draft-iterator.rest.items c.next.new.self.rest.items c.args.drafts.items c.in-Some.draft before.left c.in-Some.ensures.steps.0 in
-    let spaces = before.opened.spaces in let few = c.requires.few in let count = before.count in let name = c.len-name.ensures.number in omega (arith, spaces, few, count, name, inside)
-
-pub place_vertex-place-requires-clause-spare : goal.place_vertex-place-requires-clause-spare
-place_vertex-place-requires-clause-spare g c =
-    let before = c.loop-draft.invariant in
-    let inside = next_inside c.loop-draft.yielded c.loop-draft.draft-iterator.rest.items c.next.new.self.rest.items c.args.drafts.items c.in-Some.draft before.left c.in-Some.ensures.steps.0 in
-    let spare = before.spare in omega (arith, spare, inside)
-
-pub place_vertex-place-requires-clause-left : goal.place_vertex-place-requires-clause-left
-place_vertex-place-requires-clause-left g c =
-    let before = c.loop-draft.invariant in
-    let inside = next_inside c.loop-draft.yielded c.loop-draft.draft-iterator.rest.items c.next.new.self.rest.items c.args.drafts.items c.in-Some.draft before.left c.in-Some.ensures.steps.0 in
-    let count = before.count in let name = c.len-name.ensures.number in
-    let none = before.unused c.len-name.result (omega (arith, count, name)) in
-    let some = before.opened.blocks c.len-name.result (omega (arith, count, name, inside)) in
-    omega (arith, none, some)
-
-pub add-requires-clause-few : goal.add-requires-clause-few
-add-requires-clause-few g c =
-    let before = c.loop-draft.invariant in
-    let inside = next_inside c.loop-draft.yielded c.loop-draft.draft-iterator.rest.items c.next.new.self.rest.items c.args.drafts.items c.in-Some.draft before.left c.in-Some.ensures.steps.0 in
-    let few = c.requires.few in let count = before.count in omega (arith, few, count, inside)
-
-pub add-requires-clause-above : goal.add-requires-clause-above
-add-requires-clause-above g c =
-    let before = c.loop-draft.invariant in
-    next_above c.loop-draft.subjects (length c.loop-draft.yielded) c.len-name.result before.names (c.len-name.ensures.number ∙ before.count)
-
-pub returns-clause-opened : goal.returns-clause-opened
-returns-clause-opened g c =
-    let all = all_came c.loop-draft.yielded c.loop-draft.draft-iterator.rest.items c.args.drafts.items c.loop-draft.invariant.left (sym c.loop-draft.draft-iterator.rest.ok.0 ∙ c.in-None.ensures.steps.0) in
-    subst (λ (vs : List Value). IsOpened c.loop-draft.cells.spaces c.loop-draft.cells.payloads (places_of c.loop-draft.subjects) (length c.args.drafts.items) c.args.cells.now.spaces.limits no_labels vs) all c.loop-draft.invariant.opened
-
-pub returns-clause-names : goal.returns-clause-names
-returns-clause-names g c =
-    let all = all_came c.loop-draft.yielded c.loop-draft.draft-iterator.rest.items c.args.drafts.items c.loop-draft.invariant.left (sym c.loop-draft.draft-iterator.rest.ok.0 ∙ c.in-None.ensures.steps.0) in
-    c.loop-draft.invariant.names ∙ ap (λ (vs : List Value). range_with_len 0 (length vs)) all
-
-pub returns-clause-numbers : goal.returns-clause-numbers
-returns-clause-numbers g c =
-    let all = all_came c.loop-draft.yielded c.loop-draft.draft-iterator.rest.items c.args.drafts.items c.loop-draft.invariant.left (sym c.loop-draft.draft-iterator.rest.ok.0 ∙ c.in-None.ensures.steps.0) in
-    c.loop-draft.invariant.numbers ∙ ap (λ (vs : List Value). range_with_len 0 (length vs)) all
-
-pub returns-clause-unused : goal.returns-clause-unused
-returns-clause-unused g c = c.loop-draft.invariant.used
-
-pub place_vertex-place-requires-clause-table : goal.place_vertex-place-requires-clause-table
-place_vertex-place-requires-clause-table g c = c.loop-draft.invariant.table
-
-pub place_vertex-place-requires-clause-graph : goal.place_vertex-place-requires-clause-graph
-place_vertex-place-requires-clause-graph g c = c.loop-draft.invariant.opened.graph
-
-pub returns-clause-nurseries : goal.returns-clause-nurseries
-returns-clause-nurseries g c = c.loop-draft.invariant.home
-
-pub returns-clause-remembered : goal.returns-clause-remembered
-returns-clause-remembered g c = c.loop-draft.invariant.remembered
+pub returns : goal.returns
+returns g c =
+    let done = c.loop-draft.invariant in
+    let all = all_came c.loop-draft.yielded c.loop-draft.draft-iterator.rest.items c.args.drafts.items done.left (sym c.loop-draft.draft-iterator.rest.ok.0 ∙ c.in-None.ensures.steps.0) in
+    let ranged = ap (λ (vs : List Value). range_with_len 0 (length vs)) all in
+    record {
+      opened = subst (λ (vs : List Value). IsOpened c.loop-draft.cells.spaces c.loop-draft.cells.payloads (places_of c.loop-draft.subjects) (length c.args.drafts.items) c.args.cells.now.spaces.limits no_labels vs) all done.opened;
+      names = done.names ∙ ranged;
+      numbers = done.numbers ∙ ranged;
+      nurseries = done.home;
+      unused = done.used;
+      remembered = done.remembered;
+    }

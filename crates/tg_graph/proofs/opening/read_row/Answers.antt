@@ -4,7 +4,6 @@ use Rattle.std.proofs.lemmas.List.Elements.{All-get_or}
 use Rattle.tg_rights.specs.RightSet.{no_rights, union}
 use Rattle.tg_model.specs.Opened.{JoinsWorkers, label_in}
 use Rattle.tg_graph.proofs.Openings.{row_step}
-use borrow.Author.Count.{falls}
 use Rattle.tg_graph.proofs.opening.read_row.Goals as goal
 use Rattle.tg_graph.proofs.opening.read_row.Goals.{then-edge-from, else-edge-from}
 use Rattle.tg_model.specs.declared.edge.Edge.{Edge}
@@ -39,6 +38,3 @@ returns c =
     let past : length edges ≤ i = c.loop-edge-test.false in
     let own = slice_index_or c.loop-edge.row y no_rights in
     sym (union_none own) ∙ ap (λ (es : List Edge). union own (label_in es c.args.from y)) (sym (drop_all i edges past)) ∙ c.loop-edge.invariant y
-
-pub loop-edge-smaller : goal.loop-edge-smaller
-loop-edge-smaller c = falls (length c.args.edges.now) c.loop-edge.edge-index c.loop-edge-test.true

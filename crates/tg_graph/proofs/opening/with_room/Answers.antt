@@ -1,9 +1,8 @@
-use Rattle.std.proofs.Common.{subst, ℕ, ◌<◌, ap, arith, refl, rules, sym}
+use Rattle.std.proofs.Common.{subst, ap, arith, rules, sym}
 use Rattle.tg_word.specs.declared.TheConstants.{MAX_NURSERIES}
 use Rattle.tg_graph.specs.Opened.{HasBlocks, HasNoBlocks}
 use Rattle.tg_graph.proofs.Openings.{none_made}
 use Rattle.tg_space.specs.SpaceTable.{AreLimits, SpaceTable}
-use Rattle.tg_rows.proofs.Results.{memory_or_full}
 use Rattle.tg_graph.proofs.opening.with_room.Goals as goal
 
 pub add_blocks-requires : goal.add_blocks-requires
@@ -25,15 +24,3 @@ returns-clause-ready g c =
       room = record { payloads = room.payloads; spare = room.spare; subjects = room.subjects; row = room.row; remembered = room.remembered };
       nurseries = subst (λ (t : SpaceTable). HasBlocks c.add_blocks.new.spaces c.args.workers t.limits) c.in-Ok.ensures.spaces c.in_ok-add_blocks.ensures.blocks;
     }
-
-pub returns-then-max_blocks-workers-clause-full : goal.returns-then-max_blocks-workers-clause-full
-returns-then-max_blocks-workers-clause-full g c = (λ full. subst (λ (n : ℕ). n < c.args.workers) c.max_blocks.ensures.value c.if-max_blocks-workers.true, λ less. refl)
-
-pub empty_room-requires : goal.empty_room-requires
-empty_room-requires g c = c.requires.few
-
-pub returns-in_default-clause-full : goal.returns-in_default-clause-full
-returns-in_default-clause-full g c = (λ full. absurd (memory_or_full full), λ less. let enough = c.if-max_blocks-workers.false in let same = c.max_blocks.ensures.value in absurd (omega (arith, enough, same, less)))
-
-pub returns-clause-full : goal.returns-clause-full
-returns-clause-full g c = (λ none. absurd none, λ less. let enough = c.if-max_blocks-workers.false in let same = c.max_blocks.ensures.value in absurd (omega (arith, enough, same, less)))

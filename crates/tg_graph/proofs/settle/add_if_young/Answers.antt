@@ -1,11 +1,8 @@
 use Rattle.std.proofs.Common.{◌∙◌, ap, sym}
 use Rattle.tg_word.specs.declared.Place.{Place}
 use Rattle.tg_space.specs.Targets.{young_spaces}
-use Rattle.tg_graph.proofs.Starts.{word_named, word_passed}
+use Rattle.tg_graph.proofs.Starts.{word_named}
 use Rattle.tg_graph.proofs.settle.add_if_young.Goals as goal
-
-pub returns-then-not-moves : goal.returns-then-not-moves
-returns-then-not-moves c = λ h names. word_passed h c.args.word (ap (λ (p : Place). young_spaces p.space) (sym c.place_of-named.ensures) ∙ sym c.moves.ensures ∙ c.if-not-moves.true) c.args.roots.now.items
 
 pub returns : goal.returns
 returns c = λ h names.

@@ -52,9 +52,3 @@ returns-clause-keys c key =
       λ has. are.0 ((c.loop-number.invariant.keys.dead key).0 has),
       λ is. (c.loop-number.invariant.keys.dead key).1 (are.1 is),
     )
-
-pub returns-clause-each_once : goal.returns-clause-each_once
-returns-clause-each_once c = c.loop-number.invariant.keys.once
-
-pub object_key-requires : goal.object_key-requires
-object_key-requires c = record { table = c.cells-cells.ensures.table; inside = omega (arith, c.loop-number-test.true, c.cells-cells.ensures.cells) }

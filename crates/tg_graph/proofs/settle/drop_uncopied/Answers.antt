@@ -60,6 +60,3 @@ returns g c =
     let end : length (cells_of h) ≤ c.loop-number.number = omega (arith, c.cells-cells.ensures.cells) in
     drops_same c.args.payloads.now c.loop-number.payloads (IsDeadBelow h forward 0 c.loop-number.number) (IsDeadKey Full h forward) c.loop-number.invariant.dropped
     (dead_keys_are h whole forward Full 0 c.loop-number.number (all_begin h whole forward) end)
-
-pub object_key-requires : goal.object_key-requires
-object_key-requires g c = record { table = c.cells-cells.ensures.table; inside = omega (arith, c.loop-number-test.true, c.cells-cells.ensures.cells) }

@@ -1,17 +1,14 @@
 -- The subjects before the loop's are where their objects were copied to, and the others are still where they were.
-use Rattle.std.proofs.Common.{◌≡◌, ℕ, ◌<◌, ◌≤◌, List, ◌++◌, length, get_or, set, drop, map, sym, ap, subst, arith, ◌∙◌, refl}
+use Rattle.std.proofs.Common.{◌≡◌, ℕ, ◌<◌, ◌≤◌, List, ◌++◌, length, get_or, set, drop, map, sym, ap, subst, arith, ◌∙◌}
 use Rattle.std.proofs.lemmas.List.{append-nil, drop_all, get_or-map, get_or_default, length-map, take_all}
 use Rattle.std.proofs.lemmas.List.Edits.{map_over_more}
 use Rattle.tg_word.specs.declared.Place.{Place}
 use Rattle.tg_subjects.specs.Subjects.{names_of, places_of}
 use Rattle.tg_subjects.specs.declared.subject.Subject.{Subject}
-use Rattle.tg_space.specs.SpaceList.{Holds}
 use Rattle.tg_space.specs.Targets.{from_space}
 use Rattle.tg_space.specs.Collection.{new_place}
-use Rattle.tg_space.specs.declared.kind.Kind.TheVariants.{Full}
-use Rattle.tg_rows.specs.Index.{moved_place}
+use Rattle.tg_space.specs.Numbering.{IsNumbered, followed_place}
 use Rattle.tg_rows.proofs.Members.{still_at}
-use borrow.Author.Count.{falls}
 use Rattle.tg_graph.proofs.settle.follow_subjects.Goals as goal
 
 -- as many subjects as before
@@ -24,7 +21,7 @@ nobody = record { name = 0; nursery = 0; place = record { space = 0; block = 0; 
 
 pub loop-at-preserved : goal.loop-at-preserved
 loop-at-preserved c =
-    let f = moved_place (from_space Full) c.args.spaces.now.spaces (new_place c.args.forward.now.words) in
+    let f = followed_place (from_space c.args.moves.kind) c.args.moves.numbering.now.starts (new_place c.args.moves.forward.now.words) in
     let before = c.loop-at.invariant in
     let xs = places_of c.args.subjects.now in
     let subjects = c.loop-at.subjects in
@@ -41,13 +38,14 @@ loop-at-preserved c =
       subjects = c.set_place.ensures.subjects;
       names = c.set_place.ensures.names ∙ before.names;
       nurseries = c.set_place.ensures.nurseries ∙ before.nurseries;
-      places = c.set_place.ensures.places ∙ ap (λ (place : Place). set ys i place) c.followed.ensures ∙ map_over_more f xs ys i p inside before.places (read ∙ get_or_default ys i nobody.place p within);
+      places = c.set_place.ensures.places ∙ ap (λ (place : Place). set ys i place) c.place.ensures ∙ map_over_more f xs ys i p inside before.places (read ∙ get_or_default ys i nobody.place p within);
     }
 
-pub followed-requires : goal.followed-requires
-followed-requires c =
-    let h = c.args.spaces.now.spaces in
-    let f = moved_place (from_space Full) h (new_place c.args.forward.now.words) in
+pub place-requires : goal.place-requires
+place-requires c =
+    let starts = c.args.moves.numbering.now.starts in
+    let words = length c.args.moves.forward.now.words in
+    let f = followed_place (from_space c.args.moves.kind) starts (new_place c.args.moves.forward.now.words) in
     let before = c.loop-at.invariant in
     let xs = places_of c.args.subjects.now in
     let subjects = c.loop-at.subjects in
@@ -58,11 +56,11 @@ followed-requires c =
     let low : i < length subjects = omega (arith, inside, many, long) in
     let here : (get_or subjects i nobody).place ≡ get_or xs i nobody.place =
     sym (get_or-map (λ (x : Subject). x.place) subjects i nobody nobody.place low) ∙ still_at Place f xs (places_of subjects) i nobody.place before.places inside in
-    record { held = subst (λ (ss : List Subject). Holds h (get_or ss i nobody).place) (sym c.as_slice.ensures.value) (subst (Holds h) (sym here) (c.requires.held i nobody.place inside)); whole = c.requires.whole }
+    subst (λ (ss : List Subject). IsNumbered starts words (get_or ss i nobody).place) (sym c.as_slice.ensures.value) (subst (IsNumbered starts words) (sym here) (c.requires i nobody.place inside))
 
 pub returns : goal.returns
 returns c =
-    let f = moved_place (from_space Full) c.args.spaces.now.spaces (new_place c.args.forward.now.words) in
+    let f = followed_place (from_space c.args.moves.kind) c.args.moves.numbering.now.starts (new_place c.args.moves.forward.now.words) in
     let xs = places_of c.args.subjects.now in
     let i = c.loop-at.at in
     let past : length xs ≤ i = let same = length-map c.args.subjects.now (λ (x : Subject). x.place) in let end = c.loop-at-test.false in let count = c.len-at-end.ensures.number in omega arith in
@@ -76,9 +74,3 @@ returns c =
           ∙ append-nil (map f xs);
       subjects = done.subjects;
     }
-
-pub loop-at-init : goal.loop-at-init
-loop-at-init c = record { subjects = c.len-at-end.ensures.subjects; names = refl; nurseries = refl; places = refl }
-
-pub loop-at-smaller : goal.loop-at-smaller
-loop-at-smaller c = falls c.len-at-end.result c.loop-at.at c.loop-at-test.true

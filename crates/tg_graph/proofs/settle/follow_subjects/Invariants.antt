@@ -2,8 +2,7 @@ use Rattle.std.proofs.Common.{◌≡◌, ◌++◌, take, drop, map}
 use Rattle.tg_subjects.specs.Subjects.{AreSubjects, names_of, nurseries_of, places_of}
 use Rattle.tg_space.specs.Targets.{from_space}
 use Rattle.tg_space.specs.Collection.{new_place}
-use Rattle.tg_space.specs.declared.kind.Kind.TheVariants.{Full}
-use Rattle.tg_rows.specs.Index.{moved_place}
+use Rattle.tg_space.specs.Numbering.{followed_place}
 use Rattle.tg_graph.proofs.settle.follow_subjects.Given as goal
 
 abbrev pub invariant-loop-at : goal.invariant-loop-at
@@ -11,5 +10,5 @@ invariant-loop-at l = record {
   subjects : AreSubjects l.subjects;
   names : names_of l.subjects ≡ names_of l.fn.subjects;
   nurseries : nurseries_of l.subjects ≡ nurseries_of l.fn.subjects;
-  places : places_of l.subjects ≡ map (moved_place (from_space Full) l.spaces.spaces (new_place l.forward.words)) (take l.at (places_of l.fn.subjects)) ++ drop l.at (places_of l.fn.subjects);
+  places : places_of l.subjects ≡ map (followed_place (from_space l.moves.kind) l.moves.numbering.now.starts (new_place l.moves.forward.now.words)) (take l.at (places_of l.fn.subjects)) ++ drop l.at (places_of l.fn.subjects);
 }

@@ -4,15 +4,17 @@ use Rattle.std.proofs.Common.{◌≡◌, ap, refl, subst, sym}
 use Rattle.std.specs.Prelude.{IsTrue}
 use Rattle.tg_space.specs.SpaceTable.{SpaceTable}
 use Rattle.tg_space.proofs.Tables.{table_list}
+use Rattle.tg_payload.specs.Table.{Payloads}
 use Rattle.tg_rows.proofs.Lookups.{name_of_vertex}
 use Rattle.std.specs.List.{Contains}
 use Rattle.tg_model.specs.Graph.{with_rights}
 use Rattle.tg_rows.specs.Content.{IsNamed}
-use Rattle.tg_graph.specs.Heap.{AddsEdgeFor, HeapState, IsObject, content_of, name_of}
+use Rattle.tg_word.specs.declared.Place.{Place}
+use Rattle.tg_graph.specs.Heap.{AddsEdgeFor, HeapState, IsObject, content_of, heap_of, name_of}
 use Rattle.tg_rows.specs.Graph.{IsLongRow}
 use Rattle.tg_rows.specs.Steps.{ChangesTo}
 use Rattle.tg_rows.proofs.Results.{both_errors, both_oks, either_way, error_gives, success_gives}
-use Rattle.tg_graph.proofs.Heaps.{content_after, heap_same, heap_with, is_indexed, names_same, own_kept, still_indexed, nursery_inside, places_kept, well_formed_after, well_formed_same}
+use Rattle.tg_graph.proofs.Heaps.{content_after, heap_same, heap_with, is_indexed, names_same, own_kept, still_indexed, nursery_inside, places_kept, well_formed_after, well_formed_roomy}
 use Rattle.tg_graph.proofs.heap.Heap.add_edge_as.Given.{Over}
 use Rattle.tg_graph.proofs.heap.Heap.add_edge_as.Goals as goal
 
@@ -26,16 +28,12 @@ invariant_of-self g c =
           (λ added.
           let to = subst (λ p. ChangesTo s.table new.spaces p (IsNamed content) label content.value) (sym c.add_edge.ensures.edge.payloads) added in
           well_formed_after s new.spaces new.payloads new.remembered.places (names_indexed new.spaces.spaces c.add_edge.new.rows.entries) (IsNamed content) label content.value to (c.add_edge.ensures.edge.remembered c.self.invariant.0.remembered) c.self.invariant.0)
-          (λ same. well_formed_same s new.spaces new.payloads new.remembered.places (names_indexed new.spaces.spaces c.add_edge.new.rows.entries) c.self.invariant.0 same.0 c.add_edge.ensures.edge.payloads same.1),
+          (λ same. well_formed_roomy s new.spaces new.payloads new.remembered.places (names_indexed new.spaces.spaces c.add_edge.new.rows.entries) c.self.invariant.0 same.0 (ap (λ (ps : Payloads). ps.entries) c.add_edge.ensures.edge.payloads) same.1),
       c.add_edge.ensures.rows.indexed,
     )
 
--- the heap as its parts are at the start
-abbrev before : (g : Over) → goal.After-add_edge g → HeapState
-before g c = record { table = c.self.inside.cells.spaces; payloads = c.self.inside.cells.payloads; subjects = c.self.inside.subjects; remembered = c.self.inside.cells.remembered.places; indexed = names_indexed c.self.inside.cells.spaces.spaces c.self.inside.rows.entries }
-
 -- what is done, as one record
-done : (g : Over) (c : goal.After-add_edge g) → AddsEdgeFor c.args.self.now (heap_with (before g c) c.add_edge.new.self.spaces c.add_edge.new.self.payloads c.add_edge.new.self.remembered.places (names_indexed c.add_edge.new.self.spaces.spaces c.add_edge.new.rows.entries)) c.args.worker.nursery c.args.from c.args.to c.args.label c.add_edge.result
+done : (g : Over) (c : goal.After-add_edge g) → AddsEdgeFor c.args.self.now (heap_with (heap_of c.self.inside.cells c.self.inside.subjects c.self.inside.rows.entries) c.add_edge.new.self.spaces c.add_edge.new.self.payloads c.add_edge.new.self.remembered.places (names_indexed c.add_edge.new.self.spaces.spaces c.add_edge.new.rows.entries)) c.args.worker.nursery c.args.from c.args.to c.args.label c.add_edge.result
 done g c =
     let s : HeapState = record { table = c.self.inside.cells.spaces; payloads = c.self.inside.cells.payloads; subjects = c.self.inside.subjects; remembered = c.self.inside.cells.remembered.places; indexed = names_indexed c.self.inside.cells.spaces.spaces c.self.inside.rows.entries } in
     let content = content_of s in
@@ -72,37 +70,17 @@ done g c =
     subst (λ (x : HeapState). AddsEdgeFor x after c.args.worker.nursery from c.args.to c.args.label result) c.self.view_is
     (subst (λ (r : RightSet). AddsEdgeFor s after c.args.worker.nursery from c.args.to r result) c.rights.ensures.same is)
 
-pub returns-clause-added : goal.returns-clause-added
-returns-clause-added g c = (done g c).added
+pub returns : goal.returns
+returns g c =
+    let is = done g c in
+    record { added = is.added; placed = is.placed; kept = is.kept; indexed = is.indexed; refused = is.refused; full = is.full }
 
-pub returns-clause-placed : goal.returns-clause-placed
-returns-clause-placed g c = (done g c).placed
-
-pub returns-clause-kept : goal.returns-clause-kept
-returns-clause-kept g c = (done g c).kept
-
-pub returns-clause-indexed : goal.returns-clause-indexed
-returns-clause-indexed g c = (done g c).indexed
-
-pub returns-clause-refused : goal.returns-clause-refused
-returns-clause-refused g c = (done g c).refused
-
-pub returns-clause-full : goal.returns-clause-full
-returns-clause-full g c = (done g c).full
-
-pub add_edge-requires-clause-row : goal.add_edge-requires-clause-row
-add_edge-requires-clause-row g c = record {
-  graph = c.self.invariant.0.graph;
-  from = subst (λ (x : HeapState). IsObject x c.args.from) (sym c.self.view_is) c.requires.from;
-  indexed = c.self.invariant.1;
-}
-
-pub add_edge-requires-clause-gift : goal.add_edge-requires-clause-gift
-add_edge-requires-clause-gift g c =
-    let s : HeapState = record { table = c.self.inside.cells.spaces; payloads = c.self.inside.cells.payloads; subjects = c.self.inside.subjects; remembered = c.self.inside.cells.remembered.places; indexed = names_indexed c.self.inside.cells.spaces.spaces c.self.inside.rows.entries } in
+pub add_edge-requires : goal.add_edge-requires
+add_edge-requires g c =
+    let s = heap_of c.self.inside.cells c.self.inside.subjects c.self.inside.rows.entries in
     let there : Contains s.subjects c.args.worker = subst (λ (x : HeapState). Contains x.subjects c.args.worker) (sym c.self.view_is) c.requires.worker in
+    let object : (p : Place) → IsObject c.args.self.now p → IsObject s p = λ p. subst (λ (x : HeapState). IsObject x p) (sym c.self.view_is) in
     record {
-      nursery = nursery_inside s c.self.invariant.0 c.args.worker there;
-      to = subst (λ (x : HeapState). IsObject x c.args.to) (sym c.self.view_is) c.requires.to;
-      some = c.rights.ensures.held;
+      row = record { graph = c.self.invariant.0.graph; from = object c.args.from c.requires.from; indexed = c.self.invariant.1 };
+      gift = record { nursery = nursery_inside s c.self.invariant.0 c.args.worker there; to = object c.args.to c.requires.to; some = c.rights.ensures.held };
     }

@@ -110,13 +110,6 @@ returns-clause-place g c =
           c.new_vertex.ensures.vertex.made;
     }
 
-pub new_vertex-requires-clause-row : goal.new_vertex-requires-clause-row
-new_vertex-requires-clause-row g c = record {
-  graph = c.self.invariant.0.graph;
-  from = (subst (λ (x : HeapState). IsVertexAt x.table.spaces c.args.worker c.active-subject.result.place) (sym c.self.view_is) c.active-subject.ensures.vertex).object;
-  indexed = c.self.invariant.1;
-}
-
 pub new_vertex-requires-clause-vertex : goal.new_vertex-requires-clause-vertex
 new_vertex-requires-clause-vertex g c =
     let s : HeapState = record { table = c.self.inside.cells.spaces; payloads = c.self.inside.cells.payloads; subjects = c.self.inside.subjects; remembered = c.self.inside.cells.remembered.places; indexed = names_indexed c.self.inside.cells.spaces.spaces c.self.inside.rows.entries } in

@@ -10,7 +10,7 @@ use Rattle.tg_space.specs.declared.root.Root.TheVariants.{Row}
 use Rattle.tg_graph.specs.Heap.{AddsRoots, HeapState}
 use Rattle.tg_space.specs.Soundness.{IsRootIn}
 use Rattle.tg_space.specs.declared.root.Root.{Root}
-use Rattle.tg_rows.specs.Index.{IsIndexed, names_indexed}
+use Rattle.tg_rows.specs.Index.{names_indexed}
 use Rattle.tg_graph.proofs.Heaps.{subject_vertex}
 use Rattle.tg_graph.proofs.Starts.{more_rows, row_added}
 use Rattle.tg_graph.proofs.heap.Heap.named_by_rows.Goals.{in-Some+in_ok-add_indexed-in-Some, in_default+in_ok-push-in_default}
@@ -19,17 +19,6 @@ use Rattle.tg_graph.proofs.heap.Heap.named_by_rows.Goals as goal
 -- what an index past the end would read
 abbrev nobody : Subject
 nobody = record { name = 0; nursery = 0; place = record { space = 0; block = 0; cell = 0 } }
-
-pub add_indexed-requires-clause-index : goal.add_indexed-requires-clause-index
-add_indexed-requires-clause-index g c =
-    let x = get_or c.as_slice-subjects.result.now c.loop-subject.subject-index nobody in
-    let row = c.in-Some.row.now in
-    subst (λ (heap : HeapState). IsIndexed heap.table.spaces heap.remembered x.name row) c.self.view_is (c.self.invariant.1 x.name row (sym c.in-Some.ensures))
-
-pub add_indexed-requires-clause-subject : goal.add_indexed-requires-clause-subject
-add_indexed-requires-clause-subject g c =
-    let subjects = c.as_slice-subjects.result.now in
-    subst (λ (xs : List Subject). Contains xs (get_or subjects c.loop-subject.subject-index nobody)) (c.as_slice-subjects.ensures.value ∙ ap (λ (heap : HeapState). heap.subjects) c.self.view_is) (Contains-get_or subjects c.loop-subject.subject-index nobody c.loop-subject-test.true)
 
 pub loop-subject-preserved : goal.loop-subject-preserved
 loop-subject-preserved g c =

@@ -1,14 +1,12 @@
 -- The names of the cells before the loop's number, and of all.
-use Rattle.std.proofs.Common.{List, [], ap, arith, get_or, length, map, subst, sym, ℕ, ◌<◌, ◌==◌, ◌∙◌, ◌≡◌, ◌≤◌}
+use Rattle.std.proofs.Common.{List, [], ap, arith, get_or, length, subst, sym, ℕ, ◌<◌, ◌==◌, ◌∙◌, ◌≡◌, ◌≤◌}
 use Rattle.tg_space.specs.SpaceList.{cells_of}
 use Rattle.tg_space.proofs.Tables.{table_list}
 use Rattle.tg_graph.specs.Shown.{shown_in}
 use Rattle.tg_graph.proofs.NamesShown.{count_object, names_all, next_other, shown_object}
 use Rattle.tg_graph.proofs.heap.Heap.names.Goals.{else-words-eq-OBJECT_TAG, then-words-eq-OBJECT_TAG}
 use Rattle.std.specs.List.{IsDistinct}
-use Rattle.tg_rows.specs.Index.{names_indexed}
-use Rattle.tg_graph.specs.Heap.{HeapState, content_of}
-use Rattle.tg_rows.specs.Rows.{name_at, objects_of}
+use Rattle.tg_graph.specs.Heap.{HeapState, content_of, heap_of}
 use Rattle.tg_graph.proofs.Counted.{names_once}
 use Rattle.tg_graph.proofs.heap.Heap.names.Goals as goal
 
@@ -37,23 +35,16 @@ loop-number-preserved g c =
           }
     ]
 
-pub returns-clause-number : goal.returns-clause-number
-returns-clause-number g c =
-    let h = c.self.inside.cells.spaces.spaces in
-    let whole = table_list c.self.inside.cells.spaces c.cells-number-end.ensures.table in
+pub returns : goal.returns
+returns g c =
+    let s = heap_of c.self.inside.cells c.self.inside.subjects c.self.inside.rows.entries in
+    let h = s.table.spaces in
+    let whole = table_list s.table c.cells-number-end.ensures.table in
     let end : length (cells_of h) ≤ c.loop-number.number = omega (arith, c.cells-number-end.ensures.cells) in
-    c.loop-number.invariant.count ∙ ap length (names_all h whole c.loop-number.number end) ∙ ap (λ (heap : HeapState). length (content_of heap).names) c.self.view_is
-
-pub returns-clause-shown : goal.returns-clause-shown
-returns-clause-shown g c =
-    let h = c.self.inside.cells.spaces.spaces in
-    let whole = table_list c.self.inside.cells.spaces c.cells-number-end.ensures.table in
-    let end : length (cells_of h) ≤ c.loop-number.number = omega (arith, c.cells-number-end.ensures.cells) in
-    c.loop-number.invariant.shown ∙ ap (λ (xs : List ℕ). shown_in xs c.args.into.now) (names_all h whole c.loop-number.number end) ∙ ap (λ (heap : HeapState). shown_in (content_of heap).names c.args.into.now) c.self.view_is
-
-pub returns-clause-once : goal.returns-clause-once
-returns-clause-once g c =
-    let inside = c.self.inside in
-    let s : HeapState = record { table = inside.cells.spaces; payloads = inside.cells.payloads; subjects = inside.subjects; remembered = inside.cells.remembered.places; indexed = names_indexed inside.cells.spaces.spaces inside.rows.entries } in
-    let once = names_once s.table.spaces s.payloads (table_list s.table c.cells-number-end.ensures.table) c.self.invariant.0.graph in
-    subst (λ (heap : HeapState). IsDistinct (λ a b. a == b) (map (name_at heap.table.spaces) (objects_of heap.table.spaces))) c.self.view_is once
+    let all = names_all h whole c.loop-number.number end in
+    let done = c.loop-number.invariant in
+    record {
+      number = done.count ∙ ap length all ∙ ap (λ (heap : HeapState). length (content_of heap).names) c.self.view_is;
+      shown = done.shown ∙ ap (λ (xs : List ℕ). shown_in xs c.args.into.now) all ∙ ap (λ (heap : HeapState). shown_in (content_of heap).names c.args.into.now) c.self.view_is;
+      once = subst (λ (heap : HeapState). IsDistinct (λ a b. a == b) (content_of heap).names) c.self.view_is (names_once h s.payloads whole c.self.invariant.0.graph);
+    }

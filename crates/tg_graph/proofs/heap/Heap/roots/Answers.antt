@@ -28,7 +28,7 @@ record StandFor (kind : Kind) (s : HeapState) (roots : List Root) : Type 0 where
   sound : AreSound s.table.spaces roots
 
 rows_stand : (s : HeapState) → IsWellFormed s → StandFor Full s (map (λ (x : Subject). Row x.place) s.subjects)
-rows_stand s formed = subst (StandFor Full s) (sym (at_places s.subjects)) (record { alike = λ forward aged old notes. (λ is. is, λ is. is); targets = refl; sound = roots_sound s formed Full })
+rows_stand s formed = subst (StandFor Full s) (sym (at_places s.subjects)) (record { alike = λ made. (λ is. is, λ is. is); targets = refl; sound = roots_sound s formed Full })
 
 noted_stand : (s : HeapState) → IsWellFormed s → (roots : List Root) → AddsRoots s.table.spaces (all_root_targets young_spaces s.table.spaces (map (λ p. Row p) (places_of s.subjects))) [] roots → StandFor Nursery s (roots ++ map (λ p. Remembered p) s.remembered)
 noted_stand s formed roots are = record { alike = starts_collect s formed roots are; targets = all_same s formed roots are; sound = starts_sound s formed roots are }

@@ -1,86 +1,103 @@
-use Rattle.std.proofs.Common.{◌≡◌, ◌∙◌, map, refl, subst, sym}
-use Rattle.tg_space.specs.SpaceTable.{with_adopted}
+-- The heap that a collection leaves.
+use Rattle.std.proofs.Common.{◌≡◌, ◌∙◌, refl, subst, sym}
+use Rattle.tg_space.specs.SpaceTable.{SpaceTable, with_adopted}
 use Rattle.tg_space.specs.declared.kind.Kind.{Kind}
 use Rattle.tg_space.specs.declared.kind.Kind.TheVariants.{Full, Nursery}
-use Rattle.tg_graph.specs.Heap.{HeapState, roots_of}
-use Rattle.tg_graph.specs.Kept.{AreWritten, IsSettled, rewritten_at}
-use Rattle.tg_space.specs.Collection.{IsCollection}
-use Rattle.tg_graph.proofs.Heaps.{full_or_nursery}
+use Rattle.tg_space.specs.Collection.{collected_in}
+use Rattle.tg_rows.specs.Index.{AreIndexed, names_indexed}
+use Rattle.tg_graph.specs.Heap.{HeapState, IsWellFormed, heap_of}
+use Rattle.tg_graph.specs.Kept.{AreWritten, rewritten}
+use Rattle.tg_graph.proofs.KeptHeap.{IsLeft, collected_here, followable, indexed_beside, moved_to_old, numbers_here, remembered_cells, subjects_numbered}
+use Rattle.tg_graph.proofs.KeptWritten.{left}
 use Rattle.tg_graph.proofs.heap.Heap.settle.Given.{Over}
-use Rattle.tg_graph.proofs.heap.Heap.settle.Goals.{in-Full, in-Nursery+in_ok-prepared-in-Nursery+in_ok-put_in_place-in-Nursery}
 use Rattle.tg_graph.proofs.heap.Heap.settle.Goals as goal
 
--- what either collection left; the words that are kept are no part of the heap that is seen
-settled : (g : Over) (c : goal.After-vertices g) → IsSettled c.args.kind c.args.self.now c.keep_words.new.self
-settled g c =
-    let Settled : Kind → HeapState → Type 0 = λ kind heap. IsSettled kind c.args.self.now heap in
-    let left : Settled c.args.kind c.match-kind.self = elim c.match-kind.branch [
-      | in-Full w ↦ subst (Settled c.args.kind) (sym w.self-is) (subst (λ (kind : Kind). Settled kind w.keep_copied.new.self) (sym w.in-Full.is) w.keep_copied.ensures.settled)
-      | in-Nursery+in_ok-prepared-in-Nursery+in_ok-put_in_place-in-Nursery w ↦
-          subst (Settled c.args.kind) (sym w.self-is) (subst (λ (kind : Kind). Settled kind w.put_in_place.new.self) (sym w.in-Nursery.is) w.in_ok-put_in_place-in-Nursery.ensures.settled)
-    ] in
-    subst (Settled c.args.kind) (sym c.keep_words.ensures) left
+pub move_cells-requires : goal.move_cells-requires
+move_cells-requires g c =
+    let s = heap_of c.self.inside.cells c.self.inside.subjects c.self.inside.rows.entries in
+    let formed = c.self.invariant.0 in
+    let table = c.of-numbering.ensures.table in
+    let made = collected_in c.args.copied in
+    let numbers = numbers_here s c.args.self.now c.self.view_is formed table c.args.kind made c.requires c.of-numbering.result.starts c.of-numbering.ensures.starts in
+    let collected = collected_here s c.args.self.now c.self.view_is formed table c.args.kind made c.requires in
+    λ lifetimes outlives. (outlives, record { before = refl; graph = formed.graph; numbers = numbers; remembered = remembered_cells s formed; few = collected.few })
 
-pub returns-clause-kept : goal.returns-clause-kept
-returns-clause-kept g c = (settled g c).keeps
+pub follow_subjects-requires : goal.follow_subjects-requires
+follow_subjects-requires g c =
+    let s = heap_of c.self.inside.cells c.self.inside.subjects c.self.inside.rows.entries in
+    subjects_numbered s c.args.self.now c.self.view_is c.self.invariant.0 c.of-numbering.ensures.table c.args.kind (collected_in c.args.copied) c.requires c.of-numbering.result.starts c.of-numbering.ensures.starts
 
-pub returns-clause-needed : goal.returns-clause-needed
-returns-clause-needed g c = (settled g c).needed
+pub follow-requires : goal.follow-requires
+follow-requires g c =
+    let s = heap_of c.self.inside.cells c.self.inside.subjects c.self.inside.rows.entries in
+    let table = c.of-numbering.ensures.table in
+    let made = collected_in c.args.copied in
+    record {
+      rows = followable s c.args.self.now c.self.view_is c.self.invariant.0 table c.args.kind made c.requires c.of-numbering.result.starts c.of-numbering.ensures.starts c.self.inside.rows.entries c.self.invariant.1;
+      to_old = moved_to_old s c.args.self.now c.self.view_is c.self.invariant.0 table c.args.kind made c.requires;
+    }
 
-pub returns-clause-stay : goal.returns-clause-stay
-returns-clause-stay g c = (settled g c).stay
+-- the heap as its parts are at the end
+abbrev now : (g : Over) → goal.After-keep_words g → SpaceTable → HeapState
+now g c t = record { table = t; payloads = c.move_cells.new.cells.payloads; subjects = c.follow_subjects.new.subjects; remembered = c.args.copied.remembered.places; indexed = names_indexed t.spaces c.follow.new.self.entries }
 
-pub returns-clause-written : goal.returns-clause-written
-returns-clause-written g c =
-    let old : HeapState = c.args.self.now in
-    let Written : HeapState → Type 0 = λ heap. AreWritten (with_adopted old.table Nursery c.args.adoption.aged c.args.adoption.old) heap.table (map (rewritten_at old.table.spaces c.args.forward.words) old.remembered) in
-    let written : c.args.kind ≡ Nursery → Written c.match-kind.self = elim c.match-kind.branch [
-      | in-Full w ↦ λ nursery. absurd (full_or_nursery (sym w.in-Full.is ∙ nursery))
-      | in-Nursery+in_ok-prepared-in-Nursery+in_ok-put_in_place-in-Nursery w ↦ λ nursery. subst Written (sym w.self-is) w.in_ok-put_in_place-in-Nursery.ensures.written
-    ] in
-    λ nursery. subst Written (sym c.keep_words.ensures) (written nursery)
+left_now : (g : Over) (c : goal.After-keep_words g) → IsLeft c.args.kind c.args.self.now (now g c c.keep_words.new.self) c.follow.new.self.entries
+left_now g c =
+    let rows = c.self.inside.rows.entries in
+    let s = heap_of c.self.inside.cells c.self.inside.subjects rows in
+    let kind = c.args.kind in
+    let made = collected_in c.args.copied in
+    let formed = c.self.invariant.0 in
+    let table = c.of-numbering.ensures.table in
+    let moved = c.in_ok-move_cells.ensures.moved in
+    let t = c.move_cells.new.cells.spaces in
+    subst (λ (t : SpaceTable). IsLeft kind c.args.self.now (now g c t) c.follow.new.self.entries) (sym c.keep_words.ensures)
+    (subst (λ (before : HeapState). IsLeft kind before (now g c t) c.follow.new.self.entries) c.self.view_is
+    (left s formed table kind made (collected_here s c.args.self.now c.self.view_is formed table kind made c.requires) (now g c t) moved.written moved.table moved.dropped c.follow.new.self.entries
+    (record {
+      rows = rows;
+      starts = c.of-numbering.result.starts;
+      starts_are = c.of-numbering.ensures.starts;
+      placed = c.follow_subjects.ensures;
+      remembered = refl;
+      indexed = indexed_beside s c.args.self.now c.self.view_is formed table kind made c.requires rows c.self.invariant.1;
+      followed = c.follow.ensures;
+      before = refl;
+      after = refl;
+    })))
 
-pub returns-clause-blocks : goal.returns-clause-blocks
-returns-clause-blocks g c =
-    let Adopted : HeapState → Type 0 = λ heap. heap.table ≡ with_adopted c.args.self.now.table Full c.args.adoption.aged c.args.adoption.old in
-    let adopted : c.args.kind ≡ Full → Adopted c.match-kind.self = elim c.match-kind.branch [
-      | in-Full w ↦ λ full. subst Adopted (sym w.self-is) w.keep_copied.ensures.blocks
-      | in-Nursery+in_ok-prepared-in-Nursery+in_ok-put_in_place-in-Nursery w ↦ λ full. absurd (full_or_nursery (sym full ∙ w.in-Nursery.is))
-    ] in
-    λ full. subst Adopted (sym c.keep_words.ensures) (adopted full)
+pub invariant_of-self-2 : goal.invariant_of-self-2
+invariant_of-self-2 g c = ((left_now g c).well_formed, (left_now g c).indexed)
 
-pub returns-clause-only_old : goal.returns-clause-only_old
-returns-clause-only_old g c = (settled g c).only_old
+pub returns : goal.returns
+returns g c =
+    let settled = (left_now g c.before).settled in
+    let copied = c.args.copied in
+    let Writes : HeapState → SpaceTable → Kind → Type 0 = λ heap t kind. AreWritten (with_adopted heap.table kind copied.adoption.aged copied.adoption.old) t (rewritten kind heap.table.spaces copied.forward.words heap.remembered) in
+    record {
+      kept = settled.keeps;
+      blocks = λ full. c.keep_words.ensures ∙ subst (λ (heap : HeapState). c.move_cells.new.cells.spaces ≡ with_adopted heap.table Full c.args.copied.adoption.aged c.args.copied.adoption.old) c.self.view_is (c.move_cells.ensures.full full).1;
+      written = λ nursery.
+          subst (λ (t : SpaceTable). Writes c.args.self.now t Nursery) (sym c.keep_words.ensures)
+          (subst (λ (heap : HeapState). Writes heap c.move_cells.new.cells.spaces Nursery) c.self.view_is
+          (subst (Writes (heap_of c.self.inside.cells c.self.inside.subjects c.self.inside.rows.entries) c.move_cells.new.cells.spaces) nursery c.in_ok-move_cells.ensures.moved.written));
+      only_old = settled.only_old;
+      no_nursery = settled.no_nursery;
+      limits = settled.limits;
+      needed = settled.needed;
+      none_needed = settled.none_needed;
+      stay = settled.stay;
+      subjects = settled.subjects;
+      nurseries = settled.nurseries;
+      left = c.vertices.ensures.number;
+      indexed = settled.indexed;
+      refused = tt;
+      full = λ full. refl;
+    }
 
-pub returns-clause-no_nursery : goal.returns-clause-no_nursery
-returns-clause-no_nursery g c = (settled g c).no_nursery
-
-pub returns-clause-limits : goal.returns-clause-limits
-returns-clause-limits g c = (settled g c).limits
-
-pub returns-clause-none_needed : goal.returns-clause-none_needed
-returns-clause-none_needed g c = (settled g c).none_needed
-
-pub returns-clause-subjects : goal.returns-clause-subjects
-returns-clause-subjects g c = (settled g c).subjects
-
-pub returns-clause-nurseries : goal.returns-clause-nurseries
-returns-clause-nurseries g c = (settled g c).nurseries
-
-pub returns-clause-left : goal.returns-clause-left
-returns-clause-left g c = c.vertices.ensures.number
-
-pub returns-clause-full : goal.returns-clause-full
-returns-clause-full g c = λ full. refl
-
-pub returns-clause-indexed : goal.returns-clause-indexed
-returns-clause-indexed g c = (settled g c).indexed
-
-pub keep_copied-requires : goal.keep_copied-requires
-keep_copied-requires g c = subst (λ (kind : Kind). IsCollection kind c.args.self.now.table.spaces (roots_of kind c.args.self.now) c.args.forward.words c.args.adoption.aged c.args.adoption.old c.args.remembered.places) c.in-Full.is c.requires
-
-pub prepared-requires : goal.prepared-requires
-prepared-requires g c = subst (λ (kind : Kind). IsCollection kind c.args.self.now.table.spaces (roots_of kind c.args.self.now) c.args.forward.words c.args.adoption.aged c.args.adoption.old c.args.remembered.places) c.in-Nursery.is c.requires
-
-pub put_in_place-requires-clause-collection : goal.put_in_place-requires-clause-collection
-put_in_place-requires-clause-collection g c = subst (λ (kind : Kind). IsCollection kind c.args.self.now.table.spaces (roots_of kind c.args.self.now) c.args.forward.words c.args.adoption.aged c.args.adoption.old c.args.remembered.places) c.in-Nursery.is c.requires
+-- where memory was refused the heap is as it was
+pub invariant_of-self : goal.invariant_of-self
+invariant_of-self g c =
+    let inside = c.self.inside in
+    let before = sym c.in_err-move_cells.ensures.refused in
+    subst (λ (kept : Type 0). kept) (λ i. IsWellFormed (heap_of (before i) inside.subjects inside.rows.entries) × AreIndexed (before i).spaces.spaces (before i).remembered.places inside.rows.entries) c.self.invariant

@@ -1,24 +1,11 @@
-use Rattle.std.proofs.Common.{◌≡◌, ◌↔◌, IsSome, subst}
-use Rattle.std.specs.Prelude.{IfSome}
+use Rattle.std.proofs.Common.{subst}
 use Rattle.tg_subjects.specs.Subjects.{IsSubjectNamed}
 use Rattle.tg_rows.specs.Index.{names_indexed}
-use Rattle.tg_graph.specs.Heap.{HeapState, IsActive, nursery_of}
+use Rattle.tg_graph.specs.Heap.{HeapState}
 use Rattle.tg_rows.specs.Rows.{IsVertexAt}
 use Rattle.tg_rows.proofs.Results.{if_some}
 use Rattle.tg_graph.proofs.Heaps.{subject_vertex}
 use Rattle.tg_graph.proofs.heap.Heap.subject.Goals as goal
-
-pub returns-clause-active : goal.returns-clause-active
-returns-clause-active g c =
-    subst (λ (x : HeapState). IsSome c.find.result ↔ IsActive x c.args.name) c.self.view_is c.find.ensures.found
-
-pub returns-clause-there : goal.returns-clause-there
-returns-clause-there g c =
-    subst (λ (x : HeapState). IfSome c.find.result (IsSubjectNamed x.subjects c.args.name)) c.self.view_is c.find.ensures.there
-
-pub returns-clause-nursery : goal.returns-clause-nursery
-returns-clause-nursery g c =
-    subst (λ (x : HeapState). IfSome c.find.result (λ subject. subject.nursery ≡ nursery_of x c.args.name)) c.self.view_is c.find.ensures.nursery
 
 pub returns-clause-vertex : goal.returns-clause-vertex
 returns-clause-vertex g c =

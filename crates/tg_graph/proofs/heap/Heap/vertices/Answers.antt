@@ -1,24 +1,17 @@
 -- There are as many payloads as objects.
-use Rattle.std.proofs.Common.{◌≡◌, ◌==◌, length, map, subst, ◌∙◌}
+use Rattle.std.proofs.Common.{◌==◌, ◌∙◌, length, ap, subst}
 use Rattle.std.specs.List.{IsDistinct}
 use Rattle.tg_space.proofs.Tables.{table_list}
-use Rattle.tg_payload.specs.Table.{count}
-use Rattle.tg_rows.specs.Index.{names_indexed}
-use Rattle.tg_graph.specs.Heap.{HeapState}
-use Rattle.tg_rows.specs.Rows.{name_at, objects_of}
+use Rattle.tg_graph.specs.Heap.{HeapState, content_of, heap_of}
 use Rattle.tg_graph.proofs.Counted.{names_once, payloads_counted}
 use Rattle.tg_graph.proofs.heap.Heap.vertices.Goals as goal
 
-pub returns-clause-number : goal.returns-clause-number
-returns-clause-number g c =
-    let inside = c.self.inside in
-    let s : HeapState = record { table = inside.cells.spaces; payloads = inside.cells.payloads; subjects = inside.subjects; remembered = inside.cells.remembered.places; indexed = names_indexed inside.cells.spaces.spaces inside.rows.entries } in
-    let counted = payloads_counted s.table.spaces s.payloads (table_list s.table c.blocks-2.ensures.table) c.self.invariant.0.graph in
-    c.len.ensures ∙ subst (λ (heap : HeapState). count s.payloads ≡ length (map (name_at heap.table.spaces) (objects_of heap.table.spaces))) c.self.view_is counted
-
-pub returns-clause-once : goal.returns-clause-once
-returns-clause-once g c =
-    let inside = c.self.inside in
-    let s : HeapState = record { table = inside.cells.spaces; payloads = inside.cells.payloads; subjects = inside.subjects; remembered = inside.cells.remembered.places; indexed = names_indexed inside.cells.spaces.spaces inside.rows.entries } in
-    let once = names_once s.table.spaces s.payloads (table_list s.table c.blocks-2.ensures.table) c.self.invariant.0.graph in
-    subst (λ (heap : HeapState). IsDistinct (λ a b. a == b) (map (name_at heap.table.spaces) (objects_of heap.table.spaces))) c.self.view_is once
+pub returns : goal.returns
+returns g c =
+    let s = heap_of c.self.inside.cells c.self.inside.subjects c.self.inside.rows.entries in
+    let h = s.table.spaces in
+    let whole = table_list s.table c.blocks-2.ensures.table in
+    record {
+      number = c.len.ensures ∙ payloads_counted h s.payloads whole c.self.invariant.0.graph ∙ ap (λ (heap : HeapState). length (content_of heap).names) c.self.view_is;
+      once = subst (λ (heap : HeapState). IsDistinct (λ a b. a == b) (content_of heap).names) c.self.view_is (names_once h s.payloads whole c.self.invariant.0.graph);
+    }

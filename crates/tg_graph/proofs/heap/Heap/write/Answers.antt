@@ -1,14 +1,15 @@
-use Rattle.std.proofs.Common.{List, subst, sym}
+use Rattle.std.proofs.Common.{List, ap, subst, sym}
 use Rattle.std.proofs.lemmas.Result.{IfOk-weaker}
 use Rattle.tg_model.specs.Rules.{written_at}
 use Rattle.tg_word.specs.declared.Place.{Place}
+use Rattle.tg_payload.specs.Table.{Payloads}
 use Rattle.tg_space.specs.SpaceTable.{SpaceTable}
 use Rattle.tg_space.specs.Generations.{AreRemembered}
 use Rattle.tg_rows.specs.Content.{IsContent, IsNamed}
 use Rattle.tg_graph.specs.Heap.{HeapState, KeepsPlaces, content_of, name_of, IsObject}
 use Rattle.tg_rows.specs.Index.{AreIndexed, names_indexed}
 use Rattle.tg_rows.specs.Steps.{ChangesTo}
-use Rattle.tg_graph.proofs.Heaps.{content_after, heap_with, places_kept, well_formed_after, well_formed_same}
+use Rattle.tg_graph.proofs.Heaps.{content_after, heap_with, places_kept, well_formed_after, well_formed_roomy}
 use Rattle.tg_rows.proofs.Results.{either_way}
 use Rattle.tg_graph.proofs.heap.Heap.write.Goals as goal
 
@@ -19,7 +20,7 @@ invariant_of-self g c =
     let new = c.write.new.self in (
       either_way c.write.result c.write.ensures.written c.write.ensures.refused
           (λ to. well_formed_after s new.spaces new.payloads new.remembered.places (names_indexed new.spaces.spaces c.self.inside.rows.entries) (IsNamed content) content.label (written_at content.value (name_of s c.args.at) c.args.number) to (subst (λ (x : SpaceTable). AreRemembered x.spaces new.remembered.places) (sym c.write.ensures.spaces) (subst (λ (ps : List Place). AreRemembered s.table.spaces ps) (sym c.write.ensures.places) c.self.invariant.0.remembered)) c.self.invariant.0)
-          (λ same. well_formed_same s new.spaces new.payloads new.remembered.places (names_indexed new.spaces.spaces c.self.inside.rows.entries) c.self.invariant.0 c.write.ensures.spaces same c.write.ensures.places),
+          (λ same. well_formed_roomy s new.spaces new.payloads new.remembered.places (names_indexed new.spaces.spaces c.self.inside.rows.entries) c.self.invariant.0 c.write.ensures.spaces (ap (λ (ps : Payloads). ps.entries) same) c.write.ensures.places),
       subst (λ (x : SpaceTable). AreIndexed x.spaces new.remembered.places c.self.inside.rows.entries) (sym c.write.ensures.spaces)
           (subst (λ (ps : List Place). AreIndexed s.table.spaces ps c.self.inside.rows.entries) (sym c.write.ensures.places) c.self.invariant.1),
     )

@@ -1,5 +1,4 @@
-use Rattle.std.proofs.Common.{◌<◌, ◌≤◌, ◌*◌, ◌%◌, ◌^◌, ℕ, List, bit_or, sym, subst}
-use Rattle.std.specs.List.{All}
+use Rattle.std.proofs.Common.{◌≤◌, ◌*◌, ◌%◌, ◌^◌, ℕ, List, bit_or, sym, subst}
 use Rattle.tg_word.specs.declared.TheConstants.{MAX_NURSERIES}
 use Rattle.tg_subjects.specs.declared.subject.Subject.{Subject}
 use Rattle.tg_subjects.specs.Subjects.{AreSubjects, IsLeastFree, MarksHeld, nurseries_of}
@@ -8,14 +7,12 @@ use Rattle.tg_subjects.proofs.TableLaws.{subjects_push}
 use Rattle.tg_subjects.proofs.subjects.Subjects.add.Goals as goal
 
 free : (c : goal.After-self-1) → IsLeastFree c.self.inside.items.items c.free_nursery-nursery.result
-free c = subst (λ (l : List Subject). IsLeastFree l c.free_nursery-nursery.result) (sym c.self.view_is) c.free_nursery-nursery.ensures
+free c = rw c.self.view_is c.free_nursery-nursery.ensures
 
 are_more : (c : goal.After-self-1) → AreSubjects c.push_reserved.new.self.items
 are_more c =
-    let ss : List Subject = c.self.inside.items.items in
     let s : Subject = record { name = c.args.name; nursery = c.free_nursery-nursery.result; place = c.args.place } in
-    let above : All (λ t. t.name < s.name) ss = subst (λ (l : List Subject). All (λ t. t.name < s.name) l) (sym c.self.view_is) c.requires.above in
-    subst AreSubjects (sym c.push_reserved.ensures.items) (subjects_push ss s c.self.invariant.0 (free c) above)
+    rw c.push_reserved.ensures.items (subjects_push c.self.inside.items.items s c.self.invariant.0 (free c) (rw (← c.self.view_is) at c.requires.above))
 
 pub invariant_of-self : goal.invariant_of-self
 invariant_of-self c =
