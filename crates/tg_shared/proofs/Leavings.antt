@@ -1,27 +1,24 @@
 -- The entries by which a worker leaves: their receipts, and what they make of the balance behind the lock.
-use Rattle.std.proofs.Common.{◌≡◌, ◌∙◌, ℕ, ◌+◌, ◌<◌, ◌≤◌, Bool, true, List, [], ◌∷◌, ◌++◌, length, length-append, map, append_assoc, drop, refl, sym, ap, subst, arith}
-use Rattle.std.specs.Prelude.{take}
-use Rattle.std.proofs.lemmas.List.{length-map, take-append-le, drop-append-le}
-use Rattle.std.proofs.lemmas.List.Sums.{sum_by-append, sum_by-cons}
+use Rattle.std.proofs.Common.{◌≡◌, ◌∙◌, ℕ, ◌+◌, ◌<◌, Bool, true, List, [], ◌∷◌, ◌++◌, length, add-zero, length-append, map, append_assoc, refl, sym, ap, subst, arith}
+use Rattle.std.proofs.lemmas.List.{length-map}
+use Rattle.std.proofs.lemmas.List.Sums.{sum_by-cons}
 use Rattle.tg_rights.specs.RightSet.{RightSet}
 use Rattle.tg_model.specs.Graph.{ProtectionGraph, IsSound, IsSubject, listing_of}
 use Rattle.tg_model.specs.Opened.{Plan, start_of}
 use Rattle.tg_model.proofs.SubjectLaws.{is_without}
 use Rattle.tg_journal.specs.declared.entry.Entry.{Entry}
-use Rattle.tg_journal.specs.History.{IsLegal, graph_after}
-use Rattle.tg_journal.proofs.HistoryLaws.{IsLegal-cut, IsSound-opened, graph_after-append, no_subject-after}
+use Rattle.tg_journal.specs.History.{IsLegal}
+use Rattle.tg_journal.proofs.HistoryLaws.{IsLegal-cut, IsSound-opened, no_subject-after}
 use Rattle.tg_store.specs.Leaving.{HasLeft, leaving, removal, retiring}
 use Rattle.tg_store.specs.Store.{StoreState, IsFaithful, graph_of_store}
 use Rattle.tg_shared.specs.Receipts.{receipt_of, receipts_from}
 use Rattle.tg_shared.specs.Sessions.{AddsReceipt, AddsReceipts, GoesOn, IsBalanced, SessionState, SharedStart, is_spawn, retired_behind, retired_by, sessions_made, spawned}
-use Rattle.tg_shared.proofs.Balances.{balanced_more, grown, one}
+use Rattle.tg_shared.proofs.Balances.{graph_more, locked_more, one}
 
 -- ---- receipts
 
 receipts_push : (at : ℕ) (es : List Entry) (e : Entry) → receipts_from at (es ++ e ∷ []) ≡ receipts_from at es ++ receipt_of (at + length es) e ∷ []
-receipts_push at [] e =
-    let same : at ≡ at + 0 = omega arith in
-    ap (λ n. receipt_of n e ∷ []) same
+receipts_push at [] e = ap (λ n. receipt_of n e ∷ []) (sym (add-zero at))
 receipts_push at (x ∷ es) e =
     let same : at + 1 + length es ≡ at + length (x ∷ es) = omega arith in
     ap (λ rs. receipt_of at x ∷ rs) (receipts_push (at + 1) es e ∙ ap (λ n. receipts_from (at + 1) es ++ receipt_of n e ∷ []) same)
@@ -64,9 +61,7 @@ pub stays_away : (old new later : StoreState) (x : ℕ) (es : List Entry) → Is
 stays_away old new later x es faithful here left opening entries again =
     let sound : IsSound (graph_of_store old) = IsSound-opened old.opening old.entries faithful.plan faithful.legal in
     let low : x < (graph_of_store new).made = subst (λ (g : ProtectionGraph). x < g.made) (sym left.graph) (sound.subjects_made x here) in
-    let graph : graph_of_store later ≡ graph_after (graph_of_store new) es =
-    (λ i. graph_after (start_of (opening i)) (entries i)) ∙ graph_after-append (start_of new.opening) new.entries es in
-    no_subject-after (graph_of_store new) es x low (gone_left old new x left) (subst (λ (g : ProtectionGraph). IsSubject g x) graph again)
+    no_subject-after (graph_of_store new) es x low (gone_left old new x left) (subst (λ (g : ProtectionGraph). IsSubject g x) (graph_more new later es entries opening) again)
 
 pub length_leaving : (g : ProtectionGraph) (x : ℕ) → length (leaving g x) ≡ length (listing_of g.label g.made x) + 1
 length_leaving g x =
@@ -82,46 +77,10 @@ none_spawned x (e ∷ row) =
     let first = sum_by-cons (λ y. one (is_spawn y)) (removal x e) (map (removal x) row ++ retiring x ∷ []) in
     omega (arith, first, rest)
 
-sessions_left : (start : SharedStart) (es : List Entry) (g : ProtectionGraph) (x : ℕ) → length start.entries ≤ length es → sessions_made start (es ++ leaving g x) ≡ sessions_made start es
-sessions_left start es g x few =
-    let n = length start.entries in
-    let more = ap spawned (drop-append-le n es (leaving g x) few) in
-    let both = sum_by-append (λ e. one (is_spawn e)) (drop n es) (leaving g x) in
-    let none = none_spawned x (listing_of g.label g.made x) in
-    omega (arith, more, both, none)
-
-module _ (old new : StoreState) (x : ℕ) (left : HasLeft x old new) where
-  pub longer : length new.entries ≡ length old.entries + (length (listing_of (graph_of_store old).label (graph_of_store old).made x) + 1)
-  longer =
-      let all = ap (λ (es : List Entry). length es) left.entries in
-      let both = length-append old.entries (leaving (graph_of_store old) x) in
-      let more = length_leaving (graph_of_store old) x in
-      omega (arith, all, both, more)
-
-  -- each entry is counted
-  pub balanced_left : (start sessions total next rest parts : ℕ) → IsBalanced old start sessions total rest parts
-      → next ≡ total + (length (listing_of (graph_of_store old).label (graph_of_store old).made x) + 1) → IsBalanced new start sessions next rest parts
-  balanced_left start sessions total next rest parts held counts =
-      balanced_more old new start sessions sessions total next rest rest parts _ held longer counts left.opening refl (subst (λ (g : ProtectionGraph). sessions ≤ g.made) (sym left.graph) held.made)
-
-  pub goes_on_left : (start : SharedStart) → GoesOn start old → GoesOn start new
-  goes_on_left start on =
-      let n = length start.entries in
-      record {
-        opening = left.opening ∙ on.opening;
-        earlier = ap (take n) left.entries ∙ (take-append-le n old.entries (leaving (graph_of_store old) x) (grown start old on) ∙ on.earlier);
-        limits = left.limits ∙ on.limits;
-        within = on.within;
-        whole = λ is_whole. left.handed ∙ on.whole is_whole;
-      }
-
-  -- what is so behind the lock stays so, but for one part, which its caller tells
-  pub locked_left : {P Q R : Type 0} (start : SharedStart) (first sessions total next rest parts : ℕ) → IsBalanced old first sessions total rest parts × P × Q × GoesOn start old × (sessions ≡ sessions_made start old.entries)
-      → next ≡ total + (length (listing_of (graph_of_store old).label (graph_of_store old).made x) + 1) → R → IsBalanced new first sessions next rest parts × P × R × GoesOn start new × (sessions ≡ sessions_made start new.entries)
-  locked_left start first sessions total next rest parts held counts told = (
-    balanced_left first sessions total next rest parts held.0 counts,
-    held.1,
-    told,
-    goes_on_left start held.3,
-    held.4 ∙ sym (ap (sessions_made start) left.entries ∙ sessions_left start old.entries (graph_of_store old) x (grown start old held.3)),
-  )
+-- what is so behind the lock stays so, but for one part, which its caller tells; each entry is counted
+pub locked_left : (old new : StoreState) (x : ℕ) (left : HasLeft x old new) {P Q R : Type 0} (start : SharedStart) (first sessions total next rest parts : ℕ) → IsBalanced old first sessions total rest parts × P × Q × GoesOn start old × (sessions ≡ sessions_made start old.entries)
+    → next ≡ total + (length (listing_of (graph_of_store old).label (graph_of_store old).made x) + 1) → R → IsBalanced new first sessions next rest parts × P × R × GoesOn start new × (sessions ≡ sessions_made start new.entries)
+locked_left old new x left start first sessions total next rest parts held counts told =
+    let g = graph_of_store old in
+    let long = length_leaving g x in
+    locked_more old new (leaving g x) left.entries left.opening start first sessions total next rest parts held (none_spawned x (listing_of g.label g.made x)) left.limits (λ _. left.handed) (omega (arith, long, counts)) told

@@ -17,11 +17,9 @@ use Rattle.tg_shared.proofs.Balances.{locked_entered, locked_same}
 
 -- a refusal that makes an entry has one of two replies
 pub entered_as : (E : Reply → Type 0) (why : CreateFault) (reply : Reply) → reply_entered why ≡ Some reply → (why ≡ fault.VerticesFull → E VerticesFull) → (why ≡ fault.WorkersFull → E WorkersFull) → E reply
-entered_as E fault.NoSuchWorker reply is v w = let no : ⊥ = cc in absurd no
 entered_as E fault.VerticesFull reply is v w = let same : VerticesFull ≡ reply = cc in subst E same (v refl)
 entered_as E fault.WorkersFull reply is v w = let same : WorkersFull ≡ reply = cc in subst E same (w refl)
-entered_as E fault.HeapFull reply is v w = let no : ⊥ = cc in absurd no
-entered_as E fault.OutOfMemory reply is v w = let no : ⊥ = cc in absurd no
+entered_as E other reply is v w = let no : ⊥ = cc is in absurd no
 
 -- and an answer one of three
 pub made_as : {P : Type 0} (E : Reply → Type 0) (answer : Result ℕ (CreateRefused P)) (reply : Reply) → reply_made answer ≡ Some reply → IfOk answer (λ name. E (Name name))
@@ -30,11 +28,9 @@ made_as E (Ok name) reply is named v w = let same : Name name ≡ reply = cc in 
 made_as E (Err refused) reply is named v w = entered_as E refused.why reply is v w
 
 entered_none : (why : CreateFault) → why ≢ fault.VerticesFull → why ≢ fault.WorkersFull → reply_entered why ≡ None
-entered_none fault.NoSuchWorker v w = refl
 entered_none fault.VerticesFull v w = absurd (v refl)
 entered_none fault.WorkersFull v w = absurd (w refl)
-entered_none fault.HeapFull v w = refl
-entered_none fault.OutOfMemory v w = refl
+entered_none other v w = refl
 
 -- what is noted of a refusal, and what of a vertex that was made
 pub refused_noted : {P T N : Type 0} (deed : Deed) (old new : StoreState) (before after : SessionState) (refused : CreateRefused P) → ((reply : Reply) → reply_entered refused.why ≡ Some reply → Records old new before after deed reply × N)
@@ -66,5 +62,5 @@ locked_noted start old new before after first sessions total next rest parts dee
     locked_entered start old new first sessions total next rest parts before.worker deed reply (object reply refl) held told.0.entry opening limits handed told.1
 locked_noted start old new before after first sessions total next rest parts deed None some none object opening limits handed held =
     let told = none refl in
-    let same = locked_same start old new first sessions total rest parts held told.0.0.entries opening limits handed in
+    let same = locked_same start old new first sessions total rest parts held told.0.0.entries opening limits (λ _. handed) in
     (subst (λ (n : ℕ). IsBalanced new first sessions n rest parts) (sym told.1) same.0, same.1, same.2, same.3, same.4)

@@ -5,7 +5,7 @@ use Rattle.std.proofs.lemmas.List.{length-append}
 use Rattle.std.proofs.lemmas.List.Sums.{sum_by-cons}
 use Rattle.tg_space.specs.SpaceList.{SpaceList, BlockList, block_count, space_of}
 use Rattle.tg_space.specs.SpaceTable.{SpaceTable, adopted, kept_blocks, with_adopted}
-use Rattle.tg_space.specs.Collection.{AreFewBlocks, blocks_for, copies_in, used_cells}
+use Rattle.tg_space.specs.Collection.{AreFewBlocks, Collected, blocks_for, copies_in, used_cells}
 use Rattle.tg_space.specs.declared.kind.Kind.{Kind}
 use Rattle.tg_space.specs.declared.kind.Kind.TheVariants.{Full, Nursery}
 use Rattle.tg_graph.specs.Kept.{AreWritten, rewritten_at}
@@ -38,46 +38,46 @@ fewer_held t u s forward done some =
     (λ le. le)
     (cases_lt (length (space_of t.spaces 0)) (length (space_of u.spaces 0)))
 
-module _ (spare : ℕ) (old new : SpaceTable) (forward : List ℕ) (aged more : BlockList) where
-  pub few_left : (kind : Kind) → AreFewBlocks old.limits.space_blocks (kept_blocks kind old.spaces) spare forward aged more → copies_in forward 0 + copies_in forward 1 ≤ used_cells kind old.spaces →
-      (kind ≡ Full → new ≡ with_adopted old Full aged more) → (s : HeapState) → (kind ≡ Nursery → AreWritten (with_adopted old Nursery aged more) new (map (rewritten_at s.table.spaces forward) s.remembered)) → HasFewBlocks kind spare old new
+module _ (spare : ℕ) (old new : SpaceTable) (made : Collected) where
+  pub few_left : (kind : Kind) → AreFewBlocks old.limits.space_blocks (kept_blocks kind old.spaces) spare made → copies_in made.forward 0 + copies_in made.forward 1 ≤ used_cells kind old.spaces →
+      (kind ≡ Full → new ≡ with_adopted old Full made.aged made.old) → (s : HeapState) → (kind ≡ Nursery → AreWritten (with_adopted old Nursery made.aged made.old) new (map (rewritten_at s.table.spaces made.forward) s.remembered)) → HasFewBlocks kind spare old new
   few_left Full few moved adopted_as s written = record {
     within = λ space. subst (λ (t : SpaceTable). (length (space_of t.spaces space) ≤ old.limits.space_blocks) ⊎ (length (space_of t.spaces space) ≤ length (space_of old.spaces space))) (sym (adopted_as refl)) (inl (within space));
     full = λ _. subst (λ (t : SpaceTable). block_count t.spaces ≤ blocks_for (used_cells Full old.spaces) + spare) (sym (adopted_as refl)) all;
     nursery = λ other. let no : ◌≡◌ {A = Kind} Full Nursery = other in absurd cc;
   }
     where
-      within : (space : ℕ) → length (space_of (adopted Full old.spaces aged more) space) ≤ old.limits.space_blocks
+      within : (space : ℕ) → length (space_of (adopted Full old.spaces made.aged made.old) space) ≤ old.limits.space_blocks
       within zero = let fits = few.old_within in omega arith
-      within (suc space) = let none = ap length (only_old_after old.spaces aged more (suc space) (λ z. omega arith)) in omega arith
+      within (suc space) = let none = ap length (only_old_after old.spaces made.aged made.old (suc space) (λ z. omega arith)) in omega arith
 
-      all : block_count (adopted Full old.spaces aged more) ≤ blocks_for (used_cells Full old.spaces) + spare
+      all : block_count (adopted Full old.spaces made.aged made.old) ≤ blocks_for (used_cells Full old.spaces) + spare
       all =
-          let none = λ (space : ℕ) (low : 2 ≤ space). only_old_after old.spaces aged more space (λ z. omega arith) in
-          let aged_none = ap length (only_old_after old.spaces aged more 1 (λ z. omega arith)) in
+          let none = λ (space : ℕ) (low : 2 ≤ space). only_old_after old.spaces made.aged made.old space (λ z. omega arith) in
+          let aged_none = ap length (only_old_after old.spaces made.aged made.old 1 (λ z. omega arith)) in
           let needed = few.old_needed in
-          omega (arith, two_spaces (adopted Full old.spaces aged more) none)
+          omega (arith, two_spaces (adopted Full old.spaces made.aged made.old) none)
   few_left Nursery few moved adopted_as s written = record {
     within = within;
     full = λ other. let no : ◌≡◌ {A = Kind} Nursery Full = other in absurd cc;
     nursery = λ _.
         let old_needed = few.old_needed in let aged_needed = few.aged_needed in
         let aged_is = ap length (done.others 1 (λ z. omega arith)) in
-        omega (arith, two_spaces new.spaces none, old_few, length-append (space_of old.spaces 0) more);
+        omega (arith, two_spaces new.spaces none, old_few, length-append (space_of old.spaces 0) made.old);
   }
     where
-      done : AreWritten (with_adopted old Nursery aged more) new (map (rewritten_at s.table.spaces forward) s.remembered)
+      done : AreWritten (with_adopted old Nursery made.aged made.old) new (map (rewritten_at s.table.spaces made.forward) s.remembered)
       done = written refl
 
       none : (space : ℕ) → 2 ≤ space → space_of new.spaces space ≡ []
-      none space low = done.others space (λ z. omega arith) ∙ no_nursery_after old.spaces aged more Nursery space low
+      none space low = done.others space (λ z. omega arith) ∙ no_nursery_after old.spaces made.aged made.old Nursery space low
 
-      old_few : length (space_of new.spaces 0) ≤ length (space_of (adopted Nursery old.spaces aged more) 0)
-      old_few = fewer_held (with_adopted old Nursery aged more) new s forward done (omega arith)
+      old_few : length (space_of new.spaces 0) ≤ length (space_of (adopted Nursery old.spaces made.aged made.old) 0)
+      old_few = fewer_held (with_adopted old Nursery made.aged made.old) new s made.forward done (omega arith)
 
       within : (space : ℕ) → (length (space_of new.spaces space) ≤ old.limits.space_blocks) ⊎ (length (space_of new.spaces space) ≤ length (space_of old.spaces space))
       within zero =
-          let fits = few.old_within in let both = length-append (space_of old.spaces 0) more in let le = old_few in
+          let fits = few.old_within in let both = length-append (space_of old.spaces 0) made.old in let le = old_few in
           ⊎_elim
           (λ (over : old.limits.space_blocks < length (space_of old.spaces 0)). inr (omega arith))
           (λ (under : length (space_of old.spaces 0) ≤ old.limits.space_blocks). inl (omega arith))

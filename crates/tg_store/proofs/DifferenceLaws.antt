@@ -1,5 +1,6 @@
 -- Two lists have one first difference at most. Where two that agree so far have it, and where they have none.
-use Rattle.std.proofs.Common.{◌≡◌, ◌≢◌, ◌∙◌, sym, ap, subst, refl, ℕ, zero, suc, ◌<◌, ◌≤◌, List, [], ◌∷◌, Some, None, length, get_or, take, ◌⊎◌, inl, inr, arith}
+use Rattle.std.proofs.Common.{◌≡◌, ◌≢◌, ◌∙◌, sym, ap, subst, refl, ℕ, zero, suc, ◌<◌, ◌≤◌, List, [], ◌∷◌, Some, None, length, get_or, take, ⊎_elim, arith}
+use Rattle.std.proofs.lemmas.Bool.{cases_lt}
 use Rattle.std.specs.Prelude.{slice_get}
 use Rattle.std.proofs.lemmas.List.{take_all}
 use Rattle.std.proofs.lemmas.Option.{slice_get_past, slice_get_read}
@@ -17,24 +18,12 @@ not_below xs ys i j first other below =
     first.here
     (sym (slice_get-take xs j i below) ∙ ap (λ zs. slice_get zs i) other.before ∙ slice_get-take ys j i below)
 
-three_ways : (i j : ℕ) → (i < j) ⊎ ((j < i) ⊎ (i ≡ j))
-three_ways zero zero = inr (inr refl)
-three_ways zero (suc j) = inl (omega arith)
-three_ways (suc i) zero = inr (inl (omega arith))
-three_ways (suc i) (suc j) =
-    elim (three_ways i j) [
-      | inl below ↦ inl (omega arith)
-      | inr (inl above) ↦ inr (inl (omega arith))
-      | inr (inr same) ↦ inr (inr (ap suc same))
-    ]
-
 pub one_first : (xs ys : List Value) (i j : ℕ) → IsFirstDifference xs ys i → IsFirstDifference xs ys j → i ≡ j
 one_first xs ys i j first other =
-    elim (three_ways i j) [
-      | inl below ↦ absurd (not_below xs ys i j first other below)
-      | inr (inl above) ↦ absurd (not_below xs ys j i other first above)
-      | inr (inr same) ↦ same
-    ]
+    ⊎_elim
+    (λ (below : i < j). absurd (not_below xs ys i j first other below))
+    (λ (le : j ≤ i). ⊎_elim (λ (above : j < i). absurd (not_below xs ys j i other first above)) (λ (ge : i ≤ j). omega arith) (cases_lt j i))
+    (cases_lt i j)
 
 some_there : (xs : List Value) (at : ℕ) → at < length xs → slice_get xs at ≡ None → ⊥
 some_there [] at below none = omega arith

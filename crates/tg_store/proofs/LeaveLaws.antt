@@ -1,14 +1,13 @@
 -- Who gives up each edge of its row, one after the other, and retires, holds nothing then, and all else is as it was.
 use mathlib.Core.Bool.{true≢false}
-use Rattle.std.proofs.Common.{◌≡◌, ◌≢◌, ℕ, zero, suc, ◌+◌, ◌<◌, ◌≤◌, ◌==◌, ◌&&◌, nat_lt, Bool, true, false, cond, not, List, [], ◌∷◌, ◌++◌, map, refl, sym, ap, subst, ◌∙◌, arith}
+use Rattle.std.proofs.Common.{◌≡◌, ◌≢◌, ℕ, zero, suc, ◌+◌, ◌<◌, ◌≤◌, ◌==◌, ◌&&◌, nat_lt, Bool, true, false, cond, not, ◌⊎◌, inl, inr, List, [], ◌∷◌, ◌++◌, map, refl, sym, ap, subst, ◌∙◌, arith}
 use Rattle.std.specs.List.{All, Contains, filter, range_with_len}
 use Rattle.std.specs.Prelude.{Option, Some, None}
 use Rattle.tg_model.specs.declared.reply.Denial.{Denial}
-use Rattle.tg_model.specs.Opened.{IsPlan, start_of}
 use Rattle.tg_graph.specs.Heap.{content_of, subject_names}
 use Rattle.tg_rows.specs.Content.{Content}
 use Rattle.tg_graph.specs.Standing.{IsContentOf}
-use Rattle.tg_store.proofs.AnswerLaws.{reply-served}
+use Rattle.tg_rules.proofs.DecisionLaws.{answer-served}
 use Rattle.tg_store.specs.Store.{StoreState, IsFaithful, IsStore, graph_of_store}
 use Rattle.std.proofs.lemmas.Bool.{eqb-true, eqb-false, eq-eqb, ne_eqb, ltb-true, ltb-false}
 use Rattle.tg_rights.specs.RightSet.{RightSet, no_rights, is_none_held, minus, holds_all}
@@ -17,12 +16,14 @@ use Rattle.tg_model.specs.declared.command.Command.TheVariants.{List as Listing,
 use Rattle.tg_model.specs.declared.command.Deed.TheVariants.{Plain}
 use Rattle.tg_model.specs.declared.reply.Reply.TheVariants.{Done, Edges}
 use Rattle.tg_model.specs.Graph.{ProtectionGraph, IsSubject, IsSound, listing_of, without_rights, without_subject}
-use Rattle.tg_model.specs.Rules.{Permits, denial_of, denied_or, effect, step, unless_denied}
+use Rattle.tg_model.specs.Rules.{Permits, denied_or, step}
 use Rattle.tg_model.proofs.AllowedLaws.{no_denial-permits, step-allowed}
+use Rattle.tg_model.proofs.SoundLaws.{command-subjects}
 use Rattle.tg_journal.specs.declared.entry.Entry.{Entry}
 use Rattle.tg_journal.specs.History.{IsLegal, IsLegalEntry, graph_after}
-use Rattle.tg_journal.proofs.HistoryLaws.{IsLegal-append, IsLegal-push, IsSound-opened, graph_after-append, graph_after-push}
+use Rattle.tg_journal.proofs.HistoryLaws.{IsLegal-push, IsSound-opened, graph_after-push}
 use Rattle.tg_store.specs.Leaving.{leaving, left_by, removal, retiring}
+use Rattle.tg_store.proofs.StandLaws.{IsStore-grown, graph-grown}
 
 -- ---- sets of rights
 
@@ -80,9 +81,8 @@ row_same (suc m) n f h same =
 -- What x held over m names from n on was given up, and nothing else.
 record GivenUp (x n m : ℕ) (label after : ℕ → ℕ → RightSet) : Type 0 where
   pub others : (a b : ℕ) → a ≢ x → after a b ≡ label a b
-  pub before : (b : ℕ) → b < n → after x b ≡ label x b
+  pub outside : (b : ℕ) → (b < n) ⊎ (n + m ≤ b) → after x b ≡ label x b
   pub inside : (b : ℕ) → n ≤ b → b < n + m → after x b ≡ no_rights
-  pub behind : (b : ℕ) → n + m ≤ b → after x b ≡ label x b
 
 -- the same of a history from one graph to another
 record GivesUp (x n m : ℕ) (g : ProtectionGraph) (es : List Entry) : Type 0 where
@@ -108,38 +108,43 @@ module _ (label : ℕ → ℕ → RightSet) (x n : ℕ) where
   lost_here : lost x n ≡ no_rights
   lost_here = (λ i. cond (eq-eqb x x refl i && eq-eqb n n refl i) (minus (label x n) (label x n)) (label x n)) ∙ none_left (label x n)
 
+wider : (n m b : ℕ) → (b < n) ⊎ (n + suc m ≤ b) → (b < n + 1) ⊎ (n + 1 + m ≤ b)
+wider n m b (inl low) = inl (omega arith)
+wider n m b (inr high) = inr (omega arith)
+
+apart_outside : (n m b : ℕ) → b ≡ n → (b < n) ⊎ (n + suc m ≤ b) → ⊥
+apart_outside n m b e (inl low) = omega arith
+apart_outside n m b e (inr high) = omega arith
+
 -- an edge first, then the names behind it
 given_up_more : (x n m : ℕ) (label after : ℕ → ℕ → RightSet) → GivenUp x (n + 1) m (lost label x n) after → GivenUp x n (suc m) label after
 given_up_more x n m label after given = record {
   others = λ a b apart. given.others a b apart ∙ lost_others label x n a b apart;
-  before = λ b low. given.before b (omega (arith, low)) ∙ lost_elsewhere label x n b (λ e. omega (arith, e, low));
+  outside = λ b out. given.outside b (wider n m b out) ∙ lost_elsewhere label x n b (λ e. apart_outside n m b e out);
   inside = λ b low high.
       elim (b == n) as (λ v. (b == n) ≡ v → after x b ≡ no_rights) [
-        | true ↦ λ e. let here : b ≡ n = eqb-true b n e in given.before b (omega (arith, here)) ∙ ap (λ y. lost label x n x y) here ∙ lost_here label x n
+        | true ↦ λ e. let here : b ≡ n = eqb-true b n e in given.outside b (inl (omega (arith, here))) ∙ ap (λ y. lost label x n x y) here ∙ lost_here label x n
         | false ↦ λ e. let apart : b ≢ n = eqb-false b n e in given.inside b (omega (arith, low, apart)) (omega (arith, high))
       ] refl;
-  behind = λ b high. given.behind b (omega (arith, high)) ∙ lost_elsewhere label x n b (λ e. omega (arith, e, high));
 }
 
 -- a name over which nothing is held first
 given_up_none : (x n m : ℕ) (label after : ℕ → ℕ → RightSet) → label x n ≡ no_rights → GivenUp x (n + 1) m label after → GivenUp x n (suc m) label after
 given_up_none x n m label after none given = record {
   others = given.others;
-  before = λ b low. given.before b (omega (arith, low));
+  outside = λ b out. given.outside b (wider n m b out);
   inside = λ b low high.
       elim (b == n) as (λ v. (b == n) ≡ v → after x b ≡ no_rights) [
-        | true ↦ λ e. let here : b ≡ n = eqb-true b n e in given.before b (omega (arith, here)) ∙ ap (λ y. label x y) here ∙ none
+        | true ↦ λ e. let here : b ≡ n = eqb-true b n e in given.outside b (inl (omega (arith, here))) ∙ ap (λ y. label x y) here ∙ none
         | false ↦ λ e. let apart : b ≢ n = eqb-false b n e in given.inside b (omega (arith, low, apart)) (omega (arith, high))
       ] refl;
-  behind = λ b high. given.behind b (omega (arith, high));
 }
 
 given_up_nothing : (x n : ℕ) (label : ℕ → ℕ → RightSet) → GivenUp x n 0 label label
 given_up_nothing x n label = record {
   others = λ a b apart. refl;
-  before = λ b low. refl;
+  outside = λ b out. refl;
   inside = λ b low high. absurd (omega (arith, low, high));
-  behind = λ b high. refl;
 }
 
 -- what x gives up on the graph without an edge of its, it gives up behind that edge
@@ -199,7 +204,7 @@ module _ (g : ProtectionGraph) (x : ℕ) (sound : IsSound g) (subject : IsSubjec
   row_empty b =
       elim (nat_lt b g.made) as (λ v. nat_lt b g.made ≡ v → given.label x b ≡ no_rights) [
         | true ↦ λ low. let below : b < g.made = ltb-true b g.made low in given.given_up.inside b (omega arith) (omega (arith, below))
-        | false ↦ λ high. let past : g.made ≤ b = ltb-false b g.made high in given.given_up.behind b (omega (arith, past)) ∙ past_made b past
+        | false ↦ λ high. let past : g.made ≤ b = ltb-false b g.made high in given.given_up.outside b (inr (omega (arith, past))) ∙ past_made b past
       ] refl
 
   labels_left : (a b : ℕ) → given.label a b ≡ cond (a == x) no_rights (g.label a b)
@@ -231,7 +236,7 @@ module _ (g : ProtectionGraph) (x : ℕ) (sound : IsSound g) (subject : IsSubjec
 pub listed : (c : Content) (g : ProtectionGraph) (x w : ℕ) (row : List (ℕ × RightSet)) → IsContentOf c g → IsSubject g w → x ≡ w
     → ((n : ℕ) → All (λ name. name < n) c.names → row ≡ listing_of c.label n x) → row ≡ listing_of g.label g.made w
 listed c g x w row stands subject named is =
-    let told : Edges row ≡ Edges (listing_of g.label g.made w) = reply-served c g stands w Listing subject refl (Edges row)
+    let told : Edges (listing_of g.label g.made w) ≡ Edges row = answer-served c g stands w Listing subject (Edges row) refl
     (λ n below. ap (λ (es : List (ℕ × RightSet)). Edges es) (is n below ∙ ap (λ y. listing_of c.label n y) named)) in
     cc told
 
@@ -240,14 +245,10 @@ pub served : (o : Option Denial) → Done ≡ denied_or o Done → o ≡ None
 served None e = refl
 served (Some denial) e = let no : ⊥ = cc e in absurd no
 
-lost_either : (o : Option Denial) (g : ProtectionGraph) (x y : ℕ) (rights : RightSet) → (unless_denied o g (effect g x (Remove rights y))).subjects ≡ g.subjects
-lost_either None g x y rights = refl
-lost_either (Some denial) g x y rights = refl
-
 same_subjects : (row : List (ℕ × RightSet)) (g : ProtectionGraph) (x : ℕ) → (graph_after g (map (removal x) row)).subjects ≡ g.subjects
 same_subjects [] g x = refl
 same_subjects (e ∷ row) g x =
-    same_subjects row (step g x (Plain (Remove e.1 e.0))) x ∙ lost_either (denial_of g.label g.value x (Remove e.1 e.0)) g x e.0 e.1
+    same_subjects row (step g x (Plain (Remove e.1 e.0))) x ∙ command-subjects g x (Remove e.1 e.0) (λ is. let no : ⊥ = cc is in no)
 
 -- who gives up edges stays a subject
 pub still_subject : (g : ProtectionGraph) (x : ℕ) (row : List (ℕ × RightSet)) → IsSubject g x → IsSubject (graph_after g (map (removal x) row)) x
@@ -257,25 +258,21 @@ still_subject g x row subject = subst (λ (subjects : List ℕ). Contains subjec
 
 module _ (old new : StoreState) (x : ℕ) (faithful : IsFaithful old) (subject : IsSubject (graph_of_store old) x)
     (opening : new.opening ≡ old.opening) (entries : new.entries ≡ old.entries ++ leaving (graph_of_store old) x) where
-  pub sound_before : IsSound (graph_of_store old)
+  abbrev graph : ProtectionGraph
+  graph = graph_of_store old
+
+  pub sound_before : IsSound graph
   sound_before = IsSound-opened old.opening old.entries faithful.plan faithful.legal
 
-  longer : graph_of_store new ≡ graph_after (graph_of_store old) (leaving (graph_of_store old) x)
-  longer = (λ i. graph_after (start_of (opening i)) (entries i)) ∙ graph_after-append (start_of old.opening) old.entries (leaving (graph_of_store old) x)
+  pub graph_of_left : graph_of_store new ≡ left_by graph x
+  graph_of_left = graph-grown old new (leaving graph x) opening entries ∙ graph_left graph x sound_before subject
 
-  pub graph_of_left : graph_of_store new ≡ left_by (graph_of_store old) x
-  graph_of_left = longer ∙ graph_left (graph_of_store old) x sound_before subject
-
-  pub IsStore-left : (made : ℕ) → made ≡ (graph_of_store old).made
-      → IsContentOf (content_of new.heap) (step (graph_after (graph_of_store old) (map (removal x) (listing_of (graph_of_store old).label (graph_of_store old).made x))) x (Plain Retire))
+  pub IsStore-left : (made : ℕ) → made ≡ graph.made
+      → IsContentOf (content_of new.heap) (step (graph_after graph (map (removal x) (listing_of graph.label graph.made x))) x (Plain Retire))
       → subject_names new.heap ≡ without_subject (subject_names old.heap) x → IsStore new made
-  IsStore-left made is_made stands names = record {
-    faithful = record {
-      plan = subst IsPlan (sym opening) faithful.plan;
-      legal = rw (opening, entries) (IsLegal-append (start_of old.opening) old.entries (leaving (graph_of_store old) x) faithful.legal (legal_leaving (graph_of_store old) x sound_before subject));
-      stands = subst (λ (h : ProtectionGraph). IsContentOf (content_of new.heap) h)
-          (sym (longer ∙ graph_after-push (graph_of_store old) (map (removal x) (listing_of (graph_of_store old).label (graph_of_store old).made x)) (retiring x))) stands;
-      subjects = names ∙ ap (λ (subjects : List ℕ). without_subject subjects x) faithful.subjects ∙ ap (λ (h : ProtectionGraph). h.subjects) (sym graph_of_left);
-    };
-    is_made = is_made ∙ ap (λ (h : ProtectionGraph). h.made) (sym graph_of_left);
-  }
+  IsStore-left made is_made stands names =
+      let left = graph_left graph x sound_before subject in
+      IsStore-grown old new (leaving graph x) opening entries made faithful (legal_leaving graph x sound_before subject)
+      (subst (IsContentOf (content_of new.heap)) (sym (graph_after-push graph (map (removal x) (listing_of graph.label graph.made x)) (retiring x))) stands)
+      (names ∙ ap (λ (subjects : List ℕ). without_subject subjects x) faithful.subjects ∙ ap (λ (h : ProtectionGraph). h.subjects) (sym left))
+      (is_made ∙ ap (λ (h : ProtectionGraph). h.made) (sym left))

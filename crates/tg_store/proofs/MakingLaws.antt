@@ -13,8 +13,7 @@ use Rattle.tg_model.specs.declared.reply.Reply.TheVariants.{Name, VerticesFull, 
 use Rattle.tg_model.specs.Graph.{ProtectionGraph, IsSound, IsSubject}
 use Rattle.tg_model.specs.Opened.{ValueFits}
 use Rattle.tg_model.specs.Rules.{DeedFits, IsAllowed, answer_of, step}
-use Rattle.tg_model.proofs.AllowedLaws.{answer-created, answer-full, answer-spawned, answer-spawn_full, answer-workers_full, step-created, step-spawned, step-not_allowed}
-use Rattle.tg_model.proofs.SoundLaws.{create-subjects, spawn-subjects}
+use Rattle.tg_model.proofs.MakingLaws.{HasRoom, answer-made, answer-subjects, answer-vertices, step-full, step-made}
 use Rattle.tg_subjects.specs.declared.subject.Subject.{Subject as SubjectAt}
 use Rattle.tg_journal.specs.declared.entry.Entry.{Entry}
 use Rattle.tg_journal.proofs.HistoryLaws.{IsSound-opened}
@@ -24,6 +23,7 @@ use Rattle.tg_graph.specs.Standing as standing
 use Rattle.tg_graph.proofs.StandingLaws as content
 use Rattle.tg_space.specs.declared.room_fault.RoomFault.{RoomFault}
 use Rattle.tg_space.specs.declared.room_fault.RoomFault.TheVariants as no_room
+use Rattle.tg_store.specs.declared.fault.CreateFault.{CreateFault}
 use Rattle.tg_store.specs.declared.fault.CreateFault.TheVariants as fault
 use Rattle.tg_store.specs.declared.making.Limit.{Limit}
 use Rattle.tg_store.specs.declared.making.Limit.TheVariants.{Vertices, Subjects}
@@ -45,37 +45,21 @@ module _ (g : ProtectionGraph) (x : ℕ) (label : RightSet) (value : Value) wher
 
   -- a limit is answered
   pub answer_limited : (kind : Making) (limit : Limit) → IsLimitMet g kind (Some limit) → answer_of g x (deed_making kind label value) ≡ reply_at limit
-  answer_limited Object Vertices high = answer-full g x label value.law value.state high
-  answer_limited Object Subjects met = let f : ⊥ = cc met.0 in absurd f
-  answer_limited Subject Vertices high = answer-spawn_full g x label value.law value.state high
-  answer_limited Subject Subjects met = answer-workers_full g x label value.law value.state met.1 met.2
-
-  not_allowed : (kind : Making) (limit : Limit) → IsLimitMet g kind (Some limit) → IsAllowed g x (deed_making kind label value) → ⊥
-  not_allowed Object Vertices high low = omega (arith, high, low)
-  not_allowed Object Subjects met low = cc met.0
-  not_allowed Subject Vertices high room = omega (arith, high, room.0)
-  not_allowed Subject Subjects met room = omega (arith, met.2, room.1)
+  answer_limited kind Vertices high = answer-vertices g x label value kind high
+  answer_limited kind Subjects met = answer-subjects g x label value kind met.1 (met.0, met.2)
 
   -- and changes nothing
   pub step_limited : (kind : Making) (limit : Limit) → IsLimitMet g kind (Some limit) → step g x (deed_making kind label value) ≡ g
-  step_limited kind limit met = step-not_allowed g x (deed_making kind label value) (not_allowed kind limit met)
+  step_limited kind Vertices high = step-full g x label value kind (λ room. omega (arith, high, room.made))
+  step_limited kind Subjects met = step-full g x label value kind (λ room. room.subjects (met.0, met.2))
 
   -- where none is met, the vertex is made
   pub is_allowed : (kind : Making) → IsLimitMet g kind None → IsAllowed g x (deed_making kind label value)
   is_allowed Object room = room.0
   is_allowed Subject room = (room.0, room.1 refl)
 
-  pub answer_made : (kind : Making) → IsLimitMet g kind None → answer_of g x (deed_making kind label value) ≡ Name g.made
-  answer_made Object room = answer-created g x label value.law value.state room.0
-  answer_made Subject room = answer-spawned g x label value.law value.state room.0 (room.1 refl)
-
-  pub made_made : (kind : Making) → IsLimitMet g kind None → (step g x (deed_making kind label value)).made ≡ g.made + 1
-  made_made Object room = ap (λ (k : ProtectionGraph). k.made) (step-created g x label value.law value.state room.0)
-  made_made Subject room = ap (λ (k : ProtectionGraph). k.made) (step-spawned g x label value.law value.state room.0 (room.1 refl))
-
-  pub subjects_made : (kind : Making) → IsLimitMet g kind None → (step g x (deed_making kind label value)).subjects ≡ subjects_making kind g.subjects g.made
-  subjects_made Object room = create-subjects g x label value.law value.state
-  subjects_made Subject room = spawn-subjects g x label value.law value.state room.0 (room.1 refl)
+  pub has_room : (kind : Making) → IsLimitMet g kind None → HasRoom kind g
+  has_room kind room = record { made = room.0; subjects = λ many. omega (arith, room.1 many.0, many.1) }
 
   -- and a content with it stands for the graph with it
   pub stands_made : (c new : Content) (kind : Making) → standing.IsContentOf c g → OnlyNamedHold c → IsSound g → IsSubject g x → IsLimitMet g kind None → IsCreated c new x g.made label value → standing.IsContentOf new (step g x (deed_making kind label value))
@@ -84,48 +68,41 @@ module _ (g : ProtectionGraph) (x : ℕ) (label : RightSet) (value : Value) wher
 
 -- ---- how a limit is told
 
-module _ (g : ProtectionGraph) (kind : Making) where
-  -- the limit of subjects is looked at where that of vertices isn't met
-  pub limit_of_subjects : (met : Option Limit) → g.made < g.limit → kind ≡ Subject → (met ≡ None → length g.subjects < MAX_WORKERS) → ((limit : Limit) → met ≡ Some limit → (limit ≡ Subjects) × (MAX_WORKERS ≤ length g.subjects)) → IsLimitMet g kind met
-  limit_of_subjects None low is none some = (low, λ _. none refl)
-  limit_of_subjects (Some Vertices) low is none some = let f : ⊥ = cc (some Vertices refl).0 in absurd f
-  limit_of_subjects (Some Subjects) low is none some = (is, low, (some Subjects refl).1)
+-- the limit of subjects is looked at where that of vertices isn't met
+pub limit_of_subjects : (g : ProtectionGraph) (kind : Making) (met : Option Limit) → g.made < g.limit → kind ≡ Subject → (met ≡ None → length g.subjects < MAX_WORKERS) → ((limit : Limit) → met ≡ Some limit → (limit ≡ Subjects) × (MAX_WORKERS ≤ length g.subjects)) → IsLimitMet g kind met
+limit_of_subjects g kind None low is none some = (low, λ _. none refl)
+limit_of_subjects g kind (Some Vertices) low is none some = let f : ⊥ = cc (some Vertices refl).0 in absurd f
+limit_of_subjects g kind (Some Subjects) low is none some = (is, low, (some Subjects refl).1)
 
-  pub vertices_full : (limit : Limit) → IsLimitMet g kind (Some limit) → fault_at limit ≡ fault.VerticesFull → g.limit ≤ g.made
-  vertices_full Vertices met e = met
-  vertices_full Subjects met e = let f : ⊥ = cc e in absurd f
+-- a limit that is met is told by this fault and this reply
+pub record IsLimitTold (g : ProtectionGraph) (kind : Making) (why : CreateFault) (reply : Reply) : Type 0 where
+  pub vertices : why ≡ fault.VerticesFull → (g.limit ≤ g.made) × (reply ≡ VerticesFull)
+  pub subjects : why ≡ fault.WorkersFull → ((kind ≡ Subject) × (g.made < g.limit) × (MAX_WORKERS ≤ length g.subjects)) × (reply ≡ WorkersFull)
+  pub exhausted : g.limit ≤ g.made → (why ≡ fault.VerticesFull) ⊎ (why ≡ fault.OutOfMemory)
+  pub crowded : g.made < g.limit → (why ≡ fault.WorkersFull) ⊎ (why ≡ fault.OutOfMemory)
+  pub worker : why ≢ fault.NoSuchWorker
+  pub room : why ≢ fault.HeapFull
+  pub only : why ≢ fault.VerticesFull → why ≢ fault.WorkersFull → ⊥
 
-  pub workers_full : (limit : Limit) → IsLimitMet g kind (Some limit) → fault_at limit ≡ fault.WorkersFull → (kind ≡ Subject) × (g.made < g.limit) × (MAX_WORKERS ≤ length g.subjects)
-  workers_full Vertices met e = let f : ⊥ = cc e in absurd f
-  workers_full Subjects met e = met
-
-  pub told_vertices : (limit : Limit) → IsLimitMet g kind (Some limit) → g.limit ≤ g.made → (fault_at limit ≡ fault.VerticesFull) ⊎ (fault_at limit ≡ fault.OutOfMemory)
-  told_vertices Vertices met high = inl refl
-  told_vertices Subjects met high = absurd (omega (arith, met.1, high))
-
-  pub told_workers : (limit : Limit) → IsLimitMet g kind (Some limit) → g.made < g.limit → (fault_at limit ≡ fault.WorkersFull) ⊎ (fault_at limit ≡ fault.OutOfMemory)
-  told_workers Vertices met low = absurd (omega (arith, met, low))
-  told_workers Subjects met low = inl refl
-
-pub reply_vertices : (limit : Limit) → fault_at limit ≡ fault.VerticesFull → reply_at limit ≡ VerticesFull
-reply_vertices Vertices e = refl
-reply_vertices Subjects e = let f : ⊥ = cc e in absurd f
-
-pub reply_workers : (limit : Limit) → fault_at limit ≡ fault.WorkersFull → reply_at limit ≡ WorkersFull
-reply_workers Vertices e = let f : ⊥ = cc e in absurd f
-reply_workers Subjects e = refl
-
-pub no_limit_such : (limit : Limit) → fault_at limit ≡ fault.NoSuchWorker → ⊥
-no_limit_such Vertices e = cc
-no_limit_such Subjects e = cc
-
-pub no_limit_heap : (limit : Limit) → fault_at limit ≡ fault.HeapFull → ⊥
-no_limit_heap Vertices e = cc
-no_limit_heap Subjects e = cc
-
-pub one_limit : {A : Type 0} (limit : Limit) → fault_at limit ≢ fault.VerticesFull → fault_at limit ≢ fault.WorkersFull → A
-one_limit Vertices first second = absurd (first refl)
-one_limit Subjects first second = absurd (second refl)
+pub limit_told : (g : ProtectionGraph) (kind : Making) (limit : Limit) → IsLimitMet g kind (Some limit) → IsLimitTold g kind (fault_at limit) (reply_at limit)
+limit_told g kind Vertices met = record {
+  vertices = λ _. (met, refl);
+  subjects = λ e. let f : ⊥ = cc e in absurd f;
+  exhausted = λ _. inl refl;
+  crowded = λ low. absurd (omega (arith, met, low));
+  worker = λ e. let f : ⊥ = cc e in f;
+  room = λ e. let f : ⊥ = cc e in f;
+  only = λ first _. first refl;
+}
+limit_told g kind Subjects met = record {
+  vertices = λ e. let f : ⊥ = cc e in absurd f;
+  subjects = λ _. (met, refl);
+  exhausted = λ high. absurd (omega (arith, met.1, high));
+  crowded = λ _. inl refl;
+  worker = λ e. let f : ⊥ = cc e in f;
+  room = λ e. let f : ⊥ = cc e in f;
+  only = λ _ second. second refl;
+}
 
 -- ---- of a store
 
@@ -176,18 +153,19 @@ module _ (old : StoreState) (made : ℕ) (is : IsStore old made) (x : ℕ) (acti
     few is_subject = subst (λ (n : ℕ). n < MAX_WORKERS) (ap length (sym is.faithful.subjects) ∙ length-map old.heap.subjects (λ (s : SubjectAt). s.name)) (room.1 is_subject)
 
     pub answer-name : answer_of (graph_of_store old) x (deed_making kind label value) ≡ Name made
-    answer-name = answer_made (graph_of_store old) x label value kind room ∙ ap Name (sym is.is_made)
+    answer-name = answer-made (graph_of_store old) x label value kind (has_room (graph_of_store old) x label value kind room) ∙ ap Name (sym is.is_made)
 
     pub IsStore-made : (new : StoreState) → ValueFits value → new.opening ≡ old.opening → Enters old new x (deed_making kind label value) (Name made) → IsCreated (content_of old.heap) (content_of new.heap) x made label value → subject_names new.heap ≡ subjects_making kind (subject_names old.heap) made → IsStore new (made + 1)
     IsStore-made new fits opening entry created names =
         let graph = graph_of_store old in
         let there : IsCreated (content_of old.heap) (content_of new.heap) x graph.made label value = subst (λ n. IsCreated (content_of old.heap) (content_of new.heap) x n label value) is.is_made created in
+        let made_step = step-made graph x label value kind (has_room graph x label value kind room) in
         let stands = stands_made graph x label value (content_of old.heap) (content_of new.heap) kind is.faithful.stands
         (content.OnlyNamedHold-content_of old.heap) (IsSound-opened old.opening old.entries is.faithful.plan is.faithful.legal) subject room there in
         IsStore-entered old new x (deed_making kind label value) (Name made) opening entry (made + 1) is.faithful subject (fits_made graph x label value kind fits)
         (sym answer-name) stands
-        (names ∙ ap (λ (names : List ℕ). subjects_making kind names made) is.faithful.subjects ∙ ap (λ (n : ℕ). subjects_making kind graph.subjects n) is.is_made ∙ sym (subjects_made graph x label value kind room))
-        (ap (λ n. n + 1) is.is_made ∙ sym (made_made graph x label value kind room))
+        (names ∙ ap (λ (names : List ℕ). subjects_making kind names made) is.faithful.subjects ∙ ap (λ (n : ℕ). subjects_making kind graph.subjects n) is.is_made ∙ sym (ap (λ (h : ProtectionGraph). h.subjects) made_step))
+        (ap (λ n. n + 1) is.is_made ∙ sym (ap (λ (h : ProtectionGraph). h.made) made_step))
 
 -- the new vertex stores the value
 pub stored : (old new : Content) (x name : ℕ) (label : RightSet) (value : Value) → IsCreated old new x name label value → IsNamed new name × (new.value name ≡ Some value)
@@ -205,17 +183,7 @@ enters before ready after worker kind label value given deed reply is same kept 
 
 -- ---- how refusals of the heap are told
 
-pub no_such_create_fault : (why : RoomFault) → create_fault_of why ≡ fault.NoSuchWorker → ⊥
-no_such_create_fault no_room.OutOfMemory e = cc
-no_such_create_fault no_room.HeapFull e = cc
-
-pub heap_full : (why : RoomFault) → create_fault_of why ≡ fault.HeapFull → why ≡ no_room.HeapFull
-heap_full no_room.OutOfMemory e = absurd (cc e)
-heap_full no_room.HeapFull e = refl
-
--- no refusal of the heap is told as a limit
-pub no_limit_fault : (why : RoomFault) → (create_fault_of why ≡ fault.VerticesFull) ⊎ (create_fault_of why ≡ fault.WorkersFull) → ⊥
-no_limit_fault no_room.OutOfMemory (inl e) = cc
-no_limit_fault no_room.OutOfMemory (inr e) = cc
-no_limit_fault no_room.HeapFull (inl e) = cc
-no_limit_fault no_room.HeapFull (inr e) = cc
+-- that is told as no limit, and as no want of a worker
+pub fault_told : (why : RoomFault) → (create_fault_of why ≢ fault.NoSuchWorker) × (create_fault_of why ≢ fault.VerticesFull) × (create_fault_of why ≢ fault.WorkersFull) × (create_fault_of why ≡ fault.HeapFull → why ≡ no_room.HeapFull)
+fault_told no_room.OutOfMemory = ((λ e. let f : ⊥ = cc e in f), (λ e. let f : ⊥ = cc e in f), (λ e. let f : ⊥ = cc e in f), (λ e. let f : ⊥ = cc e in absurd f))
+fault_told no_room.HeapFull = ((λ e. let f : ⊥ = cc e in f), (λ e. let f : ⊥ = cc e in f), (λ e. let f : ⊥ = cc e in f), (λ e. refl))

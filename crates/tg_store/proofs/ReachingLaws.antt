@@ -1,9 +1,8 @@
 -- What a walk over a heap from its active subjects finds on its way, and that at its end this is all that they reach.
 use Rattle.std.proofs.Common.{◌≡◌, ◌↔◌, ◌⊎◌, inl, inr, ⊎_elim, ℕ, ◌+◌, ◌<◌, ◌≤◌, ◌==◌, nat_eq, Bool, true, false, if◌then◌else◌, List, [], ◌∷◌, ◌++◌, length, get_or, map, take, refl, sym, ap, ◌∙◌, subst, arith}
 use Rattle.std.specs.List.{All, Contains, IsDistinct, list_any}
-use Rattle.std.proofs.lemmas.Bool.{cases_lt}
 use Rattle.std.proofs.lemmas.Cmp.{nat_eq_equiv}
-use Rattle.std.proofs.lemmas.List.{append-nil, append_assoc, get_or_append_left, get_or_default, get_or-map, length-append, length-map, map-append, take_all, take_more}
+use Rattle.std.proofs.lemmas.List.{append-nil, append_assoc, length-map, map-append, map_more, take-append-le, take_all, take_more}
 use Rattle.std.proofs.lemmas.List.Elements.{All-contains, All-nil, All-push, Contains-append_cases, Contains-append_left, Contains-append_right, Contains-push, Contains-push_cases}
 use Rattle.std.proofs.lemmas.Map.Keys.{IsDistinct-from_apart, IsDistinct-push}
 use Rattle.std.proofs.lemmas.Map.Steps.{length-le_from_distinct_below}
@@ -98,18 +97,16 @@ found_behind old new more behind = ap names_found behind ∙ map-append (λ (v :
 pub stays_found : (old new : Found) (more : List (ℕ × Place)) → new.vertices.items ≡ old.vertices.items ++ more → (x : ℕ) → Contains (names_found old.vertices.items) x → Contains (names_found new.vertices.items) x
 stays_found old new more behind x has = subst (λ (xs : List ℕ). Contains xs x) (sym (found_behind old new more behind)) (Contains-append_left (names_found old.vertices.items) (names_found more) x has)
 
+-- what one more name makes of those that are there
+push_is : (xs : List ℕ) (y x : ℕ) → Contains (xs ++ y ∷ []) x ↔ (Contains xs x ⊎ (y ≡ x))
+push_is xs y x = (Contains-push_cases xs y x, ⊎_elim (Contains-append_left xs (y ∷ []) x) (λ (at : y ≡ x). subst (Contains (xs ++ y ∷ [])) at (Contains-push xs y)))
+
 -- one subject more
 pub subjects_more : (old new : Found) (names : List ℕ) (name : ℕ) → FindsMore old new (λ x. x ≡ name) → ((x : ℕ) → Contains (names_found old.vertices.items) x ↔ Contains names x) → (x : ℕ) → Contains (names_found new.vertices.items) x ↔ Contains (names ++ name ∷ []) x
 subjects_more old new names name finds are x = (
-  λ has. ⊎_elim
-      (λ was. Contains-append_left names (name ∷ []) x ((are x).0 was))
-      (λ came. subst (Contains (names ++ name ∷ [])) (sym (finds.only x came)) (Contains-push names name))
-      (Contains-append_cases (names_found old.vertices.items) (names_found finds.more) x
-      (subst (λ (xs : List ℕ). Contains xs x) (found_behind old new finds.more finds.behind) has)),
-  λ has. ⊎_elim
-      (λ was. stays_found old new finds.more finds.behind x ((are x).1 was))
-      (λ (at : name ≡ x). finds.all x (sym at))
-      (Contains-push_cases names name x has),
+  λ has. (push_is names name x).1 (⊎_elim (λ was. inl ((are x).0 was)) (λ came. inr (sym (finds.only x came)))
+      (Contains-append_cases (names_found old.vertices.items) (names_found finds.more) x (subst (λ (xs : List ℕ). Contains xs x) (found_behind old new finds.more finds.behind) has))),
+  λ has. ⊎_elim (λ was. stays_found old new finds.more finds.behind x ((are x).1 was)) (λ (at : name ≡ x). finds.all x (sym at)) ((push_is names name x).0 has),
 )
 
 -- an edge of a row, as a list has it
@@ -213,106 +210,69 @@ module _ (label : ℕ → ℕ → RightSet) (from : ℕ) (row : List (ℕ × Rig
 
 -- ---- the walk
 
--- the name stands among the first n
-abbrev pub IsWalked : List ℕ → ℕ → ℕ → Type 0
-IsWalked names n x = (k : ℕ) × (k < n) × (k < length names) × (get_or names k x ≡ x)
-
-walked_grows : (names more : List ℕ) (n x : ℕ) → IsWalked names n x → IsWalked (names ++ more) (n + 1) x
-walked_grows names more n x walked =
-    let long = length-append names more in
-    let low = walked.1 in
-    let inside = walked.2 in
-    (walked.0, omega (arith, low), omega (arith, long, inside), get_or_append_left names more x walked.0 inside ∙ walked.3)
-
-walked_cases : (names more : List ℕ) (n from x : ℕ) → n < length names → from ≡ get_or names n from → IsWalked (names ++ more) (n + 1) x → IsWalked names n x ⊎ (x ≡ from)
-walked_cases names more n from x low here walked =
-    let high = walked.1 in
-    ⊎_elim
-    (λ (before : walked.0 < n). let inside : walked.0 < length names = omega (arith, before, low) in inl (walked.0, before, inside, sym (get_or_append_left names more x walked.0 inside) ∙ walked.3))
-    (λ (not_before : n ≤ walked.0).
-    let at : walked.0 ≡ n = omega (arith, not_before, high) in
-    let there : get_or (names ++ more) n x ≡ x = ap (λ k. get_or (names ++ more) k x) (sym at) ∙ walked.3 in
-    inr (sym there ∙ get_or_append_left names more x n low ∙ get_or_default names n x from low ∙ sym here))
-    (cases_lt walked.0 n)
-
-walked_here : (names more : List ℕ) (n from : ℕ) → n < length names → from ≡ get_or names n from → IsWalked (names ++ more) (n + 1) from
-walked_here names more n from low here =
-    let long = length-append names more in
-    (n, omega arith, omega (arith, long, low), get_or_append_left names more from n low ∙ sym here)
-
 -- The rows of the first n that were found were walked along: their edges are the list's, and those to whom they lead were found.
 pub record Walks (c : Content) (subjects : List ℕ) (found : Found) (edges : List Edge) (n : ℕ) : Type 0 where
   pub roots : (x : ℕ) → Contains subjects x → Contains (names_found found.vertices.items) x
   pub reached : (x : ℕ) → Contains (names_found found.vertices.items) x → IsReached c subjects x
-  pub closed : (a b : ℕ) → IsWalked (names_found found.vertices.items) n a → HasEdge c.label a b → Contains (names_found found.vertices.items) b
-  pub shown : (edge : Edge) → Contains edges edge ↔ (IsWalked (names_found found.vertices.items) n edge.from × IsEdgeOf c.label edge)
+  pub closed : (a b : ℕ) → Contains (names_found (take n found.vertices.items)) a → HasEdge c.label a b → Contains (names_found found.vertices.items) b
+  pub shown : (edge : Edge) → Contains edges edge ↔ (Contains (names_found (take n found.vertices.items)) edge.from × IsEdgeOf c.label edge)
 
-module _ (c : Content) (subjects : List ℕ) where
-  pub walk_begins : (found : Found) → ((x : ℕ) → Contains (names_found found.vertices.items) x ↔ Contains subjects x) → Walks c subjects found [] 0
-  walk_begins found are = record {
-    roots = λ x has. (are x).1 has;
-    reached = λ x has. begins ((are x).0 has);
-    closed = λ a b walked. let low = walked.1 in absurd (omega (arith, low));
-    shown = λ edge. (λ none. absurd (Contains-none edge none), λ (walked, is). let low = walked.1 in absurd (omega (arith, low)));
+pub walk_begins : (c : Content) (subjects : List ℕ) (found : Found) → ((x : ℕ) → Contains (names_found found.vertices.items) x ↔ Contains subjects x) → Walks c subjects found [] 0
+walk_begins c subjects found are = record {
+  roots = λ x has. (are x).1 has;
+  reached = λ x has. begins ((are x).0 has);
+  closed = λ a b none. absurd (Contains-none a none);
+  shown = λ edge. (λ none. absurd (Contains-none edge none), λ (none, is). absurd (Contains-none edge.from none));
+}
+
+-- the walk goes on with the row of a vertex that was read
+module _ (c : Content) (subjects : List ℕ) (old new : Found) (before after : List Edge) (n : ℕ) (v : ℕ × Place) (walks : Walks c subjects old before n) (low : n < length old.vertices.items) (here : v ≡ get_or old.vertices.items n v) (finds : FindsMore old new (HasEdge c.label v.0)) where
+  abbrev walked : List ℕ
+  walked = names_found (take n old.vertices.items)
+
+  walked_more : names_found (take (n + 1) new.vertices.items) ≡ walked ++ v.0 ∷ []
+  walked_more =
+      ap (λ (vs : List (ℕ × Place)). names_found (take (n + 1) vs)) finds.behind
+      ∙ ap names_found (take-append-le (n + 1) old.vertices.items finds.more (omega (arith, low)))
+      ∙ map_more (λ (w : ℕ × Place). w.0) old.vertices.items n v low
+      ∙ ap (λ (w : ℕ × Place). walked ++ w.0 ∷ []) (sym here)
+
+  steps : (x : ℕ) → Contains (names_found (take (n + 1) new.vertices.items)) x ↔ (Contains walked x ⊎ (v.0 ≡ x))
+  steps x = subst (λ (xs : List ℕ). Contains xs x ↔ (Contains walked x ⊎ (v.0 ≡ x))) (sym walked_more) (push_is walked v.0 x)
+
+  pub walk_row : ((edge : Edge) → Contains after edge ↔ (Contains before edge ⊎ ((edge.from ≡ v.0) × IsEdgeOf c.label edge))) → Walks c subjects new after (n + 1)
+  walk_row edges_are = record {
+    roots = λ x is. stays_found old new finds.more finds.behind x (walks.roots x is);
+    reached = λ x has. ⊎_elim (walks.reached x) (λ new_one. goes (walks.reached v.0 (Contains-map (λ (w : ℕ × Place). w.0) old.vertices.items v (n, low, sym here))) (finds.only x new_one))
+        (Contains-append_cases (names_found old.vertices.items) (names_found finds.more) x (subst (λ (xs : List ℕ). Contains xs x) (found_behind old new finds.more finds.behind) has));
+    closed = λ a b there edge. ⊎_elim
+        (λ before_it. stays_found old new finds.more finds.behind b (walks.closed a b before_it edge))
+        (λ (at : v.0 ≡ a). finds.all b (subst (λ (k : ℕ). HasEdge c.label k b) (sym at) edge))
+        ((steps a).0 there);
+    shown = λ edge. (
+      λ has. ⊎_elim
+          (λ old_edge. let is = (walks.shown edge).0 old_edge in ((steps edge.from).1 (inl is.0), is.1))
+          (λ (at, is). ((steps edge.from).1 (inr (sym at)), is))
+          ((edges_are edge).0 has),
+      λ (there, is). (edges_are edge).1 (⊎_elim (λ before_it. inl ((walks.shown edge).1 (before_it, is))) (λ at. inr (sym at, is)) ((steps edge.from).0 there)),
+    );
   }
 
-  module _ (old new : Found) (before after : List Edge) (n from : ℕ) (walks : Walks c subjects old before n) (low : n < length (names_found old.vertices.items)) (here : from ≡ get_or (names_found old.vertices.items) n from) (finds : FindsMore old new (HasEdge c.label from)) where
-    abbrev was : List ℕ
-    was = names_found old.vertices.items
+-- at the end all that is reached was walked along
+pub walk_over : (c : Content) (subjects : List ℕ) (found : Found) (edges : List Edge) (n : ℕ) → Walks c subjects found edges n → length found.vertices.items ≤ n → (edge : Edge) → Contains edges edge ↔ IsReachedEdgeOf c subjects edge
+walk_over c subjects found edges n walks past edge = (
+  λ has. let is = (walks.shown edge).0 has in record { from = walks.reached edge.from (subst (λ (xs : List ℕ). Contains xs edge.from) whole is.0); is = is.1 },
+  λ is. (walks.shown edge).1 (walked_of edge.from (all_found edge.from is.from), is.is),
+)
+  where
+    whole : names_found (take n found.vertices.items) ≡ names_found found.vertices.items
+    whole = ap names_found (take_all n found.vertices.items past)
 
-    abbrev came : List ℕ
-    came = names_found finds.more
+    walked_of : (x : ℕ) → Contains (names_found found.vertices.items) x → Contains (names_found (take n found.vertices.items)) x
+    walked_of x has = subst (λ (xs : List ℕ). Contains xs x) (sym whole) has
 
-    grown : names_found new.vertices.items ≡ was ++ came
-    grown = found_behind old new finds.more finds.behind
-
-    from_reached : IsReached c subjects from
-    from_reached = walks.reached from (n, low, sym here)
-
-    on_grown : (P : List ℕ → Type 0) → P (was ++ came) → P (names_found new.vertices.items)
-    on_grown P is = subst P (sym grown) is
-
-    off_grown : (P : List ℕ → Type 0) → P (names_found new.vertices.items) → P (was ++ came)
-    off_grown P is = subst P grown is
-
-    step_cases : (x : ℕ) → IsWalked (names_found new.vertices.items) (n + 1) x → IsWalked was n x ⊎ (x ≡ from)
-    step_cases x walked = walked_cases was came n from x low here (off_grown (λ xs. IsWalked xs (n + 1) x) walked)
-
-    pub walk_goes : ((edge : Edge) → Contains after edge ↔ (Contains before edge ⊎ ((edge.from ≡ from) × IsEdgeOf c.label edge))) → Walks c subjects new after (n + 1)
-    walk_goes edges_are = record {
-      roots = λ x is. stays_found old new finds.more finds.behind x (walks.roots x is);
-      reached = λ x has. ⊎_elim (walks.reached x) (λ new_one. goes from_reached (finds.only x new_one))
-          (Contains-append_cases was came x (off_grown (λ xs. Contains xs x) has));
-      closed = λ a b walked edge. ⊎_elim
-          (λ before_it. stays_found old new finds.more finds.behind b (walks.closed a b before_it edge))
-          (λ (at : a ≡ from). finds.all b (subst (λ (k : ℕ). HasEdge c.label k b) at edge))
-          (step_cases a walked);
-      shown = λ edge. (
-        λ has. ⊎_elim
-            (λ old_edge. let is = (walks.shown edge).0 old_edge in (on_grown (λ xs. IsWalked xs (n + 1) edge.from) (walked_grows was came n edge.from is.0), is.1))
-            (λ (at, is).
-            let there : IsWalked (was ++ came) (n + 1) edge.from = subst (IsWalked (was ++ came) (n + 1)) (sym at) (walked_here was came n from low here) in
-            (on_grown (λ xs. IsWalked xs (n + 1) edge.from) there, is))
-            ((edges_are edge).0 has),
-        λ (walked, is). (edges_are edge).1 (⊎_elim (λ before_it. inl ((walks.shown edge).1 (before_it, is))) (λ at. inr (at, is)) (step_cases edge.from walked)),
-      );
-    }
-
-  -- at the end all that is reached was walked along
-  pub walk_ends : (found : Found) (edges : List Edge) (n : ℕ) → Walks c subjects found edges n → length (names_found found.vertices.items) ≤ n → (edge : Edge) → Contains edges edge ↔ IsReachedEdgeOf c subjects edge
-  walk_ends found edges n walks past edge = (
-    λ has. let is = (walks.shown edge).0 has in record { from = walks.reached edge.from (found_of edge.from is.0); is = is.1 },
-    λ is. (walks.shown edge).1 (walked_of edge.from (all_found edge.from is.from), is.is),
-  )
-    where
-      found_of : (x : ℕ) → IsWalked (names_found found.vertices.items) n x → Contains (names_found found.vertices.items) x
-      found_of x walked = (walked.0, walked.2, walked.3)
-
-      walked_of : (x : ℕ) → Contains (names_found found.vertices.items) x → IsWalked (names_found found.vertices.items) n x
-      walked_of x has = let inside = has.1 in (has.0, omega (arith, inside, past), inside, has.2)
-
-      all_found : (x : ℕ) → IsReached c subjects x → Contains (names_found found.vertices.items) x
-      all_found = Walk-within (Contains (names_found found.vertices.items)) walks.roots (λ a b has edge. walks.closed a b (walked_of a has) edge)
+    all_found : (x : ℕ) → IsReached c subjects x → Contains (names_found found.vertices.items) x
+    all_found = Walk-within (Contains (names_found found.vertices.items)) walks.roots (λ a b has edge. walks.closed a b (walked_of a has) edge)
 
 -- ---- what is read
 
@@ -325,16 +285,3 @@ pub listed_at : (label : ℕ → ℕ → RightSet) (from : ℕ) (row : List (ℕ
 listed_at label from row made n a is low here =
     let told = listed_from label made from a (subst (λ (xs : List (ℕ × RightSet)). Contains xs a) is (n, low, sym here)) in
     (told.0, ap is_none_held (sym told.1) ∙ told.2)
-
--- the walk goes on with the row of a vertex that was read
-pub walk_row : (c : Content) (subjects : List ℕ) (old new : Found) (before after : List Edge) (n : ℕ) (v : ℕ × Place) → Walks c subjects old before n → n < length old.vertices.items → v ≡ get_or old.vertices.items n v → FindsMore old new (HasEdge c.label v.0) → ((edge : Edge) → Contains after edge ↔ (Contains before edge ⊎ ((edge.from ≡ v.0) × IsEdgeOf c.label edge))) → Walks c subjects new after (n + 1)
-walk_row c subjects old new before after n v walks low here finds edges_are =
-    let long = length-map old.vertices.items (λ (w : ℕ × Place). w.0) in
-    let low_name : n < length (names_found old.vertices.items) = omega (arith, long, low) in
-    let name : v.0 ≡ get_or (names_found old.vertices.items) n v.0 = ap (λ (w : ℕ × Place). w.0) here ∙ sym (get_or-map (λ (w : ℕ × Place). w.0) old.vertices.items n v v.0 low) in
-    walk_goes c subjects old new before after n v.0 walks low_name name finds edges_are
-
-pub walk_over : (c : Content) (subjects : List ℕ) (found : Found) (edges : List Edge) (n : ℕ) → Walks c subjects found edges n → length found.vertices.items ≤ n → (edge : Edge) → Contains edges edge ↔ IsReachedEdgeOf c subjects edge
-walk_over c subjects found edges n walks past =
-    let long = length-map found.vertices.items (λ (w : ℕ × Place). w.0) in
-    walk_ends c subjects found edges n walks (omega (arith, long, past))

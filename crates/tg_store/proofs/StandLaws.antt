@@ -1,75 +1,70 @@
 -- What becomes of the journal and of the graph of a store by each call.
 use Rattle.std.proofs.Common.{◌≡◌, ℕ, ◌++◌, ◌∷◌, [], List, sym, ap, subst, ◌∙◌}
+use Rattle.std.proofs.lemmas.List.{append-nil}
 use Rattle.std.specs.List.{Contains}
 use Rattle.tg_model.specs.declared.command.Deed.{Deed}
 use Rattle.tg_model.specs.declared.reply.Reply.{Reply}
 use Rattle.tg_model.specs.Graph.{ProtectionGraph, IsSubject}
 use Rattle.tg_model.specs.Opened.{IsPlan, start_of}
 use Rattle.tg_model.specs.Rules.{step, answer_of, DeedFits}
-use Rattle.tg_journal.specs.History.{graph_after}
-use Rattle.tg_journal.proofs.HistoryLaws.{IsLegal-push, graph_after-push, graph_after-limit}
+use Rattle.tg_journal.specs.declared.entry.Entry.{Entry}
+use Rattle.tg_journal.specs.History.{IsLegal, graph_after}
+use Rattle.tg_journal.proofs.HistoryLaws.{IsLegal-append, graph_after-append, graph_after-limit}
 use Rattle.tg_subjects.specs.Subjects.{names_of}
-use Rattle.tg_graph.specs.Heap.{IsActive, content_of, subject_names}
+use Rattle.tg_graph.specs.Heap.{HeapState, IsActive, content_of, subject_names}
 use Rattle.tg_graph.specs.Standing as standing
 use Rattle.tg_graph.proofs.StandingLaws as content
-use Rattle.tg_store.specs.Store.{StoreState, StandsFor, IsFaithful, Enters, IsUnchanged, graph_of_store, IsStore}
+use Rattle.tg_store.specs.Store.{StoreState, StandsFor, IsFaithful, Enters, HoldsFrom, IsUnchanged, graph_of_store, IsStore}
 
--- ---- the same journal
+-- ---- what was entered
 
-same_graph : (old new : StoreState) → new.opening ≡ old.opening → new.entries ≡ old.entries → graph_of_store new ≡ graph_of_store old
-same_graph old new opening entries = λ i. graph_after (start_of (opening i)) (entries i)
+module _ (old new : StoreState) (es : List Entry) (opening : new.opening ≡ old.opening) (entries : new.entries ≡ old.entries ++ es) where
+  -- the store then stands for the graph after these entries
+  pub graph-grown : graph_of_store new ≡ graph_after (graph_of_store old) es
+  graph-grown = (λ i. graph_after (start_of (opening i)) (entries i)) ∙ graph_after-append (start_of old.opening) old.entries es
 
--- a store that is unchanged stands for the same graph
-pub StandsFor-unchanged : (old new : StoreState) (g : ProtectionGraph) → StandsFor old g → IsUnchanged old new → StandsFor new g
-StandsFor-unchanged old new g stands unchanged = same_graph old new unchanged.opening unchanged.entries ∙ stands
+  -- and is faithful, where they are legal and the heap stands for that graph
+  pub IsStore-grown : (made : ℕ) → IsFaithful old → IsLegal (graph_of_store old) es → standing.IsContentOf (content_of new.heap) (graph_after (graph_of_store old) es) → subject_names new.heap ≡ (graph_after (graph_of_store old) es).subjects → made ≡ (graph_after (graph_of_store old) es).made → IsStore new made
+  IsStore-grown made faithful legal stands names next = record {
+    faithful = record {
+      plan = subst IsPlan (sym opening) faithful.plan;
+      legal = rw (opening, entries) (IsLegal-append (start_of old.opening) old.entries es faithful.legal legal);
+      stands = subst (standing.IsContentOf (content_of new.heap)) (sym graph-grown) stands;
+      subjects = names ∙ ap (λ (g : ProtectionGraph). g.subjects) (sym graph-grown);
+    };
+    is_made = next ∙ ap (λ (g : ProtectionGraph). g.made) (sym graph-grown);
+  }
+
+-- ---- no entry
 
 -- where opening and journal are the same, and the heap still stands for the graph
-pub IsFaithful-kept : (old new : StoreState) → IsFaithful old → new.opening ≡ old.opening → new.entries ≡ old.entries → standing.IsContentOf (content_of new.heap) (graph_of_store old) → subject_names new.heap ≡ subject_names old.heap → IsFaithful new
-IsFaithful-kept old new faithful opening entries stands names = record {
-  plan = subst IsPlan (sym opening) faithful.plan;
-  legal = rw (opening, entries) faithful.legal;
-  stands = subst (standing.IsContentOf (content_of new.heap)) (sym (same_graph old new opening entries)) stands;
-  subjects = names ∙ faithful.subjects ∙ ap (λ (g : ProtectionGraph). g.subjects) (sym (same_graph old new opening entries));
-}
-
-pub IsFaithful-unchanged : (old new : StoreState) → IsFaithful old → IsUnchanged old new → IsFaithful new
-IsFaithful-unchanged old new faithful unchanged =
-    IsFaithful-kept old new faithful unchanged.opening unchanged.entries
-    (content.StandsFor-unchanged old.heap new.heap (graph_of_store old) faithful.stands unchanged.heap)
-    (ap names_of unchanged.heap.subjects)
+pub IsStore-kept : (old new : StoreState) (made : ℕ) → IsStore old made → new.opening ≡ old.opening → new.entries ≡ old.entries → standing.IsContentOf (content_of new.heap) (graph_of_store old) → subject_names new.heap ≡ subject_names old.heap → IsStore new made
+IsStore-kept old new made is opening entries stands names =
+    IsStore-grown old new [] opening (entries ∙ sym (append-nil old.entries)) made is.faithful tt stands (names ∙ is.faithful.subjects) is.is_made
 
 pub IsStore-unchanged : (old new : StoreState) (made : ℕ) → IsStore old made → IsUnchanged old new → IsStore new made
-IsStore-unchanged old new made is unchanged = record {
-  faithful = IsFaithful-unchanged old new is.faithful unchanged;
-  is_made = is.is_made ∙ ap (λ g. g.made) (sym (same_graph old new unchanged.opening unchanged.entries));
-}
+IsStore-unchanged old new made is unchanged =
+    IsStore-kept old new made is unchanged.opening unchanged.entries (content.StandsFor-unchanged old.heap new.heap (graph_of_store old) is.faithful.stands unchanged.heap) (ap names_of unchanged.heap.subjects)
 
--- ---- one more entry
+pub IsStore-handed : (first : ℕ) (old new : StoreState) (made : ℕ) → IsStore old made → HoldsFrom first old new → IsStore new made
+IsStore-handed first old new made is out =
+    IsStore-kept old new made is out.opening out.entries (subst (λ (h : HeapState). standing.IsContentOf (content_of h) (graph_of_store old)) (sym out.heap) is.faithful.stands) (ap subject_names out.heap)
+
+-- ---- one entry
 
 module _ (old new : StoreState) (worker : ℕ) (deed : Deed) (reply : Reply) (opening : new.opening ≡ old.opening) (entry : Enters old new worker deed reply) where
-  -- the store then stands for the graph after the deed
+  abbrev entered : List Entry
+  entered = record { worker = worker; deed = deed; reply = reply } ∷ []
+
   pub graph-entered : graph_of_store new ≡ step (graph_of_store old) worker deed
-  graph-entered =
-      let pushed : graph_of_store new ≡ graph_after (start_of old.opening) (old.entries ++ record { worker = worker; deed = deed; reply = reply } ∷ []) = λ i. graph_after (start_of (opening i)) (entry i) in
-      pushed ∙ graph_after-push (start_of old.opening) old.entries (record { worker = worker; deed = deed; reply = reply })
+  graph-entered = graph-grown old new entered opening entry
 
   pub StandsFor-entered : (g : ProtectionGraph) → StandsFor old g → StandsFor new (step g worker deed)
   StandsFor-entered g stands = graph-entered ∙ ap (λ h. step h worker deed) stands
 
-  -- and is faithful, where the reply is that graph's and the heap stands for the next
-  pub IsFaithful-entered : IsFaithful old → IsSubject (graph_of_store old) worker → DeedFits deed → reply ≡ answer_of (graph_of_store old) worker deed → standing.IsContentOf (content_of new.heap) (step (graph_of_store old) worker deed) → subject_names new.heap ≡ (step (graph_of_store old) worker deed).subjects → IsFaithful new
-  IsFaithful-entered faithful subject fits is stands names = record {
-    plan = subst IsPlan (sym opening) faithful.plan;
-    legal = rw (opening, entry) (IsLegal-push (start_of old.opening) old.entries (record { worker = worker; deed = deed; reply = reply }) faithful.legal (record { subject = subject; fits = fits; reply = is }));
-    stands = subst (standing.IsContentOf (content_of new.heap)) (sym graph-entered) stands;
-    subjects = names ∙ ap (λ (g : ProtectionGraph). g.subjects) (sym graph-entered);
-  }
-
   pub IsStore-entered : (made : ℕ) → IsFaithful old → IsSubject (graph_of_store old) worker → DeedFits deed → reply ≡ answer_of (graph_of_store old) worker deed → standing.IsContentOf (content_of new.heap) (step (graph_of_store old) worker deed) → subject_names new.heap ≡ (step (graph_of_store old) worker deed).subjects → made ≡ (step (graph_of_store old) worker deed).made → IsStore new made
-  IsStore-entered made faithful subject fits is stands names next = record {
-    faithful = IsFaithful-entered faithful subject fits is stands names;
-    is_made = next ∙ ap (λ g. g.made) (sym graph-entered);
-  }
+  IsStore-entered made faithful subject fits is stands names next =
+      IsStore-grown old new entered opening entry made faithful (record { subject = subject; fits = fits; reply = is }, tt) stands names next
 
 -- ---- subjects and the limit
 

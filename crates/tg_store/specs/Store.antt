@@ -7,9 +7,9 @@ use Rattle.tg_model.specs.Graph.{ProtectionGraph}
 use Rattle.tg_model.specs.Opened.{Plan, IsPlan, start_of}
 use Rattle.tg_journal.specs.declared.entry.Entry.{Entry}
 use Rattle.tg_journal.specs.History.{IsLegal, graph_after}
-use Rattle.tg_space.specs.SpaceList.{BlockList, block_count, space_of}
+use Rattle.tg_space.specs.SpaceList.{block_count, space_of}
 use Rattle.tg_space.specs.SpaceTable.{SpaceTable, with_adopted}
-use Rattle.tg_space.specs.Collection.{blocks_for, used_cells}
+use Rattle.tg_space.specs.Collection.{Collected, blocks_for, used_cells}
 use Rattle.tg_space.specs.declared.kind.Kind.{Kind}
 use Rattle.tg_space.specs.declared.kind.Kind.TheVariants.{Full, Nursery}
 use Rattle.tg_graph.specs.Heap as graph
@@ -85,9 +85,9 @@ HandsOut old new = HoldsFrom (length old.entries) old new
 
 -- What a collection made stands in the place of what it moved: of a full one it is all that there is; a nursery collection has
 -- written the remembered cells besides.
-pub record HasAdopted (kind : Kind) (old new : HeapState) (forward : List ℕ) (aged more : BlockList) : Type 0 where
-  pub full : kind ≡ Full → new.table ≡ with_adopted old.table Full aged more
-  pub nursery : kind ≡ Nursery → AreWritten (with_adopted old.table Nursery aged more) new.table (map (rewritten_at old.table.spaces forward) old.remembered)
+pub record HasAdopted (kind : Kind) (old new : HeapState) (made : Collected) : Type 0 where
+  pub full : kind ≡ Full → new.table ≡ with_adopted old.table Full made.aged made.old
+  pub nursery : kind ≡ Nursery → AreWritten (with_adopted old.table Nursery made.aged made.old) new.table (map (rewritten_at old.table.spaces made.forward) old.remembered)
 
 -- How few blocks a collection leaves. Of a full one they are no more than the cells in use need; of a nursery collection at
 -- most one more than the younger cells in use need, beside those that Old had, since it fills blocks of two spaces. Each space

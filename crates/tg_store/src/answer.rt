@@ -1,5 +1,5 @@
 //! How a command is answered on the heap, and entered in the journal with its reply.
-ghost use Rattle.std.specs.Prelude.{◌≡◌, ◌≢◌, ◌<◌, None, Err, Some};
+ghost use Rattle.std.specs.Prelude.{◌≡◌, ◌≢◌, ◌<◌, None, Err, IfOk, Ok};
 ghost use Rattle.tg_model.specs.Rules.{denial_of};
 ghost use Rattle.tg_graph.specs.Heap.{content_of};
 ghost use Rattle.tg_rules.specs.Effect.{AddsEdge, LacksCellsToServe, OnlyLooks};
@@ -34,7 +34,7 @@ pub(crate) fn answer_command<P: Payload>(
     requires room { 0 < journal.old.spare }
     ensures answered { AnswersCommand subject command.now heap.old heap.new result }
     ensures entered { EntersAnswer subject command.now journal.old journal.new result }
-    ensures denied { (denial : Denial) → denial_of (content_of heap.old).label (content_of heap.old).value subject.name command.now ≡ Some denial → heap.new ≡ heap.old }
+    ensures denied { (denial : Denial) → result ≡ Ok (Reply.Denied denial) → heap.new ≡ heap.old }
     ensures full { result ≡ Err ApplyFault.HeapFull → (denial_of (content_of heap.old).label (content_of heap.old).value subject.name command.now ≡ None)
         × AddsEdge command.now × LacksCellsToServe heap.old.table subject.nursery subject.name command.now }
 {
@@ -96,6 +96,7 @@ fn change<P: Payload>(
     requires changes { ¬ OnlyLooks command.now }
     ensures answered { AnswersCommand subject command.now heap.old heap.new result }
     ensures entered { EntersAnswer subject command.now journal.old journal.new result }
+    ensures done { IfOk result (λ reply. reply ≡ Reply.Done) }
     ensures full { result ≡ Err ApplyFault.HeapFull → AddsEdge command.now × LacksCellsToServe heap.old.table subject.nursery subject.name command.now }
 {
     let _done = change_between(heap, subject, command, parties)?;

@@ -15,14 +15,14 @@ use crate::making::{Limit, add_vertex, deed_to_enter};
 use crate::tallied::TalliedJournal;
 use std::alloc::{AllocError, Global};
 use std::marker::Model;
-use tg_evac::{Copied, collect_one};
+use tg_evac::collect_one;
 use tg_graph::{Heap, HeapRefused};
 use tg_journal::{Entry, Journal};
 use tg_model::{Command, Deed, MAX_WORKERS, Making, Opening, Reply, Value};
 use tg_payload::{Draft, Payload};
 use tg_rights::Label;
 use tg_rules::readable;
-use tg_space::{Kind, Limits, RoomFault, Root, Spaces, Spare};
+use tg_space::{Copied, Kind, Limits, RoomFault, Root, Spaces, Spare};
 use tg_subjects::Subject;
 use tg_word::OLD;
 
@@ -57,7 +57,7 @@ impl<P: Payload> Store<P> {
     ghost use Rattle.tg_model.specs.Rules.{IsAllowed, step, answer_of};
     ghost use Rattle.tg_model.specs.declared.opening.TheConstants.{MAX_WORKERS};
     ghost use Rattle.tg_model.specs.declared.reply.Denial.{Denial};
-    ghost use Rattle.tg_space.specs.Collection.{AreFewBlocks, copies_in, IsCollection, used_cells};
+    ghost use Rattle.tg_space.specs.Collection.{AreFewBlocks, collected_in, copies_in, IsCollection, used_cells};
     ghost use Rattle.tg_space.specs.Soundness.{AreSound};
     ghost use Rattle.tg_space.specs.SpaceList.{block_count, space_of};
     ghost use Rattle.tg_space.specs.SpaceTable.{kept_blocks};
@@ -480,9 +480,9 @@ impl<P: Payload> Store<P> {
 
     // Copies what a collection of this kind keeps, first into the spare blocks.
     fn copy_reached(&self, kind: Kind, spare: Spare) -> Result<Copied, RoomFault>
-        ensures collected { IfOk result (λ copied. IsCollection kind self.now.heap.table.spaces (roots_of kind self.now.heap) copied.forward.words copied.adoption.aged copied.adoption.old copied.remembered.places) }
+        ensures collected { IfOk result (λ copied. IsCollection kind self.now.heap.table.spaces (roots_of kind self.now.heap) (collected_in copied)) }
         ensures moved { IfOk result (λ copied. copies_in copied.forward.words 0 + copies_in copied.forward.words 1 ≤ used_cells kind self.now.heap.table.spaces) }
-        ensures few { IfOk result (λ copied. AreFewBlocks self.now.heap.table.limits.space_blocks (kept_blocks kind self.now.heap.table.spaces) 0 copied.forward.words copied.adoption.aged copied.adoption.old) }
+        ensures few { IfOk result (λ copied. AreFewBlocks self.now.heap.table.limits.space_blocks (kept_blocks kind self.now.heap.table.spaces) 0 (collected_in copied)) }
         ensures full { IfErr result (λ fault. fault ≡ RoomFault.HeapFull → LacksRoomToCollect kind 1 self.now.heap) }
     {
         let roots = self.heap.roots(self.alloc, kind)?;
@@ -521,19 +521,16 @@ impl<P: Payload> Store<P> {
     /// answers how many vertices the heap then has. It counts as a collection. Fails only when out of memory; the store
     /// is then as it was.
     pub fn settle(&mut self, kind: Kind, copied: Copied) -> Result<u64, AllocError>
-        requires { IsCollection kind self.old.heap.table.spaces (roots_of kind self.old.heap) copied.forward.words copied.adoption.aged copied.adoption.old copied.remembered.places }
+        requires { IsCollection kind self.old.heap.table.spaces (roots_of kind self.old.heap) (collected_in copied) }
         ensures swept { IfOk result (IsSwept kind self.old self.new) }
-        ensures adopted { OnOk result (HasAdopted kind self.old.heap self.new.heap copied.forward.words copied.adoption.aged copied.adoption.old) }
+        ensures adopted { OnOk result (HasAdopted kind self.old.heap self.new.heap (collected_in copied)) }
         ensures history { KeepsHistory self.old self.new result }
     {
-        let Copied {
-            forward,
-            adoption,
-            remembered,
-        } = copied;
-        self.heap.settle(kind, forward, adoption, remembered)?;
+        let count = self.heap.settle(kind, copied)?;
+        // It tells that no name stands twice.
+        let _ = self.heap.vertices();
         self.collections.add(kind);
-        Ok(self.heap.vertices())
+        Ok(count)
     }
 }
 

@@ -3,13 +3,12 @@ use Rattle.std.proofs.lemmas.Result.{on_ok_weaker}
 use Rattle.tg_model.specs.declared.command.Command.{Command}
 use Rattle.tg_model.specs.declared.command.Command.TheVariants.{Retire}
 use Rattle.tg_model.specs.Graph.{without_rights}
-use Rattle.tg_model.specs.Rules.{subjects_after}
 use Rattle.tg_rows.specs.Content.{Content, IsContent, IsNamed}
 use Rattle.tg_rows.specs.Graph.{content_in}
 use Rattle.tg_rows.specs.Rows.{IsVertexAt}
 use Rattle.tg_space.specs.SpaceTable.{SpaceTable}
-use Rattle.tg_subjects.specs.Subjects.{names_of, without}
-use Rattle.tg_graph.specs.Heap.{HeapState, content_of, subject_names}
+use Rattle.tg_subjects.specs.Subjects.{names_of}
+use Rattle.tg_graph.specs.Heap.{content_of}
 use Rattle.tg_graph.proofs.StandingLaws.{IsSameContent-self}
 use Rattle.tg_rules.specs.Effect.{AddsEdge, IsContentAfter}
 use Rattle.tg_rules.specs.Parties.{owner_of_row}
@@ -36,10 +35,7 @@ returns-in-Retire-clause-content g c =
 
 pub returns-in-Retire-clause-subjects : goal.returns-in-Retire-clause-subjects
 returns-in-Retire-clause-subjects g c =
-    let now : HeapState = c.args.heap.now in
-    let x = c.args.subject.name in
-    ap names_of c.retire.ensures.subjects
-    ∙ subst (λ (command : Command). names_of (without now.subjects x) ≡ subjects_after (subject_names now) x command) (sym c.in-Retire.is) (names_without now.subjects x)
+    rw c.in-Retire.is (ap names_of c.retire.ensures.subjects ∙ names_without c.args.heap.now.subjects c.args.subject.name)
 
 pub returns-in-Retire-clause-left : goal.returns-in-Retire-clause-left
 returns-in-Retire-clause-left g c = record {

@@ -1,24 +1,14 @@
-use Rattle.std.proofs.Common.{◌≡◌, ◌<◌, ◌≤◌, ◌+◌, ◌∙◌, ◌++◌, ◌∷◌, [], ℕ, List, length, get_or, take, arith, refl, sym, ap}
+use Rattle.std.proofs.Common.{◌∙◌, ◌++◌, ◌∷◌, [], ℕ, take, arith, refl, sym, ap}
 use Rattle.std.proofs.lemmas.List.{map_more}
 use Rattle.tg_subjects.specs.Subjects.{names_of}
 use Rattle.tg_subjects.specs.declared.subject.Subject.{Subject}
 use Rattle.tg_shared.proofs.Fresh.{fresh_push}
 use Rattle.tg_shared.proofs.locked.sessions_of.Goals as goal
 
-has_one : (left done all subjects : ℕ) → left + done ≡ all → done < subjects → subjects < all → 1 ≤ left
-has_one left done all subjects cut more enough = omega arith
-
-nothing : (n : ℕ) → n ≡ 0 → 0 ≤ n
-nothing n is = omega arith
-
--- one name more
-name_more : (subjects : List Subject) (i : ℕ) (d : Subject) (name : ℕ) → i < length subjects → name ≡ (get_or subjects i d).name → names_of (take (i + 1) subjects) ≡ names_of (take i subjects) ++ name ∷ []
-name_more subjects i d name inside is = map_more (λ (x : Subject). x.name) subjects i d inside ∙ ap (λ (n : ℕ). names_of (take i subjects) ++ n ∷ []) (sym is)
-
 pub split_off-share-requires : goal.split_off-share-requires
 split_off-share-requires g c = record {
-  has_parts = has_one c.loop-subject.rest.parts c.loop-subject.subject-index c.args.rest.now.parts (length c.args.subjects.now) c.loop-subject.invariant.parts c.loop-subject-test.true c.requires.0;
-  has_amount = nothing c.loop-subject.rest.amount c.loop-subject.invariant.amount;
+  has_parts = omega (arith, c.loop-subject.invariant.parts, c.loop-subject-test.true, c.requires.0);
+  has_amount = omega (arith, c.loop-subject.invariant.amount);
   left_backed = λ _. sym c.loop-subject.invariant.amount;
   given_backed = λ _. refl;
 }
@@ -32,7 +22,7 @@ loop-subject-preserved g c =
     let s = c.new.result in
     let i = c.loop-subject.subject-index in
     let items = c.in_ok-push.ensures.items in
-    let more = name_more c.args.subjects.now i _ s.worker c.loop-subject-test.true c.new.ensures.0 in
+    let more = map_more (λ (x : Subject). x.name) c.args.subjects.now i _ c.loop-subject-test.true ∙ ap (λ (n : ℕ). names_of (take i c.args.subjects.now) ++ n ∷ []) (sym c.new.ensures.0) in
     record {
       fresh = rw (items, more) (fresh_push (names_of (take i c.args.subjects.now)) s.worker ss s c.loop-subject.invariant.fresh refl (c.new.ensures.1, c.new.ensures.2, c.new.ensures.3, c.new.ensures.4));
       parts = omega (arith, c.split_off-share.ensures.parts_left, c.loop-subject.invariant.parts);

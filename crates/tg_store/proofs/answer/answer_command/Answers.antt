@@ -16,3 +16,6 @@ returns-in-Err-clause-denied g c = λ _ _. refl
 
 pub returns-in-Err-clause-full : goal.returns-in-Err-clause-full
 returns-in-Err-clause-full g c = λ e. let f : ⊥ = cc e in absurd f
+
+pub returns-in-Ok-2-clause-denied : goal.returns-in-Ok-2-clause-denied
+returns-in-Ok-2-clause-denied g c = λ denial is. let no : ⊥ = cc (rw is at c.change.ensures.done) in absurd no

@@ -1,5 +1,5 @@
 use Rattle.std.proofs.Common.{ℕ, ◌≡◌, ◌∙◌, ◌++◌, ◌∷◌, ◌+◌, [], List, length, ap, map, sym, subst, refl, take, arith}
-use Rattle.std.proofs.lemmas.List.{append_assoc, map-append, take_all, take_more}
+use Rattle.std.proofs.lemmas.List.{append_assoc, map_more, take_all}
 use Rattle.tg_rights.specs.RightSet.{RightSet}
 use Rattle.tg_model.specs.declared.command.Command.TheVariants.{Remove, Retire}
 use Rattle.tg_model.specs.Graph.{ProtectionGraph, without_rights}
@@ -33,8 +33,7 @@ loop-edge-preserved g c =
     let invariant = c.loop-edge.invariant in
     let before = content_of c.loop-edge.heap in
     let after = content_of c.drop_rights.new.self in
-    let more : map (removal x) (take (i + 1) es) ≡ done ++ removal x e ∷ [] =
-    ap (map (removal x)) (take_more es i e c.loop-edge-test.true ∙ ap (λ y. take i es ++ y ∷ []) (sym c.edge-item.is)) ∙ map-append (removal x) (take i es) (e ∷ []) in
+    let more : map (removal x) (take (i + 1) es) ≡ done ++ removal x e ∷ [] = map_more (removal x) es i e c.loop-edge-test.true ∙ ap (λ y. done ++ removal x y ∷ []) (sym c.edge-item.is) in
     let old = c.args.journal.now.entries in
     let there = invariant.kept.vertices x c.args.subject.place c.requires.subject.vertex in
     record {

@@ -3,17 +3,17 @@ use Rattle.std.proofs.lemmas.Result.{err_from_is_err_and}
 use Rattle.tg_model.specs.Graph.{IsSubject}
 use Rattle.tg_model.specs.declared.command.Deed.{Deed}
 use Rattle.tg_journal.specs.declared.entry.Entry.{Entry}
-use Rattle.tg_store.specs.Store.{StoreState, graph_of_store}
+use Rattle.tg_store.specs.Store.{graph_of_store}
 use Rattle.tg_shared.specs.Serving.{KeepsRound, ServesCommand}
 use Rattle.tg_shared.specs.Sessions.{AddsReceipt, LockedState}
-use Rattle.tg_shared.proofs.Balances.{goes_on_entered, locked_as, locked_entered, locked_same}
+use Rattle.tg_shared.proofs.Balances.{goes_on_more, locked_as, locked_entered, locked_same}
 use Rattle.tg_shared.proofs.Replies.{gone_behind, refuses, serves}
 use Rattle.tg_shared.proofs.locked.Locked.apply.Goals as goal
 
 pub invariant_of-self : goal.invariant_of-self
 invariant_of-self g c =
     let kept = c.in_err-reply.ensures.refused in
-    locked_same g.L.Round.start c.self.inside.store c.apply.new.self _ _ _ _ _ c.self.invariant kept.entries kept.opening c.apply.ensures.limits c.apply.ensures.handed
+    locked_same g.L.Round.start c.self.inside.store c.apply.new.self _ _ _ _ _ c.self.invariant kept.entries kept.opening c.apply.ensures.limits (λ _. c.apply.ensures.handed)
 
 pub returns-in_err-reply-clause-served : goal.returns-in_err-reply-clause-served
 returns-in_err-reply-clause-served g c =
@@ -25,17 +25,15 @@ returns-in_err-reply-clause-served g c =
 
 pub note-requires : goal.note-requires
 note-requires g c =
-    let old : StoreState = c.self.inside.store in
-    let new : StoreState = c.apply.new.self in
     record {
       room = c.requires.room;
       own = c.worker-worker.ensures;
       gone = λ is. (
-        new,
-        goes_on_entered _ _ _ _ _ _ c.self.invariant.3 c.in_ok-reply.ensures.entry c.apply.ensures.opening c.apply.ensures.limits c.apply.ensures.handed,
+        c.apply.new.self,
+        goes_on_more c.self.inside.store c.apply.new.self _ c.in_ok-reply.ensures.entry c.apply.ensures.opening g.L.Round.start c.self.invariant.3 c.apply.ensures.limits (λ _. c.apply.ensures.handed),
         c.journal-2.ensures.faithful,
-        subst (λ (w : ℕ). ¬ IsSubject (graph_of_store new) w) c.worker-worker.ensures
-            (gone_behind (graph_of_store old) (graph_of_store new) c.worker-worker.result c.args.command (sym c.deed_of-deed.ensures ∙ is) (c.in_ok-reply.ensures.step (graph_of_store old) refl)),
+        subst (λ (w : ℕ). ¬ IsSubject (graph_of_store c.apply.new.self) w) c.worker-worker.ensures
+            (gone_behind (graph_of_store c.self.inside.store) (graph_of_store c.apply.new.self) c.worker-worker.result c.args.command (sym c.deed_of-deed.ensures ∙ is) (c.in_ok-reply.ensures.step (graph_of_store c.self.inside.store) refl)),
       );
     }
 

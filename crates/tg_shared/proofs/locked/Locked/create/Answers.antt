@@ -1,8 +1,7 @@
-use Rattle.std.proofs.Common.{◌≡◌, ap, refl, subst}
+use Rattle.std.proofs.Common.{ap, refl, subst}
 use Rattle.std.specs.Prelude.{IfOk}
 use Rattle.std.proofs.lemmas.Result.{IfErr-weaker}
 use Rattle.tg_model.specs.declared.command.Deed.{Deed}
-use Rattle.tg_model.specs.declared.making.Making.TheVariants.{Object, Subject}
 use Rattle.tg_store.specs.Store.{graph_of_store}
 use Rattle.tg_shared.specs.Serving.{IsMadeAndNoted, NotesRefusal}
 use Rattle.tg_shared.specs.Sessions.{LockedState, reply_made}
@@ -14,9 +13,6 @@ invariant_of-self g c =
     locked_noted g.L.Round.start c.self.inside.store c.make.new.store c.args.session.now c.make.new.session _ _ _ _ _ _ _ (reply_made c.make.result) c.make.ensures.noted
     (λ none. let told = c.make.ensures.nothing none in (told.0, ap (λ b. b.total) told.1)) (λ reply is. refl)
     c.make.ensures.refusals.opening c.make.ensures.refusals.limits c.make.ensures.refusals.handed c.self.invariant
-
-no_subject : Object ≡ Subject → ⊥
-no_subject is = cc
 
 pub returns-clause-served : goal.returns-clause-served
 returns-clause-served g c =
@@ -32,4 +28,4 @@ returns-clause-noted g c =
 
 pub returns-clause-no_workers_full : goal.returns-clause-no_workers_full
 returns-clause-no_workers_full g c =
-    IfErr-weaker c.make.result _ _ (λ refused told why. no_subject (told why).0) (c.make.ensures.too_many (graph_of_store c.self.inside.store) refl)
+    IfErr-weaker c.make.result _ _ (λ refused told why. let no : ⊥ = cc (told why).0 in no) (c.make.ensures.too_many (graph_of_store c.self.inside.store) refl)

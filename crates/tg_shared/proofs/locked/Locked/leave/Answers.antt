@@ -2,12 +2,13 @@
 use Rattle.std.proofs.Common.{◌≡◌, ◌∙◌, ◌+◌, ℕ, List, length, Err, Ok, ap, refl, subst, sym}
 use Rattle.std.proofs.lemmas.Result.{err_from_is_err_and}
 use Rattle.tg_rights.specs.RightSet.{RightSet}
-use Rattle.tg_model.specs.Graph.{IsSubject, listing_of}
+use Rattle.tg_model.specs.Graph.{ProtectionGraph, IsSubject, listing_of}
 use Rattle.tg_store.specs.Leaving.{HasLeft}
-use Rattle.tg_store.specs.Store.{StoreState, graph_of_store}
+use Rattle.tg_store.specs.Store.{graph_of_store}
 use Rattle.tg_shared.specs.Serving.{EndsWorker}
 use Rattle.tg_shared.specs.Sessions.{LockedState}
-use Rattle.tg_shared.proofs.Leavings.{goes_on_left, gone_left, locked_left}
+use Rattle.tg_shared.proofs.Balances.{goes_on_more}
+use Rattle.tg_shared.proofs.Leavings.{gone_left, locked_left}
 use Rattle.tg_shared.proofs.Replies.{ends}
 use Rattle.tg_shared.proofs.locked.Locked.leave.Goals as goal
 
@@ -27,22 +28,16 @@ returns-clause-ended g c =
 
 pub note_leaving-requires-clause-gone : goal.note_leaving-requires-clause-gone
 note_leaving-requires-clause-gone g c =
-    let old : StoreState = c.self.inside.store in
-    let new : StoreState = c.leave.new.self in
-    let w = c.worker-worker.result in
-    let left : HasLeft w old new = c.in_ok-count.ensures.left in (
-      new,
-      goes_on_left old new w left g.L.Round.start c.self.invariant.3,
+    let left : HasLeft c.worker-worker.result c.self.inside.store c.leave.new.self = c.in_ok-count.ensures.left in (
+      c.leave.new.self,
+      goes_on_more c.self.inside.store c.leave.new.self _ left.entries left.opening g.L.Round.start c.self.invariant.3 left.limits (λ _. left.handed),
       c.journal-2.ensures.faithful,
-      subst (λ (x : ℕ). ¬ IsSubject (graph_of_store new) x) (c.worker-worker.ensures ∙ sym c.in_ok-make_room_for.ensures.receipts.0) (gone_left old new w left),
+      subst (λ (x : ℕ). ¬ IsSubject (graph_of_store c.leave.new.self) x) (c.worker-worker.ensures ∙ sym c.in_ok-make_room_for.ensures.receipts.0) (gone_left c.self.inside.store c.leave.new.self c.worker-worker.result left),
     )
 
 pub invariant_of-self-2 : goal.invariant_of-self-2
 invariant_of-self-2 g c =
-    let old : StoreState = c.self.inside.store in
-    let new : StoreState = c.leave.new.self in
-    let w = c.worker-worker.result in
-    let left : HasLeft w old new = c.in_ok-count.ensures.left in
-    let row : c.in_ok-row.row ≡ listing_of (graph_of_store old).label (graph_of_store old).made w = c.in_ok-row.ensures.edges (graph_of_store old) refl in
-    locked_left old new w left g.L.Round.start (length g.L.Round.start.entries) c.self.inside.sessions c.self.inside.book.total c.note_leaving.new.book.total c.self.inside.rest.parts g.L.Ledger.parts c.self.invariant
+    let graph : ProtectionGraph = graph_of_store c.self.inside.store in
+    let row : c.in_ok-row.row ≡ listing_of graph.label graph.made c.worker-worker.result = c.in_ok-row.ensures.edges graph refl in
+    locked_left c.self.inside.store c.leave.new.self c.worker-worker.result c.in_ok-count.ensures.left g.L.Round.start (length g.L.Round.start.entries) c.self.inside.sessions c.self.inside.book.total c.note_leaving.new.book.total c.self.inside.rest.parts g.L.Ledger.parts c.self.invariant
     (c.note_leaving.ensures.book ∙ ap (λ (es : List (ℕ × RightSet)). c.self.inside.book.total + (length es + 1)) row) c.self.invariant.2

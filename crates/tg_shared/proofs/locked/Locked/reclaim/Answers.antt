@@ -1,4 +1,4 @@
-use Rattle.std.proofs.Common.{◌≡◌, ◌≤◌, ◌+◌, ◌∙◌, ◌++◌, ◌∷◌, [], ℕ, List, true, false, drop, length, take, append_assoc, append-nil, arith, refl, sym, ap, subst}
+use Rattle.std.proofs.Common.{◌≡◌, ◌≤◌, ◌+◌, ◌∙◌, ◌++◌, ◌∷◌, [], ℕ, List, drop, length, take, add-zero, append_assoc, append-nil, arith, refl, sym, ap, subst}
 use Rattle.std.proofs.lemmas.List.{nil_from_length, take-append-le}
 use Rattle.std.proofs.Math.Seq.{take-length}
 use Rattle.std.proofs.lemmas.List.Sums.{sum_by-append, sum_by-cons}
@@ -8,7 +8,6 @@ use Rattle.tg_journal.specs.declared.entry.Entry.{Entry}
 use Rattle.tg_shared.specs.Sessions.{GoesOn, IsBalanced, LockedState, MayClose, SessionState, count_of, handed_of, held_from, parts_of}
 use Rattle.tg_shared.proofs.Balances.{not_both, part_left, some_part}
 use Rattle.tg_shared.proofs.Sharing.{as_counted, held_at_most, shared_out}
-use Rattle.tg_shared.proofs.Calls.{not_refused}
 use Rattle.tg_shared.proofs.locked.Locked.reclaim.Goals as goal
 
 -- what a journal has handed out is not behind the place from which on it is looked at
@@ -21,21 +20,13 @@ closes es fs m n ss ts entries start sessions may =
     subst (λ (x : List Entry). MayClose x n ts) entries (subst (λ (x : ℕ). MayClose es x ts) start (subst (λ (x : List SessionState). MayClose es m x) sessions may))
 
 -- who gave up their parts stand for no more sessions than were made, and where for as many, all parts are there
-no_more : (made rest parts whole given : ℕ) → made + rest ≡ parts → whole ≡ rest + given → whole ≤ parts → given ≤ made
-no_more made rest parts whole given cut held fits = omega arith
+given_back : (made rest parts whole given : ℕ) → made + rest ≡ parts → whole ≡ rest + given → (whole ≤ parts → given ≤ made) × (given ≡ made → whole ≡ parts)
+given_back made rest parts whole given cut held = ((λ fits. omega arith), (λ as_many. omega arith))
 
-all_back : (made rest parts whole given : ℕ) → made + rest ≡ parts → whole ≡ rest + given → given ≡ made → whole ≡ parts
-all_back made rest parts whole given cut held as_many = omega arith
-
-counted_once : (entries start total amount rest entered handed count : ℕ) → entries ≡ start + total → amount ≤ total → amount ≡ rest + handed + count → rest ≡ entered → start + entered + handed + count ≤ entries
-counted_once entries start total amount rest entered handed count counted most held is = omega arith
-
-all_counted : (entries start total amount rest entered handed count : ℕ) → entries ≡ start + total → amount ≡ total → amount ≡ rest + handed + count → rest ≡ entered → entries ≡ start + entered + handed + count
-all_counted entries start total amount rest entered handed count counted whole held is = omega arith
-
--- what is left behind the receipts that were handed out
-held_count : (entries start handed count since : ℕ) → entries ≡ start + handed + count → start + handed ≡ since → entries ≡ since + count
-held_count entries start handed count since counted is = omega arith
+-- no entry is counted twice, and where the book is whole, each is counted
+counted_once : (entries start total amount rest entered handed count : ℕ) → entries ≡ start + total → amount ≡ rest + handed + count → rest ≡ entered
+    → (amount ≤ total → start + entered + handed + count ≤ entries) × (amount ≡ total → entries ≡ start + entered + handed + count)
+counted_once entries start total amount rest entered handed count counted held is = ((λ most. omega arith), (λ whole. omega arith))
 
 -- where no receipt was handed out, no entry was
 none_gone : (entries start out handed count since : ℕ) → entries ≡ start + handed + count → count ≤ entries - since → handed ≡ 0 → since ≡ max start out → out ≤ entries → since ≡ start
@@ -43,12 +34,6 @@ none_gone entries start out handed count since counted fits none is within =
     let most : max start out ≤ entries = max-le {a = start} {b = out} {k = entries} (omega arith) within in
     let least : start ≤ max start out = le-max_left start out in
     omega arith
-
-not_yet : (n : ℕ) → n ≡ n + 0
-not_yet n = omega arith
-
-none_yet : (n : ℕ) → n ≡ n + 0 + 0
-none_yet n = omega arith
 
 rest_fits : (made rest parts : ℕ) → made + rest ≡ parts → rest ≤ parts
 rest_fits made rest parts cut = omega arith
@@ -124,8 +109,8 @@ invariant_of-self g c =
 pub loop-session-init : goal.loop-session-init
 loop-session-init g c = record {
   left = c.into_iter-session-iterator.ensures.into_iter_gives.0;
-  parts = not_yet c.self.inside.rest.parts;
-  amount = none_yet c.self.inside.rest.amount;
+  parts = sym (add-zero c.self.inside.rest.parts);
+  amount = sym (add-zero (c.self.inside.rest.amount + 0) ∙ add-zero c.self.inside.rest.amount);
   fits = rest_fits c.self.inside.sessions c.self.inside.rest.parts g.L.Ledger.parts c.self.invariant.0.cut;
 }
 
@@ -156,8 +141,8 @@ returns g c =
     let had : c.loop-session.whole.amount ≡ c.self.inside.rest.amount + handed_of items + count_of items =
     subst (λ (l : List SessionState). c.loop-session.whole.amount ≡ c.self.inside.rest.amount + handed_of l + count_of l) all c.loop-session.invariant.amount in
     let counted : here ≡ start + c.self.inside.book.total = sym (ap (λ (es : List Entry). length es) entries) ∙ c.self.invariant.0.counted in
-    let back : parts ≡ c.args.self.sessions → c.loop-session.whole.parts ≡ g.L.Ledger.parts =
-    λ as_many. all_back c.self.inside.sessions c.self.inside.rest.parts g.L.Ledger.parts c.loop-session.whole.parts parts c.self.invariant.0.cut whole (as_many ∙ sym made) in
+    let given = given_back c.self.inside.sessions c.self.inside.rest.parts g.L.Ledger.parts c.loop-session.whole.parts parts c.self.invariant.0.cut whole in
+    let once = counted_once here start c.self.inside.book.total c.loop-session.whole.amount c.self.inside.rest.amount c.args.self.entered (handed_of items) (count_of items) counted had amount in
     let out : c.start.result ≡ c.args.self.store.handed = c.start.ensures.start ∙ c.journal.ensures.start ∙ ap (λ (b : LockedState). b.store.handed) c.self.view_is in
     let since : c.max-since.result ≡ held_from g.L.Round.start c.args.self.store = c.max-since.ensures ∙ (λ i. max (c.self.invariant.1 i) (out i)) in
     let may : MayClose c.args.self.store.entries (held_from g.L.Round.start c.args.self.store) items =
@@ -166,7 +151,7 @@ returns g c =
     let since_then : ℕ = held_from g.L.Round.start c.args.self.store in
     let inside : c.args.self.store.handed ≤ here = subst (λ (b : LockedState). b.store.handed ≤ length b.store.entries) c.self.view_is c.journal.ensures.within in
     let count : parts ≡ c.args.self.sessions → here ≡ start + c.args.self.entered + handed_of items + count_of items =
-    λ as_many. all_counted here start c.self.inside.book.total c.loop-session.whole.amount c.self.inside.rest.amount c.args.self.entered (handed_of items) (count_of items) counted (c.audit.ensures.whole (back as_many)) had amount in
+    λ as_many. once.1 (c.audit.ensures.whole (given.1 (as_many ∙ sym made))) in
     let own_count : c.args.self.entered ≡ 0 → parts ≡ c.args.self.sessions → here ≡ start + handed_of items + count_of items =
     λ none as_many. as_counted start c.args.self.entered (handed_of items) (count_of items) here (count as_many) none in
     record {
@@ -177,14 +162,14 @@ returns g c =
         handed_back = tt;
       };
       adds_up = record {
-        within = subst (λ (n : ℕ). parts ≤ n) made (no_more c.self.inside.sessions c.self.inside.rest.parts g.L.Ledger.parts c.loop-session.whole.parts parts c.self.invariant.0.cut whole c.loop-session.invariant.fits);
-        least = counted_once here start c.self.inside.book.total c.loop-session.whole.amount c.self.inside.rest.amount c.args.self.entered (handed_of items) (count_of items) counted c.audit.ensures.bound had amount;
+        within = subst (λ (n : ℕ). parts ≤ n) made (given.0 c.loop-session.invariant.fits);
+        least = once.0 c.audit.ensures.bound;
         count = count;
       };
-      shared_out = λ none as_many gone. shared_out c.args.self.store.entries since_then items may (held_count here start (handed_of items) (count_of items) since_then (own_count none as_many) gone);
+      shared_out = λ none as_many gone. shared_out c.args.self.store.entries since_then items may (own_count none as_many ∙ ap (λ (n : ℕ). n + count_of items) gone);
       none_handed = λ none as_many not_one.
           none_gone here start c.args.self.store.handed (handed_of items) (count_of items) since_then (own_count none as_many) (held_at_most c.args.self.store.entries since_then items may) not_one refl inside;
-      mismatch = ((λ none. absurd (not_refused none)), (λ no. absurd (no may)));
+      mismatch = ((λ none. let no : ⊥ = cc none in absurd no), (λ no. absurd (no may)));
       only = tt;
       counted = tt;
     }

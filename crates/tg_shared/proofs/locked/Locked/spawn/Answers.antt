@@ -1,4 +1,4 @@
-use Rattle.std.proofs.Common.{◌≡◌, ◌∙◌, ◌≤◌, ◌+◌, ℕ, false, length, Err, ap, arith, refl, subst, sym}
+use Rattle.std.proofs.Common.{◌≡◌, ◌∙◌, ◌+◌, ℕ, false, length, Err, add-zero, ap, arith, refl, subst, sym}
 use Rattle.std.proofs.lemmas.Result.{err_from_is_err_and}
 use Rattle.tg_model.specs.declared.command.Deed.{Deed}
 use Rattle.tg_model.specs.declared.reply.Reply.{Reply}
@@ -7,16 +7,10 @@ use Rattle.tg_store.specs.Store.{Enters, StoreState, graph_of_store}
 use Rattle.tg_shared.specs.declared.session.Session.{Session}
 use Rattle.tg_shared.specs.Serving.{IsMadeAndNoted, NotesRefusal}
 use Rattle.tg_shared.specs.Sessions.{LockedState, made_subject}
-use Rattle.tg_shared.proofs.Balances.{balanced_spawned, goes_on_entered, grown, made_more, part_left, parts_left, within_word}
+use Rattle.tg_shared.proofs.Balances.{balanced_spawned, goes_on_more, grown, made_more, part_left, parts_left, within_word}
 use Rattle.tg_shared.proofs.Makings.{entered_as, locked_noted, refused_noted}
 use Rattle.tg_shared.proofs.Replies.{refusals_made, refusals_none, refusals_same}
 use Rattle.tg_shared.proofs.locked.Locked.spawn.Goals as goal
-
-as_before : (new old entered : ℕ) → new + 0 ≡ old → old ≡ entered → new ≡ entered
-as_before new old entered left is = omega arith
-
-not_the_last : (rest : ℕ) → 2 ≤ rest → 1 ≡ rest → ⊥
-not_the_last rest more last = omega arith
 
 one_more : (sessions made next : ℕ) → sessions ≡ made → next ≡ made + 1 → sessions + 1 ≡ next
 one_more sessions made next is more = omega arith
@@ -37,9 +31,7 @@ pub split_off-share-requires-clause-left_backed : goal.split_off-share-requires-
 split_off-share-requires-clause-left_backed g c = λ last.
     let told = c.in_ok-name.ensures in
     absurd
-    (not_the_last c.self.inside.rest.parts
-    (parts_left c.self.inside.store c.make.new.store (length g.L.Round.start.entries) c.self.inside.sessions c.self.inside.book.total c.self.inside.rest.parts g.L.Ledger.parts c.args.session.now.worker c.in_ok-name.name c.args.label c.args.draft.law c.args.draft.state
-    c.self.invariant.0 c.journal.ensures.faithful (told.noted (Reply.Name c.in_ok-name.name) refl).0.entry (told.made.name (graph_of_store c.self.inside.store) refl) told.refusals.opening) last)
+    (parts_left c.self.inside.store c.make.new.store _ _ _ _ _ _ _ c.args.label c.args.draft.law c.args.draft.state c.self.invariant.0 (told.noted (Reply.Name c.in_ok-name.name) refl).0.entry (told.made.name (graph_of_store c.self.inside.store) refl) told.refusals.opening c.journal.ensures.faithful last)
 
 pub new-requires : goal.new-requires
 new-requires g c =
@@ -48,18 +40,15 @@ new-requires g c =
 
 pub invariant_of-self-2 : goal.invariant_of-self-2
 invariant_of-self-2 g c =
-    let old : StoreState = c.self.inside.store in
-    let new : StoreState = c.make.new.store in
     let told = c.in_ok-name.ensures in
     let deed : Deed = Deed.Spawn c.args.label c.args.draft.law c.args.draft.state in
     let noted = told.noted (Reply.Name c.in_ok-name.name) refl in
-    let entry : Enters old new c.args.session.now.worker deed (Reply.Name c.in_ok-name.name) = noted.0.entry in (
-      balanced_spawned old new (length g.L.Round.start.entries) c.self.inside.sessions c.self.inside.book.total c.make.new.book.total c.self.inside.rest.parts c.split_off-share.new.self.parts g.L.Ledger.parts
-          c.args.session.now.worker c.in_ok-name.name c.args.label c.args.draft.law c.args.draft.state c.self.invariant.0 entry (told.made.name (graph_of_store old) refl) told.refusals.opening noted.1 c.split_off-share.ensures.parts_left,
+    let entry : Enters c.self.inside.store c.make.new.store c.args.session.now.worker deed (Reply.Name c.in_ok-name.name) = noted.0.entry in (
+      balanced_spawned c.self.inside.store c.make.new.store _ _ _ _ _ _ _ c.args.label c.args.draft.law c.args.draft.state c.self.invariant.0 entry (told.made.name (graph_of_store c.self.inside.store) refl) told.refusals.opening _ _ noted.1 c.split_off-share.ensures.parts_left,
       c.self.invariant.1,
-      (as_before c.split_off-share.new.self.amount c.self.inside.rest.amount c.self.inside.entered c.split_off-share.ensures.amount_left c.self.invariant.2.0, c.self.invariant.2.1),
-      goes_on_entered g.L.Round.start old new c.args.session.now.worker deed (Reply.Name c.in_ok-name.name) c.self.invariant.3 entry told.refusals.opening told.refusals.limits told.refusals.handed,
-      one_more c.self.inside.sessions _ _ c.self.invariant.4 (made_more g.L.Round.start old new c.args.session.now.worker deed (Reply.Name c.in_ok-name.name) entry (grown g.L.Round.start old c.self.invariant.3)),
+      (sym (add-zero c.split_off-share.new.self.amount) ∙ c.split_off-share.ensures.amount_left ∙ c.self.invariant.2.0, c.self.invariant.2.1),
+      goes_on_more c.self.inside.store c.make.new.store _ entry told.refusals.opening g.L.Round.start c.self.invariant.3 told.refusals.limits (λ _. told.refusals.handed),
+      one_more c.self.inside.sessions _ _ c.self.invariant.4 (made_more g.L.Round.start c.self.inside.store c.make.new.store c.args.session.now.worker deed (Reply.Name c.in_ok-name.name) entry (grown g.L.Round.start c.self.inside.store c.self.invariant.3)),
     )
 
 pub returns-in_err-name-clause-refusals : goal.returns-in_err-name-clause-refusals

@@ -1,18 +1,15 @@
 -- What was handed out is what the store held, and what is behind the lock is as it was.
 use Rattle.std.proofs.Common.{◌≡◌, ◌∙◌, ap, length, subst}
 use Rattle.tg_graph.specs.Heap.{HeapState}
-use Rattle.tg_store.specs.Store.{StoreState}
 use Rattle.tg_shared.specs.Sessions.{LockedState}
-use Rattle.tg_shared.proofs.Balances.{goes_on_handed, locked_alike, locked_as}
+use Rattle.tg_shared.proofs.Balances.{locked_as, locked_same, not_both}
 use Rattle.tg_shared.proofs.locked.Locked.take_journal.Goals as goal
 
 pub invariant_of-self : goal.invariant_of-self
 invariant_of-self g c =
     let out = c.take_journal.ensures.handed_out in
-    let old : StoreState = c.self.inside.store in
-    let new : StoreState = c.take_journal.new.self in
-    locked_alike g.L.Round.start old new _ _ _ _ _ c.self.invariant out.entries out.opening
-    (goes_on_handed g.L.Round.start old new c.self.invariant.3 out.entries out.opening (ap (λ (h : HeapState). h.table.limits) out.heap) c.requires.in_parts)
+    locked_same g.L.Round.start c.self.inside.store c.take_journal.new.self _ _ _ _ _ c.self.invariant out.entries out.opening (ap (λ (h : HeapState). h.table.limits) out.heap)
+    (λ is_whole. absurd (not_both g.L.Round.start.in_parts c.requires.in_parts is_whole))
 
 pub returns-clause-entries : goal.returns-clause-entries
 returns-clause-entries g c = c.take_journal.ensures.entries ∙ ap (λ (b : LockedState). b.store.entries) c.self.view_is

@@ -2,7 +2,6 @@ use Rattle.std.proofs.Common.{List, Bool, ℕ, ◌≡◌, ◌∙◌, ◌∷◌, 
 use Rattle.tg_model.specs.declared.command.Deed.TheVariants.{Plain}
 use Rattle.tg_model.specs.Graph.{IsSubject, ProtectionGraph}
 use Rattle.tg_model.specs.Rules.{Permits, answer_of}
-use Rattle.tg_store.specs.declared.fault.ApplyFault.{ApplyFault}
 use Rattle.tg_store.specs.Store.{StoreState, IsFaithful, graph_of_store}
 use Rattle.tg_shared.specs.declared.receipt.Receipt.{Receipt}
 use Rattle.tg_shared.specs.Receipts.{receipt_of}
@@ -14,13 +13,10 @@ use Rattle.tg_shared.proofs.Calls.{err_here, found, kept, refused_as, refused_he
 use Rattle.tg_shared.proofs.Replies.{answered}
 use Rattle.tg_shared.proofs.session.Session.call.Goals as goal
 
-not_heap : ApplyFault.NoSuchWorker ≡ ApplyFault.HeapFull → ⊥
-not_heap is = cc
-
 pub returns-then-retired : goal.returns-then-retired
 returns-then-retired g c = (
   (refl, (λ _. tt), (refl {A = ℕ}, refl, refl {A = ℕ}, refl {A = ℕ}, refl {A = Bool})),
-  record { receipt = tt; no_such_worker = λ _. c.retired.ensures.gone c.if-retired.true; full = λ is. absurd (not_heap is); retired = λ _. refl },
+  record { receipt = tt; no_such_worker = λ _. c.retired.ensures.gone c.if-retired.true; full = λ is. let no : ⊥ = cc is in absurd no; retired = λ _. refl },
 )
 
 pub last_reply-requires : goal.last_reply-requires

@@ -1,19 +1,19 @@
 -- What is decided and changed on the heap is the graph's, and exactly that is entered.
-use Rattle.std.proofs.Common.{◌≡◌, ℕ, ◌∙◌, ◌++◌, ◌∷◌, [], List, None, refl, sym, subst}
+use Rattle.std.proofs.Common.{◌≡◌, ℕ, ◌∙◌, ◌++◌, ◌∷◌, [], List, None, ap, refl, rules, sym, subst}
 use Rattle.std.proofs.lemmas.Result.{err_from_is_err_and}
 use Rattle.tg_model.specs.declared.command.Command.{Command}
 use Rattle.tg_model.specs.declared.command.Deed.TheVariants.{Plain}
 use Rattle.tg_model.specs.declared.reply.Reply.{Reply}
 use Rattle.tg_model.specs.declared.reply.Reply.TheVariants.{Denied}
-use Rattle.tg_model.specs.Graph.{ProtectionGraph, IsSubject}
+use Rattle.tg_model.specs.Graph.{ProtectionGraph}
 use Rattle.tg_model.specs.Rules.{denial_of}
 use Rattle.tg_journal.specs.declared.entry.Entry.{Entry}
 use Rattle.tg_subjects.specs.declared.subject.Subject.{Subject}
 use Rattle.tg_graph.specs.Heap.{IsActive, content_of, nursery_of}
 use Rattle.tg_rules.specs.Effect.{LacksCellsToServe}
 use Rattle.tg_store.specs.Inner.Answering.{IsReplied, entry_answered}
-use Rattle.tg_store.specs.Store.{StoreState, Enters, IsUnchanged, OnlyEnters, graph_of_store}
-use Rattle.tg_store.proofs.AnswerLaws.{denial-answered, made-plain, permitted}
+use Rattle.tg_store.specs.Store.{StoreState, Enters, graph_of_store}
+use Rattle.tg_store.proofs.AnswerLaws.{made-plain, permitted}
 use Rattle.tg_store.proofs.StandLaws.{IsStore-entered, IsStore-unchanged, StandsFor-entered, active_seen, content_seen, stands_inside, subject_here, subject_seen}
 use Rattle.tg_store.proofs.store.Store.apply.Goals as goal
 
@@ -36,10 +36,13 @@ returns-in_err-reserve-clause-no_such_worker g c =
 
 pub invariant_of-self-in_err-reply : goal.invariant_of-self-in_err-reply
 invariant_of-self-in_err-reply g c =
-    let old : StoreState = record { opening = c.self.inside.opening; entries = c.self.inside.journal.entries; handed = c.self.inside.journal.start; heap = c.self.inside.heap; collections = c.self.inside.collections } in
-    let new : StoreState = record { opening = c.self.inside.opening; entries = c.answer_command.new.journal.entries; handed = c.answer_command.new.journal.start; heap = c.answer_command.new.heap; collections = c.self.inside.collections } in
-    let unchanged : IsUnchanged old new = record { opening = refl; entries = c.in_err-reply.ensures.entered.refused ∙ c.reserve.ensures.entries; handed = c.answer_command.ensures.entered.start ∙ c.reserve.ensures.start; heap = c.in_err-reply.ensures.answered.kept.refused; collections = refl } in
-    IsStore-unchanged old new c.self.inside.made c.self.invariant unchanged
+    IsStore-unchanged _ _ c.self.inside.made c.self.invariant (record {
+      opening = refl;
+      entries = c.in_err-reply.ensures.entered.refused ∙ c.reserve.ensures.entries;
+      handed = c.answer_command.ensures.entered.start ∙ c.reserve.ensures.start;
+      heap = c.in_err-reply.ensures.answered.kept.refused;
+      collections = refl;
+    })
 
 pub returns-in_err-reply-clause-no_such_worker : goal.returns-in_err-reply-clause-no_such_worker
 returns-in_err-reply-clause-no_such_worker g c =
@@ -64,15 +67,13 @@ returns-in_err-reply-clause-full g c =
 
 pub invariant_of-self-2 : goal.invariant_of-self-2
 invariant_of-self-2 g c =
-    let old : StoreState = record { opening = c.self.inside.opening; entries = c.self.inside.journal.entries; handed = c.self.inside.journal.start; heap = c.self.inside.heap; collections = c.self.inside.collections } in
-    let new : StoreState = record { opening = c.self.inside.opening; entries = c.answer_command.new.journal.entries; handed = c.answer_command.new.journal.start; heap = c.answer_command.new.heap; collections = c.self.inside.collections } in
-    let graph : ProtectionGraph = graph_of_store old in
+    let graph : ProtectionGraph = graph_of_store (record { opening = c.self.inside.opening; entries = c.self.inside.journal.entries; handed = c.self.inside.journal.start; heap = c.self.inside.heap; collections = c.self.inside.collections }) in
     let faithful = c.self.invariant.faithful in
-    let subject : IsSubject graph c.args.worker = subject_here old faithful graph c.args.worker refl (c.in-Some.ensures.active.0 refl) in
+    let subject = subject_here _ faithful graph c.args.worker refl (c.in-Some.ensures.active.0 refl) in
     let replied = subst (λ (x : ℕ). IsReplied x c.args.command c.self.inside.heap c.answer_command.new.heap c.in_ok-reply.reply) c.in-Some.ensures.there.named c.in_ok-reply.ensures.answered.replied in
-    let entry : Enters old new c.args.worker (Plain c.args.command) c.in_ok-reply.reply = entered_by _ _ _ c.in-Some.subject c.args.worker c.args.command _ _ c.in-Some.ensures.there.named refl c.reserve.ensures.entries c.in_ok-reply.ensures.entered.entry in
-    IsStore-entered old new c.args.worker (Plain c.args.command) c.in_ok-reply.reply refl entry c.self.inside.made faithful subject tt (replied.answered graph faithful.stands subject)
-    (replied.step graph faithful.stands subject) (replied.subjects graph faithful.stands subject faithful.subjects) (c.self.invariant.is_made ∙ sym (made-plain graph c.args.worker c.args.command))
+    IsStore-entered _ _ c.args.worker (Plain c.args.command) c.in_ok-reply.reply refl (entered_by _ _ _ c.in-Some.subject c.args.worker c.args.command _ _ c.in-Some.ensures.there.named refl c.reserve.ensures.entries c.in_ok-reply.ensures.entered.entry)
+    c.self.inside.made faithful subject tt (replied.answered graph faithful.stands subject) (replied.step graph faithful.stands subject) (replied.subjects graph faithful.stands subject faithful.subjects)
+    (c.self.invariant.is_made ∙ sym (made-plain graph c.args.worker c.args.command))
 
 pub returns-clause-reply : goal.returns-clause-reply
 returns-clause-reply g c = λ graph stands.
@@ -88,17 +89,14 @@ returns-clause-step g c = λ graph stands.
 
 pub returns-clause-denied : goal.returns-clause-denied
 returns-clause-denied g c = λ denial same.
-    let old : StoreState = record { opening = c.self.inside.opening; entries = c.self.inside.journal.entries; handed = c.self.inside.journal.start; heap = c.self.inside.heap; collections = c.self.inside.collections } in
-    let new : StoreState = record { opening = c.self.inside.opening; entries = c.answer_command.new.journal.entries; handed = c.answer_command.new.journal.start; heap = c.answer_command.new.heap; collections = c.self.inside.collections } in
-    let graph : ProtectionGraph = graph_of_store old in
-    let stands = c.self.invariant.faithful.stands in
-    let subject : IsSubject graph c.args.worker = subject_here old c.self.invariant.faithful graph c.args.worker refl (c.in-Some.ensures.active.0 refl) in
-    let replied = subst (λ (x : ℕ). IsReplied x c.args.command c.self.inside.heap c.answer_command.new.heap c.in_ok-reply.reply) c.in-Some.ensures.there.named c.in_ok-reply.ensures.answered.replied in
     let is : c.in_ok-reply.reply ≡ Denied denial = cc same in
-    let denied = denial-answered (content_of old.heap) graph c.args.worker c.args.command denial stands subject (sym is ∙ replied.answered graph stands subject) in
-    let entry : Enters old new c.args.worker (Plain c.args.command) (Denied denial) = entered_by _ _ _ c.in-Some.subject c.args.worker c.args.command _ _ c.in-Some.ensures.there.named is c.reserve.ensures.entries c.in_ok-reply.ensures.entered.entry in
-    let only : OnlyEnters old new c.args.worker (Plain c.args.command) (Denied denial) = record { entry = entry; opening = refl; handed = c.answer_command.ensures.entered.start ∙ c.reserve.ensures.start; heap = c.answer_command.ensures.denied denial (rw c.in-Some.ensures.there.named denied); collections = refl } in
-    subst (λ (s : StoreState). OnlyEnters s new c.args.worker (Plain c.args.command) (Denied denial)) c.self.view_is only
+    record {
+      entry = entered_by _ _ _ c.in-Some.subject c.args.worker c.args.command _ _ c.in-Some.ensures.there.named is (c.reserve.ensures.entries ∙ ap (λ (s : StoreState). s.entries) c.self.view_is) c.in_ok-reply.ensures.entered.entry;
+      opening = search rules;
+      handed = c.answer_command.ensures.entered.start ∙ c.reserve.ensures.start ∙ ap (λ (s : StoreState). s.handed) c.self.view_is;
+      heap = c.in_ok-reply.ensures.denied denial same ∙ ap (λ (s : StoreState). s.heap) c.self.view_is;
+      collections = search rules;
+    }
 
 pub returns-clause-no_such_worker : goal.returns-clause-no_such_worker
 returns-clause-no_such_worker g c = λ graph stands.

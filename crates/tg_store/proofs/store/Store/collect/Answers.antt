@@ -1,6 +1,7 @@
 -- How few blocks are left, and which vertices stay: the spare blocks are none of the store that is seen.
 use Rattle.std.proofs.Common.{subst}
 use Rattle.std.proofs.lemmas.Result.{err_from_is_err_and}
+use Rattle.tg_space.specs.Collection.{collected_in}
 use Rattle.tg_store.specs.Store.{HasFewBlocks, StoreState}
 use Rattle.tg_store.specs.Collecting.{IsSwept}
 use Rattle.tg_store.proofs.BlockLaws.{few_left}
@@ -19,7 +20,7 @@ returns-clause-blocks g c =
     let after = c.settle.new.self.heap.table in
     let adopted = c.in_ok-settle.ensures.adopted in
     subst (λ (state : StoreState). HasFewBlocks kind 0 state.heap.table after) c.take_spare-spare.ensures
-    (few_left 0 before.table after made.forward.words made.adoption.aged made.adoption.old kind c.in_ok-copied.ensures.few c.in_ok-copied.ensures.moved adopted.full before adopted.nursery)
+    (few_left 0 before.table after (collected_in made) kind c.in_ok-copied.ensures.few c.in_ok-copied.ensures.moved adopted.full before adopted.nursery)
 
 pub returns-in_err-copied-clause-swept : goal.returns-in_err-copied-clause-swept
 returns-in_err-copied-clause-swept g c = let given = err_from_is_err_and c.from_residual.result c.from_residual.ensures.1 in rw given.1 tt

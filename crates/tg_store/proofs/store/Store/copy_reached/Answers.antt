@@ -2,7 +2,7 @@
 use Rattle.std.proofs.Common.{List, subst}
 use Rattle.std.proofs.lemmas.Result.{err_from_is_err_and}
 use Rattle.tg_space.specs.SpaceTable.{SpaceTable}
-use Rattle.tg_space.specs.Collection.{IsCollection}
+use Rattle.tg_space.specs.Collection.{IsCollection, collected_in}
 use Rattle.tg_space.specs.declared.root.Root.{Root}
 use Rattle.tg_graph.specs.Heap.{roots_of}
 use Rattle.tg_store.specs.Room.{LacksRoomToCollect}
@@ -13,14 +13,11 @@ use Rattle.tg_store.proofs.store.Store.copy_reached.Goals as goal
 pub returns-clause-collected : goal.returns-clause-collected
 returns-clause-collected g c =
     let kind = c.args.kind in
-    let made = c.in_ok-copied.copied in
+    let made = collected_in c.in_ok-copied.copied in
     let heap = c.self.inside.heap in
-    let over_heap : IsCollection kind heap.table.spaces c.deref.result.now made.forward.words made.adoption.aged made.adoption.old made.remembered.places =
-    subst (λ (t : SpaceTable). IsCollection kind t.spaces c.deref.result.now made.forward.words made.adoption.aged made.adoption.old made.remembered.places) c.spaces.ensures c.in_ok-copied.ensures.collected in
-    let collected : IsCollection kind heap.table.spaces c.in_ok-roots.roots.items made.forward.words made.adoption.aged made.adoption.old made.remembered.places =
-    subst (λ (roots : List Root). IsCollection kind heap.table.spaces roots made.forward.words made.adoption.aged made.adoption.old made.remembered.places) c.deref.ensures.value over_heap in
-    subst (λ (state : StoreState). IsCollection kind state.heap.table.spaces (roots_of kind state.heap) made.forward.words made.adoption.aged made.adoption.old made.remembered.places) c.self.view_is
-    ((c.in_ok-roots.ensures.roots made.forward.words made.adoption.aged made.adoption.old made.remembered.places).1 collected)
+    let over_heap = subst (λ (t : SpaceTable). IsCollection kind t.spaces c.deref.result.now made) c.spaces.ensures c.in_ok-copied.ensures.collected in
+    let collected = subst (λ (roots : List Root). IsCollection kind heap.table.spaces roots made) c.deref.ensures.value over_heap in
+    subst (λ (state : StoreState). IsCollection kind state.heap.table.spaces (roots_of kind state.heap) made) c.self.view_is ((c.in_ok-roots.ensures.roots made).1 collected)
 
 pub returns-in_err-copied-clause-full : goal.returns-in_err-copied-clause-full
 returns-in_err-copied-clause-full g c =

@@ -1,7 +1,7 @@
 -- What is held no more is in all the entries still; so the graph is as it was.
 use Rattle.std.proofs.Common.{◌≤◌, length, refl, subst, sym}
 use Rattle.tg_store.specs.Store.{HoldsFrom, StoreState}
-use Rattle.tg_store.proofs.HandLaws.{IsStore-handed}
+use Rattle.tg_store.proofs.StandLaws.{IsStore-handed}
 use Rattle.tg_store.proofs.store.Store.forget.Goals as goal
 
 pub forget-requires : goal.forget-requires
@@ -10,9 +10,7 @@ forget-requires g c =
 
 pub invariant_of-self : goal.invariant_of-self
 invariant_of-self g c =
-    let old : StoreState = record { opening = c.self.inside.opening; entries = c.self.inside.journal.entries; handed = c.self.inside.journal.start; heap = c.self.inside.heap; collections = c.self.inside.collections } in
-    let new : StoreState = record { opening = c.self.inside.opening; entries = c.forget.new.self.entries; handed = c.forget.new.self.start; heap = c.self.inside.heap; collections = c.self.inside.collections } in
-    IsStore-handed c.args.upto old new c.self.inside.made c.self.invariant (record { entries = c.forget.ensures.entries; handed = c.forget.ensures.start; opening = refl; heap = refl; collections = refl })
+    IsStore-handed c.args.upto _ _ c.self.inside.made c.self.invariant (record { entries = c.forget.ensures.entries; handed = c.forget.ensures.start; opening = refl; heap = refl; collections = refl })
 
 pub returns : goal.returns
 returns g c =

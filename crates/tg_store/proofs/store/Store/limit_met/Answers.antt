@@ -1,6 +1,5 @@
 -- The limit of vertices comes first.
-use Rattle.std.proofs.Common.{◌<◌, ◌≤◌, None, Some, arith}
-use Rattle.std.proofs.Common.{subst}
+use Rattle.std.proofs.Common.{◌<◌, None, Some, arith, subst}
 use Rattle.tg_store.specs.declared.making.Limit.TheVariants.{Vertices}
 use Rattle.tg_store.specs.Making.{IsLimitMet}
 use Rattle.tg_store.specs.Store.{StoreState, graph_of_store}
@@ -10,21 +9,15 @@ use Rattle.tg_store.proofs.store.Store.limit_met.Goals as goal
 
 pub returns-then-self-max_vertices : goal.returns-then-self-max_vertices
 returns-then-self-max_vertices g c =
-    let old : StoreState = record { opening = c.self.inside.opening; entries = c.self.inside.journal.entries; handed = c.self.inside.journal.start; heap = c.self.inside.heap; collections = c.self.inside.collections } in
-    let high : old.opening.limit ≤ c.self.inside.made = omega arith in
-    subst (λ (s : StoreState). IsLimitMet (graph_of_store s) c.args.kind (Some Vertices)) c.self.view_is (omega (arith, high, limit_of old c.self.invariant.faithful, c.self.invariant.is_made))
+    subst (λ (s : StoreState). IsLimitMet (graph_of_store s) c.args.kind (Some Vertices)) c.self.view_is (omega (arith, limit_of _ c.self.invariant.faithful, c.self.invariant.is_made))
 
 pub returns-in-Object : goal.returns-in-Object
 returns-in-Object g c =
-    let old : StoreState = record { opening = c.self.inside.opening; entries = c.self.inside.journal.entries; handed = c.self.inside.journal.start; heap = c.self.inside.heap; collections = c.self.inside.collections } in
-    let low : c.self.inside.made < old.opening.limit = omega arith in
     subst (λ (s : StoreState). IsLimitMet (graph_of_store s) c.args.kind None) c.self.view_is
-    (omega (arith, low, limit_of old c.self.invariant.faithful, c.self.invariant.is_made), λ is. let f : ⊥ = cc (is, c.in-Object.is) in absurd f)
+    (omega (arith, limit_of _ c.self.invariant.faithful, c.self.invariant.is_made), λ is. let f : ⊥ = cc (is, c.in-Object.is) in absurd f)
 
 pub returns-in-Subject : goal.returns-in-Subject
 returns-in-Subject g c =
-    let old : StoreState = record { opening = c.self.inside.opening; entries = c.self.inside.journal.entries; handed = c.self.inside.journal.start; heap = c.self.inside.heap; collections = c.self.inside.collections } in
-    let low : c.self.inside.made < old.opening.limit = omega arith in
-    let room : (graph_of_store old).made < (graph_of_store old).limit = omega (arith, low, limit_of old c.self.invariant.faithful, c.self.invariant.is_made) in
     limit_of_subjects (graph_of_store c.args.self.now) c.args.kind c.subjects_limit.result
-    (subst (λ (s : StoreState). (graph_of_store s).made < (graph_of_store s).limit) c.self.view_is room) c.in-Subject.is c.subjects_limit.ensures.none c.subjects_limit.ensures.some
+    (subst (λ (s : StoreState). (graph_of_store s).made < (graph_of_store s).limit) c.self.view_is (omega (arith, limit_of _ c.self.invariant.faithful, c.self.invariant.is_made)))
+    c.in-Subject.is c.subjects_limit.ensures.none c.subjects_limit.ensures.some

@@ -1,5 +1,5 @@
 -- The new vertex is the graph's next, and exactly what is answered is entered.
-use Rattle.std.proofs.Common.{ℕ, ◌≡◌, ◌<◌, ◌≤◌, ◌∙◌, ◌++◌, ◌∷◌, [], None, Some, length, refl, sym, ap, subst, inl, inr, arith}
+use Rattle.std.proofs.Common.{ℕ, ◌≡◌, ◌<◌, ◌≤◌, ◌∙◌, ◌++◌, ◌∷◌, [], None, Some, length, refl, sym, ap, subst, inr, arith}
 use Rattle.std.proofs.lemmas.Result.{err_from_is_err_and}
 use Rattle.tg_model.specs.declared.value.Value.{Value}
 use Rattle.tg_model.specs.declared.command.Deed.{Deed}
@@ -14,7 +14,7 @@ use Rattle.tg_word.specs.Word.{nursery_space}
 use Rattle.tg_space.specs.SpaceTable.{SpaceTable}
 use Rattle.tg_graph.specs.Heap.{IsActive, content_of, nursery_of}
 use Rattle.tg_rows.specs.Spots.{IsMadeInRow, LacksCellsFor}
-use Rattle.tg_store.specs.Store.{StoreState, Enters, IsUnchanged, OnlyEnters, StandsFor, graph_of_store}
+use Rattle.tg_store.specs.Store.{StoreState, Enters, OnlyEnters, graph_of_store}
 use Rattle.tg_store.specs.declared.making.Limit.{Limit}
 use Rattle.tg_model.specs.declared.making.Making.{Making}
 use Rattle.tg_model.specs.Making.{deed_making}
@@ -72,30 +72,25 @@ returns-in_default-clause-refusals g c =
 
 pub invariant_of-self-in-Some-met : goal.invariant_of-self-in-Some-met
 invariant_of-self-in-Some-met g c =
-    let old : StoreState = record { opening = c.self.inside.opening; entries = c.self.inside.journal.entries; handed = c.self.inside.journal.start; heap = c.self.inside.heap; collections = c.self.inside.collections } in
     let limited = is_limited g (goal.at.invariant_of-self-in-Some-met g c).After-push_refusal in
-    let new : StoreState = record { opening = c.self.inside.opening; entries = c.push_refusal.new.self.entries; handed = c.push_refusal.new.self.start; heap = c.self.inside.heap; collections = c.self.inside.collections } in
-    making.IsStore-limited old c.self.inside.made c.self.invariant c.args.worker (c.in-Some.ensures.active.0 refl) c.args.kind c.args.label c.args.draft c.in-Some-met.limit limited.met new c.value.ensures.fits refl limited.entry refl
+    making.IsStore-limited _ c.self.inside.made c.self.invariant c.args.worker (c.in-Some.ensures.active.0 refl) c.args.kind c.args.label c.args.draft c.in-Some-met.limit limited.met _ c.value.ensures.fits refl limited.entry refl
 
 pub returns-in-Some-met-clause-refusals : goal.returns-in-Some-met-clause-refusals
 returns-in-Some-met-clause-refusals g c =
-    let old : StoreState = record { opening = c.self.inside.opening; entries = c.self.inside.journal.entries; handed = c.self.inside.journal.start; heap = c.self.inside.heap; collections = c.self.inside.collections } in
-    let limited = is_limited g (goal.at.returns-in-Some-met-clause-refusals g c).After-push_refusal in
     let new : StoreState = record { opening = c.self.inside.opening; entries = c.push_refusal.new.self.entries; handed = c.push_refusal.new.self.start; heap = c.self.inside.heap; collections = c.self.inside.collections } in
+    let limited = is_limited g (goal.at.returns-in-Some-met-clause-refusals g c).After-push_refusal in
+    let told = making.limit_told (graph_of_store c.args.self.now) c.args.kind c.in-Some-met.limit c.in-Some-met.ensures in
     record {
       no_such_worker = (λ graph stands.
           rw c.fault.ensures
-          (λ e _. making.no_limit_such _ e, λ none. absurd (none (subject_seen c.self.invariant c.self.view_is stands c.args.worker (c.in-Some.ensures.active.0 refl)))));
+          (λ e _. told.worker e, λ none. absurd (none (subject_seen c.self.invariant c.self.view_is stands c.args.worker (c.in-Some.ensures.active.0 refl)))));
       no_more = (λ graph stands.
           rw c.fault.ensures
-          (λ e. (subject_seen c.self.invariant c.self.view_is stands c.args.worker (c.in-Some.ensures.active.0 refl), subst (λ (h : ProtectionGraph). h.limit ≤ h.made) stands (making.vertices_full (graph_of_store c.args.self.now) c.args.kind c.in-Some-met.limit c.in-Some-met.ensures e))));
-      exhausted = (λ graph stands subject all.
-          rw c.fault.ensures
-          (making.told_vertices (graph_of_store c.args.self.now) c.args.kind c.in-Some-met.limit c.in-Some-met.ensures (subst (λ (h : ProtectionGraph). h.limit ≤ h.made) (sym stands) all)));
-      full = (λ _ _. rw c.fault.ensures (λ e. absurd (making.no_limit_heap _ e)));
+          (λ e. (subject_seen c.self.invariant c.self.view_is stands c.args.worker (c.in-Some.ensures.active.0 refl), subst (λ (h : ProtectionGraph). h.limit ≤ h.made) stands (told.vertices e).0)));
+      exhausted = (λ graph stands subject all. rw c.fault.ensures (told.exhausted (subst (λ (h : ProtectionGraph). h.limit ≤ h.made) (sym stands) all)));
+      full = (λ _ _. rw c.fault.ensures (λ e. absurd (told.room e)));
       same_graph = (λ graph stands.
-          let after : StandsFor new graph = making.StandsFor-limited old c.self.inside.made c.self.invariant c.args.worker (c.in-Some.ensures.active.0 refl) c.args.kind c.args.label c.args.draft c.in-Some-met.limit limited.met new graph refl limited.entry (stands_inside c.self.invariant c.self.view_is stands) in
-          after);
+          making.StandsFor-limited _ c.self.inside.made c.self.invariant c.args.worker (c.in-Some.ensures.active.0 refl) c.args.kind c.args.label c.args.draft c.in-Some-met.limit limited.met new graph refl limited.entry (stands_inside c.self.invariant c.self.view_is stands));
       handed_back = refl;
       opening = ap (λ (s : StoreState). s.opening) c.self.view_is;
       handed = c.push_refusal.ensures.start ∙ c.deed_to_enter.ensures.room.start ∙ ap (λ (s : StoreState). s.handed) c.self.view_is;
@@ -108,10 +103,7 @@ add_vertex-requires-clause-fresh g c = making.fresh _ c.self.inside.made c.self.
 
 pub invariant_of-self-in_err-add_vertex : goal.invariant_of-self-in_err-add_vertex
 invariant_of-self-in_err-add_vertex g c =
-    let old : StoreState = record { opening = c.self.inside.opening; entries = c.self.inside.journal.entries; handed = c.self.inside.journal.start; heap = c.self.inside.heap; collections = c.self.inside.collections } in
-    let new : StoreState = record { opening = c.self.inside.opening; entries = c.deed_to_enter.new.journal.entries; handed = c.deed_to_enter.new.journal.start; heap = c.add_vertex.new.heap; collections = c.self.inside.collections } in
-    let unchanged : IsUnchanged old new = record { opening = refl; entries = c.deed_to_enter.ensures.room.entries; handed = c.deed_to_enter.ensures.room.start; heap = c.in_err-add_vertex.ensures.refused; collections = refl } in
-    IsStore-unchanged old new c.self.inside.made c.self.invariant unchanged
+    IsStore-unchanged _ _ c.self.inside.made c.self.invariant (record { opening = refl; entries = c.deed_to_enter.ensures.room.entries; handed = c.deed_to_enter.ensures.room.start; heap = c.in_err-add_vertex.ensures.refused; collections = refl })
 
 pub returns-in_err-add_vertex-clause-refusals : goal.returns-in_err-add_vertex-clause-refusals
 returns-in_err-add_vertex-clause-refusals g c =
@@ -120,8 +112,8 @@ returns-in_err-add_vertex-clause-refusals g c =
     record {
       no_such_worker = (λ graph stands.
           rw (given.1, given.2)
-          (λ e _. making.no_such_create_fault _ e, λ none. absurd (none (subject_seen c.self.invariant c.self.view_is stands c.args.worker (c.in-Some.ensures.active.0 refl)))));
-      no_more = (λ _ _. rw (given.1, given.2) (λ e. absurd (making.no_limit_fault _ (inl e))));
+          (λ e _. (making.fault_told _).0 e, λ none. absurd (none (subject_seen c.self.invariant c.self.view_is stands c.args.worker (c.in-Some.ensures.active.0 refl)))));
+      no_more = (λ _ _. rw (given.1, given.2) (λ e. absurd ((making.fault_told _).1 e)));
       exhausted = (λ graph stands subject all.
           let low = subst (λ (h : ProtectionGraph). h.made < h.limit) stands room.0 in absurd (omega (arith, low, all)));
       full = (λ graph stands.
@@ -130,7 +122,7 @@ returns-in_err-add_vertex-clause-refusals g c =
             subst (λ (h : ProtectionGraph). IsAllowed h c.args.worker (deed_making c.args.kind c.args.label c.args.draft)) stands (making.is_allowed (graph_of_store c.args.self.now) c.args.worker c.args.label c.args.draft c.args.kind room),
             subst (λ (h : ProtectionGraph). LacksCellsFor c.args.self.now.heap.table (nursery_space (nursery_of c.args.self.now.heap c.args.worker)) 1 c.args.worker h.made) (stands_inside c.self.invariant c.self.view_is stands)
                 (subst (λ n. LacksCellsFor c.args.self.now.heap.table (nursery_space (nursery_of c.args.self.now.heap c.args.worker)) 1 c.args.worker n) c.self.invariant.is_made
-                (subst (λ (s : StoreState). LacksCellsFor s.heap.table (nursery_space (nursery_of s.heap c.args.worker)) 1 c.args.worker c.self.inside.made) c.self.view_is (c.in_err-add_vertex.ensures.full (making.heap_full _ e)))),
+                (subst (λ (s : StoreState). LacksCellsFor s.heap.table (nursery_space (nursery_of s.heap c.args.worker)) 1 c.args.worker c.self.inside.made) c.self.view_is (c.in_err-add_vertex.ensures.full ((making.fault_told _).3 e)))),
           )));
       same_graph = (λ graph stands. rw given.1 (ap (λ es. graph_after (start_of c.self.inside.opening) es) c.deed_to_enter.ensures.room.entries ∙ stands_inside c.self.invariant c.self.view_is stands));
       handed_back = rw (given.1, given.2) c.in_err-add_vertex.ensures.handed_back;
@@ -142,10 +134,8 @@ returns-in_err-add_vertex-clause-refusals g c =
 
 pub invariant_of-self-2 : goal.invariant_of-self-2
 invariant_of-self-2 g c =
-    let old : StoreState = record { opening = c.self.inside.opening; entries = c.self.inside.journal.entries; handed = c.self.inside.journal.start; heap = c.self.inside.heap; collections = c.self.inside.collections } in
-    let new : StoreState = record { opening = c.self.inside.opening; entries = c.push.new.self.entries; handed = c.push.new.self.start; heap = c.add_vertex.new.heap; collections = c.self.inside.collections } in
     let entry = making.enters c.self.inside.journal.entries _ c.push.new.self.entries c.args.worker c.args.kind c.args.label c.args.draft _ _ (Name c.self.inside.made) c.in-Ok.ensures.deed c.value.ensures.same c.deed_to_enter.ensures.room.entries c.push.ensures.entries in
-    making.IsStore-made old c.self.inside.made c.self.invariant c.args.worker (c.in-Some.ensures.active.0 refl) c.args.kind c.args.label c.args.draft (has_room g (goal.at.invariant_of-self-2 g c).In_default-met) new c.value.ensures.fits refl entry
+    making.IsStore-made _ c.self.inside.made c.self.invariant c.args.worker (c.in-Some.ensures.active.0 refl) c.args.kind c.args.label c.args.draft (has_room g (goal.at.invariant_of-self-2 g c).In_default-met) _ c.value.ensures.fits refl entry
     c.in_ok-add_vertex.ensures.made c.in_ok-add_vertex.ensures.subjects
 
 pub returns-clause-made : goal.returns-clause-made
@@ -156,7 +146,7 @@ returns-clause-made g c =
     record {
       name = (λ graph stands.
           ap (λ h. answer_of h c.args.worker (deed_making c.args.kind c.args.label c.args.draft)) (sym (stands_inside c.self.invariant c.self.view_is stands))
-          ∙ making.answer-name old c.self.inside.made c.self.invariant c.args.worker (c.in-Some.ensures.active.0 refl) c.args.kind c.args.label c.args.draft (has_room g (goal.at.returns-clause-made g c).In_default-met));
+          ∙ making.answer-name _ c.self.inside.made c.self.invariant c.args.worker (c.in-Some.ensures.active.0 refl) c.args.kind c.args.label c.args.draft (has_room g (goal.at.returns-clause-made g c).In_default-met));
       step = (λ graph stands.
           StandsFor-entered old new c.args.worker (deed_making c.args.kind c.args.label c.args.draft) (Name c.self.inside.made) refl entry graph (stands_inside c.self.invariant c.self.view_is stands));
       stored = making.stored (content_of c.self.inside.heap) (content_of c.add_vertex.new.heap) c.args.worker c.self.inside.made c.args.label c.args.draft c.in_ok-add_vertex.ensures.made;
@@ -181,7 +171,7 @@ returns-clause-refusals g c =
 
 pub returns-in-Some-met-clause-refused : goal.returns-in-Some-met-clause-refused
 returns-in-Some-met-clause-refused g c =
-    rw c.fault.ensures (λ first second. making.one_limit _ first second)
+    rw c.fault.ensures (λ first second. absurd ((making.limit_told (graph_of_store c.args.self.now) c.args.kind c.in-Some-met.limit c.in-Some-met.ensures).only first second))
 
 pub returns-in_default-deed_to_enter-clause-refusals : goal.returns-in_default-deed_to_enter-clause-refusals
 returns-in_default-deed_to_enter-clause-refusals g c =
@@ -201,23 +191,23 @@ returns-in_default-deed_to_enter-clause-refusals g c =
 
 pub returns-in-Some-met-clause-no_more_entry : goal.returns-in-Some-met-clause-no_more_entry
 returns-in-Some-met-clause-no_more_entry g c =
-    rw c.fault.ensures (λ e. only_enters g (goal.at.returns-in-Some-met-clause-no_more_entry g c).After-push_refusal VerticesFull (making.reply_vertices c.in-Some-met.limit e))
+    rw c.fault.ensures (λ e. only_enters g (goal.at.returns-in-Some-met-clause-no_more_entry g c).After-push_refusal VerticesFull ((making.limit_told (graph_of_store c.args.self.now) c.args.kind c.in-Some-met.limit c.in-Some-met.ensures).vertices e).1)
 
 pub returns-in-Some-met-clause-too_many_entry : goal.returns-in-Some-met-clause-too_many_entry
 returns-in-Some-met-clause-too_many_entry g c =
-    rw c.fault.ensures (λ e. only_enters g (goal.at.returns-in-Some-met-clause-too_many_entry g c).After-push_refusal WorkersFull (making.reply_workers c.in-Some-met.limit e))
+    rw c.fault.ensures (λ e. only_enters g (goal.at.returns-in-Some-met-clause-too_many_entry g c).After-push_refusal WorkersFull ((making.limit_told (graph_of_store c.args.self.now) c.args.kind c.in-Some-met.limit c.in-Some-met.ensures).subjects e).1)
 
 pub returns-in-Some-met-clause-too_many : goal.returns-in-Some-met-clause-too_many
 returns-in-Some-met-clause-too_many g c =
     λ graph stands.
     rw c.fault.ensures
-    (λ e. let full = making.workers_full (graph_of_store c.args.self.now) c.args.kind c.in-Some-met.limit c.in-Some-met.ensures e in
+    (λ e. let full = ((making.limit_told (graph_of_store c.args.self.now) c.args.kind c.in-Some-met.limit c.in-Some-met.ensures).subjects e).0 in
     (full.0, subject_seen c.self.invariant c.self.view_is stands c.args.worker (c.in-Some.ensures.active.0 refl), subst (λ (h : ProtectionGraph). h.made < h.limit) stands full.1, subst (λ (h : ProtectionGraph). MAX_WORKERS ≤ length h.subjects) stands full.2))
 
 pub returns-in-Some-met-clause-crowded : goal.returns-in-Some-met-clause-crowded
 returns-in-Some-met-clause-crowded g c =
     λ is graph stands subject low many.
-    rw c.fault.ensures (making.told_workers (graph_of_store c.args.self.now) c.args.kind c.in-Some-met.limit c.in-Some-met.ensures (subst (λ (h : ProtectionGraph). h.made < h.limit) (sym stands) low))
+    rw c.fault.ensures ((making.limit_told (graph_of_store c.args.self.now) c.args.kind c.in-Some-met.limit c.in-Some-met.ensures).crowded (subst (λ (h : ProtectionGraph). h.made < h.limit) (sym stands) low))
 
 pub returns-in_err-add_vertex-clause-crowded : goal.returns-in_err-add_vertex-clause-crowded
 returns-in_err-add_vertex-clause-crowded g c =
@@ -227,17 +217,17 @@ returns-in_err-add_vertex-clause-crowded g c =
 pub returns-in_err-add_vertex-clause-too_many : goal.returns-in_err-add_vertex-clause-too_many
 returns-in_err-add_vertex-clause-too_many g c =
     let given = err_from_is_err_and c.from_residual.result c.from_residual.ensures.1 in
-    λ _ _. rw (given.1, given.2) (λ e. absurd (making.no_limit_fault _ (inr e)))
+    λ _ _. rw (given.1, given.2) (λ e. absurd ((making.fault_told _).2 e))
 
 pub returns-in_err-add_vertex-clause-too_many_entry : goal.returns-in_err-add_vertex-clause-too_many_entry
 returns-in_err-add_vertex-clause-too_many_entry g c =
     let given = err_from_is_err_and c.from_residual.result c.from_residual.ensures.1 in
-    rw (given.1, given.2) (λ e. absurd (making.no_limit_fault _ (inr e)))
+    rw (given.1, given.2) (λ e. absurd ((making.fault_told _).2 e))
 
 pub returns-in_err-add_vertex-clause-no_more_entry : goal.returns-in_err-add_vertex-clause-no_more_entry
 returns-in_err-add_vertex-clause-no_more_entry g c =
     let given = err_from_is_err_and c.from_residual.result c.from_residual.ensures.1 in
-    rw (given.1, given.2) (λ e. absurd (making.no_limit_fault _ (inl e)))
+    rw (given.1, given.2) (λ e. absurd ((making.fault_told _).1 e))
 
 pub returns-clause-crowded : goal.returns-clause-crowded
 returns-clause-crowded g c =

@@ -2,14 +2,12 @@
 use Rattle.std.proofs.Common.{◌∙◌, ap, length, refl, subst}
 use Rattle.tg_journal.specs.Journal.{Entries}
 use Rattle.tg_store.specs.Store.{HandsOut, StoreState}
-use Rattle.tg_store.proofs.HandLaws.{IsStore-handed}
+use Rattle.tg_store.proofs.StandLaws.{IsStore-handed}
 use Rattle.tg_store.proofs.store.Store.take_journal.Goals as goal
 
 pub invariant_of-self : goal.invariant_of-self
 invariant_of-self g c =
-    let old : StoreState = record { opening = c.self.inside.opening; entries = c.self.inside.journal.entries; handed = c.self.inside.journal.start; heap = c.self.inside.heap; collections = c.self.inside.collections } in
-    let new : StoreState = record { opening = c.self.inside.opening; entries = c.take.new.self.entries; handed = c.take.new.self.start; heap = c.self.inside.heap; collections = c.self.inside.collections } in
-    IsStore-handed (length c.self.inside.journal.entries) old new c.self.inside.made c.self.invariant (record { entries = c.take.ensures.rest.entries; handed = c.take.ensures.rest.start; opening = refl; heap = refl; collections = refl })
+    IsStore-handed (length c.self.inside.journal.entries) _ _ c.self.inside.made c.self.invariant (record { entries = c.take.ensures.rest.entries; handed = c.take.ensures.rest.start; opening = refl; heap = refl; collections = refl })
 
 pub returns-clause-entries : goal.returns-clause-entries
 returns-clause-entries g c = ap (λ (j : Entries). j.entries) c.take.ensures.part ∙ ap (λ (s : StoreState). s.entries) c.self.view_is
