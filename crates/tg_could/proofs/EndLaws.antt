@@ -1,6 +1,8 @@
 -- The end: who shares the right hands it to x.
-use Rattle.std.proofs.Common.{◌≡◌, ◌≢◌, ⊎_elim, ℕ, zero, suc, ◌+◌, ◌<◌, ◌≤◌, ◌==◌, not, List, [], ◌∷◌, ◌++◌, length, get_or, refl, sym, ap, ◌∙◌, subst, arith, eq-eqb}
-use Rattle.std.proofs.lemmas.Bool.{cond_both, false≢true}
+use Rattle.std.proofs.Common.{◌≡◌, ◌≢◌, ⊎_elim, ℕ, ◌+◌, ◌<◌, ◌≤◌, ◌==◌, Bool, not, cond, List, [], ◌∷◌, ◌++◌, length, get_or, refl, sym, ap, ◌∙◌, subst, arith, eq-eqb}
+use Rattle.std.proofs.lemmas.Bool.{cases_eq}
+use Rattle.std.proofs.lemmas.List.Filters.{length-filter_both}
+use Rattle.std.proofs.lemmas.List.Sums.{get_or-le-sum_by, length-filter}
 use Rattle.std.specs.List.{Contains}
 use Rattle.std.proofs.lemmas.List.Elements.{Contains-append_left, Contains-push}
 use Rattle.tg_rights.specs.RightSet.{only}
@@ -16,27 +18,22 @@ use Rattle.tg_model.specs.Picture.{Holds}
 use Rattle.tg_model.specs.Rules.{step}
 use Rattle.tg_model.proofs.AllowedLaws.{step-allowed, step-spawned}
 use Rattle.tg_model.proofs.PictureLaws.{Holds-still, Holds-added}
-use Rattle.tg_model.proofs.SubjectLaws.{is_without, length-without}
+use Rattle.tg_model.proofs.SubjectLaws.{is_without}
 use Rattle.tg_could.specs.Turns.{Turn, Acts, AreTurns, after}
 use Rattle.tg_could.specs.Led.{HasHelp}
 use Rattle.tg_could.proofs.MoveLaws.{AreTurns-append, after-append, IsFit, IsFit-step, Grows, Grows-acts, Leads, stays, leads_on, takes, grants}
-use Rattle.tg_could.proofs.ShareLaws.{same_or_other, IsFull, IsFull-on, HasBox-on, HasCompanion}
+use Rattle.tg_could.proofs.ShareLaws.{IsFull, IsFull-on, HasBox-on, HasCompanion}
 
 -- ---- one subject less
 
-shorter_at : (subjects : List ℕ) (x k : ℕ) → k < length subjects → get_or subjects k x ≡ x → length (without_subject subjects x) < length subjects
-shorter_at [] x k inside at = absurd (omega (arith, inside))
-shorter_at (s ∷ subjects) x zero inside at =
-    let le = length-without subjects x in
-    cond_both (not (s == x)) (s ∷ without_subject subjects x) (without_subject subjects x) (λ l. length l < length (s ∷ subjects))
-    (λ passes. absurd (false≢true (sym (ap not (eq-eqb s x at)) ∙ passes))) (λ _. omega (arith, le))
-shorter_at (s ∷ subjects) x (suc k) inside at =
-    let less = shorter_at subjects x k (omega (arith, inside)) at in
-    cond_both (not (s == x)) (s ∷ without_subject subjects x) (without_subject subjects x) (λ l. length l < length (s ∷ subjects))
-    (λ _. omega (arith, less)) (λ _. omega (arith, less))
-
 pub shorter : (subjects : List ℕ) (x : ℕ) → Contains subjects x → length (without_subject subjects x) < length subjects
-shorter subjects x (k, inside, at) = shorter_at subjects x k inside at
+shorter subjects x (k, inside, at) =
+    let both = length-filter_both (λ s. not (s == x)) (λ s. not (not (s == x))) (λ s. refl) subjects in
+    let counted = length-filter (λ s. not (not (s == x))) subjects in
+    let count : Bool → ℕ = λ t. cond (not (not t)) 1 0 in
+    let one : count (get_or subjects k x == x) ≡ 1 = ap count (eq-eqb (get_or subjects k x) x at) in
+    let most = get_or-le-sum_by (λ s. cond (not (not (s == x))) 1 0) subjects k x inside in
+    omega (arith, both, counted, one, most)
 
 module _ (silent : ℕ → Type 0) where
   -- some turns of who acts lead to a graph of which this holds
@@ -58,6 +55,10 @@ module _ (silent : ℕ → Type 0) where
         there = subst Q (sym (after-append h first.turns second.turns ∙ ap (λ (k : ProtectionGraph). after k second.turns) first.reached)) second.there;
       }
 
+  -- what is led to is an end
+  pub ends_by : {P : ProtectionGraph → Type 0} (h : ProtectionGraph) (n : ℕ) → Leads silent h n P → Ends h P
+  ends_by h n leads = ends_on h n leads (λ k more used there. ends_now k there)
+
   ends_after : {Q : ProtectionGraph → Type 0} (h : ProtectionGraph) (p : ℕ) → Acts silent h p → (deed : Deed) (k : ProtectionGraph) → step h p deed ≡ k → Ends k Q → Ends h Q
   ends_after {Q = Q} h p acts deed k is rest = record {
     turns = (p, deed) ∷ rest.turns;
@@ -76,7 +77,7 @@ module _ (silent : ℕ → Type 0) where
         leads_on silent h 0 0 0 (omega arith) (takes silent h fit p acts box s T other taker take)
         (λ k more used got.
         takes silent k more.fit p (Grows-acts silent h k more p acts) s y right not_y got (more.labels s right y held)))
-        (same_or_other p s))
+        (cases_eq p s))
         full.either
 
     -- and grants it to x
@@ -95,10 +96,9 @@ module _ (silent : ℕ → Type 0) where
           (grants silent l more.fit y (Grows-acts silent k l more y acts) w x G not_x (more.labels y G w over) (more.labels y G x granter))
           (λ m more_m used_m granted.
           let acts_l : Acts silent l w = Grows-acts silent k l more w w_acts in
-          ends_on m 0
+          ends_by m 0
           (gives x differ m more_m.fit w (Grows-acts silent l m more_m w acts_l) not_y box (more_m.labels w T box took)
-          (IsFull-on right y l m more_m.labels box (IsFull-on right y k l more.labels box full)) granted)
-          (λ n more_n used_n there. ends_now n there)))
+          (IsFull-on right y l m more_m.labels box (IsFull-on right y k l more.labels box full)) granted)))
 
       -- y itself can't hold the right: it spawns one who gives it to x
       by_spawned : (h : ProtectionGraph) → IsFit h → Acts silent h y → h.made < h.limit → length h.subjects < MAX_WORKERS → ¬ silent h.made → Holds h.label y T box → IsFull right y h box → Holds h.label y G x → Ends h (λ k. Holds k.label x right y)
@@ -127,10 +127,9 @@ module _ (silent : ℕ → Type 0) where
           ⊎_elim (λ few. by_spawned h fit acts room few speaks taker full granter)
           (λ (p, p_acts, other).
           let is = step-allowed h p Retire tt in
-          let less = shorter h.subjects p p_acts.0 in
           ends_after h p p_acts (Plain Retire) _ is
           (by_spawned _ (subst IsFit is (IsFit-step h fit p p_acts.0 (Plain Retire)))
-          ((is_without h.subjects p y).1 (acts.0, λ same. other (sym same)), acts.1) room (omega (arith, less, most)) speaks taker
+          ((is_without h.subjects p y).1 (acts.0, λ same. other (sym same)), acts.1) room (omega (arith, shorter h.subjects p p_acts.0, most)) speaks taker
           (record { either = full.either }) granter))
           help
 
@@ -138,20 +137,18 @@ module _ (silent : ℕ → Type 0) where
     pub by_companion : (g : ProtectionGraph) (x : ℕ) → x ≢ y → x < g.made → (h : ProtectionGraph) → IsFit h → Acts silent h y → (has : HasCompanion silent g right y h y) → Acts silent h has.other → Holds h.label y G x → Ends h (λ k. Holds k.label x right y)
     by_companion g x differ x_made h fit acts has other_acts granter =
         let not_y : has.other ≢ y = λ same. has.differ (sym same) in
-        let later = has.later in
         ⊎_elim
         (λ same.
-        ends_on h 0 (fetches h fit has.other other_acts not_y has.box.box has.box.take has.box.full)
+        ends_on h 0 (fetches h fit has.other other_acts not_y has.box.box has.box.both.0 has.box.full)
         (λ k more used there. ends_now k (subst (λ (v : ℕ). Holds k.label v right y) same there)))
         (λ not_x.
-        ends_on h 0 (grants silent h fit y acts has.link x G (λ same. omega (arith, same, later, x_made)) has.linked.grant granter)
+        ends_on h 0 (grants silent h fit y acts has.link x G (λ same. omega (arith, same, has.later, x_made)) has.linked.0.1 granter)
         (λ k more used there.
         ends_on k 0
-        (takes silent k more.fit has.other (Grows-acts silent h k more has.other other_acts) has.link x G not_x (more.labels has.other T has.link has.linked.other_take) there)
+        (takes silent k more.fit has.other (Grows-acts silent h k more has.other other_acts) has.link x G not_x (more.labels has.other T has.link has.linked.1.0) there)
         (λ l more_l used_l holds.
         let acts_k : Acts silent k has.other = Grows-acts silent h k more has.other other_acts in
         let box = HasBox-on right y g.made k l more_l has.other (HasBox-on right y g.made h k more has.other has.box) in
-        ends_on l 0
-        (gives x differ l more_l.fit has.other (Grows-acts silent k l more_l has.other acts_k) not_y box.box box.take box.full holds)
-        (λ m more_m used_m given. ends_now m given))))
-        (same_or_other has.other x)
+        ends_by l 0
+        (gives x differ l more_l.fit has.other (Grows-acts silent k l more_l has.other acts_k) not_y box.box box.both.0 box.full holds))))
+        (cases_eq has.other x)

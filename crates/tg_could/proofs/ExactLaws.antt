@@ -1,7 +1,7 @@
 -- Of each question one of two is so: two sets part x from the right, or the right is brought to x; so x never holds it, or
 -- could where names aren't short.
 use Rattle.std.proofs.Common.{◌≡◌, ◌≢◌, ◌⊎◌, inl, inr, ⊎_elim, ℕ, zero, suc, ◌+◌, ◌<◌, ◌≤◌, ◌==◌, ◌||◌, Bool, true, false, List, [], length, refl, sym, ap, ◌∙◌, subst, arith, eq-eqb}
-use Rattle.std.proofs.lemmas.Bool.{eqb-true, false≢true, cases_Bool, cases_eq, cases_lt}
+use Rattle.std.proofs.lemmas.Bool.{eqb-true, false≢true, cases_Bool, cases_eq, cases_lt, or_left, or_right}
 use Rattle.tg_rights.specs.RightSet.{RightSet, has}
 use Rattle.tg_rights.specs.declared.Right.{Right}
 use Rattle.tg_rights.specs.declared.Right.TheVariants.{T, G}
@@ -13,7 +13,7 @@ use Rattle.tg_could.specs.Turns.{Acts, MayCome, IsSilent, NeverHolds, CouldHold}
 use Rattle.tg_could.specs.Answered.{IsShort}
 use Rattle.tg_could.specs.Separation.{Sides, MayAdd, Parts, Separates}
 use Rattle.tg_could.specs.Led.{Way, back, forward, Led, source, maker, take_back, take_on, grant_on, grant_back, turns_forward, turns_back, IsBrought, is_held, is_got, is_given, is_made, HasHelp}
-use Rattle.tg_could.proofs.SeparationLaws.{parted-never}
+use Rattle.tg_could.proofs.SeparationLaws.{Parts-by, parted-never}
 use Rattle.tg_could.proofs.StillLaws.{IsAlone, same-never, alone-never}
 use Rattle.tg_could.proofs.EndLaws.{Ends, ends_on}
 use Rattle.tg_could.proofs.LedLaws.{contains_or, IsFit-sound, few_on, help_on, brought_ends}
@@ -83,7 +83,7 @@ module _ (f more : ℕ → Bool) (on : (c : ℕ) → f c ≡ true → more c ≡
   left_le : (n : ℕ) → left_out more n ≤ left_out f n
   unfolding left_out
   left_le zero = omega arith
-  left_le (suc n) = let a = out_le (f n) (more n) (on n) in let b = left_le n in omega (arith, a, b)
+  left_le (suc n) = omega (arith, out_le (f n) (more n) (on n), left_le n)
 
   left_less : (n v : ℕ) → v < n → f v ≡ false → more v ≡ true → left_out more n < left_out f n
   unfolding left_out
@@ -91,14 +91,15 @@ module _ (f more : ℕ → Bool) (on : (c : ℕ) → f c ≡ true → more c ≡
   left_less (suc n) v low out into =
       ⊎_elim
       (λ (same : v ≡ n).
-      let a = out_lt (f n) (more n) (ap f (sym same) ∙ out) (ap more (sym same) ∙ into) in
-      let b = left_le n in
-      omega (arith, a, b))
+      omega (arith, out_lt (f n) (more n) (ap f (sym same) ∙ out) (ap more (sym same) ∙ into), left_le n))
       (λ (other : v ≡ n → ⊥).
-      let a = out_le (f n) (more n) (on n) in
-      let b = left_less n v (omega (arith, low, other)) out into in
-      omega (arith, a, b))
+      omega (arith, out_le (f n) (more n) (on n), left_less n v (omega (arith, low, other)) out into))
       (cases_eq v n)
+
+-- with v in it there is one fewer
+with_less : (f : ℕ → Bool) (n v : ℕ) → v < n → f v ≡ false → left_out (λ c. f c || (c == v)) n < left_out f n
+with_less f n v low out =
+    left_less f (λ c. f c || (c == v)) (λ c is. or_left (f c) (c == v) is) n v low out (or_right (f v) (v == v) (eq-eqb v v refl))
 
 -- ---- sets that grow
 
@@ -111,14 +112,6 @@ is_in s forward v = s.forward v
 abbrev with_one : Sides → Way → ℕ → Sides
 with_one s back v = record { forward = s.forward; back = λ c. s.back c || (c == v) }
 with_one s forward v = record { forward = λ c. s.forward c || (c == v); back = s.back }
-
-or_first : (p q : Bool) → p ≡ true → (p || q) ≡ true
-or_first true q h = refl
-or_first false q h = absurd (false≢true h)
-
-or_second : (p q : Bool) → q ≡ true → (p || q) ≡ true
-or_second true q h = refl
-or_second false q h = h
 
 module _ (silent : ℕ → Type 0) (right : Right) (y : ℕ) (g : ProtectionGraph) where
   -- the two sets hold none but those whom walks lead to
@@ -161,12 +154,8 @@ module _ (silent : ℕ → Type 0) (right : Right) (y : ℕ) (g : ProtectionGrap
   room_in s = left_out s.forward g.made + left_out s.back g.made
 
   room_less : (s : Sides) (way : Way) (v : ℕ) → v < g.made → is_in s way v ≡ false → room_in (with_one s way v) < room_in s
-  room_less s back v made out =
-      let less = left_less s.back (λ c. s.back c || (c == v)) (λ c is. or_first (s.back c) (c == v) is) g.made v made out (or_second (s.back v) (v == v) (eq-eqb v v refl)) in
-      omega (arith, less)
-  room_less s forward v made out =
-      let less = left_less s.forward (λ c. s.forward c || (c == v)) (λ c is. or_first (s.forward c) (c == v) is) g.made v made out (or_second (s.forward v) (v == v) (eq-eqb v v refl)) in
-      omega (arith, less)
+  room_less s back v made out = omega (arith, with_less s.back g.made v made out)
+  room_less s forward v made out = omega (arith, with_less s.forward g.made v made out)
 
   -- ---- what is wrong where two sets don't part
 
@@ -256,17 +245,9 @@ module _ (silent : ℕ → Type 0) (right : Right) (y : ℕ) (g : ProtectionGrap
       Adds a b = MayAdd s x right y a b (g.label a b)
 
       parts_of : ((a : ℕ) → a < g.made → (b : ℕ) → b < g.made → Adds a b) → Parts s x right y g.label
-      parts_of adds = record {
-        edges = λ a b. record {
-          take_on = λ h. let e = made.ends a b T h in (adds a e.0 b e.1).keeps.take_on h;
-          take_back = λ h. let e = made.ends a b T h in (adds a e.0 b e.1).keeps.take_back h;
-          grant_on = λ h. let e = made.ends a b G h in (adds a e.0 b e.1).keeps.grant_on h;
-          grant_back = λ h. let e = made.ends a b G h in (adds a e.0 b e.1).keeps.grant_back h;
-          source = λ h. let e = made.ends a b right h in (adds a e.0 b e.1).keeps.source h;
-        };
-        without = λ h. let e = made.ends x y right h in (adds x e.0 y e.1).not_held refl refl h;
-        not_given = λ a h. let e = made.ends a x G h in (adds a e.0 x e.1).not_granted refl h;
-      }
+      parts_of adds =
+          Parts-by s x right y g.label
+          (λ a b q h. let e = made.ends a b q h in record { rights = g.label a b; has_it = h; may = adds a e.0 b e.1 })
 
       even_of : (p : ℕ) → (Acts silent g p → Even p) ⊎ Fault
       even_of p =
@@ -341,7 +322,7 @@ acts_or silent g p =
     (λ subject.
     ⊎_elim
     (λ listed.
-    ⊎_elim (λ low. inr (λ acts. acts.1 (listed, low))) (λ high. inl (subject, λ is. let low = is.1 in omega (arith, low, high)))
+    ⊎_elim (λ low. inr (λ acts. acts.1 (listed, low))) (λ high. inl (subject, λ is. omega (arith, is.1, high)))
     (cases_lt p g.made))
     (λ unlisted. inl (subject, λ is. unlisted is.0))
     (contains_or silent p))
@@ -367,9 +348,8 @@ module _ (silent : ℕ → Type 0) (g : ProtectionGraph) (x : ℕ) (right : Righ
       ends_on silent g (x + 1 + (y + 1))
       (make_both silent right y x differ g (IsFit-sound g sound) (has_room long) brought)
       (λ k more used both.
-      let later = more.made in
       brought_ends silent k more.fit (few_on g k more sound.few_subjects) both.room.here
-      (λ p is. let low = was_made p is in omega (arith, low, later)) x right y differ both.not_x both.not_y
+      (λ p is. omega (arith, was_made p is, more.made)) x right y differ both.not_x both.not_y
       (help_on silent y g k more help) both.brought)
 
 module _ (silent : List ℕ) (g : ProtectionGraph) (x : ℕ) (right : Right) (y : ℕ) where

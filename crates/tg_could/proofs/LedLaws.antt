@@ -1,11 +1,11 @@
 -- What the right is led to could come about: whoever acts and is led to shares it, and hands it to x in the end.
-use Rattle.std.proofs.Common.{◌≡◌, ◌≢◌, ◌⊎◌, inl, inr, ⊎_elim, ℕ, zero, suc, ◌+◌, ◌<◌, ◌≤◌, true, false, List, [], ◌∷◌, length, get_or, refl, sym, ap, ◌∙◌, subst, arith}
-use Rattle.std.proofs.lemmas.Bool.{false≢true, cases_eq}
+use Rattle.std.proofs.Common.{◌≡◌, ◌≢◌, ◌⊎◌, inl, inr, ⊎_elim, ℕ, zero, suc, ◌+◌, ◌<◌, ◌≤◌, List, [], ◌∷◌, length, get_or, refl, sym, ap, ◌∙◌, subst, arith}
+use Rattle.std.proofs.lemmas.Bool.{cases_eq}
 use Rattle.std.specs.List.{Contains}
-use Rattle.tg_rights.specs.RightSet.{RightSet, has, is_none_held}
-use Rattle.tg_rights.specs.RightLaws.{has-no_rights, has-none_held}
+use Rattle.std.proofs.lemmas.List.Elements.{Contains-append_right}
+use Rattle.tg_rights.specs.RightSet.{RightSet, has}
 use Rattle.tg_rights.specs.declared.Right.{Right}
-use Rattle.tg_rights.specs.declared.Right.TheVariants.{T, G}
+use Rattle.tg_rights.specs.declared.Right.TheVariants.{G}
 use Rattle.tg_model.specs.declared.opening.TheConstants.{MAX_WORKERS}
 use Rattle.tg_model.specs.Graph.{ProtectionGraph, IsSound, without_subject}
 use Rattle.tg_model.specs.Picture.{Holds}
@@ -14,13 +14,11 @@ use Rattle.tg_model.proofs.SubjectLaws.{is_without}
 use Rattle.tg_could.specs.Turns.{Acts, MayCome}
 use Rattle.tg_could.specs.Led.{Way, back, forward, Led, source, maker, take_back, take_on, grant_on, grant_back, turns_forward, turns_back, IsBrought, is_held, is_got, is_given, is_made, HasHelp}
 use Rattle.tg_could.proofs.MoveLaws.{IsFit, Leads, Grows, Grows-self, Grows-on, Grows-acts, stays, leads_on}
-use Rattle.tg_could.proofs.ShareLaws.{same_or_other, IsFull-on, HasBox, HasCompanion, HasCompanion-on, TakeWalk, InTime, Shares, Shares-more, gets, Link, link_by_walk, link_over, shares_on, shares_first}
-use Rattle.tg_could.proofs.EndLaws.{shorter, Ends, ends_now, ends_on, fetches, gives, by_help, by_companion}
+use Rattle.tg_could.proofs.TurnLaws.{no_right, right_edge}
+use Rattle.tg_could.proofs.ShareLaws.{HasBox, HasBox-on, HasCompanion, HasCompanion-on, TakeWalk, InTime, Shares, Shares-more, gets, Link, link_by_walk, link_over, shares_on, shares_first}
+use Rattle.tg_could.proofs.EndLaws.{shorter, Ends, ends_now, ends_on, ends_by, fetches, gives, by_help, by_companion}
 
 -- ---- lists of names
-
-in_rest : (first : ℕ) (xs : List ℕ) (x : ℕ) → Contains xs x → Contains (first ∷ xs) x
-in_rest first xs x (k, inside, at) = (suc k, omega (arith, inside), at)
 
 first_or_rest : (first : ℕ) (xs : List ℕ) (x : ℕ) → Contains (first ∷ xs) x → (first ≡ x) ⊎ Contains xs x
 first_or_rest first xs x (k, inside, at) = of_place k inside at
@@ -35,7 +33,7 @@ contains_or [] x = inr (λ (k, inside, at). omega (arith, inside))
 contains_or (first ∷ xs) x =
     ⊎_elim (λ (same : first ≡ x). inl (0, omega arith, same))
     (λ other.
-    ⊎_elim (λ is. inl (in_rest first xs x is))
+    ⊎_elim (λ is. inl (Contains-append_right (first ∷ []) xs x is))
     (λ none. inr (λ is. ⊎_elim other none (first_or_rest first xs x is))) (contains_or xs x))
     (cases_eq first x)
 
@@ -55,7 +53,7 @@ module _ (silent : ℕ → Type 0) (g : ProtectionGraph) (fit : IsFit g) (right 
     shares : Sharing (length sharers) p
 
   sharer : (sharers : List ℕ) → Chain sharers → (p : ℕ) → Contains sharers p → IsSharer sharers p
-  sharer [] chain p is = let low = is.1 in absurd (omega (arith, low))
+  sharer [] chain p is = absurd (omega (arith, is.1))
   sharer (first ∷ sharers) chain p is =
       ⊎_elim
       (λ same.
@@ -74,7 +72,7 @@ module _ (silent : ℕ → Type 0) (g : ProtectionGraph) (fit : IsFit g) (right 
   few_sharers (first ∷ sharers) chain subjects within =
       let less = shorter subjects first (within first (0, omega arith, refl)) in
       let rest = few_sharers sharers chain.0 (without_subject subjects first)
-      (λ q is. (is_without subjects first q).1 (within q (in_rest first sharers q is), λ same. chain.2 (subst (Contains sharers) same is))) in
+      (λ q is. (is_without subjects first q).1 (within q (Contains-append_right (first ∷ []) sharers q is), λ same. chain.2 (subst (Contains sharers) same is))) in
       omega (arith, less, rest)
 
   -- p is among them
@@ -105,16 +103,14 @@ module _ (silent : ℕ → Type 0) (g : ProtectionGraph) (fit : IsFit g) (right 
     chain : Chain sharers
     comes : Comes sharers way v
 
-  flip : (p q : ℕ) (p_acts : Acts silent g p) (q_acts : Acts silent g q) (differ : p ≢ q) (other : q ≢ p) → Link silent g q p q_acts p_acts other → Link silent g p q p_acts q_acts differ
-  flip p q p_acts q_acts differ other link h grows room =
+  -- it goes on with the same ones
+  with_them : (way : Way) (v : ℕ) → DoesCome way v → (then : Way) (w : ℕ) → ((sharers : List ℕ) → Chain sharers → Comes sharers way v → Comes sharers then w) → DoesCome then w
+  with_them way v c then w on = record { sharers = c.sharers; chain = c.chain; comes = on c.sharers c.chain c.comes }
+
+  flip : (p q : ℕ) (p_acts : Acts silent g p) (q_acts : Acts silent g q) (differ : p ≢ q) → Link silent g q p q_acts p_acts (λ same. differ (sym same)) → Link silent g p q p_acts q_acts differ
+  flip p q p_acts q_acts differ link h grows room =
       leads_on silent h 1 0 1 (omega arith) (link h grows room)
-      (λ k more used linked.
-      stays silent k more.fit (record {
-        take = linked.other_take;
-        grant = linked.other_grant;
-        other_take = linked.take;
-        other_grant = linked.grant;
-      }))
+      (λ k more used linked. stays silent k more.fit (linked.1, linked.0))
 
   module _ (n p q : ℕ) (p_acts : Acts silent g p) (q_acts : Acts silent g q) (shares : Sharing n p) where
     shared : ((differ : p ≢ q) → Link silent g p q p_acts q_acts differ) → Sharing (n + 1) q
@@ -122,7 +118,7 @@ module _ (silent : ℕ → Type 0) (g : ProtectionGraph) (fit : IsFit g) (right 
         ⊎_elim (λ same. Shares-more silent g right y q n (n + 1) (omega arith) (subst (Sharing n) same shares))
         (λ differ.
         shares_on silent g right y p q p_acts q_acts n shares differ (link differ) (fit.made.subjects q q_acts.0))
-        (same_or_other p q)
+        (cases_eq p q)
 
     -- q leads to p
     of_end : TakeWalk silent g q p → Sharing (n + 1) q
@@ -131,10 +127,7 @@ module _ (silent : ℕ → Type 0) (g : ProtectionGraph) (fit : IsFit g) (right 
     -- p leads to q
     of_start : TakeWalk silent g p q → Sharing (n + 1) q
     of_start walk =
-        shared
-        (λ differ.
-        let other : q ≢ p = λ same. differ (sym same) in
-        flip p q p_acts q_acts differ other (link_by_walk silent g q p q_acts p_acts other walk))
+        shared (λ differ. flip p q p_acts q_acts differ (link_by_walk silent g q p q_acts p_acts (λ same. differ (sym same)) walk))
 
     -- p leads to one end of a grant edge, and q to the other
     on_grant : (a b : ℕ) → Holds g.label a G b → TakeWalk silent g p a → TakeWalk silent g q b → Sharing (n + 1) q
@@ -142,40 +135,26 @@ module _ (silent : ℕ → Type 0) (g : ProtectionGraph) (fit : IsFit g) (right 
 
     back_grant : (a b : ℕ) → Holds g.label a G b → TakeWalk silent g p b → TakeWalk silent g q a → Sharing (n + 1) q
     back_grant a b edge to_b to_a =
-        shared
-        (λ differ.
-        let other : q ≢ p = λ same. differ (sym same) in
-        flip p q p_acts q_acts differ other (link_over silent g q p q_acts p_acts other a b to_a edge to_b))
+        shared (λ differ. flip p q p_acts q_acts differ (link_over silent g q p q_acts p_acts (λ same. differ (sym same)) a b to_a edge to_b))
 
   comes : ¬ MayCome g y → (way : Way) (v : ℕ) → Led silent right y g way v → DoesCome way v
   comes not_y way v (source held) =
       record { sharers = []; chain = tt; comes = λ p acts walk. shares_first silent g right y p v acts held walk }
   comes not_y way v (maker may acts) = absurd (not_y may)
   comes not_y way v (take_back {b = b} edge led) =
-      let c = comes not_y back b led in
-      record { sharers = c.sharers; chain = c.chain; comes = λ p acts walk. c.comes p acts (goes walk edge) }
+      with_them back b (comes not_y back b led) back v (λ l chain c p acts walk. c p acts (goes walk edge))
   comes not_y way v (take_on {a = a} edge led) =
-      let c = comes not_y forward a led in
-      let f = c.comes in
-      record { sharers = c.sharers; chain = c.chain; comes = record { p = f.p; has = f.has; walk = goes f.walk edge } }
+      with_them forward a (comes not_y forward a led) forward v (λ l chain f. record { p = f.p; has = f.has; walk = goes f.walk edge })
   comes not_y way v (grant_on {a = a} edge led) =
-      let c = comes not_y forward a led in
-      let f = c.comes in
-      let s = sharer c.sharers c.chain f.p f.has in
-      record {
-        sharers = c.sharers;
-        chain = c.chain;
-        comes = λ q acts walk. on_grant (length c.sharers) f.p q s.acts acts s.shares a v edge f.walk walk;
-      }
+      with_them forward a (comes not_y forward a led) back v
+      (λ l chain f q acts walk.
+      let s = sharer l chain f.p f.has in
+      on_grant (length l) f.p q s.acts acts s.shares a v edge f.walk walk)
   comes not_y way v (grant_back {b = b} edge led) =
-      let c = comes not_y forward b led in
-      let f = c.comes in
-      let s = sharer c.sharers c.chain f.p f.has in
-      record {
-        sharers = c.sharers;
-        chain = c.chain;
-        comes = λ q acts walk. back_grant (length c.sharers) f.p q s.acts acts s.shares v b edge f.walk walk;
-      }
+      with_them forward b (comes not_y forward b led) back v
+      (λ l chain f q acts walk.
+      let s = sharer l chain f.p f.has in
+      back_grant (length l) f.p q s.acts acts s.shares v b edge f.walk walk)
   comes not_y way v (turns_forward acts led) =
       let c = comes not_y back v led in
       let w = with_one c.sharers c.chain v acts (c.comes v acts (begins refl)) in
@@ -199,17 +178,10 @@ pub IsFit-sound : (g : ProtectionGraph) → IsSound g → IsFit g
 IsFit-sound g sound = record {
   made = record {
     subjects = sound.subjects_made;
-    ends = λ a b q is. sound.ends_made a b (some (g.label a b) q is);
+    ends = λ a b q is. sound.ends_made a b (right_edge (g.label a b) q is);
   };
-  no_loop = λ a q is. false≢true (sym (has-no_rights q) ∙ (ap (λ (s : RightSet). has s q) (sym (sound.no_loop a)) ∙ is));
+  no_loop = λ a q is. no_right q (ap (λ (s : RightSet). has s q) (sym (sound.no_loop a)) ∙ is);
 }
-  where
-    some : (s : RightSet) (q : Right) → has s q ≡ true → is_none_held s ≡ false
-    some s q is =
-        elim (is_none_held s) as (λ b. is_none_held s ≡ b → b ≡ false) [
-          | true ↦ λ none. absurd (false≢true (sym (has-none_held s none q) ∙ is))
-          | false ↦ λ is_some. refl
-        ] refl
 
 -- a graph that has grown has the same subjects, and the same help
 pub few_on : (h k : ProtectionGraph) → Grows h k → length h.subjects ≤ MAX_WORKERS → length k.subjects ≤ MAX_WORKERS
@@ -234,55 +206,47 @@ module _ (silent : ℕ → Type 0) (g : ProtectionGraph) (fit : IsFit g) (few : 
   x_fetches acts shares =
       ends_on silent g MAX_WORKERS (shares.share g (Grows-self g fit) room)
       (λ k more used box.
-      ends_on silent k 0
-      (fetches silent right y k more.fit x (Grows-acts silent g k more x acts) differ box.box box.take box.full)
-      (λ l more_l used_l there. ends_now silent l there))
+      ends_by silent k 0
+      (fetches silent right y k more.fit x (Grows-acts silent g k more x acts) differ box.box box.both.0 box.full))
 
   -- one who shares the right holds grant over x on a graph that has grown
   module _ (a p : ℕ) (granter : Holds g.label a G x) (acts : Acts silent g p) (walk : TakeWalk silent g p a) (not_x : p ≢ x) where
     abbrev gets_grant : (h : ProtectionGraph) → Grows g h → Leads silent h 0 (λ k. Holds k.label p G x)
     gets_grant h grows = gets silent g h grows p acts a walk G x granter not_x
 
+    -- what comes in time comes with the grant
+    with_grant : {P : ProtectionGraph → Type 0} (n : ℕ) → n ≤ MAX_WORKERS → ((k l : ProtectionGraph) → Grows k l → P k → P l) → InTime silent g n P → ((l : ProtectionGraph) → Grows g l → l.made ≤ g.made + n → P l → Holds l.label p G x → EndsSo l) → EndsSo g
+    with_grant n less on leads go =
+        ends_on silent g n (leads g (Grows-self g fit) (omega (arith, room, less)))
+        (λ k more used there.
+        ends_on silent k 0 (gets_grant k more)
+        (λ l more_l used_l holds. go l (Grows-on g k l more more_l) (omega (arith, used, used_l)) (on k l more_l there) holds))
+
     other_than_y : p ≢ y → Shares silent g right y MAX_WORKERS p → EndsSo g
     other_than_y not_y shares =
-        ends_on silent g MAX_WORKERS (shares.share g (Grows-self g fit) room)
-        (λ k more used box.
-        ends_on silent k 0 (gets_grant k more)
-        (λ l more_l used_l holds.
-        let grown = Grows-on g k l more more_l in
-        ends_on silent l 0
-        (gives silent right y x differ l more_l.fit p (Grows-acts silent g l grown p acts) not_y box.box
-        (more_l.labels p T box.box box.take) (IsFull-on right y k l more_l.labels box.box box.full) holds)
-        (λ m more_m used_m there. ends_now silent m there)))
+        with_grant MAX_WORKERS (omega arith) (λ k l more. HasBox-on right y g.made k l more p) shares.share
+        (λ l grown used box holds.
+        ends_by silent l 0
+        (gives silent right y x differ l grown.fit p (Grows-acts silent g l grown p acts) not_y box.box box.both.0 box.full holds))
 
     by_itself : p ≡ y → HasHelp silent g y → InTime silent g 1 (λ k. HasBox right y g.made k y) → EndsSo g
     by_itself same help once =
-        ends_on silent g 1 (once g (Grows-self g fit) (omega (arith, room)))
-        (λ k more used box.
-        ends_on silent k 0 (gets_grant k more)
-        (λ l more_l used_l holds.
-        let grown = Grows-on g k l more more_l in
-        let wide = grown.limit in
-        let made_l = grown.made in
-        by_help silent right y x differ box.box l more_l.fit
-        (subst (Acts silent l) same (Grows-acts silent g l grown p acts)) (omega (arith, room, used, used_l, wide))
+        with_grant 1 (omega arith) (λ k l more. HasBox-on right y g.made k l more y) once
+        (λ l grown used box holds.
+        by_help silent right y x differ box.box l grown.fit
+        (subst (Acts silent l) same (Grows-acts silent g l grown p acts)) (omega (arith, room, used, grown.limit))
         (few_on g l grown few) (help_on silent y g l grown help)
-        (λ is. let low = was_made l.made is in omega (arith, low, made_l))
-        (more_l.labels y T box.box box.take) (IsFull-on right y k l more_l.labels box.box box.full)
-        (subst (λ (v : ℕ). Holds l.label v G x) same holds)))
+        (λ is. omega (arith, was_made l.made is, grown.made))
+        box.both.0 box.full (subst (λ (v : ℕ). Holds l.label v G x) same holds))
 
     from_other : p ≡ y → InTime silent g MAX_WORKERS (λ k. HasCompanion silent g right y k y) → EndsSo g
     from_other same leads =
         let x_made = (fit.made.ends a x G granter).1 in
-        ends_on silent g MAX_WORKERS (leads g (Grows-self g fit) room)
-        (λ k more used companion.
-        ends_on silent k 0 (gets_grant k more)
-        (λ l more_l used_l holds.
-        let grown = Grows-on g k l more more_l in
-        let has = HasCompanion-on silent g right y k l more_l y companion in
-        by_companion silent right y g x differ x_made l more_l.fit
+        with_grant MAX_WORKERS (omega arith) (λ k l more. HasCompanion-on silent g right y k l more y) leads
+        (λ l grown used has holds.
+        by_companion silent right y g x differ x_made l grown.fit
         (subst (Acts silent l) same (Grows-acts silent g l grown p acts)) has (Grows-acts silent g l grown has.other has.acts)
-        (subst (λ (v : ℕ). Holds l.label v G x) same holds)))
+        (subst (λ (v : ℕ). Holds l.label v G x) same holds))
 
     is_granted : HasHelp silent g y → Shares silent g right y MAX_WORKERS p → EndsSo g
     is_granted help shares =
@@ -291,7 +255,7 @@ module _ (silent : ℕ → Type 0) (g : ProtectionGraph) (fit : IsFit g) (few : 
         let of_y : Shares silent g right y MAX_WORKERS y = subst (Shares silent g right y MAX_WORKERS) same shares in
         ⊎_elim (by_itself same help) (from_other same) of_y.from)
         (λ not_y. other_than_y not_y shares)
-        (same_or_other p y)
+        (cases_eq p y)
 
   pub brought_ends : ¬ MayCome g x → ¬ MayCome g y → HasHelp silent g y → IsBrought silent right y g x → EndsSo g
   brought_ends not_x not_y help (is_held held) = ends_now silent g held
@@ -306,5 +270,5 @@ module _ (silent : ℕ → Type 0) (g : ProtectionGraph) (fit : IsFit g) (few : 
       let shares = in_room c.sharers c.chain f.p f.has in
       ⊎_elim (λ same. x_fetches (subst (Acts silent g) same acts) (subst (Shares silent g right y MAX_WORKERS) same shares))
       (λ other. is_granted a f.p granter acts f.walk other help shares)
-      (same_or_other f.p x)
+      (cases_eq f.p x)
   brought_ends not_x not_y help (is_made may acts led) = absurd (not_x may)

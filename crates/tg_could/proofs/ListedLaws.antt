@@ -13,8 +13,7 @@ use Rattle.tg_could.specs.Turns.{NeverHolds}
 use Rattle.tg_could.specs.Separation.{Sides, MayAdd, IsEven}
 use Rattle.tg_could.specs.Listed.{IsUnlisted, ListsEdge, ListsActor, rights_over}
 use Rattle.tg_could.specs.declared.what.Listed.{Listed}
-use Rattle.tg_could.proofs.MarkLaws.{IsNot, none_holds, Parts-edges, pictured-never, pictured-same}
-use Rattle.tg_could.proofs.ToldLaws.{keeps-walks}
+use Rattle.tg_could.proofs.MarkLaws.{IsNot, keeps-walks, none_holds, Parts-edges, pictured-never, pictured-same}
 
 module _ (s : Sides) (listed : Listed) (x made limit : ℕ) (r : Right) (y : ℕ) (untold : IsUnlisted listed x made limit r y) where
   -- a label over y that is told hasn't the right

@@ -2,9 +2,9 @@
 use Rattle.std.proofs.Common.{◌≡◌, ◌≢◌, inl, ℕ, ◌+◌, ◌<◌, ◌≤◌, true, List, [], ◌∷◌, ◌++◌, refl, sym, ap, ◌∙◌, subst, arith}
 use Rattle.std.specs.List.{Contains}
 use Rattle.tg_rights.specs.RightSet.{RightSet, has, only, union}
-use Rattle.tg_rights.specs.RightLaws.{holds_all-only}
+use Rattle.tg_rights.specs.RightLaws.{holds_all-each, holds_all-only}
 use Rattle.tg_rights.specs.declared.Right.{Right}
-use Rattle.tg_rights.specs.declared.Right.TheVariants.{R, W, T, G, A, L, U, V}
+use Rattle.tg_rights.specs.declared.Right.TheVariants.{T, G}
 use Rattle.tg_model.specs.declared.law.Law.TheVariants.{Cell}
 use Rattle.tg_model.specs.declared.command.Command.{Command}
 use Rattle.tg_model.specs.declared.command.Command.TheVariants.{Take, Grant}
@@ -12,7 +12,7 @@ use Rattle.tg_model.specs.declared.command.Deed.{Deed}
 use Rattle.tg_model.specs.declared.command.Deed.TheVariants.{Create, Plain}
 use Rattle.tg_model.specs.Graph.{ProtectionGraph, IsSubject}
 use Rattle.tg_model.specs.Picture.{Holds, IsMade}
-use Rattle.tg_model.specs.Rules.{HoldsOver, step}
+use Rattle.tg_model.specs.Rules.{HoldsOver, effect, step, with_vertex}
 use Rattle.tg_model.proofs.AllowedLaws.{step-allowed, step-created}
 use Rattle.tg_model.proofs.PictureLaws.{Holds-still, Holds-added}
 use Rattle.tg_could.specs.Turns.{Turn, Acts, AreTurns, after}
@@ -55,27 +55,16 @@ Grows-self h fit = record { labels = λ a q b is. is; subjects = refl; made = om
 
 pub Grows-on : (h k l : ProtectionGraph) → Grows h k → Grows k l → Grows h l
 Grows-on h k l one two =
-    let m = one.made in
-    let n = two.made in
-    let i = one.limit in
-    let j = two.limit in
     record {
       labels = λ a q b is. two.labels a q b (one.labels a q b is);
       subjects = two.subjects ∙ one.subjects;
-      made = omega (arith, m, n);
-      limit = omega (arith, i, j);
+      made = omega (arith, one.made, two.made);
+      limit = omega (arith, one.limit, two.limit);
       fit = two.fit;
     }
 
 pub has_itself : (q : Right) → has (only q) q ≡ true
-has_itself R = refl
-has_itself W = refl
-has_itself T = refl
-has_itself G = refl
-has_itself A = refl
-has_itself L = refl
-has_itself U = refl
-has_itself V = refl
+has_itself q = sym (holds_all-only (only q) q) ∙ holds_all-each (only q) (only q) (λ r h. h)
 
 over : (label : ℕ → ℕ → RightSet) (a : ℕ) (q : Right) (b : ℕ) → Holds label a q b → HoldsOver label a b (only q)
 over label a q b is = holds_all-only (label a b) q ∙ is
@@ -114,8 +103,6 @@ module _ (silent : ℕ → Type 0) where
   pub leads_on : {P Q : ProtectionGraph → Type 0} (h : ProtectionGraph) (n m both : ℕ) → n + m ≤ both → Leads h n P → ((k : ProtectionGraph) → Grows h k → k.made ≤ h.made + n → P k → Leads k m Q) → Leads h both Q
   leads_on h n m both sum first go =
       let second = go first.to first.grows first.used first.there in
-      let a = first.used in
-      let b = second.used in
       record {
         turns = first.turns ++ second.turns;
         are = AreTurns-append silent h first.turns second.turns first.are
@@ -124,13 +111,22 @@ module _ (silent : ℕ → Type 0) where
         reached = after-append h first.turns second.turns
             ∙ (ap (λ (k : ProtectionGraph). after k second.turns) first.reached ∙ second.reached);
         grows = Grows-on h first.to second.to first.grows second.grows;
-        used = omega (arith, sum, a, b);
+        used = omega (arith, sum, first.used, second.used);
         there = second.there;
       }
 
   module _ (h : ProtectionGraph) (fit : IsFit h) (p : ℕ) (acts : Acts silent h p) where
-    after_fit : (deed : Deed) (k : ProtectionGraph) → step h p deed ≡ k → IsFit k
-    after_fit deed k is = subst IsFit is (IsFit-step h fit p acts.0 deed)
+    -- one turn leads to a graph that has what this one has
+    one_turn : {P : ProtectionGraph → Type 0} (deed : Deed) (k : ProtectionGraph) → step h p deed ≡ k → ((a : ℕ) (q : Right) (b : ℕ) → Holds h.label a q b → Holds k.label a q b) → k.subjects ≡ h.subjects → h.made ≤ k.made → h.limit ≤ k.limit → (n : ℕ) → k.made ≤ h.made + n → P k → Leads h n P
+    one_turn deed k is labels subjects made limit n used there = record {
+      turns = (p, deed) ∷ [];
+      are = (acts, tt);
+      to = k;
+      reached = is;
+      grows = record { labels = labels; subjects = subjects; made = made; limit = limit; fit = subst IsFit is (IsFit-step h fit p acts.0 deed) };
+      used = used;
+      there = there;
+    }
 
     -- who holds take over one takes a right of that one's
     pub takes : (via z : ℕ) (q : Right) → p ≢ z → Holds h.label p T via → Holds h.label via q z → Leads h 0 (λ k. Holds k.label p q z)
@@ -143,21 +139,8 @@ module _ (silent : ℕ → Type 0) where
           over h.label p T via taker,
           over h.label via q z held,
         ) in
-        record {
-          turns = (p, Plain command) ∷ [];
-          are = (acts, tt);
-          to = _;
-          reached = is;
-          grows = record {
-            labels = λ a r b there. Holds-still h.label p z (only q) a r b there;
-            subjects = refl;
-            made = omega arith;
-            limit = omega arith;
-            fit = after_fit (Plain command) _ is;
-          };
-          used = omega arith;
-          there = Holds-added h.label p z (only q) q (has_itself q);
-        }
+        one_turn (Plain command) (effect h p command) is (Holds-still h.label p z (only q)) refl (omega arith) (omega arith) 0 (omega arith)
+        (Holds-added h.label p z (only q) q (has_itself q))
 
     -- who holds grant over one grants to that one a right of its own
     pub grants : (via z : ℕ) (q : Right) → via ≢ z → Holds h.label p G via → Holds h.label p q z → Leads h 0 (λ k. Holds k.label via q z)
@@ -170,41 +153,15 @@ module _ (silent : ℕ → Type 0) where
           over h.label p G via granter,
           over h.label p q z held,
         ) in
-        record {
-          turns = (p, Plain command) ∷ [];
-          are = (acts, tt);
-          to = _;
-          reached = is;
-          grows = record {
-            labels = λ a r b there. Holds-still h.label via z (only q) a r b there;
-            subjects = refl;
-            made = omega arith;
-            limit = omega arith;
-            fit = after_fit (Plain command) _ is;
-          };
-          used = omega arith;
-          there = Holds-added h.label via z (only q) q (has_itself q);
-        }
+        one_turn (Plain command) (effect h p command) is (Holds-still h.label via z (only q)) refl (omega arith) (omega arith) 0 (omega arith)
+        (Holds-added h.label via z (only q) q (has_itself q))
 
     -- who acts makes an object, over which it holds these rights
     pub makes_one : (rights : RightSet) → h.made < h.limit → Leads h 1 (HasMade h p rights)
     makes_one rights room =
-        let is = step-created h p rights Cell [] room in
-        record {
-          turns = (p, Create rights Cell []) ∷ [];
-          are = (acts, tt);
-          to = _;
-          reached = is;
-          grows = record {
-            labels = λ a r b there. Holds-still h.label p h.made rights a r b there;
-            subjects = refl;
-            made = omega arith;
-            limit = omega arith;
-            fit = after_fit (Create rights Cell []) _ is;
-          };
-          used = omega arith;
-          there = record { held = λ q is. Holds-added h.label p h.made rights q is; made = refl; limit = refl };
-        }
+        one_turn (Create rights Cell []) (with_vertex h p rights (record { law = Cell; state = [] })) (step-created h p rights Cell [] room)
+        (Holds-still h.label p h.made rights) refl (omega arith) (omega arith) 1 (omega arith)
+        (record { held = λ q is. Holds-added h.label p h.made rights q is; made = refl; limit = refl })
 
     -- one over which it holds take and grant
     pub makes : h.made < h.limit → Leads h 1 (λ k. Holds k.label p T h.made × Holds k.label p G h.made)

@@ -1,10 +1,11 @@
 -- A graph and a picture of what its active subjects reach take the same turns, and agree on who is reached after each.
-use Rattle.std.proofs.Common.{◌≡◌, ◌⊎◌, inl, inr, ⊎_elim, ℕ, suc, ◌<◌, ◌≤◌, ◌==◌, ◌&&◌, nat_lt, Bool, true, false, cond, List, [], ◌∷◌, length, Option, Some, None, refl, sym, ap, ◌∙◌, subst, arith}
+use Rattle.std.proofs.Common.{◌≡◌, ◌⊎◌, inl, inr, ⊎_elim, ℕ, ◌<◌, ◌≤◌, ◌==◌, ◌&&◌, nat_lt, Bool, true, false, cond, List, [], ◌∷◌, length, Option, Some, None, refl, sym, ap, ◌∙◌, subst, arith}
 use Rattle.std.specs.List.{Contains}
-use Rattle.std.proofs.lemmas.Bool.{and_parts, cases_Bool, cases_lt, eqb-true, false≢true}
+use Rattle.std.proofs.lemmas.Bool.{cases_lt, false≢true}
+use Rattle.std.proofs.lemmas.Bool.Decides.{same_from_decides}
 use Rattle.std.proofs.lemmas.List.Elements.{Contains-push_cases}
 use Rattle.tg_rights.specs.RightSet.{RightSet, has, no_rights, union, is_none_held}
-use Rattle.tg_rights.specs.RightLaws.{has-no_rights, has-none_held, has-union, none_held-same, same_rights}
+use Rattle.tg_rights.specs.RightLaws.{same_rights}
 use Rattle.tg_rights.specs.declared.Right.{Right}
 use Rattle.tg_model.specs.declared.opening.TheConstants.{MAX_WORKERS}
 use Rattle.tg_model.specs.declared.edge.Edge.{Edge}
@@ -20,16 +21,15 @@ use Rattle.tg_model.specs.Picture.{Holds, Shown, IsPictureOf}
 use Rattle.tg_model.specs.Rules.{denial_of, effect, unless_denied, with_vertex, with_subject, step}
 use Rattle.tg_model.specs.Walks.{begins, goes, Walk-within}
 use Rattle.tg_model.proofs.AllowedLaws.{permits-no_denial}
-use Rattle.tg_model.proofs.PictureLaws.{or_true}
 use Rattle.tg_model.proofs.NearLaws.{denial_of-near, labels_after-same}
-use Rattle.tg_model.proofs.ReachLaws.{HasEdge-with_rights, closed_after, lt-IsReachable, IsReachable-step, unreachable_row}
+use Rattle.tg_model.proofs.ReachLaws.{HasEdge-with_rights, closed_after, IsReachable-step, unreachable_row}
 use Rattle.tg_model.proofs.SoundLaws.{IsSound-step, le-step-made}
 use Rattle.tg_model.proofs.SubjectLaws.{subject_before}
 use Rattle.tg_could.specs.Turns.{Turn, Acts, AreTurns, IsSilent, LeadThere, NeverHolds, after, with_names}
 use Rattle.tg_could.specs.Answered.{IsAnswer}
 use Rattle.tg_could.specs.Reached.{HaveSameReach, IsLedTo, IsReachedEdge, IsReachedPicture, IsToldOf}
 use Rattle.tg_could.specs.declared.reached.Told.TheVariants.{Of, Unreached}
-use Rattle.tg_could.proofs.TurnLaws.{Holds-member}
+use Rattle.tg_could.proofs.TurnLaws.{Holds-member, given_by, no_right, right_edge}
 use Rattle.tg_could.specs.declared.answer.Answer.{Answer}
 use Rattle.tg_could.specs.declared.answer.Answer.TheVariants.{Never, Could, WantsNames, Open}
 
@@ -155,20 +155,13 @@ module _ (known : ℕ → Type 0) (silent : ℕ → Type 0) where
   same_acts_back g h alike p acts = subst (λ (k : ProtectionGraph). Acts silent k p) (sym alike.same) acts
 
   -- the turns of the one graph are those of the other, and the graphs are alike after them
-  pub alike_on : (turns : List Turn) (g h : ProtectionGraph) → AreAlike known g h → AreTurns silent g turns → AreTurns silent h turns × AreAlike known (after g turns) (after h turns)
-  alike_on [] g h alike are = (tt, alike)
-  alike_on (turn ∷ turns) g h alike are =
-      let next = alike_step g h alike turn.0 are.0.0 turn.1 in
-      let rest = alike_on turns (step g turn.0 turn.1) (step h turn.0 turn.1) next are.1 in
-      ((same_acts_back g h alike turn.0 are.0, rest.0), rest.1)
-
-  pub alike_back : (turns : List Turn) (g h : ProtectionGraph) → AreAlike known g h → AreTurns silent h turns → AreTurns silent g turns × AreAlike known (after g turns) (after h turns)
-  alike_back [] g h alike are = (tt, alike)
-  alike_back (turn ∷ turns) g h alike are =
-      let acts = same_acts g h alike turn.0 are.0 in
+  pub alike_turns : (turns : List Turn) (g h : ProtectionGraph) → AreAlike known g h → AreTurns silent g turns ⊎ AreTurns silent h turns → AreTurns silent g turns × AreTurns silent h turns × AreAlike known (after g turns) (after h turns)
+  alike_turns [] g h alike are = (tt, tt, alike)
+  alike_turns (turn ∷ turns) g h alike are =
+      let acts : Acts silent g turn.0 = ⊎_elim (λ own. own.0) (λ others. same_acts g h alike turn.0 others.0) are in
       let next = alike_step g h alike turn.0 acts.0 turn.1 in
-      let rest = alike_back turns (step g turn.0 turn.1) (step h turn.0 turn.1) next are.1 in
-      ((acts, rest.0), rest.1)
+      let rest = alike_turns turns (step g turn.0 turn.1) (step h turn.0 turn.1) next (⊎_elim (λ own. inl own.1) (λ others. inr others.1) are) in
+      ((acts, rest.0), (same_acts_back g h alike turn.0 acts, rest.1), rest.2)
 
 -- ---- pictures
 
@@ -176,72 +169,16 @@ module _ (known : ℕ → Type 0) (silent : ℕ → Type 0) where
 abbrev pub Known : ProtectionGraph → ℕ → Type 0
 Known g x = IsReachable g x ⊎ (g.made ≤ x)
 
-no_edge : (s : RightSet) → ¬ (is_none_held s ≡ false) → s ≡ no_rights
-no_edge s none = none_held-same s (is_true (is_none_held s) none)
-  where
-    is_true : (b : Bool) → ¬ (b ≡ false) → b ≡ true
-    is_true true none = refl
-    is_true false none = absurd (none refl)
+-- sets that hold the same rights are one
+same_held : (s t : RightSet) → ((q : Right) → has s q ≡ true → has t q ≡ true) → ((q : Right) → has t q ≡ true → has s q ≡ true) → s ≡ t
+same_held s t on back = same_rights s t (λ q. same_from_decides {P = has t q ≡ true} (has s q) (has t q) (on q, back q) (λ h. h, λ h. h))
 
--- a right that is held, and an edge
-right_edge : (s : RightSet) (q : Right) → has s q ≡ true → is_none_held s ≡ false
-right_edge s q h = by_test (cases_Bool (is_none_held s))
-  where
-    by_test : (is_none_held s ≡ true) ⊎ (is_none_held s ≡ false) → is_none_held s ≡ false
-    by_test (inl none) = absurd (false≢true (sym (has-none_held s none q) ∙ h))
-    by_test (inr some) = some
-
-alike : (s t : Bool) → (s ≡ true → t ≡ true) → (t ≡ true → s ≡ true) → s ≡ t
-alike true t on back = sym (on refl)
-alike false true on back = back refl
-alike false false on back = refl
-
-contains_here : (e : Edge) (es : List Edge) → Contains (e ∷ es) e
-contains_here e es = (0, omega arith, refl)
-
-contains_more : (e : Edge) (es : List Edge) (z : Edge) → Contains es z → Contains (e ∷ es) z
-contains_more e es z there = let low = there.1 in (suc there.0, omega arith, there.2)
-
--- no edge where no right is held
 pub some_edge : (s : RightSet) (q : Right) → has s q ≡ true → s ≡ no_rights → ⊥
-some_edge s q h none =
-    let lacks : has s q ≡ false = has-none_held s (ap is_none_held none) q in
-    let no : true ≡ false = sym h ∙ lacks in
-    absurd cc
+some_edge s q h none = no_right q (ap (λ t. has t q) (sym none) ∙ h)
 
--- a right that edges of a list give is that of one of them, and the other way round
-module _ (a b : ℕ) (q : Right) where
-  -- an edge of the list from a to b that has the right
-  record IsGiven (es : List Edge) : Type 0 where
-    edge : Edge
-    there : Contains es edge
-    from : edge.from ≡ a
-    to : edge.to ≡ b
-    holds : has edge.label q ≡ true
-
-  given_later : (e : Edge) (es : List Edge) → IsGiven es → IsGiven (e ∷ es)
-  given_later e es given = record {
-    edge = given.edge;
-    there = contains_more e es given.edge given.there;
-    from = given.from;
-    to = given.to;
-    holds = given.holds;
-  }
-
-  given_by : (es : List Edge) → Holds (label_in es) a q b → IsGiven es
-  given_by [] h = let no : false ≡ true = sym (has-no_rights q) ∙ h in absurd (false≢true no)
-  given_by (e ∷ es) h = by_case (cases_Bool ((a == e.from) && (b == e.to))) (given_by es)
-    where
-      by_case : (((a == e.from) && (b == e.to)) ≡ true) ⊎ (((a == e.from) && (b == e.to)) ≡ false) → (Holds (label_in es) a q b → IsGiven es) → IsGiven (e ∷ es)
-      by_case (inl t) rest =
-          let ends = and_parts (a == e.from) (b == e.to) t in
-          let both : has (union e.label (label_in es a b)) q ≡ true = ap (λ c. has (cond c (union e.label (label_in es a b)) (label_in es a b)) q) (sym t) ∙ h in
-          ⊎_elim
-          (λ own. record { edge = e; there = contains_here e es; from = sym (eqb-true a e.from ends.0); to = sym (eqb-true b e.to ends.1); holds = own })
-          (λ others. given_later e es (rest others))
-          (or_true (has e.label q) (has (label_in es a b) q) (sym (has-union e.label (label_in es a b) q) ∙ both))
-      by_case (inr f) rest =
-          given_later e es (rest (ap (λ c. has (cond c (union e.label (label_in es a b)) (label_in es a b)) q) (sym f) ∙ h))
+-- and where none is held, none are
+none_held : (s : RightSet) → ((q : Right) → ¬ (has s q ≡ true)) → s ≡ no_rights
+none_held s lacks = same_held s no_rights (λ q h. absurd (lacks q h)) (λ q h. absurd (no_right q h))
 
 -- the picture's edge from a to b, where there is one
 module _ (p : Shown) (g : ProtectionGraph) (picture : IsReachedPicture p g) where
@@ -250,7 +187,7 @@ module _ (p : Shown) (g : ProtectionGraph) (picture : IsReachedPicture p g) wher
 
   given_is : (a b : ℕ) (q : Right) → Holds shown a q b → IsReachable g a × Holds g.label a q b
   given_is a b q h =
-      let given = given_by a b q p.edges h in
+      let given = given_by p.edges a q b h in
       let is = (picture.edges given.edge).0 given.there in
       let P : ℕ → ℕ → Type 0 = λ x y. IsReachable g x × Holds g.label x q y in
       subst (λ y. P a y) given.to (subst (λ x. P x given.edge.to) given.from (is.from, ap (λ s. has s q) (sym is.label) ∙ given.holds))
@@ -261,14 +198,6 @@ module _ (p : Shown) (g : ProtectionGraph) (picture : IsReachedPicture p g) wher
       let there : HasEdge g.label a b = right_edge (g.label a b) q h in
       let is : Contains p.edges edge = (picture.edges edge).1 (record { from = reached; there = there; label = refl }) in
       Holds-member p.edges is.0 edge is.1 (sym is.2) q h
-
-  -- the rows of those who are reached, and no others
-  pub shown_labels : (a b : ℕ) → IsReachable g a → shown a b ≡ g.label a b
-  shown_labels a b reached = same_rights (shown a b) (g.label a b) (λ q. alike (has (shown a b) q) (has (g.label a b) q) (λ h. (given_is a b q h).1) (λ h. given_back a b q reached h))
-
-  pub shown_others : (a b : ℕ) → ¬ IsReachable g a → shown a b ≡ no_rights
-  shown_others a b unreached =
-      same_rights (shown a b) no_rights (λ q. alike (has (shown a b) q) (has no_rights q) (λ h. absurd (unreached (given_is a b q h).0)) (λ h. let no : false ≡ true = sym (has-no_rights q) ∙ h in absurd (false≢true no)))
 
   -- who is reached is an active subject, or an edge leads to it
   pub reached_shown : (x : ℕ) → IsReachable g x → Contains p.subjects x ⊎ IsLedTo p.edges x
@@ -284,66 +213,41 @@ module _ (p : Shown) (g : ProtectionGraph) (picture : IsReachedPicture p g) wher
       subst (IsReachable g) led.leads (goes is.from is.there)
 
 module _ (p : Shown) (g : ProtectionGraph) (sound : IsSound g) (picture : IsReachedPicture p g) where
-  not_yet : (a : ℕ) → g.made ≤ a → ¬ IsReachable g a
-  not_yet a above reached = let below = lt-IsReachable g sound a reached in omega (arith, above, below)
+  -- a right that is shown joins two that were made
+  shown_made : (a b : ℕ) (q : Right) → Holds (label_in p.edges) a q b → (a < g.made) × (b < g.made)
+  shown_made a b q h = sound.ends_made a b (right_edge (g.label a b) q (given_is p g picture a b q h).1)
 
   pub picture_agrees : Agree (Known g) g (label_in p.edges)
   picture_agrees = record {
     subjects = λ q is. inl (begins is);
     later = λ x above. inr above;
-    closed = λ a b is edge. ⊎_elim
-        (λ reached. inl (goes reached edge))
-        (λ above. let ends = sound.ends_made a b edge in absurd (omega (arith, above, ends.0)))
-        is;
-    labels = λ a b is. ⊎_elim
-        (λ reached. shown_labels p g picture a b reached)
-        (λ above.
-        shown_others p g picture a b (not_yet a above)
-        ∙ sym (no_edge (g.label a b) (λ edge. let ends = sound.ends_made a b edge in omega (arith, above, ends.0))))
-        is;
+    closed = λ a b is edge. ⊎_elim (λ reached. inl (goes reached edge)) (λ above. absurd (omega (arith, above, sound.ends_made a b edge))) is;
+    labels = λ a b is.
+        same_held (label_in p.edges a b) (g.label a b) (λ q h. (given_is p g picture a b q h).1)
+        (λ q h.
+        ⊎_elim (λ reached. given_back p g picture a b q reached h)
+        (λ above. absurd (omega (arith, above, sound.ends_made a b (right_edge (g.label a b) q h)))) is);
   }
 
   -- it is a picture of the graph with the labels that it shows
   pub pictured : IsPictureOf p (relabelled g (label_in p.edges))
   pictured = record {
-    is_made = record {
-      subjects = sound.subjects_made;
-      ends = λ a b q h. (
-        ⊎_elim (λ below. below) (λ above. absurd (some_edge (label_in p.edges a b) q h (shown_others p g picture a b (not_yet a above)))) (cases_lt a g.made),
-        ⊎_elim (λ below. below) (λ above. absurd (past a b q h above)) (cases_lt b g.made),
-      );
-    };
+    is_made = record { subjects = sound.subjects_made; ends = shown_made };
     subjects = picture.subjects;
     made = picture.made;
     limit = picture.limit;
     labels = λ a b. refl;
   }
-    where
-      past : (a b : ℕ) (q : Right) → Holds (label_in p.edges) a q b → g.made ≤ b → ⊥
-      past a b q h above =
-          some_edge (label_in p.edges a b) q h
-          (shown_others p g picture a b (λ reached.
-          let none : g.label a b ≡ no_rights = no_edge (g.label a b) (λ edge. let ends = sound.ends_made a b edge in omega (arith, above, ends.1)) in
-          some_edge (label_in p.edges a b) q h (shown_labels p g picture a b reached ∙ none)))
 
-  -- an edge that is shown joins two that were made
+  -- so does an edge
   edge_made : (a b : ℕ) → HasEdge (label_in p.edges) a b → (a < g.made) × (b < g.made)
   edge_made a b edge = (
-    ⊎_elim (λ below. below) (λ above. absurd (empty (shown_others p g picture a b (not_yet a above)))) (cases_lt a g.made),
-    ⊎_elim (λ below. below)
-        (λ above.
-        absurd
-        (empty
-        (same_rights (label_in p.edges a b) no_rights
-        (λ q. none q (λ h. let ends = sound.ends_made a b (right_edge (g.label a b) q (given_is p g picture a b q h).1) in omega (arith, above, ends.1))))))
-        (cases_lt b g.made),
+    ⊎_elim (λ below. below) (λ above. some (λ q h. omega (arith, above, shown_made a b q h))) (cases_lt a g.made),
+    ⊎_elim (λ below. below) (λ above. some (λ q h. omega (arith, above, shown_made a b q h))) (cases_lt b g.made),
   )
     where
-      empty : label_in p.edges a b ≡ no_rights → ⊥
-      empty is = false≢true (sym edge ∙ ap is_none_held is)
-
-      none : (q : Right) → (Holds (label_in p.edges) a q b → ⊥) → has (label_in p.edges a b) q ≡ has no_rights q
-      none q lacks = alike (has (label_in p.edges a b) q) (has no_rights q) (λ h. absurd (lacks h)) (λ h. absurd (false≢true (sym (has-no_rights q) ∙ h)))
+      some : {A : Type 0} → ((q : Right) → ¬ Holds (label_in p.edges) a q b) → A
+      some lacks = absurd (false≢true (sym edge ∙ ap is_none_held (none_held (label_in p.edges a b) lacks)))
 
   -- the graph with the labels that it shows is sound
   pub sound_shown : IsSound (relabelled g (label_in p.edges))
@@ -353,10 +257,7 @@ module _ (p : Shown) (g : ProtectionGraph) (sound : IsSound g) (picture : IsReac
     few_subjects = sound.few_subjects;
     ends_made = edge_made;
     no_loop = λ x.
-        same_rights (label_in p.edges x x) no_rights
-        (λ q.
-        alike (has (label_in p.edges x x) q) (has no_rights q) (λ h. ap (λ s. has s q) (sym (sound.no_loop x)) ∙ (given_is p g picture x x q h).1)
-        (λ h. absurd (false≢true (sym (has-no_rights q) ∙ h))));
+        none_held (label_in p.edges x x) (λ q h. no_right q (ap (λ s. has s q) (sym (sound.no_loop x)) ∙ (given_is p g picture x x q h).1));
     values = sound.values;
   }
 
@@ -366,13 +267,13 @@ module _ (silent : List ℕ) (g : ProtectionGraph) (label : ℕ → ℕ → Righ
 
   pub never_on : NeverHolds silent (relabelled g label) x r y → NeverHolds silent g x r y
   never_on never turns are h =
-      let both = alike_on known (IsSilent silent g) turns g (relabelled g label) alike_first are in
-      never turns both.0 (subst (λ (s : RightSet). has s r ≡ true) (sym (both.1.agree.labels x y is)) h)
+      let both = alike_turns known (IsSilent silent g) turns g (relabelled g label) alike_first (inl are) in
+      never turns both.1 (subst (λ (s : RightSet). has s r ≡ true) (sym (both.2.agree.labels x y is)) h)
 
   pub lead_on : (turns : List Turn) → LeadThere silent (relabelled g label) turns x r y → LeadThere silent g turns x r y
   lead_on turns lead =
-      let both = alike_back known (IsSilent silent g) turns g (relabelled g label) alike_first lead.0 in
-      (both.0, subst (λ (s : RightSet). has s r ≡ true) (both.1.agree.labels x y is) lead.1)
+      let both = alike_turns known (IsSilent silent g) turns g (relabelled g label) alike_first (inr lead.0) in
+      (both.0, subst (λ (s : RightSet). has s r ≡ true) (both.2.agree.labels x y is) lead.1)
 
 -- what is answered of a graph with the labels of a picture is so of the whole graph
 pub answer_on : (silent : List ℕ) (p : Shown) (g : ProtectionGraph) → IsSound g → IsReachedPicture p g → (x : ℕ) → Known g x → (r : Right) (y : ℕ) (answer : Answer) → IsAnswer silent (relabelled g (label_in p.edges)) x r y answer → IsAnswer silent g x r y answer
@@ -410,47 +311,38 @@ unreached_row silent (turn ∷ turns) g x sound made unreached are y =
 
 -- ---- graphs with the same reached part
 
-module _ (g h : ProtectionGraph) (same : HaveSameReach g h) where
-  edge_same : (a b : ℕ) → IsReachable g a → HasEdge g.label a b → HasEdge h.label a b
-  edge_same a b reached edge = ap is_none_held (same.labels a b reached) ∙ edge
+-- no more are reached on the other graph
+reach_back : (g h : ProtectionGraph) → HaveSameReach g h → (x : ℕ) → IsReachable h x → IsReachable g x
+reach_back g h same =
+    Walk-within (IsReachable g) (λ q is. begins (subst (λ (names : List ℕ). Contains names q) same.subjects is))
+    (λ a b reached edge. goes reached (sym (ap is_none_held (same.labels a b reached)) ∙ edge))
 
-  edge_back : (a b : ℕ) → IsReachable g a → HasEdge h.label a b → HasEdge g.label a b
-  edge_back a b reached edge = sym (ap is_none_held (same.labels a b reached)) ∙ edge
+-- the other way round, too
+swapped : (g h : ProtectionGraph) → HaveSameReach g h → HaveSameReach h g
+swapped g h same = record {
+  subjects = sym same.subjects;
+  made = sym same.made;
+  limit = sym same.limit;
+  labels = λ a b reached. sym (same.labels a b (reach_back g h same a reached));
+}
 
-  reach_back : (x : ℕ) → IsReachable h x → IsReachable g x
-  reach_back =
-      Walk-within (IsReachable g) (λ q is. begins (subst (λ (names : List ℕ). Contains names q) same.subjects is))
-      (λ a b reached edge. goes reached (edge_back a b reached edge))
+edge_on : (g h : ProtectionGraph) → HaveSameReach g h → (edge : Edge) → IsReachedEdge g edge → IsReachedEdge h edge
+edge_on g h same edge is = record {
+  from = reach_back h g (swapped g h same) edge.from is.from;
+  there = ap is_none_held (same.labels edge.from edge.to is.from) ∙ is.there;
+  label = is.label ∙ sym (same.labels edge.from edge.to is.from);
+}
 
-  reach_both : (x : ℕ) → IsReachable g x → IsReachable g x × IsReachable h x
-  reach_both =
-      Walk-within (λ x. IsReachable g x × IsReachable h x)
-      (λ q is. (begins is, begins (subst (λ (names : List ℕ). Contains names q) (sym same.subjects) is)))
-      (λ a b both edge. (goes both.0 edge, goes both.1 (edge_same a b both.0 edge)))
-
-  edge_on : (edge : Edge) → IsReachedEdge g edge → IsReachedEdge h edge
-  edge_on edge is = record {
-    from = (reach_both edge.from is.from).1;
-    there = edge_same edge.from edge.to is.from is.there;
-    label = is.label ∙ sym (same.labels edge.from edge.to is.from);
-  }
-
-  edge_off : (edge : Edge) → IsReachedEdge h edge → IsReachedEdge g edge
-  edge_off edge is =
-      let reached = reach_back edge.from is.from in
-      record {
-        from = reached;
-        there = edge_back edge.from edge.to reached is.there;
-        label = is.label ∙ same.labels edge.from edge.to reached;
-      }
-
-  pub same_picture : (p : Shown) → IsReachedPicture p g → IsReachedPicture p h
-  same_picture p picture = record {
-    subjects = same.subjects ∙ picture.subjects;
-    made = same.made ∙ picture.made;
-    limit = same.limit ∙ picture.limit;
-    edges = λ edge. (λ there. edge_on edge ((picture.edges edge).0 there), λ is. (picture.edges edge).1 (edge_off edge is));
-  }
+pub same_picture : (g h : ProtectionGraph) → HaveSameReach g h → (p : Shown) → IsReachedPicture p g → IsReachedPicture p h
+same_picture g h same p picture = record {
+  subjects = same.subjects ∙ picture.subjects;
+  made = same.made ∙ picture.made;
+  limit = same.limit ∙ picture.limit;
+  edges = λ edge. (
+    λ there. edge_on g h same edge ((picture.edges edge).0 there),
+    λ is. (picture.edges edge).1 (edge_on h g (swapped g h same) edge is),
+  );
+}
 
 -- ---- what is told
 

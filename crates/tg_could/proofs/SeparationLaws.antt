@@ -38,48 +38,59 @@ module _ (label : ℕ → ℕ → RightSet) where
   pub Holds-without_rights : (p q : ℕ) (rights : RightSet) (a : ℕ) (right : Right) (b : ℕ) → Holds (without_rights label p q rights) a right b → Holds label a right b
   Holds-without_rights p q rights a right b h = right_kept ((a == p) && (b == q)) (label a b) rights right h
 
--- ---- an edge more, and rights less
+-- ---- right by right
 
-module _ (s : Sides) (x : ℕ) (r : Right) (y : ℕ) (label : ℕ → ℕ → RightSet) (parts : Parts s x r y label) where
-  pub Parts-with_rights : (p q : ℕ) (rights : RightSet) → MayAdd s x r y p q rights → Parts s x r y (with_rights label p q rights)
-  Parts-with_rights p q rights may = record {
-    edges = λ a b. record {
-      take_on = λ h f. ⊎_elim (λ old. (parts.edges a b).take_on old f)
-          (λ (at_p, at_q, is). ap s.forward at_q ∙ may.keeps.take_on is (sym (ap s.forward at_p) ∙ f))
-          (Holds-with_rights label p q rights a T b h);
-      take_back = λ h f. ⊎_elim (λ old. (parts.edges a b).take_back old f)
-          (λ (at_p, at_q, is). ap s.back at_p ∙ may.keeps.take_back is (sym (ap s.back at_q) ∙ f))
-          (Holds-with_rights label p q rights a T b h);
-      grant_on = λ h f. ⊎_elim (λ old. (parts.edges a b).grant_on old f)
-          (λ (at_p, at_q, is). ap s.back at_q ∙ may.keeps.grant_on is (sym (ap s.forward at_p) ∙ f))
-          (Holds-with_rights label p q rights a G b h);
-      grant_back = λ h f. ⊎_elim (λ old. (parts.edges a b).grant_back old f)
-          (λ (at_p, at_q, is). ap s.back at_p ∙ may.keeps.grant_back is (sym (ap s.forward at_q) ∙ f))
-          (Holds-with_rights label p q rights a G b h);
-      source = λ h e. ⊎_elim (λ old. (parts.edges a b).source old e)
-          (λ (at_p, at_q, is). ap s.back at_p ∙ may.keeps.source is (sym at_q ∙ e))
-          (Holds-with_rights label p q rights a r b h);
-    };
-    without = λ h. ⊎_elim parts.without (λ (at_p, at_q, is). may.not_held (sym at_p) (sym at_q) is) (Holds-with_rights label p q rights x r y h);
-    not_given = λ a h f. ⊎_elim (λ old. parts.not_given a old f)
-        (λ (at_p, at_q, is). may.not_granted (sym at_q) is (sym (ap s.forward at_p) ∙ f))
-        (Holds-with_rights label p q rights a G x h);
+module _ (s : Sides) (x : ℕ) (r : Right) (y : ℕ) where
+  -- a right from a to b is one of those that may be added
+  pub record Adds (a : ℕ) (q : Right) (b : ℕ) : Type 0 where
+    pub rights : RightSet
+    pub has_it : has rights q ≡ true
+    pub may : MayAdd s x r y a b rights
+
+  pub added : (a b : ℕ) (rights : RightSet) → MayAdd s x r y a b rights → (c : ℕ) (q : Right) (d : ℕ) → c ≡ a → d ≡ b → has rights q ≡ true → Adds c q d
+  added a b rights may c q d at_a at_b is = record {
+    rights = rights;
+    has_it = is;
+    may = subst (λ (v : ℕ). MayAdd s x r y v d rights) (sym at_a) (subst (λ (v : ℕ). MayAdd s x r y a v rights) (sym at_b) may);
   }
 
-  Parts-without_rights : (p q : ℕ) (rights : RightSet) → Parts s x r y (without_rights label p q rights)
-  Parts-without_rights p q rights =
-      let less = Holds-without_rights label p q rights in
-      record {
-        edges = λ a b. let e = parts.edges a b in record {
-          take_on = λ h. e.take_on (less a T b h);
-          take_back = λ h. e.take_back (less a T b h);
-          grant_on = λ h. e.grant_on (less a G b h);
-          grant_back = λ h. e.grant_back (less a G b h);
-          source = λ h. e.source (less a r b h);
-        };
-        without = λ h. parts.without (less x r y h);
-        not_given = λ a h. parts.not_given a (less a G x h);
-      }
+  -- where each right that stands may be added, the sets part
+  pub Parts-by : (label : ℕ → ℕ → RightSet) → ((a b : ℕ) (q : Right) → Holds label a q b → Adds a q b) → Parts s x r y label
+  Parts-by label by = record {
+    edges = λ a b. record {
+      take_on = λ h. let e = by a b T h in e.may.keeps.take_on e.has_it;
+      take_back = λ h. let e = by a b T h in e.may.keeps.take_back e.has_it;
+      grant_on = λ h. let e = by a b G h in e.may.keeps.grant_on e.has_it;
+      grant_back = λ h. let e = by a b G h in e.may.keeps.grant_back e.has_it;
+      source = λ h. let e = by a b r h in e.may.keeps.source e.has_it;
+    };
+    without = λ h. let e = by x y r h in e.may.not_held refl refl e.has_it;
+    not_given = λ a h. let e = by a x G h in e.may.not_granted refl e.has_it;
+  }
+
+  module _ (label : ℕ → ℕ → RightSet) (parts : Parts s x r y label) where
+    -- and where the sets part, it may
+    adds_of : (a b : ℕ) (q : Right) → Holds label a q b → Adds a q b
+    adds_of a b q h =
+        let e = parts.edges a b in
+        record {
+          rights = label a b;
+          has_it = h;
+          may = record {
+            keeps = record { take_on = e.take_on; take_back = e.take_back; grant_on = e.grant_on; grant_back = e.grant_back; source = e.source };
+            not_held = λ at_x at_y is. parts.without (subst (λ (v : ℕ). Holds label v r y) at_x (subst (λ (v : ℕ). Holds label a r v) at_y is));
+            not_granted = λ at_x is. parts.not_given a (subst (λ (v : ℕ). Holds label a G v) at_x is);
+          };
+        }
+
+    pub Parts-fewer : (g : ℕ → ℕ → RightSet) → ((a b : ℕ) (q : Right) → Holds g a q b → Holds label a q b) → Parts s x r y g
+    Parts-fewer g there = Parts-by g (λ a b q h. adds_of a b q (there a b q h))
+
+    pub Parts-with_rights : (p q : ℕ) (rights : RightSet) → MayAdd s x r y p q rights → Parts s x r y (with_rights label p q rights)
+    Parts-with_rights p q rights may =
+        Parts-by (with_rights label p q rights)
+        (λ a b t h.
+        ⊎_elim (adds_of a b t) (λ (at_p, at_q, is). added p q rights may a t b at_p at_q is) (Holds-with_rights label p q rights a t b h))
 
 -- ---- the commands
 
@@ -137,7 +148,8 @@ module _ (silent : ℕ → Type 0) (s : Sides) (x : ℕ) (r : Right) (y : ℕ) (
   Parts-after (Grant rights via z) allowed =
       Parts-with_rights s x r y g.label parts via z rights
       (may_grant via z rights (Holds-each g.label p via (only G) allowed.3 G refl) allowed.4)
-  Parts-after (Remove rights z) allowed = Parts-without_rights s x r y g.label parts p z rights
+  Parts-after (Remove rights z) allowed =
+      Parts-fewer s x r y g.label parts _ (λ a b q. Holds-without_rights g.label p z rights a q b)
   Parts-after command allowed = parts
 
   Separates-effect : (command : Command) → Permits g.label g.value p command → Separates silent s x r y (effect g p command)

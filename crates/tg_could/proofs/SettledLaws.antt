@@ -1,9 +1,9 @@
 -- What is led on stays led to; and sets that nothing is led out of decide what could come about.
-use Rattle.std.proofs.Common.{◌≡◌, ◌≢◌, ◌⊎◌, inl, inr, ⊎_elim, ℕ, ◌+◌, ◌<◌, ◌≤◌, length, get_or, Bool, true, false, List, [], ◌∷◌, refl, sym, ap, ◌∙◌, subst, arith}
+use Rattle.std.proofs.Common.{◌≡◌, ◌≢◌, ◌⊎◌, inl, inr, ⊎_elim, ℕ, ◌+◌, ◌<◌, ◌≤◌, length, get_or, Bool, true, false, List, [], refl, sym, ap, ◌∙◌, subst, arith}
 use Rattle.std.specs.List.{All, AllWithin, Contains}
 use Rattle.std.proofs.lemmas.Bool.{false≢true}
 use Rattle.std.proofs.lemmas.List.{get_or_default}
-use Rattle.std.proofs.lemmas.List.Elements.{All-head, All-tail}
+use Rattle.std.proofs.lemmas.List.Elements.{All-contains}
 use Rattle.tg_rights.specs.RightSet.{has}
 use Rattle.tg_rights.specs.declared.Right.{Right}
 use Rattle.tg_rights.specs.declared.Right.TheVariants.{T, G}
@@ -16,11 +16,13 @@ use Rattle.tg_could.specs.declared.led.LedNames.{LedNames}
 use Rattle.tg_could.specs.Turns.{Acts, IsSilent, NeverHolds, with_names}
 use Rattle.tg_could.specs.Separation.{Sides, Keeps, ComesLater}
 use Rattle.tg_could.specs.Answered.{HasTurns, IsDecided}
-use Rattle.tg_could.specs.Led.{Way, Led, source, maker, take_back, take_on, grant_on, grant_back, turns_forward, turns_back, IsBrought, is_held, is_got, is_given, is_made, HasHelp}
+use Rattle.tg_could.specs.Led.{Way, back, forward, Led, source, maker, take_back, take_on, grant_on, grant_back, turns_forward, turns_back, IsBrought, is_held, is_got, is_given, is_made, HasHelp}
 use Rattle.tg_could.specs.LedNames.{AreLed, IsPut, ActsIn, LeadsOn, from_source, takes_back, grants_back, takes_on, grants_on, IsTurned, TurnsTo, from_back, from_forward, from_later, way_of, sides_led, number_led}
-use Rattle.tg_could.proofs.TurnLaws.{Holds-member}
+use Rattle.tg_could.proofs.TurnLaws.{Holds-member, given_by}
 use Rattle.tg_could.proofs.ExactLaws.{brought_could}
-use Rattle.tg_could.proofs.MarkLaws.{Fits, Parts-edges, Holds-edges, no_right, pictured-never}
+use Rattle.tg_could.proofs.LaterLaws.{led_on}
+use Rattle.tg_could.proofs.LedLaws.{IsFit-sound}
+use Rattle.tg_could.proofs.MarkLaws.{Fits, Parts-edges, pictured-never}
 
 module _ (silent : ℕ → Type 0) (r : Right) (y : ℕ) (g : ProtectionGraph) where
   -- an edge of the graph leads from who is led to whom it says
@@ -34,14 +36,13 @@ module _ (silent : ℕ → Type 0) (r : Right) (y : ℕ) (g : ProtectionGraph) w
 
   -- with one more who is led to, all are
   pub led_put : (s new : Sides) (f : Bool) (v : ℕ) → IsPut s f v new → AreLed silent r y g s → Led silent r y g (way_of f) v → AreLed silent r y g new
-  led_put s new f v put led more = record {
-    on = λ w inside. ⊎_elim (λ was. led.on w was)
-        (λ (is_f, is_v). subst (λ (w : ℕ). Led silent r y g (way_of true) w) (sym is_v) (subst (λ (f : Bool). Led silent r y g (way_of f) v) is_f more))
-        (put.on w inside);
-    behind = λ w inside. ⊎_elim (λ was. led.behind w was)
-        (λ (is_f, is_v). subst (λ (w : ℕ). Led silent r y g (way_of false) w) (sym is_v) (subst (λ (f : Bool). Led silent r y g (way_of f) v) is_f more))
-        (put.behind w inside);
-  }
+  led_put s new f v put led more =
+      let here : (t : Bool) (w : ℕ) → (f ≡ t) × (w ≡ v) → Led silent r y g (way_of t) w = λ t w is.
+      subst (λ (u : ℕ). Led silent r y g (way_of t) u) (sym is.1) (subst (λ (b : Bool). Led silent r y g (way_of b) v) is.0 more) in
+      record {
+        on = λ w inside. ⊎_elim (led.on w) (here true w) (put.on w inside);
+        behind = λ w inside. ⊎_elim (led.behind w) (here false w) (put.behind w inside);
+      }
 
 -- ---- the edges gone along so far
 
@@ -100,34 +101,16 @@ module _ (silent : List ℕ) (p : Shown) (y : ℕ) (start : LedNames) where
 -- ---- who is granted to
 
 pub none_given : (f : ℕ → Bool) (x : ℕ) (edges : List Edge) → All (λ e. e.to ≡ x → has e.label G ≡ true → ¬ (f e.from ≡ true)) edges → (a : ℕ) → Holds (label_in edges) a G x → ¬ (f a ≡ true)
-none_given f x [] all a h inside = no_right G h
-none_given f x (e ∷ edges) all a h inside =
+none_given f x edges all a h inside =
     let P : Edge → Type 0 = λ e. e.to ≡ x → has e.label G ≡ true → ¬ (f e.from ≡ true) in
-    ⊎_elim (λ (at_a, at_x, grant). All-head P e edges all (sym at_x) grant (ap f (sym at_a) ∙ inside))
-    (λ old. none_given f x edges (All-tail P e edges all) a old inside)
-    (Holds-edges e edges a G x h)
+    let given = given_by edges a G x h in
+    All-contains P edges given.edge all given.there given.to given.holds (ap f given.from ∙ inside)
 
 -- ---- more names
 
 module _ (silent : List ℕ) (g : ProtectionGraph) (r : Right) (y : ℕ) (y_made : y < g.made) (names : ℕ) where
   abbrev wide : ProtectionGraph
   wide = with_names g names
-
-  led_wide : {way : Way} {v : ℕ} → Led (IsSilent silent g) r y g way v → Led (IsSilent silent wide) r y wide way v
-  led_wide (source h) = source h
-  led_wide (maker comes acts) = absurd (omega (arith, comes.0, y_made))
-  led_wide (take_back h led) = take_back h (led_wide led)
-  led_wide (take_on h led) = take_on h (led_wide led)
-  led_wide (grant_on h led) = grant_on h (led_wide led)
-  led_wide (grant_back h led) = grant_back h (led_wide led)
-  led_wide (turns_forward acts led) = turns_forward acts (led_wide led)
-  led_wide (turns_back acts led) = turns_back acts (led_wide led)
-
-  brought_wide : (x : ℕ) → x < g.made → IsBrought (IsSilent silent g) r y g x → IsBrought (IsSilent silent wide) r y wide x
-  brought_wide x x_made (is_held h) = is_held h
-  brought_wide x x_made (is_got acts led) = is_got acts (led_wide led)
-  brought_wide x x_made (is_given h led) = is_given h (led_wide led)
-  brought_wide x x_made (is_made comes acts led) = absurd (omega (arith, comes.0, x_made))
 
   sound_wide : IsSound g → IsSound wide
   sound_wide sound = record {
@@ -139,6 +122,18 @@ module _ (silent : List ℕ) (g : ProtectionGraph) (r : Right) (y : ℕ) (y_made
     values = sound.values;
   }
 
+  led_wide : IsSound g → (way : Way) (v : ℕ) → Led (IsSilent silent g) r y g way v → Led (IsSilent silent wide) r y wide way v
+  led_wide sound =
+      led_on (IsSilent silent g) r y g wide
+      (record { labels = λ a q b h. h; subjects = refl; made = omega arith; limit = omega arith; fit = IsFit-sound wide (sound_wide sound) })
+      (λ comes. absurd (omega (arith, comes.0, y_made)))
+
+  brought_wide : IsSound g → (x : ℕ) → x < g.made → IsBrought (IsSilent silent g) r y g x → IsBrought (IsSilent silent wide) r y wide x
+  brought_wide sound x x_made (is_held h) = is_held h
+  brought_wide sound x x_made (is_got acts led) = is_got acts (led_wide sound back x led)
+  brought_wide sound x x_made (is_given {a = a} h led) = is_given h (led_wide sound forward a led)
+  brought_wide sound x x_made (is_made comes acts led) = absurd (omega (arith, comes.0, x_made))
+
 -- what is brought has turns
 brought_turns : (silent : List ℕ) (g : ProtectionGraph) (x : ℕ) (r : Right) (y : ℕ) → x ≢ y → HasHelp (IsSilent silent g) g y → IsBrought (IsSilent silent g) r y g x → HasTurns silent g x r y
 brought_turns silent g x r y differ help brought = record {
@@ -147,7 +142,7 @@ brought_turns silent g x r y differ help brought = record {
       brought_could silent (with_names g names) x r y (sound_wide silent g r y y_made names sound)
       (λ short. ⊎_elim (λ few. absurd (omega (arith, few, room)))
       (λ behind. ⊎_elim (λ at_x. absurd (omega (arith, at_x.0.0, x_made))) (λ at_y. absurd (omega (arith, at_y.0.0, y_made))) behind) short)
-      differ help (brought_wide silent g r y y_made names x x_made brought);
+      differ help (brought_wide silent g r y y_made names sound x x_made brought);
 }
 
 -- and so has what is held already
@@ -164,17 +159,14 @@ module _ (silent : List ℕ) (p : Shown) (g : ProtectionGraph) (picture : IsPict
   s = sides_led names
 
   fits_all : (edges : List Edge) → All (KeepsAt s r y) edges → ¬ Holds (label_in edges) x r y → ((a : ℕ) → Holds (label_in edges) a G x → ¬ (s.forward a ≡ true)) → All (Fits s x r y) edges
-  fits_all edges keeps lacks ungiven = λ k d inside. record {
-    keeps = keeps k d inside;
-    not_held = λ at_x at_y held.
-        let e = get_or edges k d in
-        let there : Holds (label_in edges) e.from r e.to = Holds-member edges k e inside (get_or_default edges k d (get_or edges k d) inside) r held in
-        lacks (subst (λ (v : ℕ). Holds (label_in edges) v r y) at_x (subst (λ (v : ℕ). Holds (label_in edges) e.from r v) at_y there));
-    not_granted = λ at_x grant.
-        let e = get_or edges k d in
-        let there : Holds (label_in edges) e.from G e.to = Holds-member edges k e inside (get_or_default edges k d (get_or edges k d) inside) G grant in
-        ungiven e.from (subst (λ (v : ℕ). Holds (label_in edges) e.from G v) at_x there);
-  }
+  fits_all edges keeps lacks ungiven = λ k d inside.
+      let e = get_or edges k d in
+      let there : (q : Right) → has e.label q ≡ true → Holds (label_in edges) e.from q e.to = Holds-member edges k e inside (get_or_default edges k d e inside) in
+      record {
+        keeps = keeps k d inside;
+        not_held = λ at_x at_y held. lacks (subst (λ (v : ℕ). Holds (label_in edges) v r y) at_x (subst (λ (v : ℕ). Holds (label_in edges) e.from r v) at_y (there r held)));
+        not_granted = λ at_x grant. ungiven e.from (subst (λ (v : ℕ). Holds (label_in edges) e.from G v) at_x (there G grant));
+      }
 
   pub closed_never : All (KeepsAt s r y) p.edges → ((v : ℕ) → ActsIn silent p v → IsTurned s p y v) → ¬ Holds (label_in p.edges) x r y → ((v : ℕ) → ActsIn silent p v → (v ≡ x) ⊎ ComesLater p x → s.back v ≡ false) → ((a : ℕ) → Holds (label_in p.edges) a G x → ¬ (s.forward a ≡ true)) → NeverHolds silent g x r y
   closed_never keeps turned lacks untaken ungiven =

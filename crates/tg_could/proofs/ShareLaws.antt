@@ -1,6 +1,6 @@
 -- Who acts and may get the right shares it with others, through objects that it makes.
 use Rattle.std.proofs.Common.{◌≡◌, ◌≢◌, ◌⊎◌, inl, inr, ⊎_elim, ℕ, ◌+◌, ◌<◌, ◌≤◌, sym, subst, arith}
-use Rattle.std.proofs.lemmas.Bool.Decides.{eqb_tells}
+use Rattle.std.proofs.lemmas.Bool.{cases_eq}
 use Rattle.tg_rights.specs.declared.Right.{Right}
 use Rattle.tg_rights.specs.declared.Right.TheVariants.{T, G}
 use Rattle.tg_model.specs.Graph.{ProtectionGraph}
@@ -9,9 +9,12 @@ use Rattle.tg_model.specs.Walks.{Walk, begins, goes}
 use Rattle.tg_could.specs.Turns.{Acts}
 use Rattle.tg_could.proofs.MoveLaws.{Grows, Grows-on, Grows-acts, Leads, stays, leads_on, takes, grants, makes}
 
--- two are one, or they aren't
-pub same_or_other : (a b : ℕ) → (a ≡ b) ⊎ (a ≢ b)
-same_or_other a b = ⊎_elim (λ k. inl k.1) (λ k. inr k.1) (eqb_tells a b)
+-- p holds take and grant over z
+abbrev pub HasBoth : ℕ → ℕ → ProtectionGraph → Type 0
+HasBoth p z h = Holds h.label p T z × Holds h.label p G z
+
+pub both_on : (h k : ProtectionGraph) → Grows h k → (p z : ℕ) → HasBoth p z h → HasBoth p z k
+both_on h k grows p z both = (grows.labels p T z both.0, grows.labels p G z both.1)
 
 -- the right over y can be fetched out of an object: it holds it, or take over one who does
 pub record IsFull (right : Right) (y : ℕ) (h : ProtectionGraph) (box : ℕ) : Type 0 where
@@ -21,16 +24,12 @@ pub record IsFull (right : Right) (y : ℕ) (h : ProtectionGraph) (box : ℕ) : 
 pub record HasBox (right : Right) (y : ℕ) (first : ℕ) (h : ProtectionGraph) (p : ℕ) : Type 0 where
   pub box : ℕ
   pub later : first ≤ box
-  pub take : Holds h.label p T box
-  pub grant : Holds h.label p G box
+  pub both : HasBoth p box h
   pub full : IsFull right y h box
 
 -- two hold take and grant over one object
-pub record AreLinked (link : ℕ) (h : ProtectionGraph) (p q : ℕ) : Type 0 where
-  pub take : Holds h.label p T link
-  pub grant : Holds h.label p G link
-  pub other_take : Holds h.label q T link
-  pub other_grant : Holds h.label q G link
+abbrev pub AreLinked : ℕ → ProtectionGraph → ℕ → ℕ → Type 0
+AreLinked link h p q = HasBoth p link h × HasBoth q link h
 
 pub IsFull-on : (right : Right) (y : ℕ) (h k : ProtectionGraph) → ((a : ℕ) (q : Right) (b : ℕ) → Holds h.label a q b → Holds k.label a q b) → (box : ℕ) → IsFull right y h box → IsFull right y k box
 IsFull-on right y h k still box full = record {
@@ -42,8 +41,7 @@ pub HasBox-on : (right : Right) (y first : ℕ) (h k : ProtectionGraph) → Grow
 HasBox-on right y first h k grows p has = record {
   box = has.box;
   later = has.later;
-  take = grows.labels p T has.box has.take;
-  grant = grows.labels p G has.box has.grant;
+  both = both_on h k grows p has.box has.both;
   full = IsFull-on right y h k grows.labels has.box has.full;
 }
 
@@ -74,12 +72,7 @@ module _ (silent : ℕ → Type 0) (g : ProtectionGraph) where
     box = HasBox-on right y g.made h k grows has.other has.box;
     link = has.link;
     later = has.later;
-    linked = record {
-      take = grows.labels p T has.link has.linked.take;
-      grant = grows.labels p G has.link has.linked.grant;
-      other_take = grows.labels has.other T has.link has.linked.other_take;
-      other_grant = grows.labels has.other G has.link has.linked.other_grant;
-    };
+    linked = (both_on h k grows p has.link has.linked.0, both_on h k grows has.other has.link has.linked.1);
   }
 
   -- p comes to have such an object with so many names: with one alone, or from another one
@@ -118,7 +111,7 @@ module _ (silent : ℕ → Type 0) (g : ProtectionGraph) where
       leads_on silent h 0 0 0 (omega arith) (gets h grows p acts b walk T v edge other)
       (λ k more used taker.
       takes silent k more.fit p (acts_on k (Grows-on g h k grows more) p acts) v z q differ taker (more.labels v q z (grows.labels v q z held))))
-      (same_or_other p v)
+      (cases_eq p v)
 
   -- and take over the vertex itself
   comes_to : (h : ProtectionGraph) → Grows g h → (p : ℕ) → Acts silent g p → (v : ℕ) → TakeWalk p v → p ≢ v → Leads silent h 0 (λ k. Holds k.label p T v)
@@ -126,21 +119,21 @@ module _ (silent : ℕ → Type 0) (g : ProtectionGraph) where
   comes_to h grows p acts v (goes {b = b} walk edge) differ = gets h grows p acts b walk T v edge differ
 
   -- who holds take over one takes both take and grant of that one's over an object
-  takes_both : (h : ProtectionGraph) → Grows g h → (p : ℕ) → Acts silent g p → (via z : ℕ) → p ≢ z → Holds h.label p T via → Holds h.label via T z → Holds h.label via G z → Leads silent h 0 (λ k. Holds k.label p T z × Holds k.label p G z)
-  takes_both h grows p acts via z differ taker take grant =
-      leads_on silent h 0 0 0 (omega arith) (takes silent h grows.fit p (acts_on h grows p acts) via z T differ taker take)
+  takes_both : (h : ProtectionGraph) → Grows g h → (p : ℕ) → Acts silent g p → (via z : ℕ) → p ≢ z → Holds h.label p T via → HasBoth via z h → Leads silent h 0 (HasBoth p z)
+  takes_both h grows p acts via z differ taker both =
+      leads_on silent h 0 0 0 (omega arith) (takes silent h grows.fit p (acts_on h grows p acts) via z T differ taker both.0)
       (λ k more used got.
       leads_on silent k 0 0 0 (omega arith)
-      (takes silent k more.fit p (acts_on k (Grows-on g h k grows more) p acts) via z G differ (more.labels p T via taker) (more.labels via G z grant))
+      (takes silent k more.fit p (acts_on k (Grows-on g h k grows more) p acts) via z G differ (more.labels p T via taker) (more.labels via G z both.1))
       (λ l last used_too got_too. stays silent l last.fit (last.labels p T z got, got_too)))
 
   -- who holds grant over one grants to that one both take and grant over an object
-  grants_both : (h : ProtectionGraph) → Grows g h → (p : ℕ) → Acts silent g p → (via z : ℕ) → via ≢ z → Holds h.label p G via → Holds h.label p T z → Holds h.label p G z → Leads silent h 0 (λ k. Holds k.label via T z × Holds k.label via G z)
-  grants_both h grows p acts via z differ granter take grant =
-      leads_on silent h 0 0 0 (omega arith) (grants silent h grows.fit p (acts_on h grows p acts) via z T differ granter take)
+  grants_both : (h : ProtectionGraph) → Grows g h → (p : ℕ) → Acts silent g p → (via z : ℕ) → via ≢ z → Holds h.label p G via → HasBoth p z h → Leads silent h 0 (HasBoth via z)
+  grants_both h grows p acts via z differ granter both =
+      leads_on silent h 0 0 0 (omega arith) (grants silent h grows.fit p (acts_on h grows p acts) via z T differ granter both.0)
       (λ k more used got.
       leads_on silent k 0 0 0 (omega arith)
-      (grants silent k more.fit p (acts_on k (Grows-on g h k grows more) p acts) via z G differ (more.labels p G via granter) (more.labels p G z grant))
+      (grants silent k more.fit p (acts_on k (Grows-on g h k grows more) p acts) via z G differ (more.labels p G via granter) (more.labels p G z both.1))
       (λ l last used_too got_too. stays silent l last.fit (last.labels via T z got, got_too)))
 
   -- ---- links
@@ -149,72 +142,53 @@ module _ (silent : ℕ → Type 0) (g : ProtectionGraph) where
     abbrev pub Link : Type 0
     Link = (h : ProtectionGraph) → Grows g h → h.made < h.limit → Leads silent h 1 (λ k. AreLinked h.made k p q)
 
+    -- q, which holds take over a vertex, takes from it what is there
+    linked : (h : ProtectionGraph) → Grows g h → (link via : ℕ) → q < link → HasBoth p link h → HasBoth via link h → Holds h.label q T via → Leads silent h 0 (λ k. AreLinked link k p q)
+    linked h grows link via later own there taker =
+        leads_on silent h 0 0 0 (omega arith) (takes_both h grows q q_acts via link (λ same. omega (arith, same, later)) taker there)
+        (λ k more used took. stays silent k more.fit (both_on h k more p link own, took))
+
     -- q comes to take over p, and takes what p made
     pub link_by_walk : TakeWalk q p → Link
     link_by_walk walk h grows room =
-        let p_made = was_made h grows p p_acts in
         let q_made = was_made h grows q q_acts in
         leads_on silent h 1 0 1 (omega arith) (makes silent h grows.fit p (acts_on h grows p p_acts) room)
-        (λ k more used (take, grant).
+        (λ k more used own.
         let from = Grows-on g h k grows more in
         leads_on silent k 0 0 0 (omega arith) (comes_to k from q q_acts p walk (λ same. differ (sym same)))
         (λ l more_l used_l taker.
-        let from_l = Grows-on g k l from more_l in
-        leads_on silent l 0 0 0 (omega arith)
-        (takes_both l from_l q q_acts p h.made (λ same. omega (arith, same, q_made)) taker (more_l.labels p T h.made take) (more_l.labels p G h.made grant))
-        (λ m more_m used_m (other_take, other_grant).
-        stays silent m more_m.fit (record {
-          take = more_m.labels p T h.made (more_l.labels p T h.made take);
-          grant = more_m.labels p G h.made (more_l.labels p G h.made grant);
-          other_take = other_take;
-          other_grant = other_grant;
-        }))))
+        let own_l = both_on k l more_l p h.made own in
+        linked l (Grows-on g k l from more_l) h.made p q_made own_l own_l taker))
 
     -- p comes to grant over b and puts there what it made, and q is b or takes it from there
     module _ (a b : ℕ) (to_a : TakeWalk p a) (granter : Holds g.label a G b) (to_b : TakeWalk q b) where
-      fetched : (h : ProtectionGraph) → Grows g h → (link : ℕ) → q < link → Holds h.label p T link → Holds h.label p G link → Holds h.label b T link → Holds h.label b G link → Leads silent h 0 (λ k. AreLinked link k p q)
-      fetched h grows link later take grant there_take there_grant =
-          ⊎_elim
-          (λ same. stays silent h grows.fit (record {
-            take = take;
-            grant = grant;
-            other_take = subst (λ (v : ℕ). Holds h.label v T link) (sym same) there_take;
-            other_grant = subst (λ (v : ℕ). Holds h.label v G link) (sym same) there_grant;
-          }))
+      fetched : (h : ProtectionGraph) → Grows g h → (link : ℕ) → q < link → HasBoth p link h → HasBoth b link h → Leads silent h 0 (λ k. AreLinked link k p q)
+      fetched h grows link later own there =
+          ⊎_elim (λ same. stays silent h grows.fit (own, subst (λ (v : ℕ). HasBoth v link h) (sym same) there))
           (λ other.
           leads_on silent h 0 0 0 (omega arith) (comes_to h grows q q_acts b to_b other)
           (λ k more used taker.
-          leads_on silent k 0 0 0 (omega arith)
-          (takes_both k (Grows-on g h k grows more) q q_acts b link (λ same. omega (arith, same, later)) taker (more.labels b T link there_take) (more.labels b G link there_grant))
-          (λ l more_l used_l (other_take, other_grant).
-          stays silent l more_l.fit (record {
-            take = more_l.labels p T link (more.labels p T link take);
-            grant = more_l.labels p G link (more.labels p G link grant);
-            other_take = other_take;
-            other_grant = other_grant;
-          }))))
-          (same_or_other q b)
+          linked k (Grows-on g h k grows more) link b later (both_on h k more p link own) (both_on h k more b link there) taker))
+          (cases_eq q b)
 
       over_other : p ≢ b → Link
       over_other other h grows room =
           let q_made = was_made h grows q q_acts in
           let b_made = (grows.fit.made.ends a b G (grows.labels a G b granter)).1 in
           leads_on silent h 1 0 1 (omega arith) (makes silent h grows.fit p (acts_on h grows p p_acts) room)
-          (λ k more used (take, grant).
+          (λ k more used own.
           let from = Grows-on g h k grows more in
           leads_on silent k 0 0 0 (omega arith) (gets k from p p_acts a to_a G b granter other)
           (λ l more_l used_l holds.
           let from_l = Grows-on g k l from more_l in
-          let take_l = more_l.labels p T h.made take in
-          let grant_l = more_l.labels p G h.made grant in
+          let own_l = both_on k l more_l p h.made own in
           leads_on silent l 0 0 0 (omega arith)
-          (grants_both l from_l p p_acts b h.made (λ same. omega (arith, same, b_made)) holds take_l grant_l)
-          (λ m more_m used_m (there_take, there_grant).
-          fetched m (Grows-on g l m from_l more_m) h.made q_made (more_m.labels p T h.made take_l) (more_m.labels p G h.made grant_l) there_take there_grant)))
+          (grants_both l from_l p p_acts b h.made (λ same. omega (arith, same, b_made)) holds own_l)
+          (λ m more_m used_m there. fetched m (Grows-on g l m from_l more_m) h.made q_made (both_on l m more_m p h.made own_l) there)))
 
       pub link_over : Link
       link_over =
-          ⊎_elim (λ same. link_by_walk (subst (TakeWalk q) (sym same) to_b)) over_other (same_or_other p b)
+          ⊎_elim (λ same. link_by_walk (subst (TakeWalk q) (sym same) to_b)) over_other (cases_eq p b)
 
   -- ---- handing on
 
@@ -222,56 +196,45 @@ module _ (silent : ℕ → Type 0) (g : ProtectionGraph) where
   module _ (right : Right) (y : ℕ) (p q : ℕ) (p_acts : Acts silent g p) (q_acts : Acts silent g q) where
     hands_on : (h : ProtectionGraph) → Grows g h → HasBox right y g.made h p → q < g.made → (k : ProtectionGraph) → Grows h k → AreLinked h.made k p q → Leads silent k 0 (λ l. HasBox right y g.made l q)
     hands_on h grows has q_made k more linked =
-        let box_made = (grows.fit.made.ends p has.box T has.take).1 in
-        let grown = grows.made in
+        let box_made = (grows.fit.made.ends p has.box T has.both.0).1 in
         let from = Grows-on g h k grows more in
-        let later = has.later in
         leads_on silent k 0 0 0 (omega arith)
-        (grants_both k from p p_acts h.made has.box (λ same. omega (arith, same, box_made)) linked.grant (more.labels p T has.box has.take) (more.labels p G has.box has.grant))
-        (λ l more_l used_l (there_take, there_grant).
+        (grants_both k from p p_acts h.made has.box (λ same. omega (arith, same, box_made)) linked.0.1 (both_on h k more p has.box has.both))
+        (λ l more_l used_l there.
         let from_l = Grows-on g k l from more_l in
         leads_on silent l 0 0 0 (omega arith)
-        (takes_both l from_l q q_acts h.made has.box (λ same. omega (arith, same, later, q_made)) (more_l.labels q T h.made linked.other_take) there_take there_grant)
-        (λ m more_m used_m (take, grant).
+        (takes_both l from_l q q_acts h.made has.box (λ same. omega (arith, same, has.later, q_made)) (more_l.labels q T h.made linked.1.0) there)
+        (λ m more_m used_m both.
         stays silent m more_m.fit (record {
           box = has.box;
           later = has.later;
-          take = take;
-          grant = grant;
+          both = both;
           full = IsFull-on right y l m more_m.labels has.box (IsFull-on right y k l more_l.labels has.box (IsFull-on right y h k more.labels has.box has.full));
         })))
 
+    -- behind the object of p a link, and what comes of both
+    through : (n : ℕ) → Shares right y n p → ((h : ProtectionGraph) → Grows g h → h.made < h.limit → Leads silent h 1 (λ k. AreLinked h.made k p q)) → {P : ProtectionGraph → Type 0} → ((k : ProtectionGraph) → Grows g k → HasBox right y g.made k p → (l : ProtectionGraph) → Grows k l → AreLinked k.made l p q → Leads silent l 0 P) → InTime (n + 1) P
+    through n shares link go h grows room =
+        leads_on silent h n 1 (n + 1) (omega arith) (shares.share h grows (omega (arith, room)))
+        (λ k more used has.
+        let from = Grows-on g h k grows more in
+        leads_on silent k 1 0 1 (omega arith) (link k from (omega (arith, room, used, more.limit)))
+        (λ l more_l used_l linked. go k from has l more_l linked))
+
     pub shares_on : (n : ℕ) → Shares right y n p → (p ≢ q) → ((h : ProtectionGraph) → Grows g h → h.made < h.limit → Leads silent h 1 (λ k. AreLinked h.made k p q)) → q < g.made → Shares right y (n + 1) q
     shares_on n shares differ link q_made = record {
-      share = λ h grows room.
-          leads_on silent h n 1 (n + 1) (omega arith) (shares.share h grows (omega (arith, room)))
-          (λ k more used has.
-          let from = Grows-on g h k grows more in
-          let wide = more.limit in
-          leads_on silent k 1 0 1 (omega arith) (link k from (omega (arith, room, used, wide)))
-          (λ l more_l used_l linked. hands_on k from has q_made l more_l linked));
+      share = through n shares link (λ k from has l more linked. hands_on k from has q_made l more linked);
       from = inr
-          (λ h grows room.
-          leads_on silent h n 1 (n + 1) (omega arith) (shares.share h grows (omega (arith, room)))
-          (λ k more used has.
-          let from = Grows-on g h k grows more in
-          let wide = more.limit in
-          leads_on silent k 1 0 1 (omega arith) (link k from (omega (arith, room, used, wide)))
-          (λ l more_l used_l linked.
-          stays silent l more_l.fit (record {
+          (through n shares link (λ k from has l more linked.
+          stays silent l more.fit (record {
             other = p;
             acts = p_acts;
             differ = λ same. differ (sym same);
-            box = HasBox-on right y g.made k l more_l p has;
+            box = HasBox-on right y g.made k l more p has;
             link = k.made;
             later = from.made;
-            linked = record {
-              take = linked.other_take;
-              grant = linked.other_grant;
-              other_take = linked.take;
-              other_grant = linked.grant;
-            };
-          }))));
+            linked = (linked.1, linked.0);
+          })));
     }
 
   -- ---- where it begins
@@ -282,15 +245,14 @@ module _ (silent : ℕ → Type 0) (g : ProtectionGraph) where
     puts h grows room q z held fills =
         let z_made = (grows.fit.made.ends p z q held).1 in
         leads_on silent h 1 0 1 (omega arith) (makes silent h grows.fit p (acts_on h grows p acts) room)
-        (λ k more used (take, grant).
+        (λ k more used own.
         leads_on silent k 0 0 0 (omega arith)
-        (grants silent k more.fit p (acts_on k (Grows-on g h k grows more) p acts) h.made z q (λ same. omega (arith, same, z_made)) grant (more.labels p q z held))
+        (grants silent k more.fit p (acts_on k (Grows-on g h k grows more) p acts) h.made z q (λ same. omega (arith, same, z_made)) own.1 (more.labels p q z held))
         (λ l more_l used_l there.
         stays silent l more_l.fit (record {
           box = h.made;
           later = grows.made;
-          take = more_l.labels p T h.made take;
-          grant = more_l.labels p G h.made grant;
+          both = both_on k l more_l p h.made own;
           full = fills l (Grows-on h k l more more_l) h.made there;
         })))
 
@@ -304,10 +266,9 @@ module _ (silent : ℕ → Type 0) (g : ProtectionGraph) where
         leads_on silent h 0 1 1 (omega arith) (comes_to h grows p acts s walk other)
         (λ k more used taker.
         let from = Grows-on g h k grows more in
-        let wide = more.limit in
-        puts k from (omega (arith, room, used, wide)) T s taker
+        puts k from (omega (arith, room, used, more.limit)) T s taker
         (λ l more_l box there. record { either = inr (s, there, more_l.labels s right y (from.labels s right y source)) })))
-        (same_or_other p s)
+        (cases_eq p s)
 
     pub shares_first : TakeWalk p s → Shares right y 1 p
     shares_first walk = record { share = first walk; from = inl (first walk) }

@@ -1,8 +1,7 @@
 -- Whoever isn't told never holds the right.
-use Rattle.std.proofs.Common.{◌≡◌, ◌≢◌, ⊎_elim, ℕ, ◌<◌, ◌≤◌, length, true, List, slice_index_or, subst, sym, ◌∙◌}
+use Rattle.std.proofs.Common.{◌≡◌, ◌≢◌, ⊎_elim, ℕ, ◌<◌, ◌≤◌, length, List, slice_index_or, subst, sym, ◌∙◌}
 use Rattle.std.specs.List.{All, Contains}
 use Rattle.std.proofs.lemmas.Bool.Decides.{eqb_tells}
-use Rattle.tg_rights.specs.RightSet.{has}
 use Rattle.tg_rights.specs.declared.Right.{Right}
 use Rattle.tg_model.specs.declared.edge.Edge.{Edge}
 use Rattle.tg_model.specs.declared.opening.TheConstants.{MAX_WORKERS}
@@ -10,20 +9,10 @@ use Rattle.tg_model.specs.Graph.{ProtectionGraph}
 use Rattle.tg_model.specs.Opened.{label_in}
 use Rattle.tg_model.specs.Picture.{Holds, Shown, IsPictureOf}
 use Rattle.tg_could.specs.Turns.{NeverHolds}
-use Rattle.tg_could.specs.Separation.{Sides, Keeps, Walks, MayAdd, IsEven}
+use Rattle.tg_could.specs.Separation.{Sides, MayAdd, IsEven}
 use Rattle.tg_could.specs.Told.{IsTold, IsUntold, TellsHolder, TellsOf, TellsActor}
 use Rattle.tg_could.specs.declared.who.Told.{Told}
-use Rattle.tg_could.proofs.MarkLaws.{none_holds, Parts-edges, pictured-never, pictured-same, pictured-alone}
-
--- an edge that leads out of neither set by take and grant leads out of neither
-pub keeps-walks : (s : Sides) (r : Right) (y : ℕ) (edge : Edge) → Walks s edge → (has edge.label r ≡ true → edge.to ≡ y → s.back edge.from ≡ true) → Keeps s r y (λ a b. edge.label) edge.from edge.to
-keeps-walks s r y edge walks held = record {
-  take_on = walks.take_on;
-  take_back = walks.take_back;
-  grant_on = walks.grant_on;
-  grant_back = walks.grant_back;
-  source = held;
-}
+use Rattle.tg_could.proofs.MarkLaws.{keeps-walks, none_holds, Parts-edges, pictured-never, pictured-same, pictured-alone}
 
 module _ (told : Told) (r : Right) (y made limit x : ℕ) (untold : IsUntold told y made limit x) where
   -- who isn't told doesn't hold the right

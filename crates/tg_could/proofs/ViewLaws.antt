@@ -18,8 +18,7 @@ use Rattle.tg_could.specs.declared.incoming.Incoming.{Incoming}
 use Rattle.tg_could.specs.declared.islands.Islands.{Islands}
 use Rattle.tg_could.specs.declared.names.Names.{Names}
 use Rattle.tg_could.specs.declared.view.Facts.{Facts}
-use Rattle.tg_could.proofs.MarkLaws.{IsNot, none_holds, Parts-edges, pictured-never, pictured-same, pictured-alone}
-use Rattle.tg_could.proofs.ToldLaws.{keeps-walks}
+use Rattle.tg_could.proofs.MarkLaws.{IsNot, keeps-walks, none_holds, Parts-edges, pictured-never, pictured-same, pictured-alone}
 use Rattle.tg_could.proofs.WordLaws.{within-trans, within-more, meets-down, meets-up, bridged-on, bridged-back, single-alike}
 
 module _ (names : Names) (islands : Islands) (incoming : Incoming) (x : ℕ) (r : Right) (y gathered : ℕ) (are : AreGathered incoming islands.reached.items (number_in names x) r (number_in names y) gathered) (edge : Edge) (stands : Stands names islands incoming edge) where
@@ -104,6 +103,13 @@ module _ (silent : List ℕ) (p : Shown) (g : ProtectionGraph) (picture : IsPict
         (Parts-edges s x r y p.edges
         (λ k d inside.
         joined-fits view.names view.islands view.incoming x r y gathered are (slice_index_or p.edges k d) (checked.edges k d inside) word more not_granted))
+
+-- what was gathered of two numbers by these words was gathered of two names
+pub gathered-at : (f : Facts) (r : Right) (x y : ℕ) (words : List ℕ) (word : ℕ) {n m : ℕ} → words ≡ f.islands.reached.items → n ≡ number_in f.names x → m ≡ number_in f.names y → AreGathered f.incoming words n r m word → AreGathered f.incoming f.islands.reached.items (number_in f.names x) r (number_in f.names y) word
+gathered-at f r x y words word {n = n} {m = m} are_words at_x at_y are =
+    subst (λ (k : ℕ). AreGathered f.incoming f.islands.reached.items k r (number_in f.names y) word) at_x
+    (subst (λ (k : ℕ). AreGathered f.incoming f.islands.reached.items n r k word) at_y
+    (subst (λ (l : List ℕ). AreGathered f.incoming l n r m word) are_words are))
 
 -- ---- checks
 

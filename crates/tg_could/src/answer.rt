@@ -108,7 +108,7 @@ fn tell_turns(
     ensures { IfOk result (λ told. (g : ProtectionGraph) → IsPictureOf picture.now g → IfSome told (IsAnswer silent.now g x right y)) }
 {
     let rows = found.rows(alloc, picture, x);
-    let planned = turns_to(alloc, picture, found, rows, x, right, y)?;
+    let planned = turns_to(alloc, picture, found, rows, x, right, y);
     let names = planned.made.saturating_sub(picture.limit());
     let turns = planned.turns;
     let leads = replay(

@@ -1,5 +1,7 @@
 //! Growth whose want of memory is noted, and told at the end: so each step of a search is a line, and a proof looks at
 //! no exit behind it.
+ghost use Rattle.std.specs.Prelude.{◌≡◌, IsOk};
+
 use std::alloc::{AllocError, Global};
 
 /// Pushes an item, unless memory was wanting before; notes whether it was now.
@@ -34,11 +36,9 @@ pub(crate) fn table<T: Copy + Drop>(
 }
 
 /// A list of these numbers; an empty one where memory is wanting, which is noted.
-pub(crate) fn copied(
-    alloc: Global,
-    numbers: &[u64],
-    grown: &mut Result<(), AllocError>,
-) -> Vec<u64> {
+pub(crate) fn copied(alloc: Global, numbers: &[u64], grown: &mut Result<(), AllocError>) -> Vec<u64>
+    ensures { IsOk grown.new → result.items ≡ numbers.now }
+{
     match Vec::from_slice(alloc, numbers) {
         Ok(list) => list,
         Err(error) => {

@@ -190,20 +190,20 @@ impl LedNames {
             ((v : ℕ) → ActsIn silent.now picture.now v → IsTurned (sides_led self.new) picture.now y v)) }
     {
         for subject in picture.subjects() {
-            let Some(step) = self.turned(picture, silent, y, *subject) else {
+            let Some(forward) = self.turned(picture, silent, y, *subject) else {
                 continue;
             };
-            self.put(step)?;
+            let vertex = *subject;
+            self.put(Step { vertex, forward })?;
         }
         Ok(())
     }
 
-    // The set in which a subject that acts isn't yet and is to be.
-    fn turned(&self, picture: &Picture, silent: &[u64], y: u64, subject: u64) -> Option<Step>
-        ensures vertex { IfSome result (λ step. step.vertex ≡ subject) }
-        ensures acts { IfSome result (λ step. ¬ (Contains silent.now step.vertex × (step.vertex < picture.now.made))) }
-        ensures leads { IfSome result (λ step. TurnsTo (sides_led self.now) picture.now y step.forward step.vertex) }
-        ensures new { IfSome result (λ step. is_in (sides_led self.now) step.forward step.vertex ≡ false) }
+    // The set in which a subject that acts isn't yet and is to be: the first one or the second.
+    fn turned(&self, picture: &Picture, silent: &[u64], y: u64, subject: u64) -> Option<bool>
+        ensures acts { IfSome result (λ forward. ¬ (Contains silent.now subject × (subject < picture.now.made))) }
+        ensures leads { IfSome result (λ forward. TurnsTo (sides_led self.now) picture.now y forward subject) }
+        ensures new { IfSome result (λ forward. is_in (sides_led self.now) forward subject ≡ false) }
         ensures turned { IfNone result (¬ (Contains silent.now subject × (subject < picture.now.made)) → IsTurned (sides_led self.now) picture.now y subject) }
     {
         if is_silent(silent, picture.made(), subject) {
@@ -211,22 +211,13 @@ impl LedNames {
         }
         let at = self.place(subject);
         if !at.back && at.forward {
-            return Some(Step {
-                vertex: subject,
-                forward: false,
-            });
+            return Some(false);
         }
         if !at.back && comes_later(picture, y) {
-            return Some(Step {
-                vertex: subject,
-                forward: false,
-            });
+            return Some(false);
         }
         if at.back && !at.forward {
-            return Some(Step {
-                vertex: subject,
-                forward: true,
-            });
+            return Some(true);
         }
         None
     }

@@ -9,14 +9,10 @@ use std::alloc::{AllocError, Global};
 use tg_model::{Command, Deed, Law, MAX_WORKERS, Numbers, Picture};
 use tg_rights::{Label, Right, Rights};
 
-// The label of take and grant.
-fn both() -> Label {
-    Label::new(Rights::of(Right::T).union(Rights::of(Right::G))).unwrap()
-}
-
-// The label of take, grant and a right.
-fn all_three(right: Right) -> Label {
-    Label::new(both().rights().union(Rights::of(right))).unwrap()
+// The label of take, grant and a right, which may be one of these.
+fn both_and(right: Right) -> Label {
+    let both = Rights::of(Right::T).union(Rights::of(Right::G));
+    Label::new(both.union(Rights::of(right))).unwrap()
 }
 
 /// The right that is asked for, and who holds it at first.
@@ -119,7 +115,7 @@ impl<'a> Plan<'a> {
         }
         let name = self.trial.made;
         let deed = Deed::Spawn {
-            label: both(),
+            label: both_and(Right::T),
             law: Law::Cell,
             state: Numbers::one(0),
         };
@@ -148,7 +144,7 @@ impl<'a> Plan<'a> {
         }
         for name in self.picture.made()..last.saturating_add(1) {
             let worker = if name == x { maker } else { other };
-            self.create(worker, all_three(self.goal.right));
+            self.create(worker, both_and(self.goal.right));
         }
     }
 
@@ -186,12 +182,13 @@ impl<'a> Plan<'a> {
             source,
         } = self.goal;
         self.walk(first, stretch, true);
-        let mailbox = self.create(first, both());
+        let mailbox = self.create(first, both_and(Right::T));
         if first == over {
             self.grant(first, mailbox, source, single(Right::T));
         } else {
-            self.take(first, source, over, single(right));
-            self.grant(first, mailbox, over, single(right));
+            let asked = single(right);
+            self.take(first, source, over, asked);
+            self.grant(first, mailbox, over, asked);
         }
         mailbox
     }
@@ -199,8 +196,9 @@ impl<'a> Plan<'a> {
     // Hands take and grant over the mailbox on from the first of a stretch to the last.
     fn hand_on(&mut self, stretch: &[Step], first: u64, last: u64, mailbox: u64) {
         let between = self.mailbox(stretch, first, last);
-        self.grant(first, between, mailbox, both());
-        self.take(last, between, mailbox, both());
+        let both = both_and(Right::T);
+        self.grant(first, between, mailbox, both);
+        self.take(last, between, mailbox, both);
         if last != self.goal.over {
             self.fetch(last, mailbox);
         }
@@ -213,10 +211,11 @@ impl<'a> Plan<'a> {
             over,
             source,
         } = self.goal;
-        if !self.has_all(mailbox, over, single(right)) {
+        let asked = single(right);
+        if !self.has_all(mailbox, over, asked) {
             self.take(x, mailbox, source, single(Right::T));
-            self.take(x, source, over, single(right));
-            self.grant(x, mailbox, over, single(right));
+            self.take(x, source, over, asked);
+            self.grant(x, mailbox, over, asked);
         }
     }
 
@@ -254,8 +253,9 @@ impl<'a> Plan<'a> {
 
     // A new vertex that p makes, and q, who has take over p, takes.
     fn make_for(&mut self, p: u64, q: u64) -> u64 {
-        let new = self.create(p, both());
-        self.take(q, p, new, both());
+        let both = both_and(Right::T);
+        let new = self.create(p, both);
+        self.take(q, p, new, both);
         new
     }
 
@@ -264,10 +264,11 @@ impl<'a> Plan<'a> {
         if a != p {
             self.take(p, a, b, single(Right::G));
         }
-        let new = self.create(p, both());
-        self.grant(p, b, new, both());
+        let both = both_and(Right::T);
+        let new = self.create(p, both);
+        self.grant(p, b, new, both);
         if b != q {
-            self.take(q, b, new, both());
+            self.take(q, b, new, both);
         }
         new
     }
@@ -283,8 +284,9 @@ impl<'a> Plan<'a> {
         if last == over {
             return self.end_behind(last, way, x);
         }
-        self.take(last, way.mailbox, over, single(right));
-        self.grant(last, x, over, single(right));
+        let asked = single(right);
+        self.take(last, way.mailbox, over, asked);
+        self.grant(last, x, over, asked);
     }
 
     // The right is over the last who acts, who can't hold it: the one before it grants it to x, or one that it spawns.
@@ -295,16 +297,18 @@ impl<'a> Plan<'a> {
             Some(before) => before,
             None => self.spawn_holder(last, mailbox),
         };
-        self.grant(last, mailbox, x, single(Right::G));
-        self.take(holder, mailbox, x, single(Right::G));
-        self.take(holder, mailbox, over, single(right));
-        self.grant(holder, x, over, single(right));
+        let grant = single(Right::G);
+        let asked = single(right);
+        self.grant(last, mailbox, x, grant);
+        self.take(holder, mailbox, x, grant);
+        self.take(holder, mailbox, over, asked);
+        self.grant(holder, x, over, asked);
     }
 
     // Spawns one who puts the right into the mailbox.
     fn spawn_holder(&mut self, last: u64, mailbox: u64) -> u64 {
         let spawned = self.spawn(last);
-        self.grant(last, spawned, mailbox, both());
+        self.grant(last, spawned, mailbox, both_and(Right::T));
         self.fetch(spawned, mailbox);
         spawned
     }
@@ -417,7 +421,7 @@ fn giver_to(picture: &Picture, found: &Found, x: u64) -> Option<Step> {
 }
 
 /// Turns after which x is to hold the right over y, by what the search has found; `rows` are the edges from x and from
-/// whom it found, and note whether memory was wanting. Fails only when out of memory.
+/// whom it found, and note whether memory was wanting.
 pub(crate) fn turns_to<'a>(
     alloc: Global,
     picture: &'a Picture,
@@ -426,9 +430,10 @@ pub(crate) fn turns_to<'a>(
     x: u64,
     right: Right,
     y: u64,
-) -> Result<Planned, AllocError> {
-    let mut trial = Trial::new(alloc, picture, rows)?;
+) -> Planned {
+    let mut trial = Trial::new(alloc, picture, rows);
     trial.limit = u64::MAX;
+    let taken = trial.rows.grown;
     let mut plan = Plan {
         picture,
         found,
@@ -439,15 +444,15 @@ pub(crate) fn turns_to<'a>(
         },
         trial,
         turns: Vec::new(alloc),
-        taken: Ok(()),
+        taken,
     };
     plan.try_lead(alloc, x);
     plan.trial.forget_added();
     let taken = plan.taken;
     note(&mut plan.trial.rows.grown, taken);
-    Ok(Planned {
+    Planned {
         turns: plan.turns,
         made: plan.trial.made,
         rows: plan.trial.rows,
-    })
+    }
 }

@@ -71,12 +71,9 @@ impl Kept {
         })
     }
 
-    fn number(self) -> u32 {
-        self.packed >> 1
-    }
-
-    fn is_forward(self) -> bool {
-        self.packed & 1 == 1
+    // The number of the vertex, and whether it was put into the first set.
+    fn step(self) -> (u32, bool) {
+        (self.packed >> 1, self.packed & 1 == 1)
     }
 }
 
@@ -165,11 +162,11 @@ impl Found {
             if at as usize >= self.steps.len() {
                 break;
             }
-            let kept = self.steps[at as usize];
-            if kept.is_forward() || self.has_acting(kept.number() as u64) {
+            let (number, forward) = self.steps[at as usize].step();
+            if forward || self.has_acting(number as u64) {
                 return false;
             }
-            self.spread_along(takers, at, kept.number());
+            self.spread_along(takers, at, number);
         }
         true
     }
@@ -195,16 +192,15 @@ impl Found {
             if at as usize >= self.steps.len() {
                 break;
             }
-            let kept = self.steps[at as usize];
-            let number = kept.number() as u64;
-            if self.has_acting(number) {
-                self.put(number, !kept.is_forward(), at);
+            let (number, forward) = self.steps[at as usize].step();
+            if self.has_acting(number as u64) {
+                self.put(number as u64, !forward, at);
             }
-            if kept.is_forward() {
-                self.spread_along(&ways.targets, at, kept.number());
-                self.spread_along(&ways.granters, at, kept.number());
+            if forward {
+                self.spread_along(&ways.targets, at, number);
+                self.spread_along(&ways.granters, at, number);
             } else {
-                self.spread_along(takers, at, kept.number());
+                self.spread_along(takers, at, number);
             }
         }
     }
@@ -297,9 +293,10 @@ impl Found {
                 break;
             }
             let kept = self.steps[next as usize];
+            let (number, forward) = kept.step();
             let step = Step {
-                vertex: self.sides.names.name(kept.number() as u64),
-                forward: kept.is_forward(),
+                vertex: self.sides.names.name(number as u64),
+                forward,
             };
             push(&mut path, step, grown);
             next = kept.before;

@@ -1,23 +1,23 @@
 //! A graph that turns are tried on: a picture, and what came since.
-ghost use Rattle.std.specs.Prelude.{◌≡◌, ◌≢◌, ◌+◌, ◌<◌, true, ◌++◌, ◌∷◌, [], ℕ, List, IfOk, OnOk, IfSome, IsTrue};
+ghost use Rattle.std.specs.Prelude.{◌≡◌, ◌≢◌, ◌+◌, ◌<◌, true, ◌++◌, ◌∷◌, [], ℕ, List, IfOk, IsOk, OnOk, IfSome, IsTrue};
 ghost use Rattle.std.specs.List.{Contains};
-ghost use Rattle.tg_rights.specs.RightSet.{RightSet, has};
+ghost use Rattle.tg_rights.specs.RightSet.{RightSet, has, only};
 ghost use Rattle.tg_rights.specs.declared.Right.{Right as TheRight};
-ghost use Rattle.tg_model.specs.Graph.{ProtectionGraph, without_subject};
+ghost use Rattle.tg_model.specs.Graph.{ProtectionGraph, with_rights, without_subject};
 ghost use Rattle.tg_model.specs.Picture.{IsPictureOf, AreAmong};
-ghost use Rattle.tg_model.specs.Rules.{HoldsOver, step, with_vertex};
+ghost use Rattle.tg_model.specs.Making.{deed_making};
+ghost use Rattle.tg_model.specs.Rules.{HoldsOver, step};
 ghost use Rattle.tg_model.specs.declared.edge.Edge.{Edge as TheEdge};
-ghost use Rattle.tg_model.specs.declared.law.Law.{Law};
 ghost use Rattle.tg_model.specs.declared.value.Value.{Value};
-ghost use Rattle.tg_model.specs.declared.command.Command.TheVariants as command;
 ghost use Rattle.tg_model.specs.declared.command.Deed.TheVariants as deed;
 ghost use Rattle.tg_could.specs.Turns.{Acts, AreTurns, LeadThere, after, with_names};
 ghost use Rattle.tg_could.specs.Inner.Trial.{Stands};
 
 use crate::chains::{Chains, NONE};
+use crate::growth::copied;
 use crate::separation::is_silent;
 use std::alloc::{AllocError, Global};
-use tg_model::{Command, Deed, Edge, MAX_WORKERS, Picture};
+use tg_model::{Command, Deed, Edge, Making, Picture};
 use tg_rights::{Label, Right, Rights};
 
 /// What turns have changed of a picture's graph: the edges that came since, the subjects, and the vertices made.
@@ -70,18 +70,18 @@ pub(crate) fn leave_out(names: &mut Vec<u64>, name: u64)
 }
 
 impl Trial {
-    /// The graph of a picture; `rows` are the edges from each vertex. Fails only when out of memory.
-    pub(crate) fn new(alloc: Global, picture: &Picture, rows: Chains) -> Result<Trial, AllocError>
-        ensures { IfOk result (λ trial. (g : ProtectionGraph) → IsPictureOf picture.now g → Stands picture.now.edges trial g) }
+    /// The graph of a picture; `rows` are the edges from each vertex, and note whether memory was wanting.
+    pub(crate) fn new(alloc: Global, picture: &Picture, mut rows: Chains) -> Trial
+        ensures { IsOk result.rows.grown → (g : ProtectionGraph) → IsPictureOf picture.now g → Stands picture.now.edges result g }
     {
-        let subjects = Vec::from_slice(alloc, picture.subjects())?;
-        Ok(Trial {
+        let subjects = copied(alloc, picture.subjects(), &mut rows.grown);
+        Trial {
             rows,
             added: Vec::new(alloc),
             subjects,
             made: picture.made(),
             limit: picture.limit(),
-        })
+        }
     }
 
     /// Whether these turns lead to x's holding a right over y, where so many more vertices may be made. Fails only when
@@ -96,7 +96,7 @@ impl Trial {
         right: Right,
         y: u64,
     ) -> Result<bool, AllocError>
-        ensures { IfOk result (λ lead. IsTrue lead → (g : ProtectionGraph) → IsPictureOf picture.now g → Stands picture.now.edges self.old g →
+        ensures { IfOk result (λ lead. IsTrue lead → (g : ProtectionGraph) → IsPictureOf picture.now g → (IsOk self.old.rows.grown → Stands picture.now.edges self.old g) →
             LeadThere silent.now (with_names g names) turns.now x right y) }
     {
         self.rows.grown?;
@@ -209,8 +209,8 @@ impl Trial {
             Stands edges.now self.new (step g worker asked.now)) }
     {
         match asked {
-            Deed::Create { label, .. } => self.create(worker, *label),
-            Deed::Spawn { label, .. } => self.spawn(worker, *label),
+            Deed::Create { label, .. } => self.make(worker, Making::Object, *label),
+            Deed::Spawn { label, .. } => self.make(worker, Making::Subject, *label),
             Deed::Plain(command) => self.take_command(edges, worker, command),
         }
     }
@@ -230,110 +230,85 @@ impl Trial {
                 rights,
                 via,
                 target,
-            } => self.take(edges, worker, *via, *target, *rights),
+            } => self.hand_on(
+                edges,
+                worker,
+                *via,
+                *target,
+                *rights,
+                Right::T,
+                *via,
+                worker,
+            ),
             Command::Grant {
                 rights,
                 via,
                 target,
-            } => self.grant(edges, worker, *via, *target, *rights),
+            } => self.hand_on(
+                edges,
+                worker,
+                *via,
+                *target,
+                *rights,
+                Right::G,
+                worker,
+                *via,
+            ),
             Command::Retire => {
-                self.retire(worker);
+                leave_out(&mut self.subjects, worker);
                 Ok(true)
             }
             _ => Ok(false),
         }
     }
 
-    // Takes rights along, where that is allowed.
-    fn take(
+    // Hands on rights over a target to another vertex, where the worker and a giver have the rights for that.
+    fn hand_on(
         &mut self,
         edges: &[Edge],
         worker: u64,
         via: u64,
         target: u64,
         rights: Label,
+        by: Right,
+        giver: u64,
+        taker: u64,
     ) -> Result<bool, AllocError>
         ensures { IfOk result (λ taken. IsTrue taken → (g : ProtectionGraph) → Stands edges.now self.old g →
-            Stands edges.now self.new (step g worker (deed.Plain (command.Take rights via target)))) }
+            (worker ≢ via) × (via ≢ target) × (worker ≢ target) ×
+            HoldsOver g.label worker via (only by) × HoldsOver g.label giver target rights ×
+            Stands edges.now self.new (record g { label = with_rights g.label taker target rights })) }
     {
         let three = are_three(worker, via, target);
-        let may_take = self.has_all(edges, worker, via, Rights::of(Right::T));
-        let has = self.has_all(edges, via, target, rights.rights());
-        if are_all(three, may_take, has) {
-            self.add(worker, target, rights)?;
+        let may = self.has_all(edges, worker, via, Rights::of(by));
+        let has = self.has_all(edges, giver, target, rights.rights());
+        if are_all(three, may, has) {
+            self.add(taker, target, rights)?;
             return Ok(true);
         }
         Ok(false)
     }
 
-    // Hands rights on, where that is allowed.
-    fn grant(
-        &mut self,
-        edges: &[Edge],
-        worker: u64,
-        via: u64,
-        target: u64,
-        rights: Label,
-    ) -> Result<bool, AllocError>
-        ensures { IfOk result (λ taken. IsTrue taken → (g : ProtectionGraph) → Stands edges.now self.old g →
-            Stands edges.now self.new (step g worker (deed.Plain (command.Grant rights via target)))) }
-    {
-        let three = are_three(worker, via, target);
-        let may_grant = self.has_all(edges, worker, via, Rights::of(Right::G));
-        let has = self.has_all(edges, worker, target, rights.rights());
-        if are_all(three, may_grant, has) {
-            self.add(via, target, rights)?;
-            return Ok(true);
-        }
-        Ok(false)
-    }
-
-    // Makes an object, where there is a name left.
-    fn create(&mut self, worker: u64, label: Label) -> Result<bool, AllocError>
-        ensures { IfOk result (λ made. IsTrue made → (edges : List TheEdge) (g : ProtectionGraph) (law : Law) (state : List ℕ) → Stands edges self.old g →
-            Stands edges self.new (step g worker (deed.Create label law state))) }
-    {
-        if self.made >= self.limit {
-            return Ok(false);
-        }
-        self.add_vertex(worker, label)?;
-        Ok(true)
-    }
-
-    // Makes a subject, where there is a name left and fewer than 64 are active.
-    fn spawn(&mut self, worker: u64, label: Label) -> Result<bool, AllocError>
-        ensures { IfOk result (λ made. IsTrue made → (edges : List TheEdge) (g : ProtectionGraph) (law : Law) (state : List ℕ) → Stands edges self.old g →
-            Stands edges self.new (step g worker (deed.Spawn label law state))) }
-    {
-        if self.made >= self.limit || self.subjects.len() as u64 >= MAX_WORKERS {
-            return Ok(false);
-        }
-        let name = self.made;
-        self.add_vertex(worker, label)?;
-        self.subjects.push(name)?;
-        Ok(true)
-    }
-
-    // Ends a subject.
-    fn retire(&mut self, worker: u64)
-        ensures { (edges : List TheEdge) (g : ProtectionGraph) → Stands edges self.old g →
-            Stands edges self.new (step g worker (deed.Plain command.Retire)) }
-    {
-        leave_out(&mut self.subjects, worker);
-    }
-
-    // The next vertex, over which the worker has these rights.
-    fn add_vertex(&mut self, worker: u64, label: Label) -> Result<(), AllocError>
-        requires { self.old.made < self.old.limit }
-        ensures stands { OnOk result ((edges : List TheEdge) (g : ProtectionGraph) (value : Value) → Stands edges self.old g →
-            Stands edges self.new (with_vertex g worker label value)) }
-        ensures subjects { self.new.subjects.items ≡ self.old.subjects.items }
+    // Makes a vertex over which the worker has these rights, where there is a name left, and of a subject where fewer
+    // than 64 are active.
+    fn make(&mut self, worker: u64, making: Making, label: Label) -> Result<bool, AllocError>
+        ensures { IfOk result (λ made. IsTrue made → (edges : List TheEdge) (g : ProtectionGraph) (value : Value) → Stands edges self.old g →
+            Stands edges self.new (step g worker (deed_making making label value))) }
     {
         let name = self.made;
+        if name >= self.limit || making.is_one_too_many(self.subjects.len() as u64) {
+            return Ok(false);
+        }
         self.made = name + 1;
         self.rows.add_vertex();
         self.add(worker, name, label)?;
-        Ok(())
+        match making {
+            Making::Object => Ok(true),
+            Making::Subject => {
+                self.subjects.push(name)?;
+                Ok(true)
+            }
+        }
     }
 
     /// Leaves the edges from each vertex as they were at first.

@@ -1,5 +1,5 @@
 //! All questions of one picture at once.
-ghost use Rattle.std.specs.Prelude.{◌≡◌, ◌↔◌, ◌<◌, ◌≤◌, true, ℕ, List, length, IfOk, IfSome, IsTrue};
+ghost use Rattle.std.specs.Prelude.{◌≡◌, ◌↔◌, ◌<◌, ◌≤◌, true, ℕ, List, length, IfOk, IsTrue};
 ghost use Rattle.std.specs.List.{All, Contains};
 ghost use Rattle.tg_rights.specs.declared.Right.{Right as TheRight};
 ghost use Rattle.tg_model.specs.Graph.{ProtectionGraph};
@@ -7,7 +7,7 @@ ghost use Rattle.tg_model.specs.declared.opening.TheConstants.{MAX_WORKERS};
 ghost use Rattle.tg_model.specs.Picture.{Shown, IsPictureOf};
 ghost use Rattle.tg_could.specs.declared.chance.Chance.TheVariants.{Never};
 ghost use Rattle.tg_could.specs.Turns.{NeverHolds};
-ghost use Rattle.tg_could.specs.View.{AreGathered, IsViewOf, IsCheckedOn, IsPlaced, IsListed, Stands, is_within as within};
+ghost use Rattle.tg_could.specs.View.{IsViewOf, IsCheckedOn, IsPlaced, IsListed, Stands, is_within as within};
 
 use crate::chance::Chance;
 use crate::entries::{Entries, Entry};
@@ -127,7 +127,11 @@ impl Facts {
             IsCheckedOn silent shown self.now → IsPictureOf shown g → result ≡ Never → NeverHolds silent g x right y }
     {
         let number = self.names.number(x);
-        let Some(gathered) = self.gather(number, right, self.names.number(y)) else {
+        let words = self.islands.reached.as_slice();
+        let Some(gathered) = self
+            .incoming
+            .gather(words, number, right, self.names.number(y))
+        else {
             return Chance::Perhaps;
         };
         if x == y {
@@ -144,14 +148,6 @@ impl Facts {
             return Chance::Perhaps;
         }
         Chance::Never
-    }
-
-    // The union of the words of those who hold a right over y; none where x is one of them. Both are told by number.
-    fn gather(&self, x: u64, right: Right, y: u64) -> Option<u64>
-        ensures { IfSome result (AreGathered self.now.incoming self.now.islands.reached.items x right y) }
-    {
-        self.incoming
-            .gather(self.islands.reached.as_slice(), x, right, y)
     }
 
     // Whether the facts are those of a picture.

@@ -45,6 +45,6 @@ pub(crate) fn replay(
     ensures { IfOk result (λ lead. IsTrue lead → (g : ProtectionGraph) → IsPictureOf picture.now g →
         LeadThere silent.now (with_names g names) turns.now x right y) }
 {
-    let mut trial = Trial::new(alloc, picture, rows)?;
+    let mut trial = Trial::new(alloc, picture, rows);
     trial.lead_there(picture, silent, names, turns, x, right, y)
 }

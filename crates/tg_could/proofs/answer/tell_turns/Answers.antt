@@ -7,7 +7,7 @@ returns-then-names-eq0 c g picture =
     let names = c.saturating_sub-names.result in
     let leads = c.in_ok-leads.ensures c.if-not-leads.false g picture in
     let none : g.limit + names ≡ g.limit = omega (arith, c.if-names-eq0.true) in
-    subst (λ (n : ℕ). LeadThere c.args.silent.now (record g { limit = n }) c.in_ok-planned.planned.turns.items c.args.x c.args.right c.args.y) none
+    subst (λ (n : ℕ). LeadThere c.args.silent.now (record g { limit = n }) c.turns_to-planned.result.turns.items c.args.x c.args.right c.args.y) none
     (subst (λ (l : List Turn). LeadThere c.args.silent.now (with_names g names) l c.args.x c.args.right c.args.y) c.as_slice.ensures.value leads)
 
 pub returns-then-is_short : goal.returns-then-is_short

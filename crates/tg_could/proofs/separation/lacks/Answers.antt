@@ -1,10 +1,20 @@
-use Rattle.std.proofs.Common.{ℕ, ◌∙◌, sym, subst, arith}
+use Rattle.std.proofs.Common.{ℕ, ◌∙◌, sym, subst, arith, eq-eqb}
 use Rattle.std.proofs.lemmas.Bool.{eqb-true}
+use Rattle.std.proofs.lemmas.List.Elements.{AllWithin-more, at_read}
+use Rattle.tg_model.specs.declared.edge.Edge.{Edge}
 use Rattle.tg_model.specs.Opened.{label_in}
 use Rattle.tg_model.specs.Picture.{Holds}
 use Rattle.tg_could.proofs.TurnLaws.{Holds-member}
-use Rattle.tg_could.proofs.MarkLaws.{none_holds}
+use Rattle.tg_could.proofs.MarkLaws.{IsNot, none_holds}
 use Rattle.tg_could.proofs.separation.lacks.Goals as goal
+
+pub loop-edge-preserved : goal.loop-edge-preserved
+loop-edge-preserved c =
+    let P : Edge → Type 0 = IsNot c.args.x c.args.right c.args.y in
+    let e = c.edge-item.result in
+    AllWithin-more P c.args.edges.now 0 c.loop-edge.edge-index c.loop-edge.invariant
+    (at_read c.args.edges.now P c.loop-edge.edge-index e c.loop-edge-test.true c.edge-item.is
+    (λ at_x at_y is. c.are_not_all.ensures.not_all c.if-not-are_not_all.false (eq-eqb e.from c.args.x at_x) (eq-eqb e.to c.args.y at_y) (c.has.ensures ∙ is)))
 
 pub returns-clause-lacks : goal.returns-clause-lacks
 returns-clause-lacks c t = none_holds c.args.x c.args.right c.args.y c.args.edges.now (λ k d inside. c.loop-edge.invariant k d (omega arith) (omega arith))

@@ -1,5 +1,5 @@
 use Rattle.std.proofs.Common.{Bool}
-use Rattle.std.specs.Prelude.{IsTrue}
+use Rattle.std.specs.Prelude.{IsOk, IsTrue}
 use Rattle.std.proofs.lemmas.Result.{IfOk-weaker}
 use Rattle.tg_model.specs.Graph.{ProtectionGraph}
 use Rattle.tg_model.specs.Picture.{IsPictureOf}
@@ -11,6 +11,6 @@ pub returns : goal.returns
 returns c =
     let p = c.args.picture.now in
     let Leads : ProtectionGraph → Type 0 = λ g. LeadThere c.args.silent.now (with_names g c.args.names) c.args.turns.now c.args.x c.args.right c.args.y in
-    let Each : Bool → Type 0 = λ lead. IsTrue lead → (g : ProtectionGraph) → IsPictureOf p g → Stands p.edges c.in_ok-trial.trial g → Leads g in
+    let Each : Bool → Type 0 = λ lead. IsTrue lead → (g : ProtectionGraph) → IsPictureOf p g → (IsOk c.new-trial.result.rows.grown → Stands p.edges c.new-trial.result g) → Leads g in
     let This : Bool → Type 0 = λ lead. IsTrue lead → (g : ProtectionGraph) → IsPictureOf p g → Leads g in
-    IfOk-weaker c.lead_there.result Each This (λ lead each t g picture. each t g picture (c.in_ok-trial.ensures g picture)) c.lead_there.ensures
+    IfOk-weaker c.lead_there.result Each This (λ lead each t g picture. each t g picture (λ ok. c.new-trial.ensures ok g picture)) c.lead_there.ensures

@@ -1,9 +1,9 @@
-use Rattle.std.proofs.Common.{◌<◌}
-use Rattle.std.specs.List.{AllWithin, Contains}
+use Rattle.std.specs.List.{AllWithin}
 use Rattle.tg_could.specs.Separation.{sides_of, IsEven}
+use Rattle.tg_could.proofs.MarkLaws.{OfActor}
 use Rattle.tg_could.proofs.separation.Separation.are_even.Given as goal
 
 -- who acts before this place is even
 abbrev pub invariant-loop-subject : goal.invariant-loop-subject
 invariant-loop-subject l =
-    AllWithin (λ v. ¬ (Contains l.silent v × (v < l.picture.made)) → IsEven (sides_of l.self) l.picture l.x l.y v) l.picture.subjects 0 l.subject-index
+    AllWithin (OfActor l.silent l.picture (IsEven (sides_of l.self) l.picture l.x l.y)) l.picture.subjects 0 l.subject-index

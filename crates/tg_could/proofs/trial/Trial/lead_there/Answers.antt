@@ -1,4 +1,4 @@
-use Rattle.std.proofs.Common.{◌≡◌, ◌+◌, ◌<◌, ◌∙◌, ℕ, List, sym, ap, subst}
+use Rattle.std.proofs.Common.{◌≡◌, ◌+◌, ◌<◌, ◌∙◌, ℕ, List, is_ok, sym, ap, subst}
 use Rattle.std.specs.List.{Contains}
 use Rattle.std.proofs.lemmas.Bool.{false≢true}
 use Rattle.tg_rights.specs.RightSet.{RightSet, only}
@@ -12,7 +12,8 @@ use Rattle.tg_could.specs.Inner.Trial.{Stands}
 use Rattle.tg_could.proofs.trial.Trial.lead_there.Goals as goal
 
 pub returns : goal.returns
-returns c t g picture stands =
+returns c t g picture if_ok =
+    let stands = if_ok (ap is_ok c.in_ok-self.was) in
     let x = c.args.x in
     let y = c.args.y in
     let turns = c.args.turns.now in

@@ -4,7 +4,7 @@ use Rattle.std.proofs.lemmas.List.{take_more, take_all}
 use Rattle.std.proofs.lemmas.Bool.{false≢true}
 use Rattle.tg_could.specs.Turns.{Turn, AreTurns, after}
 use Rattle.tg_could.specs.Inner.Trial.{Stands}
-use Rattle.tg_could.proofs.TurnLaws.{AreTurns-push, after-push}
+use Rattle.tg_could.proofs.MoveLaws.{AreTurns-append, after-append}
 use Rattle.tg_could.proofs.trial.Trial.take_turns.Goals as goal
 
 pub loop-turn-init : goal.loop-turn-init
@@ -20,9 +20,9 @@ loop-turn-preserved c g stands =
     let silent : ℕ → Type 0 = λ p. Contains c.args.silent.now p × (p < c.args.first) in
     let edges = c.args.edges.now in
     let taken = c.if-not-taken.false in (
-      subst (AreTurns silent g) (sym more) (AreTurns-push silent g before x kept.0 (c.in_ok-taken.ensures.acts taken (after g before) kept.1)),
+      subst (AreTurns silent g) (sym more) (AreTurns-append silent g before (x ∷ []) kept.0 (c.in_ok-taken.ensures.acts taken (after g before) kept.1, tt)),
       subst (λ (l : List Turn). Stands edges c.take_turn.new.self (after g l)) (sym more)
-          (subst (Stands edges c.take_turn.new.self) (sym (after-push g before x)) (c.in_ok-taken.ensures.step taken (after g before) kept.1)),
+          (subst (Stands edges c.take_turn.new.self) (sym (after-append g before (x ∷ []))) (c.in_ok-taken.ensures.step taken (after g before) kept.1)),
     )
 
 pub returns : goal.returns

@@ -1,15 +1,14 @@
 use Rattle.std.proofs.Common.{◌≡◌, ◌∙◌, sym, ap, subst, ℕ, false}
 use Rattle.tg_could.specs.Names.{number_in}
-use Rattle.tg_could.specs.View.{AreGathered, word_of, meets}
-use Rattle.tg_could.proofs.ViewLaws.{viewed-same, viewed-alone, viewed-never}
+use Rattle.tg_could.specs.View.{word_of, meets}
+use Rattle.tg_could.proofs.ViewLaws.{gathered-at, viewed-same, viewed-alone, viewed-never}
 use Rattle.tg_could.proofs.view.Facts.could.Goals as goal
 
 pub returns-then-x-y : goal.returns-then-x-y
 returns-then-x-y c silent shown g checked picture never =
     let f = c.args.self.now in
     viewed-same silent shown g picture f checked c.args.x c.args.right c.args.y c.in-Some.gathered
-    (subst (λ (n : ℕ). AreGathered f.incoming f.islands.reached.items n c.args.right (number_in f.names c.args.y) c.in-Some.gathered) c.number-number.ensures
-    (subst (λ (n : ℕ). AreGathered f.incoming f.islands.reached.items c.number-number.result c.args.right n c.in-Some.gathered) c.number.ensures c.in-Some.ensures))
+    (gathered-at f c.args.right _ _ c.as_slice-words.result.now c.in-Some.gathered c.as_slice-words.ensures.value c.number-number.ensures c.number.ensures c.in-Some.ensures)
     c.if-x-y.true
 
 pub returns-then-is_alone : goal.returns-then-is_alone
@@ -17,8 +16,7 @@ returns-then-is_alone c silent shown g checked picture never =
     let f = c.args.self.now in
     let is = c.is_alone.ensures c.if-is_alone.true in
     viewed-alone silent shown g picture f checked c.args.x c.args.right c.args.y c.in-Some.gathered
-    (subst (λ (n : ℕ). AreGathered f.incoming f.islands.reached.items n c.args.right (number_in f.names c.args.y) c.in-Some.gathered) c.number-number.ensures
-    (subst (λ (n : ℕ). AreGathered f.incoming f.islands.reached.items c.number-number.result c.args.right n c.in-Some.gathered) c.number.ensures c.in-Some.ensures))
+    (gathered-at f c.args.right _ _ c.as_slice-words.result.now c.in-Some.gathered c.as_slice-words.ensures.value c.number-number.ensures c.number.ensures c.in-Some.ensures)
     is.0 is.1
 
 pub returns : goal.returns
@@ -28,8 +26,7 @@ returns c silent shown g checked picture never =
     let at : c.granted.result ≡ word_of f.islands.granted.items (number_in f.names c.args.x) =
     c.granted.ensures ∙ ap (λ (n : ℕ). word_of f.islands.granted.items n) c.number-number.ensures in
     viewed-never silent shown g picture f checked c.args.x c.args.right c.args.y c.in-Some.gathered
-    (subst (λ (n : ℕ). AreGathered f.incoming f.islands.reached.items n c.args.right (number_in f.names c.args.y) c.in-Some.gathered) c.number-number.ensures
-    (subst (λ (n : ℕ). AreGathered f.incoming f.islands.reached.items c.number-number.result c.args.right n c.in-Some.gathered) c.number.ensures c.in-Some.ensures))
+    (gathered-at f c.args.right _ _ c.as_slice-words.result.now c.in-Some.gathered c.as_slice-words.ensures.value c.number-number.ensures c.number.ensures c.in-Some.ensures)
     word c.with_later-word.ensures
     (subst (λ (n : ℕ). meets n word ≡ false) at (sym c.meets.ensures ∙ c.if-meets.false))
     (c.are_placed.ensures c.if-not-are_placed.false)

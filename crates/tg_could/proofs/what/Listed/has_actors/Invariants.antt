@@ -1,10 +1,10 @@
-use Rattle.std.proofs.Common.{◌<◌}
-use Rattle.std.specs.List.{AllWithin, Contains}
+use Rattle.std.specs.List.{AllWithin}
 use Rattle.tg_could.specs.Separation.{sides_against}
 use Rattle.tg_could.specs.Listed.{ListsActor}
+use Rattle.tg_could.proofs.MarkLaws.{OfActor}
 use Rattle.tg_could.proofs.what.Listed.has_actors.Given as goal
 
 -- who acts before this place is where it has to be
 abbrev pub invariant-loop-subject : goal.invariant-loop-subject
 invariant-loop-subject l =
-    AllWithin (λ v. ¬ (Contains l.silent v × (v < l.picture.made)) → ListsActor (sides_against l.sides) l.self l.picture l.x v) l.picture.subjects 0 l.subject-index
+    AllWithin (OfActor l.silent l.picture (ListsActor (sides_against l.sides) l.self l.picture l.x)) l.picture.subjects 0 l.subject-index

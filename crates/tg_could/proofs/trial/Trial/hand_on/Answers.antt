@@ -1,0 +1,18 @@
+use Rattle.std.proofs.Common.{subst}
+use Rattle.tg_rights.specs.RightSet.{RightSet}
+use Rattle.tg_model.specs.Rules.{HoldsOver}
+use Rattle.tg_could.proofs.TurnLaws.{stands-added}
+use Rattle.tg_could.proofs.trial.Trial.hand_on.Goals as goal
+
+pub returns-then-are_all : goal.returns-then-are_all
+returns-then-are_all c t g stands =
+    let all = c.are_all.ensures c.if-are_all.true in
+    let three = c.are_three-three.ensures all.0 in
+    let added = c.in_ok-add.ensures in (
+      three.0,
+      three.1,
+      three.2,
+      subst (λ (s : RightSet). HoldsOver g.label c.args.worker c.args.via s) c.of.ensures (c.has_all-may.ensures all.1 g.label stands.first stands.later),
+      subst (λ (s : RightSet). HoldsOver g.label c.args.giver c.args.target s) c.rights.ensures.same (c.has_all-has.ensures all.2 g.label stands.first stands.later),
+      stands-added c.args.edges.now c.args.self.now c.add.new.self g (record { from = c.args.taker; to = c.args.target; label = c.args.rights }) added.added added.subjects added.made added.limit stands,
+    )
