@@ -1,11 +1,11 @@
 -- Sets of numbers as bits, and their marks.
-use Rattle.std.proofs.Common.{◌≡◌, ◌≢◌, ◌↔◌, ℕ, zero, suc, ◌+◌, ◌*◌, ◌/◌, ◌%◌, ◌^◌, ◌<◌, ◌≤◌, ◌⊎◌, ◌==◌, inl, inr, Bool, true, false, cond, List, [], ◌∷◌, ◌++◌, length, length-append, get_or, set, min, refl, sym, ap, subst, arith, ◌∙◌, ⊎_elim}
+use Rattle.std.proofs.Common.{◌≡◌, ◌≢◌, ◌↔◌, ℕ, zero, suc, ◌+◌, ◌*◌, ◌/◌, ◌%◌, ◌^◌, ◌<◌, ◌≤◌, ◌⊎◌, ◌==◌, inl, inr, Bool, true, List, [], ◌∷◌, ◌++◌, length, length-append, get_or, set, min, refl, sym, ap, subst, arith, ◌∙◌, ⊎_elim}
 use Rattle.std.specs.Int.{bit_at, trailing_zeros, w64}
 use Rattle.std.specs.List.{All, AllPairs, Contains, filter, range_with_len}
-use Rattle.std.proofs.lemmas.Bool.{cases_eq, cases_lt, eq-eqb, eqb-true}
+use Rattle.std.proofs.lemmas.Bool.{cases_eq, cases_lt, cond-true, cond_both, eq-eqb, eqb-true}
 use Rattle.std.proofs.lemmas.Grind.{get_or_default_zero}
 use Rattle.std.proofs.lemmas.List.{get_or-set_other, get_or-set_same, get_or_past, length-set}
-use Rattle.std.proofs.lemmas.List.Elements.{All-contains, Contains-get_or, filter_passes}
+use Rattle.std.proofs.lemmas.List.Elements.{All-contains, Contains-append_right, Contains-get_or, filter_passes}
 use Rattle.std.proofs.lemmas.List.FromFn.{get_or-range_with_len, length-range_with_len}
 use Rattle.std.proofs.lemmas.List.Kept.{AllPairs-filter}
 use Rattle.std.proofs.lemmas.Nat.Bits.{bit_at-lt, bit_at-trailing_zeros, bit_at-zero}
@@ -13,21 +13,12 @@ use Rattle.tg_index.specs.Bits.{AreMarks, IsFirstFrom, IsFirstOf, SetsBit, bit_o
 
 -- ---- lists
 
-module _ {X : Type 0} (p : X → Bool) where
-  filter-cons : (x : X) (xs : List X) (z : X) → (Contains xs z → Contains (filter p xs) z) → Contains (x ∷ xs) z → p z ≡ true → Contains (cond (p x) (x ∷ filter p xs) (filter p xs)) z
-  filter-cons x xs z rest has passes = at has.0 has.1 has.2
-    where
-      behind : (b : Bool) → Contains (filter p xs) z → Contains (cond b (x ∷ filter p xs) (filter p xs)) z
-      behind true more = let low = more.1 in (suc more.0, omega arith, more.2)
-      behind false more = more
-
-      at : (k : ℕ) → k < length (x ∷ xs) → get_or (x ∷ xs) k z ≡ z → Contains (cond (p x) (x ∷ filter p xs) (filter p xs)) z
-      at zero low here = subst (λ (b : Bool). Contains (cond b (x ∷ filter p xs) (filter p xs)) z) (sym (ap p here ∙ passes)) (zero, omega arith, here)
-      at (suc k) low here = behind (p x) (rest (k, omega arith, here))
-
-  Contains-filter : (xs : List X) (z : X) → Contains xs z → p z ≡ true → Contains (filter p xs) z
-  Contains-filter [] z has passes = let low = has.1 in absurd (omega arith)
-  Contains-filter (x ∷ xs) z has passes = filter-cons x xs z (λ more. Contains-filter xs z more passes) has passes
+Contains-filter : {X : Type 0} (p : X → Bool) (xs : List X) (z : X) → Contains xs z → p z ≡ true → Contains (filter p xs) z
+Contains-filter p [] z (k, inside, is) passes = absurd (omega (arith, inside))
+Contains-filter p (x ∷ xs) z (zero, inside, is) passes = subst (λ l. Contains l z) (sym (cond-true (p x) (x ∷ filter p xs) (filter p xs) (ap p is ∙ passes))) (0, omega arith, is)
+Contains-filter p (x ∷ xs) z (suc k, inside, is) passes =
+    let rest = Contains-filter p xs z (k, omega (arith, inside), is) passes in
+    cond_both (p x) (x ∷ filter p xs) (filter p xs) (λ l. Contains l z) (λ _. Contains-append_right (x ∷ []) (filter p xs) z rest) (λ _. rest)
 
 -- ---- one bit
 
@@ -204,20 +195,22 @@ module _ (words marks : List ℕ) (least : ℕ) (are : AreMarks words marks leas
       let inside = bit_inside marks (n / 64) (marked n here) in
       omega arith)
 
+  -- the marks are right again where they are at the word that changed
+  exact_but : (later over : List ℕ) (n : ℕ) → ((w : ℕ) → w ≢ n / 64 → get_or later w 0 ≡ get_or words w 0) → ((w : ℕ) → w ≢ n / 64 → bit_of over w ≡ bit_of marks w) → (bit_of over (n / 64) ≡ 1) ↔ (get_or later (n / 64) 0 ≢ 0) →
+      (w : ℕ) → (bit_of over w ≡ 1) ↔ (get_or later w 0 ≢ 0)
+  exact_but later over n sets puts here w =
+      ⊎_elim
+      (λ same. subst (λ v. (bit_of over v ≡ 1) ↔ (get_or later v 0 ≢ 0)) (sym same) here)
+      (λ other. (
+        λ is none. (are.exact w).0 (sym (puts w other) ∙ is) (sym (sets w other) ∙ none),
+        λ some. puts w other ∙ (are.exact w).1 (λ none. some (sets w other ∙ none)),
+      ))
+      (cases_eq w (n / 64))
+
   -- one more number
   pub marks_more : (wider over : List ℕ) (n : ℕ) → SetsBit words wider n 1 → SetsBit marks over (n / 64) 1 → AreMarks wider over (min least (n / 64 / 64))
   marks_more wider over n sets puts = record {
-    exact = λ w.
-        ⊎_elim
-        (λ (same : w ≡ n / 64). (
-          λ _. subst (λ v. get_or wider v 0 ≢ 0) (sym same) (some_bit (get_or wider (n / 64) 0) (n % 64) sets.here),
-          λ _. ap (λ k. bit_of over k) same ∙ puts.here,
-        ))
-        (λ other. (
-          λ is. λ none. (are.exact w).0 (sym (puts.others w other) ∙ is) (sym (sets.words w other) ∙ none),
-          λ some. puts.others w other ∙ (are.exact w).1 (λ none. some (sets.words w other ∙ none)),
-        ))
-        (cases_eq w (n / 64));
+    exact = exact_but wider over n sets.words puts.others (λ _. some_bit (get_or wider (n / 64) 0) (n % 64) sets.here, λ _. puts.here);
     below = λ m low. puts.words m (λ e. omega arith) ∙ are.below m (omega arith);
     lowest = λ _. by_order (cases_lt least (n / 64 / 64));
     within = let le = are.within in let len = puts.len in omega arith;
@@ -240,14 +233,7 @@ module _ (words marks : List ℕ) (least : ℕ) (are : AreMarks words marks leas
   -- one number less, and its word isn't 0
   pub marks_same : (later : List ℕ) (n : ℕ) → bit_of words n ≡ 1 → SetsBit words later n 0 → get_or later (n / 64) 0 ≢ 0 → AreMarks later marks least
   marks_same later n held sets some = record {
-    exact = λ w.
-        ⊎_elim
-        (λ (same : w ≡ n / 64). (λ _. subst (λ v. get_or later v 0 ≢ 0) (sym same) some, λ _. ap (λ k. bit_of marks k) same ∙ marked n held))
-        (λ other. (
-          λ is. λ none. (are.exact w).0 is (sym (sets.words w other) ∙ none),
-          λ more. (are.exact w).1 (λ none. more (sets.words w other ∙ none)),
-        ))
-        (cases_eq w (n / 64));
+    exact = exact_but later marks n sets.words (λ w other. refl) (λ _. some, λ _. marked n held);
     below = are.below;
     lowest = are.lowest;
     within = are.within;
@@ -260,17 +246,7 @@ module _ (words marks : List ℕ) (least : ℕ) (are : AreMarks words marks leas
   pub marks_less : (later over : List ℕ) (n : ℕ) → bit_of words n ≡ 1 → SetsBit words later n 0 → get_or later (n / 64) 0 ≡ 0 → SetsBit marks over (n / 64) 0 →
       (first : ℕ) → first ≤ length over → ((w : ℕ) → least ≤ w → w < first → get_or over w 0 ≡ 0) → (first < length over → get_or over first 0 ≢ 0) → AreMarks later over first
   marks_less later over n held sets gone puts first within before found = record {
-    exact = λ w.
-        ⊎_elim
-        (λ (same : w ≡ n / 64). (
-          λ is. let z : 1 ≡ 0 = sym is ∙ ap (λ k. bit_of over k) same ∙ puts.here in absurd (omega (arith, z)),
-          λ some. absurd (some (ap (λ v. get_or later v 0) same ∙ gone)),
-        ))
-        (λ other. (
-          λ is. λ none. (are.exact w).0 (sym (puts.others w other) ∙ is) (sym (sets.words w other) ∙ none),
-          λ some. puts.others w other ∙ (are.exact w).1 (λ none. some (sets.words w other ∙ none)),
-        ))
-        (cases_eq w (n / 64));
+    exact = exact_but later over n sets.words puts.others (λ is. absurd (omega (arith, is, puts.here)), λ some. absurd (some gone));
     below = λ m low.
         ⊎_elim
         (λ (less : m < least). let behind = marked_behind n held in puts.words m (λ e. omega arith) ∙ are.below m less)

@@ -1,7 +1,6 @@
 -- A graph that is another's where subjects reach answers as the other does, and stays alike, also when the rest is forgotten.
-use mathlib.Core.Bool.{true≢false}
-use Rattle.std.proofs.Common.{◌≡◌, ◌↔◌, inl, inr, ◌≤◌, ◌==◌, ◌&&◌, ℕ, Bool, true, false, cond, List, length, Option, Some, None, refl, sym, ap, subst, ◌∙◌, arith}
-use Rattle.std.specs.Prelude.{nat_lt, if◌then◌else◌}
+use Rattle.std.proofs.Common.{◌≡◌, ◌↔◌, ◌⊎◌, ⊎_elim, inl, inr, ◌<◌, ◌≤◌, ◌==◌, ◌&&◌, ◌++◌, ◌∷◌, [], ℕ, Bool, true, false, cond, List, length, Option, Some, None, refl, sym, ap, subst, ◌∙◌, arith}
+use Rattle.std.specs.Prelude.{nat_lt}
 use Rattle.std.specs.List.{Contains}
 use Rattle.std.proofs.lemmas.Bool.{eq-eqb}
 use Rattle.tg_rights.specs.RightSet.{RightSet, no_rights, union, is_none_held}
@@ -13,16 +12,16 @@ use Rattle.tg_model.specs.declared.command.Deed.TheVariants.{Create, Spawn, Plai
 use Rattle.tg_model.specs.declared.reply.Denial.{Denial}
 use Rattle.tg_model.specs.declared.opening.TheConstants.{MAX_WORKERS}
 use Rattle.tg_model.specs.Walks.{begins, goes, Walk-within}
-use Rattle.tg_model.specs.Graph.{ProtectionGraph, IsSubject, IsReachable, IsSound, with_rights}
+use Rattle.tg_model.specs.Graph.{ProtectionGraph, IsSubject, IsReachable, IsSound}
 use Rattle.tg_model.specs.Near.{SameNear, SameValuesNear}
 use Rattle.tg_model.specs.Opened.{Plan, IsPlan, start_of}
 use Rattle.tg_model.specs.Rules.{denial_of, denied_or, reply_of, step, answer_of, effect, with_vertex, with_subject, unless_denied}
 use Rattle.tg_model.proofs.AllowedLaws.{permits-no_denial}
 use Rattle.tg_model.proofs.NearLaws.{denial_of-near, reply_of-near, labels_after-same, values_after-same}
-use Rattle.tg_model.proofs.ReachLaws.{IsReachable-plain, IsReachable-step, lt-IsReachable}
-use Rattle.tg_model.proofs.SoundLaws.{IsSound-step, IsSound-start_of, le-step-made}
+use Rattle.tg_model.proofs.ReachLaws.{IsReachable-step, lt-IsReachable}
+use Rattle.tg_model.proofs.SoundLaws.{IsSound-step, IsSound-start_of}
 use Rattle.tg_journal.specs.declared.entry.Entry.{Entry}
-use Rattle.tg_journal.specs.Auditing.{MayMatter, HasComeTo}
+use Rattle.tg_journal.specs.Auditing.{AlikeWhereReached, MayMatter, HasComeTo}
 use Rattle.tg_journal.specs.History.{IsLegalEntry}
 use Rattle.tg_journal.specs.Live.{IsAsBefore, IsSwept}
 
@@ -67,105 +66,60 @@ module _ (g : ProtectionGraph) (f : ℕ → ℕ → RightSet) (v : ℕ → Optio
         | Some d ↦ λ e. refl
       ] refl
 
-  -- what may matter after a step may have before it
-  mattered : (deed : Deed) (a : ℕ) → MayMatter (step g x deed) a → MayMatter g a
-  mattered deed a (inl reachable) =
-      elim (IsReachable-step g x subject sound deed a reachable) [ inl now ↦ inl now | inr new ↦ inr (omega (arith, new)) ]
-  mattered deed a (inr later) = inr (omega (arith, later, le-step-made g x deed))
+  -- what holds of the graphs, and of what each deed makes of them, holds of them after a step
+  two : (R : ProtectionGraph → ProtectionGraph → Type 0) (b : Bool) (k h s t : ProtectionGraph) → R k s → R h t → R (cond b k h) (cond b s t)
+  two R true k h s t first second = first
+  two R false k h s t first second = second
 
-  made_label : (b : Bool) (k h s t : ProtectionGraph) (a c : ℕ) → k.label a c ≡ s.label a c → h.label a c ≡ t.label a c → (cond b k h).label a c ≡ (cond b s t).label a c
-  made_label true k h s t a c first second = first
-  made_label false k h s t a c first second = second
-
-  more_label : (label : RightSet) (a c : ℕ) → f a c ≡ g.label a c → with_rights f x g.made label a c ≡ with_rights g.label x g.made label a c
-  more_label label a c same = ap (λ s. cond ((a == x) && (c == g.made)) (union s label) s) same
-
-  step_label : (deed : Deed) (a c : ℕ) → f a c ≡ g.label a c → (step (other g f v) x deed).label a c ≡ (step g x deed).label a c
-  step_label (Create label law state) a c same =
-      made_label (nat_lt g.made g.limit) (with_vertex (other g f v) x label (record { law = law; state = state })) (other g f v) (with_vertex g x label (record { law = law; state = state })) g a c
-      (more_label label a c same) same
-  step_label (Spawn label law state) a c same =
-      let value : Value = record { law = law; state = state } in
-      made_label (nat_lt g.made g.limit)
-      (if nat_lt (length g.subjects) MAX_WORKERS then with_subject (other g f v) x label value else other g f v) (other g f v)
-      (if nat_lt (length g.subjects) MAX_WORKERS then with_subject g x label value else g) g a c
-      (made_label (nat_lt (length g.subjects) MAX_WORKERS) (with_subject (other g f v) x label value) (other g f v) (with_subject g x label value) g a c (more_label label a c same) same) same
-  step_label (Plain command) a c same =
-      ap (λ d. (unless_denied d (other g f v) (effect (other g f v) x command)).label a c) (same_denial command)
-      ∙ elim (denial_of g.label g.value x command) as (λ d. (unless_denied d (other g f v) (effect (other g f v) x command)).label a c ≡ (unless_denied d g (effect g x command)).label a c) [
-        | None ↦ labels_after-same g.label f x command a c same
+  both_step : (R : ProtectionGraph → ProtectionGraph → Type 0) → R (other g f v) g
+      → ((label : RightSet) (value : Value) → R (with_vertex (other g f v) x label value) (with_vertex g x label value))
+      → ((label : RightSet) (value : Value) → R (with_subject (other g f v) x label value) (with_subject g x label value))
+      → ((command : Command) → R (effect (other g f v) x command) (effect g x command)) → (deed : Deed) → R (step (other g f v) x deed) (step g x deed)
+  both_step R same vertex subject served (Create label law state) = two R (nat_lt g.made g.limit) _ _ _ _ (vertex label (record { law = law; state = state })) same
+  both_step R same vertex subject served (Spawn label law state) =
+      two R (nat_lt g.made g.limit) _ _ _ _ (two R (nat_lt (length g.subjects) MAX_WORKERS) _ _ _ _ (subject label (record { law = law; state = state })) same) same
+  both_step R same vertex subject served (Plain command) =
+      subst (λ (d : Option Denial). R (unless_denied d (other g f v) (effect (other g f v) x command)) (step g x (Plain command))) (sym (same_denial command))
+      (elim (denial_of g.label g.value x command) as (λ d. R (unless_denied d (other g f v) (effect (other g f v) x command)) (unless_denied d g (effect g x command))) [
+        | None ↦ served command
         | Some d ↦ same
-      ]
-
-  new_value : (b : Bool) (y : ℕ) (value : Value) → (b ≡ false → v y ≡ g.value y) → cond b (Some value) (v y) ≡ cond b (Some value) (g.value y)
-  new_value true y value same = refl
-  new_value false y value same = same refl
-
-  -- a vertex that was made before the step
-  before : (deed : Deed) (y : ℕ) → IsReachable (step g x deed) y → (y == g.made) ≡ false → v y ≡ g.value y
-  before deed y reachable old =
-      elim (IsReachable-step g x subject sound deed y reachable) [ inl now ↦ values y now | inr new ↦ absurd (true≢false (sym (eq-eqb y g.made new) ∙ old)) ]
-
-  step_value : (deed : Deed) (y : ℕ) → IsReachable (step g x deed) y → (step (other g f v) x deed).value y ≡ (step g x deed).value y
-  step_value (Create label law state) y =
-      let value : Value = record { law = law; state = state } in
-      let was = before (Create label law state) y in
-      elim (nat_lt g.made g.limit) as (λ b. (IsReachable (cond b (with_vertex g x label value) g) y → (y == g.made) ≡ false → v y ≡ g.value y)
-      → IsReachable (cond b (with_vertex g x label value) g) y → (cond b (with_vertex (other g f v) x label value) (other g f v)).value y ≡ (cond b (with_vertex g x label value) g).value y) [
-        | true ↦ λ was reachable. new_value (y == g.made) y value (was reachable)
-        | false ↦ λ was reachable. values y reachable
-      ] was
-  step_value (Spawn label law state) y =
-      let value : Value = record { law = law; state = state } in
-      let was = before (Spawn label law state) y in
-      let few = nat_lt (length g.subjects) MAX_WORKERS in
-      elim (nat_lt g.made g.limit) as (λ b. (IsReachable (cond b (cond few (with_subject g x label value) g) g) y → (y == g.made) ≡ false → v y ≡ g.value y)
-      → IsReachable (cond b (cond few (with_subject g x label value) g) g) y → (cond b (cond few (with_subject (other g f v) x label value) (other g f v)) (other g f v)).value y ≡ (cond b (cond few (with_subject g x label value) g) g).value y) [
-        | true ↦ elim few as (λ c. (IsReachable (cond c (with_subject g x label value) g) y → (y == g.made) ≡ false → v y ≡ g.value y)
-            → IsReachable (cond c (with_subject g x label value) g) y → (cond c (with_subject (other g f v) x label value) (other g f v)).value y ≡ (cond c (with_subject g x label value) g).value y) [
-              | true ↦ λ was reachable. new_value (y == g.made) y value (was reachable)
-              | false ↦ λ was reachable. values y reachable
-            ]
-        | false ↦ λ was reachable. values y reachable
-      ] was
-  step_value (Plain command) y = λ reachable.
-      let same = values y (IsReachable-plain g x subject command y reachable) in
-      ap (λ d. (unless_denied d (other g f v) (effect (other g f v) x command)).value y) (same_denial command)
-      ∙ elim (denial_of g.label g.value x command) as (λ d. (unless_denied d (other g f v) (effect (other g f v) x command)).value y ≡ (unless_denied d g (effect g x command)).value y) [
-        | None ↦ values_after-same g.value v command y same
-        | Some d ↦ same
-      ]
-
-  -- what is neither a label nor a value
-  abbrev SameParts : ProtectionGraph → ProtectionGraph → Type 0
-  SameParts k h = (k.subjects ≡ h.subjects) × (k.made ≡ h.made) × (k.limit ≡ h.limit)
-
-  both : (b : Bool) (k h s t : ProtectionGraph) → SameParts k s → SameParts h t → SameParts (cond b k h) (cond b s t)
-  both true k h s t first second = first
-  both false k h s t first second = second
-
-  step_parts : (deed : Deed) → SameParts (step (other g f v) x deed) (step g x deed)
-  step_parts (Create label law state) = both (nat_lt g.made g.limit) _ _ _ _ (refl, refl, refl) (refl, refl, refl)
-  step_parts (Spawn label law state) =
-      both (nat_lt g.made g.limit) _ _ _ _ (both (nat_lt (length g.subjects) MAX_WORKERS) _ _ _ _ (refl, refl, refl) (refl, refl, refl)) (refl, refl, refl)
-  step_parts (Plain command) =
-      subst (λ (d : Option Denial). SameParts (unless_denied d (other g f v) (effect (other g f v) x command)) (step g x (Plain command))) (sym (same_denial command))
-      (elim (denial_of g.label g.value x command) as (λ d. SameParts (unless_denied d (other g f v) (effect (other g f v) x command)) (unless_denied d g (effect g x command))) [
-        | None ↦ (refl, refl, refl)
-        | Some d ↦ (refl, refl, refl)
       ])
+
+  -- what is reached after a step was before it, or was made by it
+  abbrev Known : ProtectionGraph → Type 0
+  Known h = (y : ℕ) → IsReachable h y → (y < h.made) × (IsReachable g y ⊎ (y ≡ g.made))
+
+  mattered : (h : ProtectionGraph) → g.made ≤ h.made → Known h → (a : ℕ) → MayMatter h a → MayMatter g a
+  mattered h more known a (inl reachable) = ⊎_elim (λ now. inl now) (λ new. inr (omega (arith, new))) (known a reachable).1
+  mattered h more known a (inr later) = inr (omega (arith, later, more))
+
+  alike_created : (label : RightSet) (value : Value) (subjects : List ℕ) → Known (record (with_vertex g x label value) { subjects = subjects }) → AlikeWhereReached (record (with_vertex g x label value) { subjects = subjects }) (record (with_vertex (other g f v) x label value) { subjects = subjects })
+  alike_created label value subjects known = record {
+    subjects = refl;
+    made = refl;
+    limit = refl;
+    label = λ a c matters. ap (λ s. cond ((a == x) && (c == g.made)) (union s label) s) (labels a c (mattered (record (with_vertex g x label value) { subjects = subjects }) (omega arith) known a matters));
+    value = λ y reachable. ⊎_elim (λ now. ap (λ o. cond (y == g.made) (Some value) o) (values y now)) (λ new. rw (eq-eqb y g.made new) refl) (known y reachable).1;
+  }
+
+  alike_served : (command : Command) → Known (effect g x command) → AlikeWhereReached (effect g x command) (effect (other g f v) x command)
+  alike_served command known = record {
+    subjects = refl;
+    made = refl;
+    limit = refl;
+    label = λ a c matters. labels_after-same g.label f x command a c (labels a c (mattered (effect g x command) (omega arith) known a matters));
+    value = λ y reachable. let (low, was) = known y reachable in
+        values_after-same g.value v command y (⊎_elim (values y) (λ new. absurd (omega (arith, low, new))) was);
+  }
 
   other_step : (deed : Deed) → HasComeTo (step g x deed) (step (other g f v) x deed)
   other_step deed =
-      let parts = step_parts deed in record {
-        sound = IsSound-step g sound x subject deed;
-        alike = record {
-          subjects = parts.0;
-          made = parts.1;
-          limit = parts.2;
-          label = λ a c matters. step_label deed a c (labels a c (mattered deed a matters));
-          value = λ y reachable. step_value deed y reachable;
-        };
+      let then = IsSound-step g sound x subject deed in
+      record {
+        sound = then;
+        alike = both_step (λ k h. Known h → AlikeWhereReached h k) (λ _. record { subjects = refl; made = refl; limit = refl; label = labels; value = values })
+            (λ label value. alike_created label value g.subjects) (λ label value. alike_created label value (g.subjects ++ g.made ∷ [])) alike_served deed
+            (λ y reachable. (lt-IsReachable (step g x deed) then y reachable, IsReachable-step g x subject sound deed y reachable));
       }
 
 module _ (g k : ProtectionGraph) (come : HasComeTo g k) where

@@ -80,10 +80,6 @@ fault_of g new es stopped is =
       | BadEntry at ↦ λ same. (is.bad at same).1
     ] refl
 
--- an audit has come where nothing passed yet
-pub begun : (g kept : ProtectionGraph) (es : List Entry) → HasComeTo g kept → Passes g (take 0 es) kept
-begun g kept es come = record { legal = tt; next = come }
-
 -- a sweep between two entries
 pub still_passes : (g kept swept : ProtectionGraph) (es : List Entry) → Passes g es kept → ((h : ProtectionGraph) → HasComeTo h kept → HasComeTo h swept) → Passes g es swept
 still_passes g kept swept es was stays = record { legal = was.legal; next = stays (graph_after g es) was.next }

@@ -1,14 +1,13 @@
 -- What the changes of a deed come to in the graph that is kept.
-use Rattle.std.proofs.Common.{◌≡◌, ◌+◌, ◌<◌, ◌++◌, ◌∷◌, [], ℕ, List, length, Bool, true, false, cond, Option, None, refl, sym, ap, ◌∙◌}
+use Rattle.std.proofs.Common.{◌≡◌, ◌+◌, ℕ, List, Bool, true, false, cond, Option, None, refl, sym, ap, ◌∙◌}
 use mathlib.Core.Bool.{true≢false}
 use Rattle.tg_rights.specs.RightSet.{RightSet, no_rights, is_none_held}
 use Rattle.tg_model.specs.declared.value.Value.{Value}
-use Rattle.tg_model.specs.declared.command.Deed.TheVariants.{Create, Spawn}
-use Rattle.tg_model.specs.declared.opening.TheConstants.{MAX_WORKERS}
-use Rattle.tg_model.specs.Graph.{ProtectionGraph, IsReachable, with_rights}
-use Rattle.tg_model.specs.Opened.{Plan, start_of}
-use Rattle.tg_model.specs.Rules.{step, with_value, with_vertex}
-use Rattle.tg_model.proofs.AllowedLaws.{step-created, step-spawned}
+use Rattle.tg_model.specs.declared.making.Making.{Making}
+use Rattle.tg_model.specs.Graph.{IsReachable, with_rights}
+use Rattle.tg_model.specs.Making.{deed_making, subjects_making}
+use Rattle.tg_model.specs.Rules.{step, with_value}
+use Rattle.tg_model.proofs.MakingLaws.{HasRoom, step-made}
 use Rattle.tg_journal.specs.declared.vertices.Vertex.{Vertex}
 use Rattle.tg_journal.specs.Live.{Kept, graph_kept, label_between, value_of, IsSwept}
 
@@ -28,23 +27,12 @@ module _ (s : List ℕ) (n l : ℕ) (vs : List Vertex) (k : Kept) (view : kept s
       (λ i. record { subjects = s; made = n; limit = l; label = labels i; value = λ a. values a i })
       ∙ ap (λ (k : Kept). record (graph_kept k) { value = f (value_of k.vertices) }) view
 
-  -- a vertex more
-  pub created : (x : ℕ) (r : RightSet) (v : Value) (new : List Vertex) → label_between new ≡ with_rights (label_between vs) x n r → ((a : ℕ) → value_of new a ≡ with_value (value_of vs) n v a) → n < l → graph_kept (kept s (n + 1) l new) ≡ step (graph_kept k) x (Create r v.law v.state)
-  created x r v new labels values room =
-      (λ i. record { subjects = s; made = n + 1; limit = l; label = labels i; value = λ a. values a i })
-      ∙ sym (step-created (graph_kept (kept s n l vs)) x r v.law v.state room)
-      ∙ ap (λ (k : Kept). step (graph_kept k) x (Create r v.law v.state)) view
-
--- a vertex more, which is a subject
-pub spawned : (g next : ProtectionGraph) (k : Kept) (x : ℕ) (r : RightSet) (v : Value) (subjects : List ℕ) (name : ℕ) → next ≡ step g x (Create r v.law v.state) → next ≡ graph_kept k → g.made < g.limit → length g.subjects < MAX_WORKERS → subjects ≡ g.subjects ++ name ∷ [] → name ≡ g.made → graph_kept (record k { subjects = subjects }) ≡ step g x (Spawn r v.law v.state)
-spawned g next k x r v subjects name is stands room few more made =
-    let parts : graph_kept k ≡ with_vertex g x r v = sym stands ∙ is ∙ step-created g x r v.law v.state room in
-    (λ i. record (parts i) { subjects = (more ∙ ap (λ n. g.subjects ++ n ∷ []) made) i }) ∙ sym (step-spawned g x r v.law v.state room few)
-
--- the graph of an opening
-pub opened : (p : Plan) (s : List ℕ) (n l : ℕ) (vs : List Vertex) → s ≡ (start_of p).subjects → n ≡ p.workers → l ≡ p.limit → label_between vs ≡ (start_of p).label → value_of vs ≡ (start_of p).value → graph_kept (kept s n l vs) ≡ start_of p
-opened p s n l vs subjects made limit labels values =
-    λ i. record { subjects = subjects i; made = made i; limit = limit i; label = labels i; value = values i }
+  -- a vertex more, which may be a subject
+  pub made : (x : ℕ) (r : RightSet) (v : Value) (making : Making) (new : List Vertex) → label_between new ≡ with_rights (label_between vs) x n r → ((a : ℕ) → value_of new a ≡ with_value (value_of vs) n v a) → HasRoom making (graph_kept (kept s n l vs)) → graph_kept (kept (subjects_making making s n) (n + 1) l new) ≡ step (graph_kept k) x (deed_making making r v)
+  made x r v making new labels values room =
+      (λ i. record { subjects = subjects_making making s n; made = n + 1; limit = l; label = labels i; value = λ a. values a i })
+      ∙ sym (step-made (graph_kept (kept s n l vs)) x r v making room)
+      ∙ ap (λ (k : Kept). step (graph_kept k) x (deed_making making r v)) view
 
 -- ---- a sweep
 

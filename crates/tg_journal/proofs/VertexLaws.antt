@@ -1,5 +1,5 @@
 -- Vertices by rising name: what is found at a name, and what a change of one vertex, or leaving some out, comes to.
-use Rattle.std.proofs.Common.{◌≡◌, ◌↔◌, ℕ, zero, suc, ◌+◌, ◌-◌, ◌<◌, ◌≤◌, ◌==◌, ◌&&◌, Bool, true, false, cond, not, map, nat_eq, List, [], ◌∷◌, length, get_or, Result, Ok, Err, IfOk, IfErr, Option, Some, None, refl, sym, ap, subst, ◌∙◌, arith}
+use Rattle.std.proofs.Common.{◌≡◌, ◌↔◌, ℕ, zero, suc, ◌+◌, ◌-◌, ◌<◌, ◌≤◌, ◌==◌, ◌&&◌, Bool, true, false, cond, not, map, nat_eq, List, [], ◌∷◌, length, get_or, Result, Ok, Err, IfOk, Option, Some, None, refl, sym, ap, subst, ◌∙◌, arith}
 use Rattle.std.specs.Prelude.{◌||◌, IsTrue, option_map, slice_get}
 use Rattle.std.specs.Set.{is_member}
 use Rattle.std.proofs.Math.ListN.{set}
@@ -7,9 +7,10 @@ use Rattle.std.specs.List.{filter, insert}
 use Rattle.std.specs.List.Sorted.{IsSearchInRange, IsBinarySearchResult, IsNonDecreasingBy}
 use Rattle.std.specs.Ordering.{nat_cmp, ordering_index}
 use Rattle.std.proofs.lemmas.Cmp.{ranked}
-use Rattle.std.proofs.lemmas.Bool.{eqb-true, eq-eqb}
+use Rattle.std.proofs.lemmas.Bool.{eqb-true, eq-eqb, cond_both}
 use Rattle.std.proofs.lemmas.Bool.Decides.{nat_tests}
 use Rattle.std.proofs.lemmas.List.{get_or_default}
+use Rattle.std.proofs.lemmas.Option.{get_or_from_slice_get, none-some, slice_get-get_or, slice_get_within}
 use Rattle.std.proofs.lemmas.List.Sorted.{IsNonDecreasingBy-from_default}
 use Rattle.tg_rights.specs.RightSet.{RightSet, no_rights, is_none_held}
 use Rattle.tg_rights.specs.RightLaws.{none_held-same}
@@ -20,6 +21,7 @@ use Rattle.tg_model.specs.Rules.{written, written_at}
 use Rattle.tg_model.proofs.RowLaws.{changed_at}
 use Rattle.tg_model.proofs.RowListing.{listed}
 use Rattle.tg_journal.specs.declared.vertices.Vertex.{Vertex}
+use Rattle.tg_journal.specs.Inner.Steps.{IsPlace}
 use Rattle.tg_journal.specs.Live.{at_name, label_between, value_of, NamesFrom, name_at, IsAt, IsGap}
 
 abbrev pub nobody : Vertex
@@ -62,24 +64,14 @@ gap_behind vs x last rise is less = record {
         let sooner : j < last = grind (arith, nat_tests, before, is, other) in
         let rest = later 0 vs j last rise sooner (omega (arith, is)) in omega (arith, rest, less)
 
-read-at : (vs : List Vertex) (i : ℕ) (v : Vertex) → slice_get vs i ≡ Some v → (i < length vs) × (get_or vs i nobody ≡ v)
-read-at [] i v is = let no : ⊥ = cc in absurd no
-read-at (u ∷ vs) zero v is = (omega arith, cc)
-read-at (u ∷ vs) (suc i) v is = let rest = read-at vs i v is in (omega (arith, rest.0), rest.1)
-
-some-at : (vs : List Vertex) (i : ℕ) → i < length vs → slice_get vs i ≡ None → ⊥
-some-at [] i inside none = omega (arith, inside)
-some-at (u ∷ vs) zero inside none = cc
-some-at (u ∷ vs) (suc i) inside none = some-at vs i (omega (arith, inside)) none
-
 pub gap_after : (vs : List Vertex) (x : ℕ) (last : Vertex) → NamesFrom 0 vs → slice_get vs (length vs - 1) ≡ Some last → last.name < x → IsGap vs x (length vs)
 gap_after vs x last rise is less =
-    let there = read-at vs (length vs - 1) last is in
-    gap_behind vs x (length vs - 1) rise (omega (arith, there.0)) (subst (λ (n : ℕ). n < x) (sym (ap (λ (v : Vertex). v.name) there.1)) less)
+    let inside = slice_get_within vs (length vs - 1) last is in
+    gap_behind vs x (length vs - 1) rise (omega (arith, inside)) (subst (λ (v : Vertex). v.name < x) (sym (get_or_from_slice_get vs (length vs - 1) last nobody is)) less)
 
 pub gap_alone : (vs : List Vertex) (x : ℕ) → slice_get vs (length vs - 1) ≡ None → IsGap vs x (length vs)
 gap_alone [] x none = record { inside = omega arith; smaller = λ j before. absurd (omega (arith, before)); greater = λ j from inside. absurd (omega (arith, inside)) }
-gap_alone (v ∷ vs) x none = absurd (some-at (v ∷ vs) (length (v ∷ vs) - 1) (omega arith) none)
+gap_alone (v ∷ vs) x none = absurd (none-some _ (sym none ∙ slice_get-get_or (v ∷ vs) (length (v ∷ vs) - 1) nobody (omega arith)))
 
 module _ (vs : List Vertex) (rise : NamesFrom 0 vs) (x : ℕ) where
   comparisons_rise : IsNonDecreasingBy (λ v. ordering_index (nat_cmp v.name x)) vs
@@ -88,16 +80,16 @@ module _ (vs : List Vertex) (rise : NamesFrom 0 vs) (x : ℕ) where
       grind (arith, nat_tests))
 
   -- a search by halves ends at the name, or where it would go
-  pub searched : (r : Result ℕ ℕ) → IsSearchInRange r (length vs) → IsBinarySearchResult (λ v. nat_cmp v.name x) vs r → IfOk r (IsAt vs x) × IfErr r (IsGap vs x)
-  searched (Ok at) inside equal = (record { inside = inside; name = ranked _ x _ (sym (equal nobody)) }, tt)
-  searched (Err at) inside parted = (
-    tt,
-    record {
+  pub searched : (r : Result ℕ ℕ) → IsSearchInRange r (length vs) → IsBinarySearchResult (λ v. nat_cmp v.name x) vs r → IsPlace vs x r
+  searched (Ok at) inside equal = record { found = record { inside = inside; name = ranked _ x _ (sym (equal nobody)) }; absent = tt }
+  searched (Err at) inside parted = record {
+    found = tt;
+    absent = record {
       inside = inside;
       smaller = λ j before. ranked _ x _ (sym ((parted comparisons_rise).0 j nobody (omega arith) before));
       greater = λ j from below. ranked _ x _ (sym ((parted comparisons_rise).1 j nobody from below));
-    },
-  )
+    };
+  }
 
 -- ---- the names still rise
 
@@ -207,36 +199,28 @@ module _ {X : Type 0} (of : Vertex → X) (none : X) where
 
 -- ---- a change of one vertex
 
+same_then : {X : Type 0} (b : Bool) (one two rest : X) → (b ≡ true → one ≡ two) → cond b one rest ≡ cond b two rest
+same_then true one two rest same = same refl
+same_then false one two rest same = refl
+
+both_tests : {X : Type 0} (b c : Bool) (it rest : X) → cond b (cond c it rest) rest ≡ cond (b && c) it rest
+both_tests true c it rest = refl
+both_tests false c it rest = refl
+
+-- what holds at a name holds at each that is this one
+there : {X : Type 0} (f g : ℕ → X) (x q : ℕ) → f x ≡ g x → (q == x) ≡ true → f q ≡ g q
+there f g x q same here = let is = eqb-true q x here in ap f is ∙ same ∙ ap g (sym is)
+
 -- rights of x over y that change
 relabelled : (vs us : List Vertex) (x y : ℕ) (f : RightSet → RightSet) (new : ℕ → RightSet) → ((a b : ℕ) → label_between us a b ≡ cond (a == x) (new b) (label_between vs a b)) → ((b : ℕ) → new b ≡ cond (b == y) (f (label_between vs x b)) (label_between vs x b)) → (a b : ℕ) → label_between us a b ≡ cond ((a == x) && (b == y)) (f (label_between vs a b)) (label_between vs a b)
-relabelled vs us x y f new is more a b = is a b ∙ at (a == x) refl
-  where
-    at : (t : Bool) → t ≡ (a == x) → cond t (new b) (label_between vs a b) ≡ cond (t && (b == y)) (f (label_between vs a b)) (label_between vs a b)
-    at true here = more b ∙ ap (λ (m : ℕ). cond (b == y) (f (label_between vs m b)) (label_between vs m b)) (sym (eqb-true a x (sym here)))
-    at false here = refl
+relabelled vs us x y f new is more a b =
+    is a b
+    ∙ same_then (a == x) _ _ _ (there (λ _. new b) (λ m. cond (b == y) (f (label_between vs m b)) (label_between vs m b)) x a (more b))
+    ∙ both_tests (a == x) (b == y) _ _
 
 -- what stays the same at the vertex stays so everywhere
 unchanged : {X : Type 0} (old new : ℕ → X) (x : ℕ) (it : X) → ((q : ℕ) → new q ≡ cond (q == x) it (old q)) → it ≡ old x → (q : ℕ) → new q ≡ old q
-unchanged old new x it is same q = is q ∙ at (q == x) refl
-  where
-    at : (t : Bool) → t ≡ (q == x) → cond t it (old q) ≡ old q
-    at true here = same ∙ ap old (sym (eqb-true q x (sym here)))
-    at false here = refl
-
--- a value that is written
-pub written_there : (value : ℕ → Option Value) (x number : ℕ) (it : Option Value) → it ≡ option_map (written number) (value x) → (q : ℕ) → cond (q == x) it (value q) ≡ written_at value x number q
-written_there value x number it is q = at (q == x) refl
-  where
-    at : (t : Bool) → t ≡ (q == x) → cond t it (value q) ≡ cond t (option_map (written number) (value q)) (value q)
-    at true here = is ∙ ap (λ (m : ℕ). option_map (written number) (value m)) (sym (eqb-true q x (sym here)))
-    at false here = refl
-
-pub unwritten : (value : ℕ → Option Value) (x number : ℕ) → value x ≡ None → (q : ℕ) → value q ≡ written_at value x number q
-unwritten value x number none q = at (q == x) refl
-  where
-    at : (t : Bool) → t ≡ (q == x) → value q ≡ cond t (option_map (written number) (value q)) (value q)
-    at true here = let is : value q ≡ None = ap value (eqb-true q x (sym here)) ∙ none in is ∙ ap (option_map (written number)) (sym is)
-    at false here = refl
+unchanged old new x it is same q = is q ∙ cond_both (q == x) _ _ (λ o. o ≡ old q) (there (λ _. it) old x q same) (λ _. refl)
 
 module _ (vs : List Vertex) (x i : ℕ) (old : Vertex) (rise : NamesFrom 0 vs) (is : IsAt vs x i) (read : old ≡ get_or vs i old) where
   old_is : old ≡ get_or vs i nobody
@@ -274,6 +258,12 @@ module _ (vs : List Vertex) (x i : ℕ) (old : Vertex) (rise : NamesFrom 0 vs) (
   pub value_values : (value : Option Value) (q : ℕ) → value_of (with_value value) q ≡ cond (q == x) value (value_of vs q)
   value_values value = found-set (λ v. v.value) None 0 vs x i _ rise is old_name
 
+  -- a number that is written, by the law of what is stored
+  pub value_written : (value : Option Value) (number : ℕ) → value ≡ option_map (written number) old.value → (q : ℕ) → value_of (with_value value) q ≡ written_at (value_of vs) x number q
+  value_written value number same q =
+      value_values value q
+      ∙ same_then (q == x) _ _ _ (there (λ _. value) (λ m. option_map (written number) (value_of vs m)) x q (same ∙ ap (option_map (written number)) (sym value_there)))
+
   pub value_labels : (value : Option Value) (a b : ℕ) → label_between (with_value value) a b ≡ label_between vs a b
   value_labels value a b =
       unchanged (λ a. label_between vs a b) (λ a. label_between (with_value value) a b) x (rights_in_row old.row b)
@@ -288,15 +278,16 @@ module _ (vs : List Vertex) (x i : ℕ) (gap : IsGap vs x i) where
 
   -- what leaves no rights loses nothing
   pub nothing_lost : (y : ℕ) (f : RightSet → RightSet) → f no_rights ≡ no_rights → (a b : ℕ) → label_between vs a b ≡ cond ((a == x) && (b == y)) (f (label_between vs a b)) (label_between vs a b)
-  nothing_lost y f lost_none = relabelled vs vs x y f (label_between vs x) (λ a b. sym (again a b (a == x) refl)) (λ b. lost (b == y) (label_between vs x b) (no_label b))
-    where
-      again : (a b : ℕ) (t : Bool) → t ≡ (a == x) → cond t (label_between vs x b) (label_between vs a b) ≡ label_between vs a b
-      again a b true here = ap (λ (m : ℕ). label_between vs m b) (sym (eqb-true a x (sym here)))
-      again a b false here = refl
+  nothing_lost y f lost_none =
+      relabelled vs vs x y f (label_between vs x)
+      (λ a b. cond_both (a == x) _ _ (λ r. label_between vs a b ≡ r) (there (λ m. label_between vs m b) (λ _. label_between vs x b) x a refl) (λ _. refl))
+      (λ b. cond_both (b == y) _ _ (λ r. label_between vs x b ≡ r) (λ _. let none = no_label b in none ∙ sym lost_none ∙ ap f (sym none)) (λ _. refl))
 
-      lost : (t : Bool) (s : RightSet) → s ≡ no_rights → s ≡ cond t (f s) s
-      lost true s none = none ∙ sym lost_none ∙ ap f (sym none)
-      lost false s none = refl
+  -- nothing is written where nothing is stored
+  pub unwritten : (number q : ℕ) → value_of vs q ≡ written_at (value_of vs) x number q
+  unwritten number q =
+      cond_both (q == x) _ _ (λ o. value_of vs q ≡ o)
+      (there (value_of vs) (λ m. option_map (written number) (value_of vs m)) x q (no_value ∙ ap (option_map (written number)) (sym no_value))) (λ _. refl)
 
   pub in_rises : (w : Vertex) → NamesFrom 0 vs → w.name ≡ x → NamesFrom 0 (insert vs i w)
   in_rises w rise same = rise-insert 0 vs x i w rise gap same (omega arith)

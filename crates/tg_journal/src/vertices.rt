@@ -1,11 +1,12 @@
 //! The vertices that an audit keeps.
-ghost use Rattle.std.specs.Prelude.{◌≡◌, ◌<◌, ℕ, nat_eq, IsTrue, IfOk, IfErr, IfSome, OnOk, OnErr, map, option_copied, ◌↔◌, [], None, if◌then◌else◌};
+ghost use Rattle.std.specs.Prelude.{◌≡◌, ◌<◌, ℕ, nat_eq, IsTrue, IfOk, IfSome, map, option_copied, ◌↔◌, [], None, if◌then◌else◌};
 ghost use Rattle.std.specs.Set.{is_member};
 ghost use Rattle.indexmap.specs.IndexSet.{contains};
 ghost use Rattle.tg_rights.specs.RightSet.{no_rights};
 ghost use Rattle.tg_model.specs.Graph.{HasEdge, with_rights, without_rights, listing_of};
 ghost use Rattle.tg_model.specs.Rules.{with_value, written_at};
-ghost use Rattle.tg_journal.specs.Live.{IsAt, IsGap, label_between, value_of};
+ghost use Rattle.tg_journal.specs.Inner.Steps.{Changes, IsPlace};
+ghost use Rattle.tg_journal.specs.Live.{IsAt, label_between, value_of};
 
 use indexmap::IndexSet;
 use std::alloc::{AllocError, Global};
@@ -93,9 +94,7 @@ impl Vertices {
 
     /// Has a vertex store a value, whatever it stored. Where memory is refused all is as it was.
     pub(crate) fn put(&mut self, alloc: Global, name: u64, value: Value) -> Result<(), AllocError>
-        ensures values { OnOk result ((y : ℕ) → value_of self.new y ≡ with_value (value_of self.old) name value y) }
-        ensures labels { OnOk result (label_between self.new ≡ label_between self.old) }
-        ensures err { OnErr result (self.new ≡ self.old) }
+        ensures { Changes self.old self.new (label_between self.old) (with_value (value_of self.old) name value) result }
     {
         match self.place(name) {
             Ok(at) => {
@@ -117,9 +116,7 @@ impl Vertices {
     /// Writes to what a vertex stores, by its law; where it stores nothing, nothing changes. Where memory is refused
     /// all is as it was.
     pub(crate) fn write(&mut self, alloc: Global, name: u64, value: u64) -> Result<(), AllocError>
-        ensures values { OnOk result ((y : ℕ) → value_of self.new y ≡ written_at (value_of self.old) name value y) }
-        ensures labels { OnOk result (label_between self.new ≡ label_between self.old) }
-        ensures err { OnErr result (self.new ≡ self.old) }
+        ensures { Changes self.old self.new (label_between self.old) (written_at (value_of self.old) name value) result }
     {
         if let Ok(at) = self.place(name) {
             if let Some(stored) = &mut self.items[at].value {
@@ -137,9 +134,7 @@ impl Vertices {
         to: u64,
         label: Label,
     ) -> Result<(), AllocError>
-        ensures labels { OnOk result (label_between self.new ≡ with_rights (label_between self.old) from to label) }
-        ensures values { OnOk result (value_of self.new ≡ value_of self.old) }
-        ensures err { OnErr result (self.new ≡ self.old) }
+        ensures { Changes self.old self.new (with_rights (label_between self.old) from to label) (value_of self.old) result }
     {
         match self.place(from) {
             Ok(at) => self.items[at].row.add(to, label)?,
@@ -177,8 +172,7 @@ impl Vertices {
 
     // Where the vertex of a name stands, or where it would go.
     fn place(&self, name: u64) -> Result<usize, usize>
-        ensures found { IfOk result (IsAt self.now name) }
-        ensures absent { IfErr result (IsGap self.now name) }
+        ensures { IsPlace self.now name result }
     {
         match self.guess(name) {
             Some(at) => Ok(at),
@@ -215,8 +209,7 @@ impl Vertices {
 
     // Where the vertex of a name stands, or where it would go, found by halves.
     fn search(&self, name: u64) -> Result<usize, usize>
-        ensures found { IfOk result (IsAt self.now name) }
-        ensures absent { IfErr result (IsGap self.now name) }
+        ensures { IsPlace self.now name result }
     {
         match self.items.last() {
             Some(last) if name <= last.name => self

@@ -1,7 +1,7 @@
 -- The edges of a plain graph as a list, and one edge more.
 use Rattle.std.proofs.Common.{◌≡◌, ◌⊎◌, inl, inr, ⊎_elim, ℕ, zero, suc, ◌+◌, ◌<◌, ◌≤◌, ◌==◌, ◌&&◌, ◌||◌, not, Bool, true, false, cond, List, [], ◌∷◌, ◌++◌, length, map, get_or, refl, sym, ap, ap₂, ◌∙◌, subst, arith, eq-eqb}
 use Rattle.std.specs.List.{All, AllWithin, filter, range_with_len}
-use Rattle.std.proofs.lemmas.Bool.{false≢true, true≢false, cases_eq, eqb-true, and_parts}
+use Rattle.std.proofs.lemmas.Bool.{false≢true, true≢false, cases_Bool, cases_eq, eqb-true, and_parts}
 use Rattle.std.proofs.lemmas.List.Elements.{All-head, All-tail, All-cons, All-filter, AllWithin-more, at_read}
 use Rattle.tg_rights.specs.RightSet.{RightSet, has, union, is_none_held}
 use Rattle.tg_rights.specs.RightLaws.{has-union, has-none_held, same_rights}
@@ -16,10 +16,7 @@ use Rattle.tg_model.proofs.LabelLaws.{label_in-push, end_made}
 -- who has a right has an edge
 Holds-edge : (s : RightSet) (q : Right) → has s q ≡ true → is_none_held s ≡ false
 Holds-edge s q h =
-    elim (is_none_held s) as (λ b. is_none_held s ≡ b → b ≡ false) [
-      | true ↦ λ none. absurd (false≢true (sym (has-none_held s none q) ∙ h))
-      | false ↦ λ some. refl
-    ] refl
+    ⊎_elim (λ none. absurd (false≢true (sym (has-none_held s none q) ∙ h))) (λ some. some) (cases_Bool (is_none_held s))
 
 pub IsMade-plain : (p : PlainGraph) → IsPlain p → IsMade (graph_of p)
 IsMade-plain p plain = record {

@@ -1,10 +1,10 @@
 -- Lists of subjects: one more, and one less.
-use Rattle.std.proofs.Common.{◌≡◌, ◌≢◌, ◌↔◌, ◌⊎◌, ⊎_elim, inl, inr, ℕ, zero, suc, ◌+◌, ◌<◌, ◌≤◌, ◌==◌, nat_lt, Bool, true, false, cond, List, [], ◌∷◌, ◌++◌, length, get_or, refl, sym, ap, ◌∙◌, subst, arith}
+use Rattle.std.proofs.Common.{◌≡◌, ◌≢◌, ◌↔◌, ℕ, zero, suc, ◌+◌, ◌<◌, ◌≤◌, ◌==◌, Bool, true, false, List, [], ◌∷◌, ◌++◌, length, get_or, refl, sym, ap, ◌∙◌, subst, arith}
 use Rattle.std.proofs.lemmas.Bool.{eqb-false, ne_eqb, cond_both, cond-true}
 use Rattle.std.specs.Prelude.{not}
 use Rattle.std.specs.List.{Contains}
 use Rattle.std.specs.List.Sorted.{IsStrictlyIncreasing}
-use Rattle.std.proofs.lemmas.List.Elements.{All-contains, All-contains_itself, All-filter, Contains-get_or, filter_passes}
+use Rattle.std.proofs.lemmas.List.Elements.{All-contains, All-contains_itself, All-filter, Contains-append_right, Contains-get_or, filter_passes}
 use Rattle.std.proofs.lemmas.List.Filters.{length-filter_both}
 use Rattle.std.proofs.lemmas.List.Kept.{IsStrictlyIncreasing-filter}
 use Rattle.tg_model.specs.declared.command.Command.{Command}
@@ -12,15 +12,10 @@ use Rattle.tg_model.specs.declared.command.Command.TheVariants.{Retire}
 use Rattle.tg_rights.specs.RightSet.{RightSet}
 use Rattle.tg_model.specs.declared.law.Law.{Law}
 use Rattle.tg_model.specs.declared.command.Deed.TheVariants.{Spawn}
-use Rattle.tg_model.specs.declared.reply.Reply.TheVariants.{Name, VerticesFull, WorkersFull}
-use Rattle.tg_model.specs.declared.opening.TheConstants.{MAX_WORKERS}
+use Rattle.tg_model.specs.declared.reply.Reply.TheVariants.{Name}
 use Rattle.tg_model.specs.Graph.{ProtectionGraph, without_subject}
-use Rattle.tg_model.specs.Rules.{subjects_after, answer_of, step, with_subject}
-
--- a place in x ∷ xs that holds z is the head or a place in xs
-first_or_later : (x z : ℕ) (xs : List ℕ) (k : ℕ) → k < length (x ∷ xs) → get_or (x ∷ xs) k z ≡ z → (x ≡ z) ⊎ Contains xs z
-first_or_later x z xs zero l e = inl e
-first_or_later x z xs (suc k) l e = inr (k, omega arith, e)
+use Rattle.tg_model.specs.Rules.{subjects_after, answer_of, step}
+use Rattle.tg_model.proofs.NameLaws.{name_is_next}
 
 -- ---- one less
 
@@ -44,14 +39,11 @@ gone subjects x is =
 
 after_without : (subjects : List ℕ) (x y : ℕ) → Contains subjects y → y ≢ x → Contains (without_subject subjects x) y
 after_without [] x y (k, inside, at) other = absurd (omega (arith, inside))
-after_without (s ∷ subjects) x y (k, inside, at) other =
-    ⊎_elim
-    (λ first. subst (λ l. Contains l y) (sym (cond-true (not (s == x)) (s ∷ without_subject subjects x) (without_subject subjects x) (other_passes s x (λ same. other (sym first ∙ same))))) (0, omega arith, first))
-    (λ later.
-    let rest = after_without subjects x y later other in
-    cond_both (not (s == x)) (s ∷ without_subject subjects x) (without_subject subjects x) (λ l. Contains l y)
-    (λ _. let r = rest in (suc r.0, omega (arith, r.1), r.2)) (λ _. rest))
-    (first_or_later s y subjects k inside at)
+after_without (s ∷ subjects) x y (zero, inside, at) other =
+    subst (λ l. Contains l y) (sym (cond-true (not (s == x)) (s ∷ without_subject subjects x) (without_subject subjects x) (other_passes s x (λ same. other (sym at ∙ same))))) (0, omega arith, at)
+after_without (s ∷ subjects) x y (suc k, inside, at) other =
+    let rest = after_without subjects x y (k, omega (arith, inside), at) other in
+    cond_both (not (s == x)) (s ∷ without_subject subjects x) (without_subject subjects x) (λ l. Contains l y) (λ _. Contains-append_right (s ∷ []) (without_subject subjects x) y rest) (λ _. rest)
 
 -- exactly the others stay
 pub is_without : (subjects : List ℕ) (x y : ℕ) → Contains (without_subject subjects x) y ↔ (Contains subjects y × (y ≢ x))
@@ -93,14 +85,8 @@ few_from_rising (x ∷ xs) n rising below =
     omega (arith, last, low)
 
 -- a spawn that answers a name makes a vertex
-made_of : (b c : Bool) (g k : ProtectionGraph) (n name : ℕ) → cond b (cond c (Name n) WorkersFull) VerticesFull ≡ Name name → (cond b (cond c k g) g).made ≡ k.made
-made_of true true g k n name answer = refl
-made_of true false g k n name answer = let no : ⊥ = cc in absurd no
-made_of false c g k n name answer = let no : ⊥ = cc in absurd no
-
 pub made-spawned : (g : ProtectionGraph) (x : ℕ) (label : RightSet) (law : Law) (state : List ℕ) (name : ℕ) → answer_of g x (Spawn label law state) ≡ Name name → (step g x (Spawn label law state)).made ≡ g.made + 1
-made-spawned g x label law state name answer =
-    made_of (nat_lt g.made g.limit) (nat_lt (length g.subjects) MAX_WORKERS) g (with_subject g x label (record { law = law; state = state })) g.made name answer
+made-spawned g x label law state name answer = let next = name_is_next g x (Spawn label law state) name answer in next.1 ∙ ap (λ n. n + 1) next.0
 
 -- ---- by a command
 

@@ -1,26 +1,30 @@
 //! What deeds change, and what is answered.
-ghost use Rattle.std.specs.Prelude.{◌≡◌, ◌<◌, ℕ, None, IfOk, OnOk, OnErr};
+ghost use Rattle.std.specs.Prelude.{◌≡◌, ℕ, None, IfOk};
 
 use crate::live::LiveGraph;
 use std::alloc::AllocError;
-use tg_model::{Command, Deed, Law, MAX_WORKERS, Numbers, Reply, Value, denial_on};
+use tg_model::{Command, Deed, Law, Making, Numbers, Reply, Value, denial_on};
 use tg_rights::Label;
 
 impl LiveGraph {
-    ghost use Rattle.tg_model.specs.Graph.{IsSubject, with_rights, without_rights, without_subject};
+    ghost use Rattle.tg_model.specs.Graph.{with_rights, without_rights, without_subject};
+    ghost use Rattle.tg_model.specs.Making.{deed_making};
     ghost use Rattle.tg_model.specs.Rules.{HoldsOver, denial_of, step, answer_of, effect, reply_of, state_of};
-    ghost use Rattle.tg_journal.specs.Live.{IsAsBefore, graph_kept};
+    ghost use Rattle.tg_journal.specs.Live.{graph_kept};
+    ghost use Rattle.tg_journal.specs.Inner.Steps.{Answers};
 
     /// Takes a deed of a subject. The answer is that of the rules, and the graph becomes the next one. Fails only when
     /// out of memory, and the graph is then as before but for what names store that weren't made yet.
     pub(crate) fn apply(&mut self, worker: u64, deed: &Deed) -> Result<Reply, AllocError>
-        ensures reply { IfOk result (λ reply. reply ≡ answer_of (graph_kept self.old) worker deed.now) }
-        ensures step { OnOk result (graph_kept self.new ≡ step (graph_kept self.old) worker deed.now) }
-        ensures refused { OnErr result (IsAsBefore (graph_kept self.old) (graph_kept self.new)) }
+        ensures { Answers (graph_kept self.old) (graph_kept self.new) (answer_of (graph_kept self.old) worker deed.now) (step (graph_kept self.old) worker deed.now) result }
     {
         match deed {
-            Deed::Create { label, law, state } => self.create(worker, *label, *law, state),
-            Deed::Spawn { label, law, state } => self.spawn(worker, *label, *law, state),
+            Deed::Create { label, law, state } => {
+                self.make(worker, Making::Object, *label, *law, state)
+            }
+            Deed::Spawn { label, law, state } => {
+                self.make(worker, Making::Subject, *label, *law, state)
+            }
             Deed::Plain(command) => match denial_on(self, worker, command) {
                 Some(denial) => Ok(Reply::Denied(denial)),
                 None => self.serve(worker, command),
@@ -29,61 +33,38 @@ impl LiveGraph {
     }
 
     // Makes a vertex and the edge of the worker to it.
-    fn create(
+    fn make(
         &mut self,
         worker: u64,
+        making: Making,
         label: Label,
         law: Law,
         state: &Numbers,
     ) -> Result<Reply, AllocError>
-        ensures reply { IfOk result (λ reply. reply ≡ answer_of (graph_kept self.old) worker (Deed.Create label law state.now)) }
-        ensures step { OnOk result (graph_kept self.new ≡ step (graph_kept self.old) worker (Deed.Create label law state.now)) }
-        ensures refused { OnErr result (IsAsBefore (graph_kept self.old) (graph_kept self.new)) }
+        ensures { let deed = deed_making making label (record { law = law; state = state.now }) in
+            Answers (graph_kept self.old) (graph_kept self.new) (answer_of (graph_kept self.old) worker deed) (step (graph_kept self.old) worker deed) result }
     {
         let name = self.made;
         if name >= self.max_vertices {
             return Ok(Reply::VerticesFull);
         }
+        if making.is_one_too_many(self.subjects.len() as u64) {
+            return Ok(Reply::WorkersFull);
+        }
+        // There is room for its name before the vertex is made, so that nothing is refused after that.
+        self.subjects.try_reserve(1)?;
         let state = state.copy(self.alloc)?;
         self.vertices.put(self.alloc, name, Value { law, state })?;
         self.vertices.add(self.alloc, worker, name, label)?;
         self.made = name + 1;
+        making.enlist(&mut self.subjects, name);
         Ok(Reply::Name(name))
-    }
-
-    // Makes a vertex that is a subject, and the edge of the worker to it.
-    fn spawn(
-        &mut self,
-        worker: u64,
-        label: Label,
-        law: Law,
-        state: &Numbers,
-    ) -> Result<Reply, AllocError>
-        ensures reply { IfOk result (λ reply. reply ≡ answer_of (graph_kept self.old) worker (Deed.Spawn label law state.now)) }
-        ensures step { OnOk result (graph_kept self.new ≡ step (graph_kept self.old) worker (Deed.Spawn label law state.now)) }
-        ensures refused { OnErr result (IsAsBefore (graph_kept self.old) (graph_kept self.new)) }
-    {
-        let name = self.made;
-        if name >= self.max_vertices {
-            return Ok(Reply::VerticesFull);
-        }
-        if self.subjects.len() as u64 >= MAX_WORKERS {
-            return Ok(Reply::WorkersFull);
-        }
-        // The new list stands before the vertex is made, so that nothing is refused after that.
-        let mut subjects = Vec::from_slice(self.alloc, &self.subjects)?;
-        subjects.push(name)?;
-        let reply = self.create(worker, label, law, state)?;
-        self.subjects = subjects;
-        Ok(reply)
     }
 
     // Does what a command asks for that is served.
     fn serve(&mut self, worker: u64, command: &Command) -> Result<Reply, AllocError>
         requires { denial_of (graph_kept self.old).label (graph_kept self.old).value worker command.now ≡ None }
-        ensures reply { IfOk result (λ r. r ≡ reply_of (graph_kept self.old).label (graph_kept self.old).value (graph_kept self.old).made worker command.now) }
-        ensures step { OnOk result (graph_kept self.new ≡ effect (graph_kept self.old) worker command.now) }
-        ensures refused { OnErr result (IsAsBefore (graph_kept self.old) (graph_kept self.new)) }
+        ensures { Answers (graph_kept self.old) (graph_kept self.new) (reply_of (graph_kept self.old).label (graph_kept self.old).value (graph_kept self.old).made worker command.now) (effect (graph_kept self.old) worker command.now) result }
     {
         match *command {
             Command::Take { target, rights, .. } => self.add(worker, target, rights),
@@ -114,9 +95,7 @@ impl LiveGraph {
     // Gives one vertex rights over another, which someone holds already.
     fn add(&mut self, from: u64, to: u64, label: Label) -> Result<Reply, AllocError>
         requires { (x : ℕ) × HoldsOver (graph_kept self.old).label x to label }
-        ensures done { IfOk result (λ reply. reply ≡ Reply.Done) }
-        ensures ok { OnOk result (graph_kept self.new ≡ record (graph_kept self.old) { label = with_rights (graph_kept self.old).label from to label }) }
-        ensures err { OnErr result (self.new ≡ self.old) }
+        ensures { Answers (graph_kept self.old) (graph_kept self.new) Reply.Done (record (graph_kept self.old) { label = with_rights (graph_kept self.old).label from to label }) result }
     {
         self.vertices.add(self.alloc, from, to, label)?;
         Ok(Reply::Done)
@@ -143,9 +122,7 @@ impl LiveGraph {
 
     // Writes to a vertex.
     fn write(&mut self, target: u64, value: u64) -> Result<Reply, AllocError>
-        ensures done { IfOk result (λ reply. reply ≡ Reply.Done) }
-        ensures ok { OnOk result (graph_kept self.new ≡ effect (graph_kept self.old) target (Command.Write target value)) }
-        ensures err { OnErr result (self.new ≡ self.old) }
+        ensures { Answers (graph_kept self.old) (graph_kept self.new) Reply.Done (effect (graph_kept self.old) target (Command.Write target value)) result }
     {
         self.vertices.write(self.alloc, target, value)?;
         Ok(Reply::Done)

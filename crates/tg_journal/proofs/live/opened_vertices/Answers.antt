@@ -15,7 +15,7 @@ loop-edge-preserved c =
       labels = λ x y.
           ap (λ f. f x y) c.in_ok-add.ensures.labels ∙ more_rights e.from e.to e.label x y (c.loop-edge.invariant.labels x y)
           ∙ sym (label_in-push (take i es) e x y) ∙ ap (λ es. label_in es x y) (sym more);
-      values = c.in_ok-add.ensures.values ∙ c.loop-edge.invariant.values;
+      values = (λ i y. c.in_ok-add.ensures.values y i) ∙ c.loop-edge.invariant.values;
     }
 
 pub returns-clause-labels : goal.returns-clause-labels

@@ -1,9 +1,9 @@
 use Rattle.std.proofs.Common.{ap, ◌∙◌}
 use Rattle.tg_rights.specs.RightSet.{RightSet}
 use Rattle.tg_model.specs.Graph.{without_rights}
+use Rattle.tg_model.proofs.ReachLaws.{targets-without_rights}
 use Rattle.tg_journal.specs.Live.{label_between}
 use Rattle.tg_journal.proofs.DeedLaws.{relabelled}
-use Rattle.tg_journal.proofs.LiveLaws.{lost_below}
 use Rattle.tg_journal.proofs.live.LiveGraph.remove.Goals as goal
 
 pub returns : goal.returns
@@ -15,4 +15,5 @@ returns c =
 
 pub invariant_of-self : goal.invariant_of-self
 invariant_of-self c =
-    lost_below (label_between c.self.inside.vertices) (label_between c.lose.new.self) c.args.from c.args.to c.self.inside.made c.rights.result c.lose.ensures.labels c.self.invariant
+    targets-without_rights (label_between c.self.inside.vertices) (label_between c.lose.new.self) c.args.from c.args.to c.self.inside.made c.rights.result
+    (λ a b i. c.lose.ensures.labels i a b) c.self.invariant

@@ -1,47 +1,41 @@
-use Rattle.std.proofs.Common.{◌∙◌, ℕ, List, Option, Some, sym, ap}
+use Rattle.std.proofs.Common.{◌∙◌, ℕ, List, Option, Some, refl, sym, ap}
 use Rattle.std.specs.Prelude.{option_map}
 use Rattle.tg_model.specs.declared.value.Value.{Value}
-use Rattle.tg_model.specs.Rules.{written, written_at}
-use Rattle.tg_journal.specs.Live.{IsAt, label_between, value_of}
-use Rattle.tg_journal.proofs.VertexLaws.{value_rises, value_values, value_labels, value_there, written_there, unwritten, no_value}
+use Rattle.tg_model.specs.Rules.{written}
+use Rattle.tg_journal.proofs.VertexLaws.{value_rises, value_labels, value_written, unwritten}
 use Rattle.tg_journal.proofs.vertices.Vertices.write.Goals as goal
 
 pub invariant_of-self : goal.invariant_of-self
 invariant_of-self c =
     value_rises c.self.inside.items.items c.args.name c.in-Ok.at c.index_mut.result.now c.self.invariant (rw c.self.view_is c.in-Ok.ensures.found) c.index_mut.ensures.value _
 
-pub returns-in_ok-write-clause-values : goal.returns-in_ok-write-clause-values
-returns-in_ok-write-clause-values c = λ q.
+pub returns-in_ok-write : goal.returns-in_ok-write
+returns-in_ok-write c =
     let vs = c.self.inside.items.items in
-    let old = c.index_mut.result.now in
-    let is : IsAt vs c.args.name c.in-Ok.at = rw c.self.view_is c.in-Ok.ensures.found in
-    let it : Value → Option Value = Some in
-    let there = value_there vs c.args.name c.in-Ok.at old c.self.invariant is c.index_mut.ensures.value in
-    value_values vs c.args.name c.in-Ok.at old c.self.invariant is c.index_mut.ensures.value (Some (record { law = c.in-Some.stored.law; state = c.write.new.state })) q
-    ∙ written_there (value_of vs) c.args.name c.args.value (Some (record { law = c.in-Some.stored.law; state = c.write.new.state }))
-    (ap (λ (state : List ℕ). it (record { law = c.in-Some.stored.law; state = state })) c.in_ok-write.ensures.written
-    ∙ ap (option_map (written c.args.value)) (sym (there ∙ c.in-Some.is))) q
-    ∙ ap (λ vs. written_at (value_of vs) c.args.name c.args.value q) c.self.view_is
-
-pub returns-in_ok-write-clause-labels : goal.returns-in_ok-write-clause-labels
-returns-in_ok-write-clause-labels c = λ k a b.
-    (value_labels c.self.inside.items.items c.args.name c.in-Ok.at c.index_mut.result.now c.self.invariant (rw c.self.view_is c.in-Ok.ensures.found) c.index_mut.ensures.value
-    (Some (record { law = c.in-Some.stored.law; state = c.write.new.state })) a b
-    ∙ ap (λ vs. label_between vs a b) c.self.view_is) k
+    let is = rw (← c.self.view_is) at c.in-Ok.ensures.found in
+    let it : List ℕ → Option Value = λ state. Some (record { law = c.in-Some.stored.law; state = state }) in
+    rw (← c.self.view_is) (record {
+      labels = λ k a b. value_labels vs c.args.name c.in-Ok.at c.index_mut.result.now c.self.invariant is c.index_mut.ensures.value (it c.write.new.state) a b k;
+      values =
+          value_written vs c.args.name c.in-Ok.at c.index_mut.result.now c.self.invariant is c.index_mut.ensures.value (it c.write.new.state) c.args.value
+          (ap it c.in_ok-write.ensures.written ∙ ap (option_map (written c.args.value)) (sym c.in-Some.is));
+      err = tt;
+    })
 
 -- it stores nothing
-pub returns-in_default-value-clause-values : goal.returns-in_default-value-clause-values
-returns-in_default-value-clause-values c = λ q.
+pub returns-in_default-value : goal.returns-in_default-value
+returns-in_default-value c =
     let vs = c.self.inside.items.items in
     let old = c.index_mut.result.now in
-    let is : IsAt vs c.args.name c.in-Ok.at = rw c.self.view_is c.in-Ok.ensures.found in
-    let there = value_there vs c.args.name c.in-Ok.at old c.self.invariant is c.index_mut.ensures.value in
-    value_values vs c.args.name c.in-Ok.at old c.self.invariant is c.index_mut.ensures.value old.value q
-    ∙ written_there (value_of vs) c.args.name c.args.value old.value
-    (c.in_default-value.is ∙ ap (option_map (written c.args.value)) (sym (there ∙ c.in_default-value.is))) q
-    ∙ ap (λ vs. written_at (value_of vs) c.args.name c.args.value q) c.self.view_is
+    let is = rw (← c.self.view_is) at c.in-Ok.ensures.found in
+    rw (← c.self.view_is) (record {
+      labels = λ k a b. value_labels vs c.args.name c.in-Ok.at old c.self.invariant is c.index_mut.ensures.value old.value a b k;
+      values =
+          value_written vs c.args.name c.in-Ok.at old c.self.invariant is c.index_mut.ensures.value old.value c.args.value
+          (c.in_default-value.is ∙ ap (option_map (written c.args.value)) (sym c.in_default-value.is));
+      err = tt;
+    })
 
 -- it isn't kept
-pub returns-in_default-clause-values : goal.returns-in_default-clause-values
-returns-in_default-clause-values c =
-    unwritten (value_of c.args.self.now) c.args.name c.args.value (no_value c.args.self.now c.args.name c.in_default.field-0 c.in_default.ensures.absent)
+pub returns-in_default : goal.returns-in_default
+returns-in_default c = record { labels = refl; values = unwritten c.args.self.now c.args.name c.in_default.field-0 c.in_default.ensures.absent c.args.value; err = tt }

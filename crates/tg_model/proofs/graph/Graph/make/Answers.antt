@@ -1,7 +1,7 @@
 use mathlib.Core.Bool.{true≢false}
 use Rattle.std.proofs.Common.{◌≡◌, ◌<◌, ◌≤◌, ◌∙◌, ◌++◌, ◌∷◌, [], ℕ, List, sym, ap, ap₂, subst, length, get_or, arith}
 use Rattle.std.proofs.Math.ListN.{set}
-use Rattle.std.proofs.lemmas.List.{get_or_default}
+use Rattle.std.proofs.lemmas.List.{get_or_default, set-get_or}
 use Rattle.std.specs.List.{Contains}
 use Rattle.tg_rights.specs.RightSet.{union}
 use Rattle.tg_model.specs.declared.value.Value.{Value}
@@ -79,6 +79,13 @@ returns-clause-step c =
 pub returns-clause-reply : goal.returns-clause-reply
 returns-clause-reply c =
     ap Name c.made-name.ensures ∙ sym (answer-made (graph_of c.args.self.now) c.args.worker c.args.label _ c.args.making (has_room (goal.at.returns-clause-reply c).After-enlist))
+
+-- there was no memory for the edge
+pub invariant_of-self-in_err-add : goal.invariant_of-self-in_err-add
+invariant_of-self-in_err-add c =
+    let rows = c.try_reserve-2.new.self.items in
+    let same : set rows c.args.worker c.add.new.self ≡ rows = ap (set rows c.args.worker) (c.in_err-add.ensures.err ∙ c.index_mut.ensures.value) ∙ set-get_or rows c.args.worker c.index_mut.result.now in
+    rw (same, c.try_reserve.ensures.items, c.try_reserve-2.ensures.items, c.try_reserve-3.ensures.items) c.self.invariant
 
 pub invariant_of-self-2 : goal.invariant_of-self-2
 invariant_of-self-2 c =

@@ -1,0 +1,26 @@
+-- What the calls on the vertices and the graph of an audit promise: each set of clauses stands once, and has a name.
+use Rattle.std.specs.Prelude.{◌≡◌, ℕ, List, Option, Result, IfErr, IfOk, OnErr, OnOk}
+use Rattle.tg_rights.specs.RightSet.{RightSet}
+use Rattle.tg_model.specs.declared.reply.Reply.{Reply}
+use Rattle.tg_model.specs.declared.value.Value.{Value}
+use Rattle.tg_model.specs.Graph.{ProtectionGraph}
+use Rattle.tg_journal.specs.declared.vertices.Vertex.{Vertex}
+use Rattle.tg_journal.specs.Live.{IsAsBefore, IsAt, IsGap, label_between, value_of}
+
+-- This is answered, and the graph becomes the next one; where memory is wanting, it is as before but for what names store that
+-- weren't made yet.
+pub record Answers {E : Type 0} (old new : ProtectionGraph) (answer : Reply) (next : ProtectionGraph) (result : Result Reply E) : Type 0 where
+  pub reply : IfOk result (λ reply. reply ≡ answer)
+  pub step : OnOk result (new ≡ next)
+  pub refused : OnErr result (IsAsBefore old new)
+
+-- the place of the vertex with a name, or where it would go
+pub record IsPlace (vs : List Vertex) (x : ℕ) (result : Result ℕ ℕ) : Type 0 where
+  pub found : IfOk result (IsAt vs x)
+  pub absent : IfErr result (IsGap vs x)
+
+-- the vertices have these labels and values then; where memory is wanting, they are as they were
+pub record Changes {A E : Type 0} (old new : List Vertex) (label : ℕ → ℕ → RightSet) (value : ℕ → Option Value) (result : Result A E) : Type 0 where
+  pub labels : OnOk result (label_between new ≡ label)
+  pub values : OnOk result ((y : ℕ) → value_of new y ≡ value y)
+  pub err : OnErr result (new ≡ old)
