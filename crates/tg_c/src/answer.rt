@@ -1,8 +1,9 @@
 //! Answers to what could come about, which C holds: a flag, and the handle of a box that is open exactly while the flag
 //! is set.
-ghost use Rattle.std.specs.Prelude.{◌≡◌, Bool, false, true, MatchOption};
+ghost use Rattle.std.specs.Prelude.{◌≡◌, Bool, false, true};
 ghost use Rattle.tg_c.specs.declared.outlook.Outlook.{Outlook as OutlookValue};
 ghost use Rattle.tg_c.specs.HeldAnswer.{answer_coded, held_answer};
+ghost use Rattle.tg_c.specs.Inner.Places.{IsPut, IsTaken};
 
 use crate::outlook::Outlook;
 use crate::parts::Parts;
@@ -68,22 +69,15 @@ pub struct AnswerPlace {
 }
 
 impl AnswerPlace {
-    // A place with no answer.
-    fn closed(alloc: Global) -> AnswerPlace
-        ensures { result.is_open ≡ false }
-    {
-        AnswerPlace {
-            is_open: false,
-            handle: AnswerHandle::closed(alloc),
-        }
-    }
-
     /// Takes the answer out, if there is one. The place is closed until it is put back. Takes no memory.
     pub fn take(&mut self, alloc: Global) -> Option<Box<Outlook>>
-        ensures taken { MatchOption result (self.old.is_open ≡ false) (λ opened. (self.old.is_open ≡ true) × (opened.value ≡ self.old.handle.opened)) }
-        ensures closed { self.new.is_open ≡ false }
+        ensures { IsTaken self.old.is_open self.old.handle.opened self.new.is_open result }
     {
-        let place = mem::replace(self, AnswerPlace::closed(alloc));
+        let closed = AnswerPlace {
+            is_open: false,
+            handle: AnswerHandle::closed(alloc),
+        };
+        let place = mem::replace(self, closed);
         let AnswerPlace { is_open, handle } = place;
         if is_open {
             Some(handle.into_parts().into_box())
@@ -94,8 +88,7 @@ impl AnswerPlace {
 
     /// Puts an answer in place, which should be closed: what was there before isn't looked at. Takes no memory.
     pub fn put(&mut self, opened: Box<Outlook>)
-        ensures open { self.new.is_open ≡ true }
-        ensures opened { self.new.handle.opened ≡ opened.value }
+        ensures { IsPut opened.value self.new.is_open self.new.handle.opened }
     {
         *self = AnswerPlace {
             is_open: true,

@@ -1,9 +1,10 @@
 //! The question whether x could ever come to hold a right over y, asked of a store in its place.
-ghost use Rattle.std.specs.Prelude.{◌≡◌, ◌↔◌, ◌++◌, true, IfOk, IfErr, IsTrue};
+ghost use Rattle.std.specs.Prelude.{◌≡◌, ◌↔◌, ◌++◌, IfOk, IfErr, IsTrue};
 ghost use Rattle.tg_model.specs.Graph.{ProtectionGraph, IsSound};
 ghost use Rattle.tg_could.specs.Reached.{IsReachedPicture, IsToldOf};
-ghost use Rattle.tg_c.specs.Calls.{IsMemoryOr, state_in};
+ghost use Rattle.tg_c.specs.Calls.{IsMemoryOr};
 ghost use Rattle.tg_c.specs.Could.{IsForeseen, IsRefusedQuestion, JoinReached, JoinsReached, right_at, with_edges};
+ghost use Rattle.tg_c.specs.Inner.Stores.{KeepsStore};
 
 use crate::forms::EdgeIn;
 use crate::law_store::LawStore;
@@ -30,8 +31,7 @@ pub fn foresee(
     y: u64,
     is_open: bool,
 ) -> Result<Box<Outlook>, CallRefusal>
-    ensures stays { place.new.is_open ≡ place.old.is_open }
-    ensures same { place.old.is_open ≡ true → state_in place.new ≡ state_in place.old }
+    ensures kept { KeepsStore place.old place.new }
     ensures told { IfOk result (λ opened. IsForeseen place.old is_open silent.now as_if.now x right y opened.value.told) }
     ensures refused { IfErr result (IsRefusedQuestion place.old is_open silent.now as_if.now right) }
 {
@@ -78,10 +78,11 @@ pub struct Scene {
 }
 
 impl LawStore {
-    ghost use Rattle.std.specs.Prelude.{◌↔◌, IfOk, IfErr, IsTrue};
+    ghost use Rattle.std.specs.Prelude.{◌↔◌, IsTrue};
     ghost use Rattle.tg_store.specs.Store.{graph_of_store};
     ghost use Rattle.tg_c.specs.Forms.{HaveLabels};
-    ghost use Rattle.tg_c.specs.Could.{AreActive, IsForeseenOn, IsRefusedOn, IsSceneOf};
+    ghost use Rattle.tg_c.specs.Could.{AreActive, IsForeseenOn, IsSceneOf};
+    ghost use Rattle.tg_c.specs.Inner.Stores.{IsAnsweredOn};
 
     // The same of an open store. The edges' rights were looked at.
     fn foresee(
@@ -94,8 +95,8 @@ impl LawStore {
         y: u64,
     ) -> Result<Box<Outlook>, CallRefusal>
         requires { HaveLabels as_if.now }
-        ensures told { IfOk result (λ opened. IsForeseenOn (graph_of_store self.now.store) silent.now as_if.now x right y opened.value.told) }
-        ensures refused { IfErr result (IsRefusedOn (graph_of_store self.now.store) silent.now as_if.now) }
+        ensures { IsAnsweredOn (graph_of_store self.now.store) silent.now as_if.now
+            (λ opened. IsForeseenOn (graph_of_store self.now.store) silent.now as_if.now x right y opened.value.told) result }
     {
         let scene = self.scene(alloc, silent, as_if)?;
         let told = foresee_on(
@@ -119,8 +120,8 @@ impl LawStore {
         as_if: &[EdgeIn],
     ) -> Result<Scene, CallRefusal>
         requires { HaveLabels as_if.now }
-        ensures scene { IfOk result (IsSceneOf (graph_of_store self.now.store) silent.now as_if.now) }
-        ensures refused { IfErr result (IsRefusedOn (graph_of_store self.now.store) silent.now as_if.now) }
+        ensures { IsAnsweredOn (graph_of_store self.now.store) silent.now as_if.now
+            (IsSceneOf (graph_of_store self.now.store) silent.now as_if.now) result }
     {
         if !self.are_workers(silent) {
             return Err(CallRefusal::NoSuchWorker);

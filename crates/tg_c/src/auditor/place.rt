@@ -1,5 +1,6 @@
 //! The auditor's place in the memory of C, as `crate::place` has that of a store.
-ghost use Rattle.std.specs.Prelude.{◌≡◌, false, true, MatchOption};
+ghost use Rattle.std.specs.Prelude.{◌≡◌};
+ghost use Rattle.tg_c.specs.Inner.Places.{IsPut, IsTaken};
 
 use crate::auditor::audit::Audit;
 use crate::auditor::handle::AuditorHandle;
@@ -21,22 +22,15 @@ pub struct AuditorPlace {
 }
 
 impl AuditorPlace {
-    // A place with no auditor.
-    fn closed(alloc: Global) -> AuditorPlace
-        ensures { result.is_open ≡ false }
-    {
-        AuditorPlace {
-            is_open: false,
-            handle: AuditorHandle::closed(alloc),
-        }
-    }
-
     /// Takes the auditor out, if there is one. The place is closed until it is put back. Takes no memory.
     pub fn take(&mut self, alloc: Global) -> Option<Box<Audit>>
-        ensures taken { MatchOption result (self.old.is_open ≡ false) (λ opened. (self.old.is_open ≡ true) × (opened.value ≡ self.old.handle.opened)) }
-        ensures closed { self.new.is_open ≡ false }
+        ensures { IsTaken self.old.is_open self.old.handle.opened self.new.is_open result }
     {
-        let place = mem::replace(self, AuditorPlace::closed(alloc));
+        let closed = AuditorPlace {
+            is_open: false,
+            handle: AuditorHandle::closed(alloc),
+        };
+        let place = mem::replace(self, closed);
         let AuditorPlace { is_open, handle } = place;
         if is_open {
             Some(handle.into_parts().into_box())
@@ -47,8 +41,7 @@ impl AuditorPlace {
 
     /// Puts the auditor in place, which should be closed: what was there before isn't looked at. Takes no memory.
     pub fn put(&mut self, opened: Box<Audit>)
-        ensures open { self.new.is_open ≡ true }
-        ensures opened { self.new.handle.opened ≡ opened.value }
+        ensures { IsPut opened.value self.new.is_open self.new.handle.opened }
     {
         *self = AuditorPlace {
             is_open: true,

@@ -1,6 +1,6 @@
 //! The calls on a view in its place, in Rattle's own types.
-ghost use Rattle.std.specs.Prelude.{◌≡◌, true, IfOk, IfErr};
-ghost use Rattle.tg_c.specs.Calls.{state_in};
+ghost use Rattle.std.specs.Prelude.{◌≡◌, IfOk, IfErr};
+ghost use Rattle.tg_c.specs.Inner.Stores.{KeepsStore};
 ghost use Rattle.tg_c.specs.View.{Glances, IsRefusedView, IsSeen};
 
 use crate::foresee::right_of;
@@ -24,8 +24,7 @@ pub fn open_view(
     as_if: &[EdgeIn],
     is_open: bool,
 ) -> Result<Box<Sight>, CallRefusal>
-    ensures stays { place.new.is_open ≡ place.old.is_open }
-    ensures same { place.old.is_open ≡ true → state_in place.new ≡ state_in place.old }
+    ensures kept { KeepsStore place.old place.new }
     ensures seen { IfOk result (λ opened. IsSeen place.old is_open silent.now as_if.now opened.value) }
     ensures refused { IfErr result (IsRefusedView place.old is_open silent.now as_if.now) }
 {
@@ -63,10 +62,9 @@ pub fn ask_view(
 }
 
 impl LawStore {
-    ghost use Rattle.std.specs.Prelude.{IfOk, IfErr};
     ghost use Rattle.tg_store.specs.Store.{graph_of_store};
     ghost use Rattle.tg_c.specs.Forms.{HaveLabels};
-    ghost use Rattle.tg_c.specs.Could.{IsRefusedOn};
+    ghost use Rattle.tg_c.specs.Inner.Stores.{IsAnsweredOn};
     ghost use Rattle.tg_c.specs.View.{IsSeenOn};
 
     // A view of an open store. The edges' rights were looked at.
@@ -77,8 +75,8 @@ impl LawStore {
         as_if: &[EdgeIn],
     ) -> Result<Box<Sight>, CallRefusal>
         requires { HaveLabels as_if.now }
-        ensures seen { IfOk result (λ opened. IsSeenOn (graph_of_store self.now.store) silent.now as_if.now opened.value) }
-        ensures refused { IfErr result (IsRefusedOn (graph_of_store self.now.store) silent.now as_if.now) }
+        ensures { IsAnsweredOn (graph_of_store self.now.store) silent.now as_if.now
+            (λ opened. IsSeenOn (graph_of_store self.now.store) silent.now as_if.now opened.value) result }
     {
         let scene = self.scene(alloc, silent, as_if)?;
         let sight = Sight::of(alloc, &scene.picture, scene.as_if.as_slice(), silent)?;

@@ -1,5 +1,6 @@
 //! The view's place in the memory of C, as `crate::place` has that of a store.
-ghost use Rattle.std.specs.Prelude.{◌≡◌, false, true, MatchOption};
+ghost use Rattle.std.specs.Prelude.{◌≡◌};
+ghost use Rattle.tg_c.specs.Inner.Places.{IsPut, IsTaken};
 
 use crate::parts::Parts;
 use crate::place::may_cross;
@@ -21,22 +22,15 @@ pub struct ViewPlace {
 }
 
 impl ViewPlace {
-    // A place with no view.
-    fn closed(alloc: Global) -> ViewPlace
-        ensures { result.is_open ≡ false }
-    {
-        ViewPlace {
-            is_open: false,
-            handle: ViewHandle::closed(alloc),
-        }
-    }
-
     /// Takes the view out, if there is one. The place is closed until it is put back. Takes no memory.
     pub fn take(&mut self, alloc: Global) -> Option<Box<Sight>>
-        ensures taken { MatchOption result (self.old.is_open ≡ false) (λ opened. (self.old.is_open ≡ true) × (opened.value ≡ self.old.handle.opened)) }
-        ensures closed { self.new.is_open ≡ false }
+        ensures { IsTaken self.old.is_open self.old.handle.opened self.new.is_open result }
     {
-        let place = mem::replace(self, ViewPlace::closed(alloc));
+        let closed = ViewPlace {
+            is_open: false,
+            handle: ViewHandle::closed(alloc),
+        };
+        let place = mem::replace(self, closed);
         let ViewPlace { is_open, handle } = place;
         if is_open {
             Some(handle.into_parts().into_box())
@@ -47,8 +41,7 @@ impl ViewPlace {
 
     /// Puts the view in place, which should be closed: what was there before isn't looked at. Takes no memory.
     pub fn put(&mut self, opened: Box<Sight>)
-        ensures open { self.new.is_open ≡ true }
-        ensures opened { self.new.handle.opened ≡ opened.value }
+        ensures { IsPut opened.value self.new.is_open self.new.handle.opened }
     {
         *self = ViewPlace {
             is_open: true,

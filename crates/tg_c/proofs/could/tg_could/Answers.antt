@@ -5,8 +5,8 @@ use Rattle.tg_c.proofs.could.tg_could.Goals as goal
 
 pub returns-in-Ok : goal.returns-in-Ok
 returns-in-Ok c = record {
-  stays = c.foresee.ensures.stays;
-  same = c.foresee.ensures.same;
+  stays = c.foresee.ensures.kept.stays;
+  same = c.foresee.ensures.kept.same;
   told = λ done. (
     c.put.ensures.open,
     subst (λ o. IsForeseen c.args.store.now c.args.answer.now.is_open c.args.silent.now c.args.as_if.now c.args.x c.args.right c.args.y o.told) (sym c.put.ensures.opened)
@@ -18,8 +18,8 @@ returns-in-Ok c = record {
 
 pub returns-in-Err : goal.returns-in-Err
 returns-in-Err c = record {
-  stays = c.foresee.ensures.stays;
-  same = c.foresee.ensures.same;
+  stays = c.foresee.ensures.kept.stays;
+  same = c.foresee.ensures.kept.same;
   told = λ done. absurd (not_done c.in-Err.refusal (sym c.status.ensures ∙ done));
   refused = λ fails. (c.in-Err.refusal, c.in-Err.ensures.refused, c.status.ensures);
   kept = λ fails. refl;

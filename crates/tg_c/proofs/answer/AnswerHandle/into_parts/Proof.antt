@@ -1,42 +1,14 @@
 -- `into_parts` moves two fields, and what they own goes with them.
-use mathlib.Core.Path.{refl, sym, subst}
-use mathlib.Core.List.{List, [], ◌∷◌, ◌++◌}
-use seplogic.Ra.Ura.{Ura}
-use mir.Val.{Val}
-use mathlib.Core.Path.{◌≡◌}
-use Rattle.std.specs.Prelude.{Bool, true}
-use contract.Monad.{fact}
-use denote.Steps.{heard}
+use Rattle.tg_c.proofs.Handles.{of_answer as E, refl, sym, subst, List, [], ◌∷◌, ◌++◌, Ura, Val, ◌≡◌, Bool, true, fact, heard, SProp, ent, id⊢, ftrue, fsep, Memory, Routine, WpFn, Tables, Logic, Fun, WpFn-mono, Item, ‵, raw, ◌⊛◌, ◌$◌, ◌∵◌, !, qed, by, move, drop, use1, join, rewrite, split, fsplit, fjoin, suffices, done, whole, sub, agg, stop, fld, no_more, and_then, of_opd, returns, enter, alloc_all, pass_all, free_all, look_at, get, get_in, sets, yes, type_at, nothing, triple_of, entered, says, Stays, stay_dropped, walk_of, ends_at, Goes-dropped, walk_Meets, D, word, box_typed, box_out, box_in, From}
 use Rattle.tg_c.specs.contracts.answer.AnswerHandle as Handle
-use base.Logic.{SProp, ent, id⊢}
-use base.Fml.{ftrue, fsep}
-use prog.Memory.{Memory}
-use prog.Routine.{Routine}
-use prog.Wp.{WpFn, Tables}
-use types.Logic.{Logic}
-use contract.Monad.{Fun}
 use contract.Running.{tables, tables_of}
-use sound.WpLaws.{WpFn-mono}
-use types.Kit.{Item, ‵, raw, ◌⊛◌, ◌$◌, ◌∵◌, !, qed, by, move, drop, use1, join, rewrite, split, fsplit, fjoin, suffices, done}
-use types.Part.{whole, sub, agg}
-use types.Run.{stop, fld, no_more, and_then, of_opd, returns, enter}
-use types.ByLocal.{alloc_all, pass_all, free_all, look_at, get, get_in, sets}
-use denote.Exit.{yes}
-use denote.Signature.{type_at}
-use denote.Steps.{nothing}
-use denote.Triple.Spec.{triple_of}
-use denote.Triple.Table.{entered}
-use denote.Triple.Walked.{says, Stays, stay_dropped, walk_of, ends_at, Goes-dropped, walk_Meets}
-use Rattle.std_alloc.proofs.BoxSteps.Form.{D, word, box_typed}
-use Rattle.std_alloc.proofs.BoxSteps.Steps.{box_out, box_in}
-use Rattle.tg_c.proofs.AnswerBox.{E, FromHandle as From}
 use Rattle.tg_c.specs.contracts.answer.AnswerHandle.into_parts as F
 use Rattle.tg_c.specs.contracts.answer.AnswerHandle.into_parts.Key.{name as #self}
 use Rattle.tg_c.proofs.answer.AnswerHandle.into_parts.Statement as stated
 use Rattle.tg_c.proofs.answer.AnswerHandle.into_parts.Code as code
 
 abbrev stayed : Stays (F.ended).signature.params (F.ended).kept
-stayed = (stay_dropped From yes, tt)
+stayed = (stay_dropped (From Handle.the_row) yes, tt)
 
 module _ {M : Type 1} {𝓤 : Ura M} (𝓛 : Logic 𝓤) (at_mem : Memory → SProp 𝓤) (run : Routine → Fun 𝓤) (𝓣 : Tables 𝓤 𝓛.H) where
   open 𝓛 use {H}
@@ -65,5 +37,5 @@ unfolding tables_of
 into_parts_spec 𝓤 𝓛 𝓜 𝓡 wired =
     let 𝓣 : Tables 𝓤 𝓛.H = tables_of 𝓤 𝓛.H 𝓜 (tables 𝓤 𝓛.H 𝓜 𝓡 𝓡.env) in
     entered 𝓤 𝓛.H (triple_of 𝓛 F.signature (F.spec 𝓛 𝓜.mem 𝓡.returns)) 𝓣.C 𝓣.Λ #self code.function (code.unfolded 𝓤 𝓛.H 𝓜 𝓡 wired)
-    (walk_Meets 𝓛 F.ended stayed (Goes-dropped 𝓛 0 From yes (λ κs x f. refl), tt) (F.clauses 𝓛 𝓜.mem 𝓡.returns) (WpFn 𝓤 𝓛.H 𝓣.C 𝓣.Λ code.function) (WpFn-mono 𝓤 𝓛.H 𝓛.laws 𝓣 code.function)
+    (walk_Meets 𝓛 F.ended stayed (Goes-dropped 𝓛 0 (From Handle.the_row) yes (λ κs x f. refl), tt) (F.clauses 𝓛 𝓜.mem 𝓡.returns) (WpFn 𝓤 𝓛.H 𝓣.C 𝓣.Λ code.function) (WpFn-mono 𝓤 𝓛.H 𝓛.laws 𝓣 code.function)
     (walk 𝓛 𝓜.mem 𝓡.returns 𝓣))
