@@ -80,19 +80,19 @@ pub draws_chunk : (k : Counts) (slots id : ℕ) (m : Me ℕ View) → past k m.0
     → Allows (IsBoardOfRace k) slots id m 0 (λ n. (n + 1) % 2 ^ 64) (drew_chunk (step slots 0 1 0 none) m)
 draws_chunk k slots id m none_past alive =
     draws k slots id 0 m (λ n. with_chunk m.0.done n) m.0.done.chunks (λ r. r.next_chunk) (λ r. record r { next_chunk = r.next_chunk + 1; records = set r.records id (with_chunk m.0.done r.next_chunk) }) alive (λ r moved. (refl, refl)) (λ r. (refl, refl))
-    (λ r rule small at. ((let few = few_chunks k r (parts_of k r rule) in omega arith), rule_of _ _ (claim_keeps k r id m.0.done (parts_of k r rule) at none_past alive), drawn_under 0 r.next_chunk (λ u. u.chunks) r.records id m.0.done rule.chunks_once at))
+    (λ r rule small at. ((let few = few_chunks k r rule in omega arith), rule_of _ _ (claim_keeps k r id m.0.done (parts_of k r rule) at none_past alive), drawn_under 0 r.next_chunk (λ u. u.chunks) r.records id m.0.done rule.chunks_once at))
 
 pub draws_aged : (k : Counts) (slots id : ℕ) (m : Me ℕ View) → open_aged m.0.done ≡ 0 → 0 < m.0.done.share
     → Allows (IsBoardOfRace k) slots id m 1 (λ n. (n + 1) % 2 ^ 64) (drew_aged (step slots 1 1 0 none) m)
 draws_aged k slots id m none_open alive =
     draws k slots id 1 m (λ n. with_claimed_block true m.0.done n) m.0.done.aged_blocks (λ r. r.next_aged) (λ r. record r { next_aged = r.next_aged + 1; records = set r.records id (with_claimed_block true m.0.done r.next_aged) }) alive (λ r moved. (refl, refl)) (λ r. (refl, refl))
-    (λ r rule small at. ((let few = few_aged k r (parts_of k r rule) in omega arith), rule_of _ _ (claim_aged_keeps k r id m.0.done (parts_of k r rule) at none_open alive), drawn_under 0 r.next_aged (λ u. u.aged_blocks) r.records id m.0.done rule.blocks_once.0 at))
+    (λ r rule small at. ((let few = few_aged k r rule in omega arith), rule_of _ _ (claim_aged_keeps k r id m.0.done (parts_of k r rule) at none_open alive), drawn_under 0 r.next_aged (λ u. u.aged_blocks) r.records id m.0.done rule.blocks_once.0 at))
 
 pub draws_old : (k : Counts) (slots id : ℕ) (m : Me ℕ View) → open_old m.0.done ≡ 0 → 0 < m.0.done.share
     → Allows (IsBoardOfRace k) slots id m 2 (λ n. (n + 1) % 2 ^ 64) (drew_old (step slots 2 1 0 none) m)
 draws_old k slots id m none_open alive =
     draws k slots id 2 m (λ n. with_claimed_block false m.0.done n) m.0.done.old_blocks (λ r. r.next_old) (λ r. record r { next_old = r.next_old + 1; records = set r.records id (with_claimed_block false m.0.done r.next_old) }) alive (λ r moved. (refl, refl)) (λ r. (refl, refl))
-    (λ r rule small at. ((let few = few_old k r (parts_of k r rule) in omega arith), rule_of _ _ (claim_old_keeps k r id m.0.done (parts_of k r rule) at none_open alive), drawn_under k.kept r.next_old (λ u. u.old_blocks) r.records id m.0.done rule.blocks_once.1 at))
+    (λ r rule small at. ((let few = few_old k r rule in omega arith), rule_of _ _ (claim_old_keeps k r id m.0.done (parts_of k r rule) at none_open alive), drawn_under k.kept r.next_old (λ u. u.old_blocks) r.records id m.0.done rule.blocks_once.1 at))
 
 module _ (k : Counts) (slots id : ℕ) (m : Me ℕ View) (alive : 0 < m.0.done.share) (s : State ℕ View) (h : IsBoardOfRace k s) (at : get_elem? s.views id ≡ some m.0) where
   -- the cell whose word stands so far behind the counters

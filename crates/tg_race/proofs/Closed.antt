@@ -11,7 +11,7 @@ use Rattle.tg_race.specs.Race.{IsDrawn, AreConsecutive}
 use Rattle.tg_race.specs.Board.{IsClosedTable}
 use Rattle.tg_race.proofs.Drawn.{drawn_once, drawn_below, drawn_above, weighs_at, number_found}
 use Rattle.tg_race.proofs.Standing.{same_place_self}
-use Rattle.tg_race.proofs.Sums.{any_weighs, count_below, weigh_two, weigh-add, weigh-le, weigh_ones}
+use Rattle.tg_race.proofs.Sums.{any_weighs, count_below, one_below, weigh_two, weigh-add, weigh-le, weigh_ones}
 
 -- where the items with one key are at most one, the keys differ
 differ : {A B : Type 0} (key : A → B) (test : B → B → Bool) → ((b : B) → test b b ≡ true)
@@ -88,20 +88,11 @@ consecutive start counter of done drawn = record { differ = differ (λ (n : ℕ)
     length_is = let all = drawn (λ _. 1) in omega (arith, count_below start, count_below counter, weigh_ones (of done))
 
     once : (n : ℕ) → weigh (one_at n) (of done) ≤ 1
-    once n = ⊎_elim
-        (λ (low : n < start). let none = drawn_below start counter of (done ∷ []) drawn n low in omega arith)
-        (λ (from : start ≤ n). ⊎_elim
-        (λ (low : n < counter). let one = drawn_once start counter of (done ∷ []) drawn n from low in omega arith)
-        (λ (high : counter ≤ n). let none = drawn_above start counter of (done ∷ []) drawn n high in omega arith)
-        (cases_lt n counter))
-        (cases_lt n start)
-
-    weighs : (n : ℕ) → Contains (of done) n → 0 < weigh (one_at n) (of done)
-    weighs n held = rw (sym held.2) (weighs_at (of done) held.0 n held.1)
+    once n = let all = drawn (one_at n) in omega (arith, one_below n counter)
 
     there : (n : ℕ) → Contains (of done) n → (start ≤ n) × (n < start + length (of done))
     there n held =
-        let w = weighs n held in
+        let w : 0 < weigh (one_at n) (of done) = rw (sym held.2) (weighs_at (of done) held.0 n held.1) in
         let long = length_is in (
           ⊎_elim (λ (low : n < start). absurd (let none = drawn_below start counter of (done ∷ []) drawn n low in omega arith)) (λ le. le) (cases_lt n start),
           ⊎_elim (λ (lt : n < counter). omega arith) (λ (high : counter ≤ n). absurd (let none = drawn_above start counter of (done ∷ []) drawn n high in omega arith)) (cases_lt n counter),

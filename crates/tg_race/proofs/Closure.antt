@@ -1,23 +1,22 @@
 -- Where one record is left and it is complete, the cells with a place are those that targets lead to from the roots.
-use Rattle.std.proofs.Common.{◌≡◌, ◌≢◌, ◌⊎◌, ℕ, zero, suc, ◌+◌, ◌-◌, ◌*◌, ◌/◌, ◌<◌, ◌≤◌, ◌==◌, ◌&&◌, ◌||◌, ◌↔◌, List, [], ◌∷◌, ◌++◌, length, get_or, set, take, drop, slice_index, slice_index_or, Bool, true, false, not, cond, if◌then◌else◌, eqb, eqb-true, eq-eqb, ne_eqb, nat_lt, sym, refl, ap, ◌∙◌, subst, inl, inr, ⊎_elim, All, arith}
+use Rattle.std.proofs.Common.{◌≡◌, ◌≢◌, ◌⊎◌, ℕ, zero, suc, ◌+◌, ◌-◌, ◌*◌, ◌<◌, ◌≤◌, ◌==◌, ◌↔◌, List, [], ◌∷◌, length, get_or, take, drop, slice_index, slice_index_or, Bool, true, false, if◌then◌else◌, eqb, eqb-true, eq-eqb, ne_eqb, nat_lt, sym, refl, ap, ◌∙◌, subst, inl, inr, ⊎_elim, arith}
 use Rattle.std.specs.List.{list_any}
-use Rattle.std.proofs.lemmas.Bool.{cond-true, cond-false, or_cases, or_left, or_right, ltb-false, false≢true, cases_lt}
+use Rattle.std.proofs.lemmas.Bool.{cond-true, cond-false, or_cases, or_left, or_right, ltb-false, false≢true}
 use Rattle.std.proofs.lemmas.List.{length-take-le, take-take, take_all}
-use Rattle.std.proofs.lemmas.List.Elements.{All-head, All-tail}
 use mathlib.Core.Option.{some}
 use lib.ListN.{get_elem?}
 use Rattle.tg_word.specs.declared.Place.{Place}
 use Rattle.tg_race.specs.Words.{place_of}
-use Rattle.tg_race.proofs.PlaceWords.{word_of-some}
 use Rattle.tg_race.specs.declared.record.Counts.{Counts}
 use Rattle.tg_race.specs.declared.record.Record.{Record}
 use Rattle.tg_race.specs.Weights.{weigh, one_at}
-use Rattle.tg_race.specs.Words.{weigh_words, IsPair}
-use Rattle.tg_race.specs.Race.{Race, chunk_of, chunks_of, has_number}
+use Rattle.tg_race.specs.Words.{weigh_words}
+use Rattle.tg_race.specs.Race.{Race, Rule, chunk_of, chunks_of, has_number}
 use Rattle.tg_race.specs.Board.{IsClosedTable}
-use Rattle.tg_race.specs.Course.{Net, Course, counts_of, chunk_has, pair_has, is_target, forwarding_word, has_met, IsEarned, HasEarnedWins, KeepsRule, IsCompleteRecord, IsReachedCell, root, next}
-use Rattle.tg_race.proofs.Sums.{any_weighs, weighs_any, one_past, one_here}
-use Rattle.tg_race.proofs.Parts.{Parts, is_past, parts_of}
+use Rattle.tg_race.specs.Course.{Net, Course, counts_of, chunk_has, pair_has, is_target, forwarding_word, IsEarned, HasEarnedWins, KeepsRule, IsCompleteRecord, IsReachedCell, root, next}
+use Rattle.tg_race.proofs.Sums.{weighs_any, one_here}
+use Rattle.tg_race.proofs.Standing.{closed_below, met_taken}
+use Rattle.tg_race.proofs.Parts.{is_past, parts_of, rule_of}
 use Rattle.tg_race.proofs.Steps.{alone_keeps}
 use Rattle.tg_race.proofs.Courses.{Within}
 
@@ -30,18 +29,13 @@ module _ {A : Type 0} where
   any_some f [] h = absurd (false≢true h)
   any_some f (x ∷ l) h = ⊎_elim (λ e. (x, e)) (λ e. any_some f l e) (or_cases (f x) (list_any f l) h)
 
-  any_all : (P : A → Type 0) (f : A → Bool) (l : List A) → All P l → list_any f l ≡ true → (x : A) × (f x ≡ true) × P x
-  any_all P f [] all h = absurd (false≢true h)
-  any_all P f (x ∷ l) all h = ⊎_elim (λ e. (x, e, All-head P x l all)) (λ e. any_all P f l (All-tail P x l all) e) (or_cases (f x) (list_any f l) h)
-
   any_where : (f g : A → Bool) → ((x : A) → f x ≡ true → g x ≡ true) → (l : List A) → list_any f l ≡ true → list_any g l ≡ true
   any_where f g t [] h = h
   any_where f g t (x ∷ l) h = ⊎_elim (λ e. or_left (g x) (list_any g l) (t x e)) (λ e. or_right (g x) (list_any g l) (any_where f g t l e)) (or_cases (f x) (list_any f l) h)
 
   within_drop : (n : ℕ) (l : List A) → Within (drop n l) l
-  within_drop zero l p h = h
-  within_drop (suc n) [] p h = h
   within_drop (suc n) (x ∷ l) p h = or_right (p x) (list_any p l) (within_drop n l p h)
+  within_drop other l p h = h
 
   within_take : (n : ℕ) (l : List A) → Within (take n l) l
   within_take zero l p h = absurd (false≢true h)
@@ -89,23 +83,6 @@ module _ {A : Type 0} where
 
 -- a word of a cell, as a weight
 
-weigh_words_past : (n i : ℕ) (ws : List ℕ) → n < i → weigh_words (cell_at n) i ws ≡ 0
-weigh_words_past n i [] h = refl
-weigh_words_past n i (w ∷ ws) h = go (w == 0) (weigh_words_past n (suc i) ws (omega arith))
-  where
-    go : (b : Bool) → weigh_words (cell_at n) (suc i) ws ≡ 0 → (if b then 0 else cell_at n (i, place_of w)) + weigh_words (cell_at n) (suc i) ws ≡ 0
-    go true rest = omega arith
-    go false rest = omega (arith, cond-false {A = ℕ} (eqb i n) 1 0 (ne_eqb i n (λ (e : i ≡ n). omega arith)))
-
-free_weighs : (n i c : ℕ) (ws : List ℕ) → n ≡ i + c → get_or ws c 0 ≡ 0 → weigh_words (cell_at n) i ws ≡ 0
-free_weighs n i c [] is free = refl
-free_weighs n i zero (w ∷ ws) is free = omega (arith, cond-true {A = ℕ} (eqb w 0) 0 (cell_at n (i, place_of w)) (eq-eqb w 0 free), weigh_words_past n (suc i) ws (omega arith))
-free_weighs n i (suc c) (w ∷ ws) is free = go (w == 0) (free_weighs n (suc i) c ws (omega arith) free)
-  where
-    go : (b : Bool) → weigh_words (cell_at n) (suc i) ws ≡ 0 → (if b then 0 else cell_at n (i, place_of w)) + weigh_words (cell_at n) (suc i) ws ≡ 0
-    go true rest = omega arith
-    go false rest = omega (arith, cond-false {A = ℕ} (eqb i n) 1 0 (ne_eqb i n (λ (e : i ≡ n). omega arith)))
-
 taken_weighs : (n i c : ℕ) (ws : List ℕ) → n ≡ i + c → get_or ws c 0 ≢ 0 → 0 < weigh_words (cell_at n) i ws
 taken_weighs n i c [] is some_ = absurd (some_ refl)
 taken_weighs n i zero (w ∷ ws) is some_ =
@@ -152,37 +129,23 @@ past_some k (x ∷ l) h = go (nat_lt x (chunks_of k)) refl h (past_some k l)
 any_is : (f : ℕ → Bool) (x : ℕ) → f x ≡ true → (l : List ℕ) → list_any (λ y. y == x) l ≡ true → list_any f l ≡ true
 any_is f x h = any_where (λ (y : ℕ). y == x) f (λ y e. subst (λ (z : ℕ). f z ≡ true) (sym (eqb-true y x e)) h)
 
-module _ (net : Net) (r : Race) (v : Record) (rule : Parts (counts_of net) (record r { records = v ∷ [] })) (earned : IsEarned net v.chunks [] v.won) (complete : IsCompleteRecord net v) where
-  won_taken : (cell : ℕ) → list_any (λ q. q.0 == cell) v.won ≡ true → forwarding_word r cell ≢ 0
-  won_taken cell h free =
-      let a = any_weighs (λ (q : ℕ × Place). q.0 == cell) v.won h in
-      let b = rule.won (cell_at cell) in
-      omega (arith, free_weighs cell 0 cell r.words (omega arith) free)
-
+module _ (net : Net) (r : Race) (v : Record) (rule : Rule (counts_of net) (record r { records = v ∷ [] })) (earned : IsEarned net v.chunks [] v.won) (complete : IsCompleteRecord net v) where
   taken_won : (cell : ℕ) → forwarding_word r cell ≢ 0 → list_any (λ q. q.0 == cell) v.won ≡ true
   taken_won cell some_ =
-      let b = rule.won (cell_at cell) in
+      let b = rule.wins_once.won (cell_at cell) in
       let t = taken_weighs cell 0 cell r.words (omega arith) some_ in
       weighs_any (λ (q : ℕ × Place). q.0 == cell) v.won (omega arith)
 
-  seen_taken : (cell : ℕ) → list_any (λ q. q.0 == cell) v.seen ≡ true → forwarding_word r cell ≢ 0
-  seen_taken cell h free =
-      let q = any_all (IsPair r.words) (λ (q : ℕ × Place). q.0 == cell) v.seen (rule.each 0 v refl).seen h in
-      word_of-some q.0.1 (sym q.2 ∙ (ap (λ (i : ℕ). forwarding_word r i) (eqb-true q.0.0 cell q.1) ∙ free))
-
-  met_taken : (cell : ℕ) → has_met v cell ≡ true → forwarding_word r cell ≢ 0
-  met_taken cell h = ⊎_elim (won_taken cell) (seen_taken cell) (or_cases (list_any (λ q. q.0 == cell) v.won) (list_any (λ q. q.0 == cell) v.seen) h)
+  targets_taken : (cell : ℕ) → is_target net v.chunks v.won cell ≡ true → forwarding_word r cell ≢ 0
+  targets_taken cell h = met_taken (counts_of net) (record r { records = v ∷ [] }) rule 0 v refl cell (complete.met cell h)
 
   -- the record has each chunk of roots
   has_chunk : (c : ℕ) → 8 * c < length net.roots → list_any (λ x. x == c) v.chunks ≡ true
   has_chunk c in' =
       let p = past_some (counts_of net) v.chunks complete.last in
-      let x : ℕ = p.0 in
       let above = p.1 in
-      let one = any_weighs (λ (y : ℕ). y == x) v.chunks p.2 in
-      let drawn = rule.chunks (one_at x) in
-      let up : x < r.next_chunk = ⊎_elim (λ lt. lt) (λ (le : r.next_chunk ≤ x). absurd (let none = one_past x r.next_chunk le in omega arith)) (cases_lt x r.next_chunk) in
-      let mine = rule.chunks (one_at c) in
+      let up = closed_below 0 r.next_chunk p.0 (λ u. u.chunks) v rule.chunks_once p.2 in
+      let mine = rule.chunks_once (one_at c) in
       let here = one_here c r.next_chunk (omega arith) in
       weighs_any (λ (y : ℕ). y == c) v.chunks (omega arith)
 
@@ -190,11 +153,11 @@ module _ (net : Net) (r : Race) (v : Record) (rule : Parts (counts_of net) (reco
   reached_taken cell (root _ h) =
       let p = in_chunk (has_number cell) (length net.roots) net.roots (omega arith) h in
       let mine = any_is (chunk_has net cell) p.0 p.2 v.chunks (has_chunk p.0 p.1) in
-      met_taken cell (complete.met cell (or_left (list_any (chunk_has net cell) v.chunks) (list_any (pair_has net cell) v.won) mine))
+      targets_taken cell (or_left (list_any (chunk_has net cell) v.chunks) (list_any (pair_has net cell) v.won) mine)
   reached_taken to (next cell _ from h) =
       let won = taken_won cell (reached_taken cell from) in
       let mine = any_where (λ (q : ℕ × Place). q.0 == cell) (pair_has net to) (λ q e. subst (λ (i : ℕ). has_number to (slice_index_or net.targets i []) ≡ true) (sym (eqb-true q.0 cell e)) h) v.won won in
-      met_taken to (complete.met to (or_right (list_any (chunk_has net to) v.chunks) (list_any (pair_has net to) v.won) mine))
+      targets_taken to (or_right (list_any (chunk_has net to) v.chunks) (list_any (pair_has net to) v.won) mine)
 
   taken_reached : (cell : ℕ) → forwarding_word r cell ≢ 0 → IsReachedCell net cell
   taken_reached cell some_ = earned_reached net v.chunks [] v.won (λ x e. absurd (false≢true e)) earned cell (taken_won cell some_)
@@ -203,7 +166,7 @@ module _ (net : Net) (r : Race) (v : Record) (rule : Parts (counts_of net) (reco
 pub closure : (c : Course) (id : ℕ) (v : Record) → KeepsRule c → get_elem? c.race.records id ≡ some v → v.share ≡ c.net.helpers → IsCompleteRecord c.net v
     → (cell : ℕ) → (forwarding_word c.race cell ≢ 0) ↔ IsReachedCell c.net cell
 closure c id v kept at all complete cell =
-    let rule = alone_keeps (counts_of c.net) c.race id v (parts_of (counts_of c.net) c.race kept.rule) at all in
+    let rule = rule_of _ _ (alone_keeps (counts_of c.net) c.race id v (parts_of (counts_of c.net) c.race kept.rule) at all) in
     (taken_reached c.net c.race v rule (kept.wins_earned id v at) complete cell, reached_taken c.net c.race v rule (kept.wins_earned id v at) complete cell)
 
 -- a closed table stands for a course with the one record
@@ -211,5 +174,4 @@ pub closed_course : (net : Net) (words : List ℕ) (done : Record) → IsClosedT
     → (cell : ℕ) → (slice_index words cell ≢ 0) ↔ IsReachedCell net cell
 closed_course net words done closed earned complete cell =
     let r : Race = record { next_chunk = closed.next_chunk; next_aged = closed.next_aged; next_old = closed.next_old; words = words; records = done ∷ [] } in
-    let rule = parts_of (counts_of net) r closed.rule in
-    (taken_reached net r done rule earned complete cell, reached_taken net r done rule earned complete cell)
+    (taken_reached net r done closed.rule earned complete cell, reached_taken net r done closed.rule earned complete cell)

@@ -2,10 +2,10 @@
 use Rattle.std.proofs.Common.{◌≡◌, ◌≢◌, ℕ, zero, suc, ◌+◌, ◌-◌, ◌<◌, ◌≤◌, ◌==◌, ◌&&◌, ◌||◌, List, [], ◌∷◌, ◌++◌, length, get_or, set, slice_index_or, Bool, true, false, not, if◌then◌else◌, eqb-true, nat_lt, sym, refl, ap, ◌∙◌, subst, ⊎_elim, get_or-set_other, arith}
 use Rattle.std.specs.List.{list_any}
 use Rattle.std.proofs.lemmas.List.{set-get_or}
-use Rattle.std.proofs.lemmas.Bool.{and_parts, or_cases, or_left, or_right, ltb-true, eqb-false, false≢true, not-true}
+use Rattle.std.proofs.lemmas.Bool.{and_parts, cond_both, or_cases, or_left, or_right, ltb-true, eqb-false, false≢true, not-true}
 use mathlib.Core.Option.{some, some-ne-none}
 use lib.ListN.{get_elem?}
-use Rattle.atomic_table.proofs.Lists.{at_set, at_snoc, set_else}
+use Rattle.atomic_table.proofs.Lists.{set_else}
 use Rattle.tg_word.specs.declared.Place.{Place}
 use Rattle.tg_word.specs.declared.TheConstants.{SPACES}
 use Rattle.tg_word.specs.Word.{IsPlace}
@@ -16,10 +16,10 @@ use Rattle.tg_race.specs.declared.event.Event.{Event}
 use Rattle.tg_race.specs.declared.event.Event.TheVariants.{Claim, Look, Win, Lose, Block, Part, Meet}
 use Rattle.tg_race.specs.Race.{Race, empty, past, with_chunk, with_seen, with_won, with_claimed_block, both, less_one}
 use Rattle.tg_race.specs.Conditions.{can_use}
-use Rattle.tg_race.specs.Course.{Net, Course, counts_of, chunk_has, pair_has, is_target, record_at, forwarding_word, is_within, can_win, can, can_happen, happens, course_after, starting, IsEarned, HasEarnedWins, IsHeld, KeepsRule}
+use Rattle.tg_race.specs.Course.{Net, Course, counts_of, chunk_has, pair_has, is_target, record_at, forwarding_word, is_within, can_win, can, can_happen, after, happens, course_after, starting, IsEarned, HasEarnedWins, IsHeld, KeepsRule}
 use Rattle.tg_race.proofs.Parts.{Parts, rule_of, parts_of}
 use Rattle.tg_race.proofs.Needs.{none_past, none_open_aged, none_open_old, usable, parted}
-use Rattle.tg_race.proofs.Steps.{claim_keeps, claim_aged_keeps, claim_old_keeps, win_keeps, look_keeps, split_keeps, join_keeps, starts}
+use Rattle.tg_race.proofs.Steps.{claim_keeps, claim_aged_keeps, claim_old_keeps, win_keeps, look_keeps, split_keeps, join_keeps, starts, each_push, each_set}
 
 -- `more` has all that `less` has
 abbrev pub Within : {A : Type 0} → List A → List A → Type 0
@@ -73,16 +73,18 @@ pub earned_append : (net : Net) (cs : List ℕ) (done xs ys : List (ℕ × Place
 earned_append net cs done [] ys h g = earned_more net cs cs [] done (within_same cs) (within_nil done) ys g
 earned_append net cs done (x ∷ xs) ys h g = (h.0, earned_append net cs (x ∷ done) xs ys h.1 g)
 
+-- the wins of two records that become one
+pub earned_both : (net : Net) (v w : Record) → HasEarnedWins net v → HasEarnedWins net w → HasEarnedWins net (both v w)
+earned_both net v w mine theirs =
+    earned_append net (v.chunks ++ w.chunks) [] v.won w.won
+    (earned_more net v.chunks (v.chunks ++ w.chunks) [] [] (within_left v.chunks w.chunks) (within_nil []) v.won mine)
+    (earned_more net w.chunks (v.chunks ++ w.chunks) [] [] (within_right v.chunks w.chunks) (within_nil []) w.won theirs)
+
 -- a record that is there
 at_live : (l : List Record) (i : ℕ) → 0 < (slice_index_or l i (empty 0)).share → get_elem? l i ≡ some (slice_index_or l i (empty 0))
 at_live [] i h = absurd (omega arith)
 at_live (v ∷ l) zero h = refl
 at_live (v ∷ l) (suc i) h = at_live l i h
-
--- what holds of each record's won list, where one record is put in place of another, and where one is added
-earned_set : (net : Net) (l : List Record) (id : ℕ) (w : Record) → HasEarnedWins net w → ((j : ℕ) (u : Record) → get_elem? l j ≡ some u → HasEarnedWins net u)
-    → (j : ℕ) (u : Record) → get_elem? (set l id w) j ≡ some u → HasEarnedWins net u
-earned_set net l id w new old j u at = ⊎_elim (λ t. subst (HasEarnedWins net) t.1 new) (λ t. old j u t.1) (at_set l id j w u at)
 
 -- what the condition of a win says
 record CanWin (net : Net) (r : Race) (v : Record) (cell : ℕ) (place : Place) : Type 0 where
@@ -129,7 +131,7 @@ module _ (c : Course) (helper : ℕ) (kept : KeepsRule c) (alive : 0 < (record_a
   claims : past k v ≡ 0 → KeepsRule (happens c helper Claim)
   claims none = record {
     rule = rule_of _ _ (claim_keeps k r helper v whole here none alive);
-    wins_earned = earned_set c.net r.records helper (with_chunk v r.next_chunk)
+    wins_earned = each_set (HasEarnedWins c.net) r.records helper (with_chunk v r.next_chunk)
         (earned_more c.net v.chunks (v.chunks ++ r.next_chunk ∷ []) [] [] (within_left v.chunks (r.next_chunk ∷ [])) (within_nil []) v.won mine) kept.wins_earned;
   }
 
@@ -138,30 +140,25 @@ module _ (c : Course) (helper : ℕ) (kept : KeepsRule c) (alive : 0 < (record_a
       let near : cell < length r.words = omega (arith, whole.size) in
       let forward = whole.forward cell 0 near some_ in record {
         rule = rule_of _ _ (look_keeps k r helper v cell (place_of (forwarding_word r cell)) whole here alive (sym forward.1));
-        wins_earned = earned_set c.net r.records helper (with_seen v (cell, place_of (forwarding_word r cell))) mine kept.wins_earned;
+        wins_earned = each_set (HasEarnedWins c.net) r.records helper (with_seen v (cell, place_of (forwarding_word r cell))) mine kept.wins_earned;
       }
-
-  looks : (cell : ℕ) → cell < k.cells → (b : Bool) → (forwarding_word r cell == 0) ≡ b
-      → KeepsRule (record c { race = if b then r else record r { records = set r.records helper (with_seen v (cell, place_of (forwarding_word r cell))) } })
-  looks cell inside true e = kept
-  looks cell inside false e = sees cell inside (λ z. eqb-false (forwarding_word r cell) 0 e z)
 
   wins : (cell : ℕ) (place : Place) → can_win c.net r v cell place ≡ true → KeepsRule (happens c helper (Win cell place))
   wins cell place h =
       let a = win_parts c.net r v cell place h in
       let usage = usable v place a.mine in record {
         rule = rule_of _ _ (win_keeps k r helper v cell place whole here alive a.inside a.free a.range usage.0 usage.1);
-        wins_earned = earned_set c.net r.records helper (with_won v (cell, place)) (earned_push c.net v.chunks v.won [] v.won (cell, place) (λ p x. x) mine a.earned) kept.wins_earned;
+        wins_earned = each_set (HasEarnedWins c.net) r.records helper (with_won v (cell, place)) (earned_push c.net v.chunks v.won [] v.won (cell, place) (λ p x. x) mine a.earned) kept.wins_earned;
       }
 
   blocks : (aged : Bool) → can c.net r helper v (Block aged) ≡ true → KeepsRule (happens c helper (Block aged))
   blocks true h = let a = and_parts _ _ h in record {
     rule = rule_of _ _ (claim_aged_keeps k r helper v whole here (none_open_aged v a.0) alive);
-    wins_earned = earned_set c.net r.records helper (with_claimed_block true v r.next_aged) mine kept.wins_earned;
+    wins_earned = each_set (HasEarnedWins c.net) r.records helper (with_claimed_block true v r.next_aged) mine kept.wins_earned;
   }
   blocks false h = let a = and_parts _ _ h in record {
     rule = rule_of _ _ (claim_old_keeps k r helper v whole here (none_open_old v a.0) alive);
-    wins_earned = earned_set c.net r.records helper (with_claimed_block false v r.next_old) mine kept.wins_earned;
+    wins_earned = each_set (HasEarnedWins c.net) r.records helper (with_claimed_block false v r.next_old) mine kept.wins_earned;
   }
 
   parts : can c.net r helper v Part ≡ true → KeepsRule (happens c helper Part)
@@ -173,7 +170,7 @@ module _ (c : Course) (helper : ℕ) (kept : KeepsRule c) (alive : 0 < (record_a
       let less : less_one v ≡ empty n = ap less_one more ∙ ap empty (let e : n + 1 - 1 ≡ n = omega arith in e) in
       let next : KeepsRule (record c { race = record r { records = set r.records helper (empty n) ++ empty 1 ∷ [] } }) = record {
         rule = rule_of _ _ (split_keeps k r helper n whole (here ∙ ap (λ (w : Record). some w) more) (omega arith));
-        wins_earned = λ j u at. ⊎_elim (earned_set c.net r.records helper (empty n) tt kept.wins_earned j u) (λ same. subst (HasEarnedWins c.net) same tt) (at_snoc (set r.records helper (empty n)) (empty 1) u j at);
+        wins_earned = each_push (HasEarnedWins c.net) (set r.records helper (empty n)) (empty 1) tt (each_set (HasEarnedWins c.net) r.records helper (empty n) tt kept.wins_earned);
       } in
       subst (λ (w : Record). KeepsRule (record c { race = record r { records = set r.records helper w ++ empty 1 ∷ [] } })) (sym less) next
 
@@ -185,17 +182,14 @@ module _ (c : Course) (helper : ℕ) (kept : KeepsRule c) (alive : 0 < (record_a
       let there : get_elem? r.records other ≡ some w = at_live r.records other (ltb-true 0 w.share a.1) in
       let theirs = kept.wins_earned other w there in record {
         rule = rule_of _ _ (join_keeps k r helper v other w whole here apart (set_else r.records helper other (both v w) apart ∙ there));
-        wins_earned = earned_set c.net (set r.records helper (both v w)) other (empty 0) tt
-            (earned_set c.net r.records helper (both v w)
-            (earned_append c.net (v.chunks ++ w.chunks) [] v.won w.won
-            (earned_more c.net v.chunks (v.chunks ++ w.chunks) [] [] (within_left v.chunks w.chunks) (within_nil []) v.won mine)
-            (earned_more c.net w.chunks (v.chunks ++ w.chunks) [] [] (within_right v.chunks w.chunks) (within_nil []) w.won theirs))
-            kept.wins_earned);
+        wins_earned = each_set (HasEarnedWins c.net) (set r.records helper (both v w)) other (empty 0) tt
+            (each_set (HasEarnedWins c.net) r.records helper (both v w) (earned_both c.net v w mine theirs) kept.wins_earned);
       }
 
   event_keeps : (e : Event) → can c.net r helper v e ≡ true → KeepsRule (happens c helper e)
   event_keeps Claim h = claims (none_past k v h)
-  event_keeps (Look cell) h = looks cell (ltb-true cell (length c.net.targets) h) (forwarding_word r cell == 0) refl
+  event_keeps (Look cell) h =
+      cond_both (forwarding_word r cell == 0) r (after r helper v (Lose cell)) (λ x. KeepsRule (record c { race = x })) (λ _. kept) (λ e. sees cell (ltb-true cell (length c.net.targets) h) (eqb-false (forwarding_word r cell) 0 e))
   event_keeps (Win cell place) h = wins cell place h
   event_keeps (Lose cell) h = let a = and_parts (nat_lt cell (length c.net.targets)) (not (forwarding_word r cell == 0)) h in
       sees cell (ltb-true cell (length c.net.targets) a.0) (eqb-false (forwarding_word r cell) 0 (not-true (forwarding_word r cell == 0) a.1))
@@ -211,45 +205,31 @@ keeps c helper e kept h =
 pub start_kept : (net : Net) → KeepsRule (starting net)
 start_kept net = record {
   rule = rule_of _ _ (starts (counts_of net));
-  wins_earned = λ j u at. ⊎_elim (λ (none : get_elem? [] j ≡ some u). absurd (some-ne-none u (sym none))) (λ same. subst (HasEarnedWins net) same tt) (at_snoc [] (empty net.helpers) u j at);
+  wins_earned = each_push (HasEarnedWins net) [] (empty net.helpers) tt (λ j u none. absurd (some-ne-none u (sym none)));
 }
 
 -- no event changes a place that a cell has
 pub places_stay : (c : Course) (helper : ℕ) (e : Event) → can_happen c helper e ≡ true → (cell : ℕ) → forwarding_word c.race cell ≢ 0 → forwarding_word (happens c helper e).race cell ≡ forwarding_word c.race cell
-places_stay c helper Claim h cell some_ = refl
-places_stay c helper (Look at) h cell some_ = go (forwarding_word c.race at == 0)
-  where
-    go : (b : Bool) → forwarding_word (if b then c.race else record c.race { records = set c.race.records helper (with_seen (record_at c.race helper) (at, place_of (forwarding_word c.race at))) }) cell ≡ forwarding_word c.race cell
-    go true = refl
-    go false = refl
+places_stay c helper (Look at) h cell some_ =
+    cond_both (forwarding_word c.race at == 0) c.race (after c.race helper (record_at c.race helper) (Lose at)) (λ r. forwarding_word r cell ≡ forwarding_word c.race cell) (λ _. refl) (λ _. refl)
 places_stay c helper (Win at place) h cell some_ =
     let a = and_parts (nat_lt 0 (record_at c.race helper).share) (can_win c.net c.race (record_at c.race helper) at place) h in
     let free = (win_parts c.net c.race (record_at c.race helper) at place a.1).free in
     let ne : cell ≢ at = (λ e. some_ (ap (λ (i : ℕ). forwarding_word c.race i) e ∙ free)) in
     get_or-set_other c.race.words at cell (word_of place) 0 ne
-places_stay c helper (Lose at) h cell some_ = refl
 places_stay c helper (Block true) h cell some_ = refl
-places_stay c helper (Block false) h cell some_ = refl
-places_stay c helper Part h cell some_ = refl
-places_stay c helper (Meet other) h cell some_ = refl
+places_stay c helper e h cell some_ = refl
 
 -- the course after one event of a list
 abbrev next : Course → ℕ → Event → Course
 next c helper e = if can_happen c helper e then happens c helper e else c
 
 next_keeps : (c : Course) (helper : ℕ) (e : Event) → KeepsRule c → KeepsRule (next c helper e)
-next_keeps c helper e kept = go (can_happen c helper e) refl
-  where
-    go : (b : Bool) → can_happen c helper e ≡ b → KeepsRule (if b then happens c helper e else c)
-    go true h = keeps c helper e kept h
-    go false h = kept
+next_keeps c helper e kept = cond_both (can_happen c helper e) (happens c helper e) c KeepsRule (keeps c helper e kept) (λ _. kept)
 
 next_stays : (c : Course) (helper : ℕ) (e : Event) (cell : ℕ) → forwarding_word c.race cell ≢ 0 → forwarding_word (next c helper e).race cell ≡ forwarding_word c.race cell
-next_stays c helper e cell taken = go (can_happen c helper e) refl
-  where
-    go : (b : Bool) → can_happen c helper e ≡ b → forwarding_word (if b then happens c helper e else c).race cell ≡ forwarding_word c.race cell
-    go true h = places_stay c helper e h cell taken
-    go false h = refl
+next_stays c helper e cell taken =
+    cond_both (can_happen c helper e) (happens c helper e) c (λ x. forwarding_word x.race cell ≡ forwarding_word c.race cell) (λ h. places_stay c helper e h cell taken) (λ _. refl)
 
 -- after a list of events
 pub events_keep : (c : Course) (events : List (ℕ × Event)) → KeepsRule c → KeepsRule (course_after c events)
@@ -386,11 +366,9 @@ part_is c0 c helper v l same h here is =
     ap (λ (m : List Record). record c0 { race = record c0.race { records = m } }) e ∙ ap (λ (x : Course). happens x helper Part) same
 
 set_swap : (l : List Record) (i j : ℕ) (a b : Record) → j ≢ i → set (set l j b) i a ≡ set (set l i a) j b
-set_swap [] i j a b ne = refl
 set_swap (x ∷ l) zero zero a b ne = absurd (ne refl)
-set_swap (x ∷ l) zero (suc j) a b ne = refl
-set_swap (x ∷ l) (suc i) zero a b ne = refl
 set_swap (x ∷ l) (suc i) (suc j) a b ne = λ k. x ∷ set_swap l i j a b (λ e. ne (ap suc e)) k
+set_swap l i j a b ne = refl
 
 pub met_apart : (c : Course) (helper other : ℕ) → can_happen c helper (Meet other) ≡ true → other ≢ helper
 met_apart c helper other h =
@@ -423,10 +401,3 @@ pub met_course : (c0 c : Course) (helper other : ℕ) (v w u x : Record) → c0 
 met_course c0 c helper other v w u x same h mine theirs spent is =
     ap (λ (y : Course). record y { race = record y.race { records = set (set y.race.records other u) helper x } }) same
     ∙ ap (λ (l : List Record). record c { race = record c.race { records = l } }) (met_records c helper other v w u x h mine theirs spent is)
-
--- the wins of two records that become one
-pub earned_both : (net : Net) (v w : Record) → HasEarnedWins net v → HasEarnedWins net w → HasEarnedWins net (both v w)
-earned_both net v w mine theirs =
-    earned_append net (v.chunks ++ w.chunks) [] v.won w.won
-    (earned_more net v.chunks (v.chunks ++ w.chunks) [] [] (within_left v.chunks w.chunks) (within_nil []) v.won mine)
-    (earned_more net w.chunks (v.chunks ++ w.chunks) [] [] (within_right v.chunks w.chunks) (within_nil []) w.won theirs)

@@ -1,7 +1,7 @@
 -- What 'drawn' says of one number, and of the numbers of one record.
-use Rattle.std.proofs.Common.{◌≡◌, ℕ, ◌+◌, ◌<◌, ◌≤◌, List, [], ◌∷◌, Bool, true, false, if◌then◌else◌, length, get_or, eqb, eqb-true, eq-eqb, refl, ⊎_elim, arith}
+use Rattle.std.proofs.Common.{◌≡◌, ◌≢◌, ℕ, ◌<◌, ◌≤◌, List, [], ◌∷◌, length, get_or, eqb, eq-eqb, ne_eqb, refl, ⊎_elim, arith}
 use Rattle.std.specs.List.{All, Contains}
-use Rattle.std.proofs.lemmas.Bool.{cond-true, cases_lt}
+use Rattle.std.proofs.lemmas.Bool.{cond-true, cond-false, cases_eq, cases_lt}
 use Rattle.std.proofs.lemmas.List.Elements.{Contains-append_right}
 use mathlib.Core.Option.{some}
 use lib.ListN.{get_elem?}
@@ -45,8 +45,7 @@ drawn_under start counter of records id v drawn at = λ i d low. ⊎_elim
 -- a number that weighs is in the list
 pub number_found : (n : ℕ) (xs : List ℕ) → 0 < weigh (one_at n) xs → Contains xs n
 number_found n [] weight = absurd (omega arith)
-number_found n (x ∷ xs) weight = go (eqb x n) refl weight (number_found n xs)
-  where
-    go : (b : Bool) → eqb x n ≡ b → 0 < (if b then 1 else 0) + weigh (one_at n) xs → (0 < weigh (one_at n) xs → Contains xs n) → Contains (x ∷ xs) n
-    go true e w more = (0, omega arith, eqb-true x n e)
-    go false e w more = Contains-append_right (x ∷ []) xs n (more (omega arith))
+number_found n (x ∷ xs) weight = ⊎_elim
+    (λ (e : x ≡ n). (0, omega arith, e))
+    (λ (ne : x ≢ n). Contains-append_right (x ∷ []) xs n (number_found n xs (omega (arith, cond-false {A = ℕ} (eqb x n) 1 0 (ne_eqb x n ne)))))
+    (cases_eq x n)

@@ -1,21 +1,20 @@
 -- Won pairs and the words: each won pair stands in the table, and each place in the table was won.
-use Rattle.std.proofs.Common.{◌≡◌, ◌≢◌, ◌↔◌, ℕ, zero, suc, ◌+◌, ◌*◌, ◌<◌, ◌≤◌, ◌==◌, ◌&&◌, ◌||◌, List, [], ◌∷◌, length, get_or, slice_index, Bool, true, false, if◌then◌else◌, IsTrue, eqb, eqb-true, eq-eqb, ne_eqb, sym, refl, ap, subst, ◌∙◌, ⊎_elim, arith}
-use Rattle.std.proofs.lemmas.Bool.{cond-true, cond-false, and_parts, eqb-false, cases_lt, false≢true}
+use Rattle.std.proofs.Common.{◌≡◌, ◌≢◌, ◌↔◌, ℕ, zero, suc, ◌+◌, ◌*◌, ◌<◌, ◌≤◌, ◌==◌, ◌&&◌, List, [], ◌∷◌, length, get_or, slice_index, Bool, true, false, if◌then◌else◌, IsTrue, eqb, eqb-true, eq-eqb, ne_eqb, sym, refl, ap, subst, ◌∙◌, ⊎_elim, arith}
+use Rattle.std.proofs.lemmas.Bool.{cond-true, cond-false, and_parts, or_cases, eqb-false, false_from_ne_true, cases_lt}
 use Rattle.std.specs.List.{All, list_any}
-use Rattle.std.proofs.lemmas.List.Elements.{All-head, All-tail}
 use Rattle.tg_word.specs.declared.Place.{Place}
 use Rattle.tg_word.specs.Word.{IsPlace}
 use Rattle.tg_race.specs.declared.record.Counts.{Counts}
 use Rattle.tg_race.specs.declared.record.Record.{Record}
 use Rattle.tg_race.specs.Weights.{weigh, weigh_below, one_at}
 use Rattle.tg_race.specs.Words.{word_of, place_of, same_place, same_pair, has_pair, weigh_words, IsPair, AGED, OLD}
-use Rattle.tg_race.specs.Race.{Race, Rule, EachRecord, has_number, with_room}
+use Rattle.tg_race.specs.Race.{Race, Rule, EachRecord, IsDrawn, has_number, with_room}
 use Rattle.tg_race.specs.Board.{IsClosedTable}
 use Rattle.tg_race.specs.Course.{has_met}
 use mathlib.Core.Option.{some}
 use lib.ListN.{get_elem?}
 use Rattle.tg_race.proofs.PlaceWords.{place_of-word_of, word_of-some}
-use Rattle.tg_race.proofs.Sums.{weigh_one_le, weigh_ones, one_below, any_weighs, weighs_any}
+use Rattle.tg_race.proofs.Sums.{weigh_one_le, weigh_ones, one_below, any_all, any_weighs, weighs_any}
 use Rattle.tg_race.proofs.Steps.{same_place_is, aged_few, blocks_filled, in_space, old_few}
 use Rattle.tg_race.proofs.Drawn.{drawn_above}
 
@@ -55,9 +54,8 @@ weighed_passes f i (w ∷ ws) some_ = go (w == 0) refl (f (i, place_of w)) refl 
     rest = weigh_words (λ q. if f q then 1 else 0) (suc i) ws
 
     go : (b : Bool) → (w == 0) ≡ b → (d : Bool) → f (i, place_of w) ≡ d → 0 < (if b then 0 else if d then 1 else 0) + rest → (0 < rest → Passes f (suc i) ws) → Passes f i (w ∷ ws)
-    go true z d e h more = passes_later f i w ws (more (omega arith))
-    go false z false e h more = passes_later f i w ws (more (omega arith))
     go false z true e h more = record { at = 0; cell = i; is = omega arith; inside = omega arith; taken = eqb-false w 0 z; passes = e }
+    go other z d e h more = passes_later f i w ws (more (omega arith))
 
 -- a place in the table weighs
 taken_pair : (n i c : ℕ) (p : Place) (ws : List ℕ) → n ≡ i + c → get_or ws c 0 ≡ word_of p → IsPlace p → 0 < weigh_words (pair_at n p) i ws
@@ -71,14 +69,10 @@ taken_pair n i (suc c) p (w ∷ ws) is here inside = omega (arith, taken_pair n 
 
 -- a pair of the list stands in the words, where all of it do
 pub seen_at : (words : List ℕ) (l : List (ℕ × Place)) (c : ℕ) (p : Place) → All (IsPair words) l → IsTrue (has_pair c p l) → slice_index words c ≡ word_of p
-seen_at words [] c p all h = absurd (false≢true h)
-seen_at words (q ∷ l) c p all h = go (same_pair c p q) refl h (seen_at words l c p (All-tail (IsPair words) q l all))
-  where
-    go : (b : Bool) → same_pair c p q ≡ b → (b || list_any (same_pair c p) l) ≡ true → (IsTrue (has_pair c p l) → slice_index words c ≡ word_of p) → slice_index words c ≡ word_of p
-    go true t h later =
-        let test = and_parts (q.0 == c) (same_place q.1 p) t in
-        ap (λ (n : ℕ). get_or words n 0) (sym (eqb-true q.0 c test.0)) ∙ (All-head (IsPair words) q l all ∙ ap word_of (same_place_is q.1 p test.1))
-    go false t h later = later h
+seen_at words l c p all h =
+    let q = any_all (IsPair words) (same_pair c p) l all h in
+    let test = and_parts (q.0.0 == c) (same_place q.0.1 p) q.1 in
+    ap (λ (n : ℕ). get_or words n 0) (sym (eqb-true q.0.0 c test.0)) ∙ (q.2 ∙ ap word_of (same_place_is q.0.1 p test.1))
 
 -- a pair that a record has won stands in the table, with a place in range
 won_pair : (k : Counts) (r : Race) → Rule k r → EachRecord (λ v. (cell : ℕ) (p : Place) → IsTrue (has_pair cell p v.won) → (slice_index r.words cell ≡ word_of p) × IsPlace p) r.records
@@ -103,62 +97,44 @@ won_place k r rule id v at cell p won = (won_pair k r rule id v at cell p won).1
 
 -- a seen cell has a word
 seen_taken : (words : List ℕ) (c : ℕ) (l : List (ℕ × Place)) → All (IsPair words) l → list_any (λ q. q.0 == c) l ≡ true → get_or words c 0 ≢ 0
-seen_taken words c [] all h = absurd (false≢true h)
-seen_taken words c (q ∷ l) all h = go (q.0 == c) refl h (seen_taken words c l (All-tail (IsPair words) q l all))
-  where
-    go : (b : Bool) → (q.0 == c) ≡ b → (b || list_any (λ (x : ℕ × Place). x.0 == c) l) ≡ true → (list_any (λ (x : ℕ × Place). x.0 == c) l ≡ true → get_or words c 0 ≢ 0) → get_or words c 0 ≢ 0
-    go true is h more = λ none. word_of-some q.1 (sym (All-head (IsPair words) q l all) ∙ (ap (λ (n : ℕ). get_or words n 0) (eqb-true q.0 c is) ∙ none))
-    go false is h more = more h
+seen_taken words c l all h none =
+    let q = any_all (IsPair words) (λ (x : ℕ × Place). x.0 == c) l all h in
+    word_of-some q.0.1 (sym q.2 ∙ (ap (λ (n : ℕ). get_or words n 0) (eqb-true q.0.0 c q.1) ∙ none))
 
 -- the word of a cell that a record has met isn't 0
-met_taken : (k : Counts) (r : Race) → Rule k r → (id : ℕ) (v : Record) → get_elem? r.records id ≡ some v → (c : ℕ) → has_met v c ≡ true → get_or r.words c 0 ≢ 0
-met_taken k r rule id v at c met = go (list_any (λ (q : ℕ × Place). q.0 == c) v.won) refl met
-  where
-    go : (b : Bool) → list_any (λ (q : ℕ × Place). q.0 == c) v.won ≡ b → (b || list_any (λ (q : ℕ × Place). q.0 == c) v.seen) ≡ true → get_or r.words c 0 ≢ 0
-    go false e h = seen_taken r.words c v.seen (rule.seen_stands id v at) h
-    go true e h = λ none.
-        let mine = any_weighs (λ (q : ℕ × Place). q.0 == c) v.won e in
-        let one = weigh_one_le (λ (u : Record). weigh (λ (q : ℕ × Place). if q.0 == c then 1 else 0) u.won) r.records id v at in
-        let all = rule.wins_once.won (λ (q : ℕ × Place). if q.0 == c then 1 else 0) in
-        let found = weighed_passes (λ (q : ℕ × Place). q.0 == c) 0 r.words (omega arith) in
-        let is : found.at ≡ c = (let here = eqb-true found.cell c found.passes in let e = found.is in omega arith) in
-        found.taken (ap (λ (n : ℕ). get_or r.words n 0) is ∙ none)
+pub met_taken : (k : Counts) (r : Race) → Rule k r → (id : ℕ) (v : Record) → get_elem? r.records id ≡ some v → (c : ℕ) → has_met v c ≡ true → get_or r.words c 0 ≢ 0
+met_taken k r rule id v at c met none = ⊎_elim
+    (λ e.
+    let mine = any_weighs (λ (q : ℕ × Place). q.0 == c) v.won e in
+    let one = weigh_one_le (λ (u : Record). weigh (λ (q : ℕ × Place). if q.0 == c then 1 else 0) u.won) r.records id v at in
+    let all = rule.wins_once.won (λ (q : ℕ × Place). if q.0 == c then 1 else 0) in
+    let found = weighed_passes (λ (q : ℕ × Place). q.0 == c) 0 r.words (omega arith) in
+    let is : found.at ≡ c = (let here = eqb-true found.cell c found.passes in let e = found.is in omega arith) in
+    found.taken (ap (λ (n : ℕ). get_or r.words n 0) is ∙ none))
+    (λ h. seen_taken r.words c v.seen (rule.seen_stands id v at) h none)
+    (or_cases (list_any (λ (q : ℕ × Place). q.0 == c) v.won) (list_any (λ (q : ℕ × Place). q.0 == c) v.seen) met)
 
 pub unmet : (k : Counts) (r : Race) → Rule k r → (id : ℕ) (v : Record) → get_elem? r.records id ≡ some v → (c : ℕ) → get_or r.words c 0 ≡ 0 → has_met v c ≡ false
-unmet k r rule id v at c none = go (has_met v c) refl
-  where
-    go : (b : Bool) → has_met v c ≡ b → b ≡ false
-    go false e = refl
-    go true e = absurd (met_taken k r rule id v at c e none)
+unmet k r rule id v at c none = false_from_ne_true (has_met v c) (λ e. met_taken k r rule id v at c e none)
 
 -- the places in a closed table are those of the pairs that were won
 pub closed_pairs : (k : Counts) (words : List ℕ) (done : Record) → IsClosedTable k words done → (cell : ℕ) (p : Place) → IsPlace p → (slice_index words cell ≡ word_of p) ↔ IsTrue (has_pair cell p done.won)
-closed_pairs k words done closed cell p inside = (there, back)
-  where
-    there : slice_index words cell ≡ word_of p → IsTrue (has_pair cell p done.won)
-    there here =
-        let all = closed.rule.wins_once.won (pair_at cell p) in
-        weighs_any (same_pair cell p) done.won (omega (arith, taken_pair cell 0 cell p words (omega arith) here inside))
+closed_pairs k words done closed cell p inside =
+    let all = closed.rule.wins_once.won (pair_at cell p) in
+    ((λ here. weighs_any (same_pair cell p) done.won (omega (arith, taken_pair cell 0 cell p words (omega arith) here inside))), won_stands k _ closed.rule 0 done refl cell p)
 
-    back : IsTrue (has_pair cell p done.won) → slice_index words cell ≡ word_of p
-    back won = won_stands k _ closed.rule 0 done refl cell p won
+-- a number that the one record has drawn is below the counter
+pub closed_below : (start counter b : ℕ) (of : Record → List ℕ) (done : Record) → IsDrawn start counter of (done ∷ []) → list_any (λ x. x == b) (of done) ≡ true → b < counter
+closed_below start counter b of done drawn mine =
+    let some_ = any_weighs (λ (x : ℕ). x == b) (of done) mine in
+    ⊎_elim (λ lt. lt) (λ (le : counter ≤ b). absurd (let none = drawn_above start counter of (done ∷ []) drawn b le in omega arith)) (cases_lt b counter)
 
 -- the blocks that were claimed in a closed table are few
 pub closed_aged_few : (k : Counts) (words : List ℕ) (done : Record) → IsClosedTable k words done → (b : ℕ) → IsTrue (has_number b done.aged_blocks) → 64 * (b + 1) ≤ 64 * k.helpers + length done.won
-closed_aged_few k words done closed b mine =
-    let some_ = any_weighs (λ (x : ℕ). x == b) done.aged_blocks mine in
-    let few = aged_few k _ closed.rule in
-    let none : closed.next_aged ≤ b → weigh (λ v. weigh (one_at b) v.aged_blocks) (done ∷ []) ≡ 0 = drawn_above 0 closed.next_aged (λ v. v.aged_blocks) (done ∷ []) closed.rule.blocks_once.0 b in
-    let below : b < closed.next_aged = ⊎_elim (λ lt. lt) (λ (le : closed.next_aged ≤ b). absurd (let zero_ = none le in omega arith)) (cases_lt b closed.next_aged) in
-    omega arith
+closed_aged_few k words done closed b mine = let below = closed_below 0 closed.next_aged b (λ v. v.aged_blocks) done closed.rule.blocks_once.0 mine in omega (arith, aged_few k _ closed.rule)
 
 pub closed_old_few : (k : Counts) (words : List ℕ) (done : Record) → IsClosedTable k words done → (b : ℕ) → IsTrue (has_number b done.old_blocks) → 64 * (b + 1) ≤ 64 * (k.kept + k.helpers) + length done.won
-closed_old_few k words done closed b mine =
-    let some_ = any_weighs (λ (x : ℕ). x == b) done.old_blocks mine in
-    let few = old_few k _ closed.rule in
-    let none : closed.next_old ≤ b → weigh (λ v. weigh (one_at b) v.old_blocks) (done ∷ []) ≡ 0 = drawn_above k.kept closed.next_old (λ v. v.old_blocks) (done ∷ []) closed.rule.blocks_once.1 b in
-    let below : b < closed.next_old = ⊎_elim (λ lt. lt) (λ (le : closed.next_old ≤ b). absurd (let zero_ = none le in omega arith)) (cases_lt b closed.next_old) in
-    omega arith
+closed_old_few k words done closed b mine = let below = closed_below k.kept closed.next_old b (λ v. v.old_blocks) done closed.rule.blocks_once.1 mine in omega (arith, old_few k _ closed.rule)
 
 -- they are full of the copies in their space, but for one a helper
 module _ (k : Counts) (words : List ℕ) (done : Record) (closed : IsClosedTable k words done) where

@@ -1,9 +1,9 @@
 -- Each event keeps the rule.
 use Rattle.std.proofs.Common.{◌≡◌, ◌≢◌, ℕ, zero, suc, ◌+◌, ◌*◌, ◌<◌, ◌≤◌, ◌==◌, ◌&&◌, List, [], ◌∷◌, ◌++◌, length, get_or, set, Bool, true, false, if◌then◌else◌, eqb-true, nat_lt, sym, refl, ap, ◌∙◌, subst, ⊎_elim, le_of_eq, le_trans, All, replicate, length-set, get_or-set_other, arith}
-use Rattle.std.proofs.lemmas.Bool.{cond-true, cond-false, cond_both, ltb-true, ltb-false, lt-ltb, and_parts}
+use Rattle.std.proofs.lemmas.Bool.{cond-true, cond_both, ltb-true, ltb-false, lt-ltb, and_parts}
 use Rattle.std.proofs.lemmas.List.{length-replicate}
 use Rattle.std.proofs.lemmas.List.Elements.{All-push, All-weaker, All-append, All-nil, All-head, All-tail, All-set, All-replicate}
-use mathlib.Core.Option.{some, some-injective, some-ne-none}
+use mathlib.Core.Option.{some, some-ne-none}
 use lib.ListN.{get_elem?}
 use Rattle.atomic_table.proofs.Lists.{at_set, at_snoc, set_else}
 use Rattle.tg_race.specs.declared.record.Counts.{Counts}
@@ -15,8 +15,8 @@ use Rattle.tg_race.proofs.PlaceWords.{place_of-word_of, word_of-forward, word_of
 use Rattle.tg_race.specs.Weights.{weigh, weigh_below, one_at}
 use Rattle.tg_race.specs.Words.{IsPair, same_place, place_at, lies_in, OLD, AGED}
 use Rattle.tg_race.specs.Race.{Race, Rule, empty, chunks_of, used_in, past, IsDrawn, with_chunk, with_seen, with_won, with_claimed_block, both}
-use Rattle.tg_race.proofs.Parts.{Parts, parts_of, Fits, is_past, is_open, open_aged, open_old, claims_of}
-use Rattle.tg_race.proofs.Sums.{weigh-append, weigh_push, weigh-set, weigh_one_le, weigh-le, weigh-le_at, weigh_alone, weigh_below_more, one_below, weigh_words-set, weigh_words_le, count_below, weigh-scale, weigh-linear, weigh-add, weigh-zero, no_words, weigh_ones}
+use Rattle.tg_race.proofs.Parts.{Parts, Fits, is_past, is_open, open_aged, open_old, claims_of}
+use Rattle.tg_race.proofs.Sums.{weigh-append, weigh_push, weigh-set, weigh_one_le, weigh-le, weigh-le_at, weigh_alone, weigh_below_more, one_below, weigh_words-set, weigh_words_le, count_below, weigh-scale, weigh-add, weigh-zero, no_words, weigh_ones}
 
 -- a list that another record takes over is drawn as before
 pub drawn_same : (start n : ℕ) (of : Record → List ℕ) (l : List Record) (id : ℕ) (v w : Record) → get_elem? l id ≡ some v → of w ≡ of v
@@ -97,11 +97,7 @@ open_at_most_one space b won = cond_both (nat_lt (used_in space b won) 64) 1 0 (
 two_ways : (s t : Bool) (A B : Record → ℕ) (l : List Record) → weigh A l ≤ 1 → weigh B l ≤ 1 → weigh (λ u. if s then A u else if t then B u else 0) l ≤ 1
 two_ways true t A B l a b = a
 two_ways false true A B l a b = b
-two_ways false false A B l a b = nothing l
-  where
-    nothing : (l : List Record) → weigh (λ (u : Record). 0) l ≤ 1
-    nothing [] = omega arith
-    nothing (x ∷ xs) = omega (arith, nothing xs)
+two_ways false false A B l a b = omega (arith, weigh-zero l)
 
 -- a block has one record that claimed it
 pub claimed_once : (k : Counts) (r : Race) → Parts k r → (p : Place) → weigh (claims_of p) r.records ≤ 1
@@ -123,20 +119,15 @@ same_place_is p q e =
 -- a place in a block that the record didn't claim isn't among its won ones
 unclaimed : (p : Place) (u : Record) (won : List (ℕ × Place)) → All (λ q. 0 < claims_of q.1 u) won → claims_of p u ≡ 0 → weigh (place_at p) won ≡ 0
 unclaimed p u [] all none = refl
-unclaimed p u (q ∷ qs) all none = go (same_place q.1 p) refl (unclaimed p u qs (All-tail P q qs all) none)
-  where
-    P : ℕ × Place → Type 0
-    P q = 0 < claims_of q.1 u
-
-    go : (b : Bool) → same_place q.1 p ≡ b → weigh (place_at p) qs ≡ 0 → weigh (place_at p) (q ∷ qs) ≡ 0
-    go true e rest = let head : 0 < claims_of q.1 u = All-head (λ q. 0 < claims_of q.1 u) q qs all in let same = ap (λ (x : Place). claims_of x u) (same_place_is q.1 p e) in absurd (omega arith)
-    go false e rest = omega (arith, cond-false {A = ℕ} (same_place q.1 p) 1 0 e)
+unclaimed p u (q ∷ qs) all none = cond_both (same_place q.1 p) 1 0 (λ x. x + weigh (place_at p) qs ≡ 0)
+    (λ e. let head : 0 < claims_of q.1 u = All-head (λ q. 0 < claims_of q.1 u) q qs all in let same = ap (λ (x : Place). claims_of x u) (same_place_is q.1 p e) in absurd (omega arith))
+    (λ _. omega (arith, unclaimed p u qs (All-tail (λ q. 0 < claims_of q.1 u) q qs all) none))
 
 -- a place that is new to the record whose block it lies in is new to all records
 pub new_place : (k : Counts) (r : Race) (id : ℕ) (v : Record) → Parts k r → get_elem? r.records id ≡ some v → (p : Place) → 0 < claims_of p v → weigh (place_at p) v.won ≡ 0
     → weigh (λ u. weigh (place_at p) u.won) r.records ≡ 0
 new_place k r id v rule at p own fresh =
-    weigh_alone (claims_of p) (λ u. weigh (place_at p) u.won) r.records id v at (claimed_once k r rule p) own (λ i u h none. unclaimed p u u.won (rule.each i u h).placed none) ∙ fresh
+    weigh_alone (claims_of p) (λ u. weigh (place_at p) u.won) r.records id v at (omega (arith, claimed_once k r rule p)) (λ i u h none. unclaimed p u u.won (rule.each i u h).placed none) ∙ fresh
 
 -- a pair stays a pair where a free cell gets a word
 pair_stays : (words : List ℕ) (c w : ℕ) → get_or words c 0 ≡ 0 → (q : ℕ × Place) → IsPair words q → IsPair (set words c w) q
@@ -176,9 +167,11 @@ win_keeps k r id v c p rule at has inside free in' own fresh =
           omega arith);
       apart = λ x. (
           let s = weigh-set (λ u. weigh (place_at x) u.won) r.records id v w at in
-          let e = rule.apart x in
           let m = weigh_push (place_at x) v.won (c, p) in
-          once x (weigh (λ u. weigh (place_at x) u.won) (set r.records id w)) s e m (same_place p x) refl);
+          let once = cond_both (same_place p x) 1 0 (λ y. y + weigh (λ u. weigh (place_at x) u.won) r.records ≤ 1)
+          (λ is. let none = new_place k r id v rule at p own fresh in omega (arith, ap (λ (y : Place). weigh (λ u. weigh (place_at y) u.won) r.records) (same_place_is p x is)))
+          (λ _. omega (arith, rule.apart x)) in
+          omega arith);
       shares = (let s = weigh-set (λ u. u.share) r.records id v w at in let e = rule.shares in omega arith);
       each = each_set (Fits k (set r.words c (word_of p))) r.records id w (record {
         placed = All-push (λ q. 0 < claims_of q.1 w) v.won (c, p) fits.placed own;
@@ -189,16 +182,6 @@ win_keeps k r id v c p rule at has inside free in' own fresh =
         spent = not_spent v w refl has;
       }) (λ j u h. others_fit k r.words c (word_of p) free u (rule.each j u h));
     }
-  where
-    once : (x : Place) (total : ℕ) → total + weigh (place_at x) v.won ≡ weigh (λ u. weigh (place_at x) u.won) r.records + weigh (place_at x) (v.won ++ (c, p) ∷ [])
-        → weigh (λ u. weigh (place_at x) u.won) r.records ≤ 1 → weigh (place_at x) (v.won ++ (c, p) ∷ []) ≡ weigh (place_at x) v.won + place_at x (c, p)
-        → (b : Bool) → same_place p x ≡ b → total ≤ 1
-    once x total s e m true is =
-        let same : p ≡ x = same_place_is p x is in
-        let none = new_place k r id v rule at p own fresh in
-        let none' : weigh (λ u. weigh (place_at x) u.won) r.records ≡ 0 = subst (λ (y : Place). weigh (λ u. weigh (place_at y) u.won) r.records ≡ 0) same none in
-        omega (arith, cond-true {A = ℕ} (same_place p x) 1 0 is)
-    once x total s e m false is = omega (arith, cond-false {A = ℕ} (same_place p x) 1 0 is)
 
 pub look_keeps : (k : Counts) (r : Race) (id : ℕ) (v : Record) (c : ℕ) (p : Place) → Parts k r → get_elem? r.records id ≡ some v → 0 < v.share
     → get_or r.words c 0 ≡ word_of p → Parts k (record r { records = set r.records id (with_seen v (c, p)) })
@@ -270,9 +253,29 @@ fits_empty k words n = record {
   spent = λ (e : n ≡ 0). ap empty e;
 }
 
-each_push : (P : Record → Type 0) (l : List Record) (w : Record) → P w → ((j : ℕ) (u : Record) → get_elem? l j ≡ some u → P u)
+pub each_push : (P : Record → Type 0) (l : List Record) (w : Record) → P w → ((j : ℕ) (u : Record) → get_elem? l j ≡ some u → P u)
     → (j : ℕ) (u : Record) → get_elem? (l ++ w ∷ []) j ≡ some u → P u
 each_push P l w new old j u at = ⊎_elim (old j u) (λ same. subst P same new) (at_snoc l w u j at)
+
+-- a weight of records that adds up where two become one
+record Adds (g : Record → ℕ) : Type 0 where
+  pub none : g (empty 0) ≡ 0
+  pub sum : (v w : Record) → g (both v w) ≡ g v + g w
+
+-- Records of which each such weight is as it was keep the rule, where each fits.
+same_sums : (k : Counts) (r : Race) (l : List Record) → Parts k r → ((g : Record → ℕ) → Adds g → weigh g l ≡ weigh g r.records)
+    → ((j : ℕ) (u : Record) → get_elem? l j ≡ some u → Fits k r.words u) → Parts k (record r { records = l })
+same_sums k r l rule same each = record {
+  size = rule.size;
+  forward = rule.forward;
+  chunks = λ h. omega (arith, same (λ u. weigh h u.chunks) (record { none = refl; sum = λ v w. weigh-append h v.chunks w.chunks }), rule.chunks h);
+  aged = λ h. omega (arith, same (λ u. weigh h u.aged_blocks) (record { none = refl; sum = λ v w. weigh-append h v.aged_blocks w.aged_blocks }), rule.aged h);
+  old = λ h. omega (arith, same (λ u. weigh h u.old_blocks) (record { none = refl; sum = λ v w. weigh-append h v.old_blocks w.old_blocks }), rule.old h);
+  won = λ h. same (λ u. weigh h u.won) (record { none = refl; sum = λ v w. weigh-append h v.won w.won }) ∙ rule.won h;
+  apart = λ x. omega (arith, same (λ u. weigh (place_at x) u.won) (record { none = refl; sum = λ v w. weigh-append (place_at x) v.won w.won }), rule.apart x);
+  shares = same (λ u. u.share) (record { none = refl; sum = λ v w. refl }) ∙ rule.shares;
+  each = each;
+}
 
 -- what the sum of a weight is after a record is cut in two
 cut : (g : Record → ℕ) (l : List Record) (id : ℕ) (v a b : Record) → get_elem? l id ≡ some v → g v ≡ g a + g b → weigh g (set l id a ++ b ∷ []) ≡ weigh g l
@@ -281,21 +284,9 @@ cut g l id v a b at parts = let s = weigh-set g l id v a at in let p = weigh_pus
 pub split_keeps : (k : Counts) (r : Race) (id n : ℕ) → Parts k r → get_elem? r.records id ≡ some (empty (n + 1)) → 0 < n
     → Parts k (record r { records = set r.records id (empty n) ++ empty 1 ∷ [] })
 split_keeps k r id n rule at some_ =
-    let v = empty (n + 1) in let a = empty n in let b = empty 1 in record {
-      size = rule.size;
-      forward = rule.forward;
-      chunks = λ h. cut (λ u. weigh h u.chunks) r.records id v a b at refl ∙∙ rule.chunks h;
-      aged = λ h. cut (λ u. weigh h u.aged_blocks) r.records id v a b at refl ∙∙ rule.aged h;
-      old = λ h. omega (arith, cut (λ u. weigh h u.old_blocks) r.records id v a b at refl, rule.old h);
-      won = λ h. cut (λ u. weigh h u.won) r.records id v a b at refl ∙ rule.won h;
-      apart = λ x. omega (arith, cut (λ u. weigh (place_at x) u.won) r.records id v a b at refl, rule.apart x);
-      shares = cut (λ u. u.share) r.records id v a b at refl ∙ rule.shares;
-      each = each_push (Fits k r.words) (set r.records id a) b (fits_empty k r.words 1) (each_set (Fits k r.words) r.records id a (fits_empty k r.words n) rule.each);
-    }
-  where
-    infixr 30 ◌∙∙◌
-    ◌∙∙◌ : {x y z : ℕ} → x ≡ y → 0 + y ≡ z → 0 + x ≡ z
-    p ∙∙ q = omega arith
+    let rest = empty n in let new = empty 1 in
+    same_sums k r (set r.records id rest ++ new ∷ []) rule (λ g adds. cut g r.records id (empty (n + 1)) rest new at (adds.sum rest new))
+    (each_push (Fits k r.words) (set r.records id rest) new (fits_empty k r.words 1) (each_set (Fits k r.words) r.records id rest (fits_empty k r.words n) rule.each))
 
 -- what the sum of a weight is after two records become one and a spent one
 merged : (g : Record → ℕ) (l : List Record) (id : ℕ) (v : Record) (other : ℕ) (w a b : Record) → get_elem? l id ≡ some v → get_elem? (set l id a) other ≡ some w
@@ -317,26 +308,18 @@ pub join_keeps : (k : Counts) (r : Race) (id : ℕ) (v : Record) (other : ℕ) (
 join_keeps k r id v other w rule at apart at' =
     let a = both v w in let b = empty 0 in let l = r.records in
     let was : get_elem? l other ≡ some w = sym (set_else l id other a apart) ∙ at' in
-    let one = rule.each id v at in let two = rule.each other w was in record {
-      size = rule.size;
-      forward = rule.forward;
-      chunks = λ h. omega (arith, merged (λ u. weigh h u.chunks) l id v other w a b at at' (weigh-append h v.chunks w.chunks) refl, rule.chunks h);
-      aged = λ h. omega (arith, merged (λ u. weigh h u.aged_blocks) l id v other w a b at at' (weigh-append h v.aged_blocks w.aged_blocks) refl, rule.aged h);
-      old = λ h. omega (arith, merged (λ u. weigh h u.old_blocks) l id v other w a b at at' (weigh-append h v.old_blocks w.old_blocks) refl, rule.old h);
-      won = λ h. merged (λ u. weigh h u.won) l id v other w a b at at' (weigh-append h v.won w.won) refl ∙ rule.won h;
-      apart = λ x. omega (arith, merged (λ u. weigh (place_at x) u.won) l id v other w a b at at' (weigh-append (place_at x) v.won w.won) refl, rule.apart x);
-      shares = merged (λ u. u.share) l id v other w a b at at' refl refl ∙ rule.shares;
-      each = each_set (Fits k r.words) (set l id a) other b (fits_empty k r.words 0) (each_set (Fits k r.words) l id a (record {
-        placed = All-append (λ q. 0 < claims_of q.1 a) v.won w.won
-            (still_placed v a (λ h. omega (arith, weigh-append h v.aged_blocks w.aged_blocks)) (λ h. omega (arith, weigh-append h v.old_blocks w.old_blocks)) v.won one.placed)
-            (still_placed w a (λ h. omega (arith, weigh-append h v.aged_blocks w.aged_blocks)) (λ h. omega (arith, weigh-append h v.old_blocks w.old_blocks)) w.won two.placed);
-        seen = All-append (IsPair r.words) v.seen w.seen one.seen two.seen;
-        past = (let p = one.past in let q = two.past in omega (arith, weigh-append (is_past k) v.chunks w.chunks));
-        open_aged = (let p = one.open_aged in let q = two.open_aged in omega (arith, open_both AGED v.won w.won v.aged_blocks w.aged_blocks));
-        open_old = (let p = one.open_old in let q = two.open_old in omega (arith, open_both OLD v.won w.won v.old_blocks w.old_blocks));
-        spent = λ none. both_spent v w (one.spent (omega arith)) (two.spent (omega arith));
-      }) rule.each);
-    }
+    let one = rule.each id v at in let two = rule.each other w was in
+    same_sums k r (set (set l id a) other b) rule (λ g adds. merged g l id v other w a b at at' (adds.sum v w) adds.none)
+    (each_set (Fits k r.words) (set l id a) other b (fits_empty k r.words 0) (each_set (Fits k r.words) l id a (record {
+      placed = All-append (λ q. 0 < claims_of q.1 a) v.won w.won
+          (still_placed v a (λ h. omega (arith, weigh-append h v.aged_blocks w.aged_blocks)) (λ h. omega (arith, weigh-append h v.old_blocks w.old_blocks)) v.won one.placed)
+          (still_placed w a (λ h. omega (arith, weigh-append h v.aged_blocks w.aged_blocks)) (λ h. omega (arith, weigh-append h v.old_blocks w.old_blocks)) w.won two.placed);
+      seen = All-append (IsPair r.words) v.seen w.seen one.seen two.seen;
+      past = (let p = one.past in let q = two.past in omega (arith, weigh-append (is_past k) v.chunks w.chunks));
+      open_aged = (let p = one.open_aged in let q = two.open_aged in omega (arith, open_both AGED v.won w.won v.aged_blocks w.aged_blocks));
+      open_old = (let p = one.open_old in let q = two.open_old in omega (arith, open_both OLD v.won w.won v.old_blocks w.old_blocks));
+      spent = λ none. both_spent v w (one.spent (omega arith)) (two.spent (omega arith));
+    }) rule.each))
 
 -- The counters stay small.
 
@@ -346,11 +329,11 @@ past_bound k (suc n) =
     let h = past_bound k n in
     cond_both (nat_lt n (chunks_of k)) 0 1 (λ x. suc n ≤ x + weigh_below (is_past k) n + chunks_of k) (λ e. omega (arith, ltb-true n (chunks_of k) e)) (λ e. omega arith)
 
-pub few_chunks : (k : Counts) (r : Race) → Parts k r → r.next_chunk ≤ k.helpers + chunks_of k
+pub few_chunks : (k : Counts) (r : Race) → Rule k r → r.next_chunk ≤ k.helpers + chunks_of k
 few_chunks k r rule =
-    let d = rule.chunks (is_past k) in
-    let le = weigh-le_at (past k) (λ u. u.share) r.records (λ j u at. (rule.each j u at).past) in
-    let s = rule.shares in
+    let d = rule.chunks_once (is_past k) in
+    let le = weigh-le_at (past k) (λ u. u.share) r.records (λ j u at. (rule.within_share.0 j u at).past) in
+    let s = rule.within_share.1 in
     omega (arith, past_bound k r.next_chunk)
 
 -- Blocks without an open place are full of won places.
@@ -386,81 +369,58 @@ full_or_open space won b = cond_both (nat_lt (used_in space b won) 64) 1 0 (λ x
 pub blocks_filled : (space : ℕ) (bs : List ℕ) (won : List (ℕ × Place)) → ((b : ℕ) → weigh (one_at b) bs ≤ 1) → 64 * weigh (λ _. 1) bs ≤ 64 * weigh (is_open space won) bs + in_space space won
 blocks_filled space bs won once =
     let each = weigh-le (λ b. 64 * 1) (λ b. 64 * is_open space won b + used_in space b won) (full_or_open space won) bs in
-    omega (arith, weigh-scale (λ (b : ℕ). 1) bs, weigh-linear (is_open space won) (λ b. used_in space b won) bs, all_used space bs once won)
+    omega (arith, weigh-scale (λ (b : ℕ). 1) bs, weigh-scale (is_open space won) bs, weigh-add (λ b. 64 * is_open space won b) (λ b. used_in space b won) bs, all_used space bs once won)
 
-few_blocks : (space : ℕ) (bs : List ℕ) (won : List (ℕ × Place)) → ((b : ℕ) → weigh (one_at b) bs ≤ 1) → 64 * weigh (λ _. 1) bs ≤ 64 * weigh (is_open space won) bs + weigh (λ _. 1) won
-few_blocks space bs won once = omega (arith, blocks_filled space bs won once, in_space_le space won)
+few_blocks : (space : ℕ) (bs : List ℕ) (won : List (ℕ × Place)) → ((b : ℕ) → weigh (one_at b) bs ≤ 1) → 64 * weigh (λ _. 1) bs ≤ 64 * weigh (is_open space won) bs + length won
+few_blocks space bs won once = omega (arith, blocks_filled space bs won once, in_space_le space won, weigh_ones won)
 
 -- the blocks of one space that the records have claimed are few: all but one a helper are full of won cells
-few_claimed : (k : Counts) (r : Race) (space start n : ℕ) (of : Record → List ℕ) → Parts k r → IsDrawn start n of r.records
-    → ((j : ℕ) (u : Record) → get_elem? r.records j ≡ some u → weigh (is_open space u.won) (of u) ≤ u.share) → 64 * n ≤ 64 * (start + k.helpers) + weigh (λ u. weigh (λ _. 1) u.won) r.records
+few_claimed : (k : Counts) (r : Race) (space start n : ℕ) (of : Record → List ℕ) → Rule k r → IsDrawn start n of r.records
+    → ((j : ℕ) (u : Record) → get_elem? r.records j ≡ some u → weigh (is_open space u.won) (of u) ≤ u.share) → 64 * n ≤ 64 * (start + k.helpers) + weigh (λ u. length u.won) r.records
 few_claimed k r space start n of rule drawn few_open =
     let once : (b j : ℕ) (u : Record) → get_elem? r.records j ≡ some u → weigh (one_at b) (of u) ≤ 1 =
     λ b j u at. omega (arith, weigh_one_le (λ v. weigh (one_at b) (of v)) r.records j u at, drawn (one_at b), one_below b n) in
-    let each = weigh-le_at (λ u. 64 * weigh (λ _. 1) (of u)) (λ u. 64 * weigh (is_open space u.won) (of u) + weigh (λ _. 1) u.won) r.records
+    let each = weigh-le_at (λ u. 64 * weigh (λ _. 1) (of u)) (λ u. 64 * weigh (is_open space u.won) (of u) + length u.won) r.records
     (λ j u at. few_blocks space (of u) u.won (λ b. once b j u at)) in
     let opens = weigh-le_at (λ u. weigh (is_open space u.won) (of u)) (λ u. u.share) r.records few_open in
     let all = drawn (λ _. 1) in
-    let shares = rule.shares in
+    let shares = rule.within_share.1 in
     omega (
       arith,
       weigh-scale (λ u. weigh (λ _. 1) (of u)) r.records,
-      weigh-linear (λ u. weigh (is_open space u.won) (of u)) (λ u. weigh (λ _. 1) u.won) r.records,
+      weigh-scale (λ u. weigh (is_open space u.won) (of u)) r.records,
+      weigh-add (λ u. 64 * weigh (is_open space u.won) (of u)) (λ u. length u.won) r.records,
       count_below n,
       count_below start,
     )
 
+pub aged_few : (k : Counts) (r : Race) → Rule k r → 64 * r.next_aged ≤ 64 * k.helpers + weigh (λ u. length u.won) r.records
+aged_few k r rule = let f = few_claimed k r AGED 0 r.next_aged (λ u. u.aged_blocks) rule rule.blocks_once.0 (λ j u at. (rule.within_share.0 j u at).aged_room) in omega arith
+
+pub old_few : (k : Counts) (r : Race) → Rule k r → 64 * r.next_old ≤ 64 * (k.kept + k.helpers) + weigh (λ u. length u.won) r.records
+old_few k r rule = few_claimed k r OLD k.kept r.next_old (λ u. u.old_blocks) rule rule.blocks_once.1 (λ j u at. (rule.within_share.0 j u at).old_room)
+
 -- no more cells are won than there are
-pub few_won : (k : Counts) (r : Race) → Parts k r → weigh (λ u. weigh (λ _. 1) u.won) r.records ≤ k.cells
-few_won k r rule =
-    let won = rule.won (λ _. 1) in
-    let size = rule.size in
-    omega (arith, weigh_words_le 0 r.words)
+pub won_few : (k : Counts) (r : Race) → Rule k r → weigh (λ u. length u.won) r.records ≤ k.cells
+won_few k r rule = omega (arith, rule.wins_once.won (λ _. 1), rule.size, weigh_words_le 0 r.words, lengths r.records)
+  where
+    lengths : (l : List Record) → weigh (λ u. weigh (λ _. 1) u.won) l ≡ weigh (λ u. length u.won) l
+    lengths [] = refl
+    lengths (u ∷ l) = omega (arith, weigh_ones u.won, lengths l)
 
-pub aged_by_wins : (k : Counts) (r : Race) → Parts k r → 64 * r.next_aged ≤ 64 * k.helpers + weigh (λ u. weigh (λ _. 1) u.won) r.records
-aged_by_wins k r rule = let f = few_claimed k r AGED 0 r.next_aged (λ u. u.aged_blocks) rule rule.aged (λ j u at. (rule.each j u at).open_aged) in omega arith
+pub few_aged : (k : Counts) (r : Race) → Rule k r → 64 * r.next_aged ≤ 64 * k.helpers + k.cells
+few_aged k r rule = omega (arith, aged_few k r rule, won_few k r rule)
 
-pub old_by_wins : (k : Counts) (r : Race) → Parts k r → 64 * r.next_old ≤ 64 * (k.kept + k.helpers) + weigh (λ u. weigh (λ _. 1) u.won) r.records
-old_by_wins k r rule = few_claimed k r OLD k.kept r.next_old (λ u. u.old_blocks) rule rule.old (λ j u at. (rule.each j u at).open_old)
-
-pub few_aged : (k : Counts) (r : Race) → Parts k r → 64 * r.next_aged ≤ 64 * k.helpers + k.cells
-few_aged k r rule = let wins = few_won k r rule in let f = aged_by_wins k r rule in omega arith
-
-pub few_old : (k : Counts) (r : Race) → Parts k r → 64 * r.next_old ≤ 64 * (k.kept + k.helpers) + k.cells
-few_old k r rule = let wins = few_won k r rule in let f = old_by_wins k r rule in omega arith
+pub few_old : (k : Counts) (r : Race) → Rule k r → 64 * r.next_old ≤ 64 * (k.kept + k.helpers) + k.cells
+few_old k r rule = omega (arith, old_few k r rule, won_few k r rule)
 
 -- Where one record has every share, it has all.
 
-others_empty : (g : Record → ℕ) → g (empty 0) ≡ 0 → (l : List Record) (id : ℕ) (v : Record) → get_elem? l id ≡ some v → weigh (λ u. u.share) l ≡ v.share
-    → ((j : ℕ) (u : Record) → get_elem? l j ≡ some u → u.share ≡ 0 → u ≡ empty 0) → weigh g l ≡ g v
-others_empty g none [] id v at alone spent = absurd (some-ne-none v (sym at))
-others_empty g none (x ∷ xs) zero v at alone spent =
-    let same = some-injective x v at in
-    let rest : weigh (λ u. u.share) xs ≡ 0 = omega (arith, ap (λ (u : Record). u.share) same) in
-    omega (arith, ap g same, all_empty xs rest (λ j u h. spent (suc j) u h))
-  where
-    all_empty : (l : List Record) → weigh (λ u. u.share) l ≡ 0 → ((j : ℕ) (u : Record) → get_elem? l j ≡ some u → u.share ≡ 0 → u ≡ empty 0) → weigh g l ≡ 0
-    all_empty [] h spent = refl
-    all_empty (y ∷ ys) h spent = omega (arith, ap g (spent zero y refl (omega arith)), all_empty ys (omega arith) (λ j u e. spent (suc j) u e))
-others_empty g none (x ∷ xs) (suc id) v at alone spent =
-    let part = weigh_one_le (λ u. u.share) xs id v at in
-    omega (arith, ap g (spent zero x refl (omega arith)), others_empty g none xs id v at (omega arith) (λ j u e. spent (suc j) u e))
-
 pub alone_keeps : (k : Counts) (r : Race) (id : ℕ) (v : Record) → Parts k r → get_elem? r.records id ≡ some v → v.share ≡ k.helpers → Parts k (record r { records = v ∷ [] })
 alone_keeps k r id v rule at all =
-    let l = r.records in
-    let whole : weigh (λ u. u.share) l ≡ v.share = rule.shares ∙ sym all in
-    let spent : (j : ℕ) (u : Record) → get_elem? l j ≡ some u → u.share ≡ 0 → u ≡ empty 0 = λ j u h. (rule.each j u h).spent in record {
-      size = rule.size;
-      forward = rule.forward;
-      chunks = λ h. omega (arith, others_empty (λ u. weigh h u.chunks) refl l id v at whole spent, rule.chunks h);
-      aged = λ h. omega (arith, others_empty (λ u. weigh h u.aged_blocks) refl l id v at whole spent, rule.aged h);
-      old = λ h. omega (arith, others_empty (λ u. weigh h u.old_blocks) refl l id v at whole spent, rule.old h);
-      won = λ h. omega (arith, others_empty (λ u. weigh h u.won) refl l id v at whole spent, rule.won h);
-      apart = λ x. omega (arith, others_empty (λ u. weigh (place_at x) u.won) refl l id v at whole spent, rule.apart x);
-      shares = omega arith;
-      each = each_push (Fits k r.words) [] v (rule.each id v at) (λ j u none. absurd (some-ne-none u (sym none)));
-    }
+    same_sums k r (v ∷ []) rule
+    (λ g adds. let mine = weigh_alone (λ u. u.share) g r.records id v at (le_of_eq (rule.shares ∙ sym all)) (λ i u h no. ap g ((rule.each i u h).spent no) ∙ adds.none) in omega arith)
+    (each_push (Fits k r.words) [] v (rule.each id v at) (λ j u none. absurd (some-ne-none u (sym none))))
 
 -- The start.
 
@@ -476,18 +436,3 @@ starts k = record {
   shares = omega arith;
   each = each_push (Fits k (replicate k.cells 0)) [] (empty k.helpers) (fits_empty k (replicate k.cells 0) k.helpers) (λ j u none. absurd (some-ne-none u (sym none)));
 }
-
--- the same of the rule, with the won cells counted by length
-
-won_lengths : (l : List Record) → weigh (λ u. weigh (λ _. 1) u.won) l ≡ weigh (λ u. length u.won) l
-won_lengths [] = refl
-won_lengths (u ∷ l) = omega (arith, weigh_ones u.won, won_lengths l)
-
-pub aged_few : (k : Counts) (r : Race) → Rule k r → 64 * r.next_aged ≤ 64 * k.helpers + weigh (λ u. length u.won) r.records
-aged_few k r rule = omega (arith, aged_by_wins k r (parts_of k r rule), won_lengths r.records)
-
-pub old_few : (k : Counts) (r : Race) → Rule k r → 64 * r.next_old ≤ 64 * (k.kept + k.helpers) + weigh (λ u. length u.won) r.records
-old_few k r rule = omega (arith, old_by_wins k r (parts_of k r rule), won_lengths r.records)
-
-pub won_few : (k : Counts) (r : Race) → Rule k r → weigh (λ u. length u.won) r.records ≤ k.cells
-won_few k r rule = omega (arith, few_won k r (parts_of k r rule), won_lengths r.records)

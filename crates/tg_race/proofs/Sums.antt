@@ -1,7 +1,8 @@
 -- Sums of weights: over a list that changes at one place, and over numbers and words.
-use Rattle.std.proofs.Common.{◌≡◌, ◌≢◌, ℕ, zero, suc, ◌+◌, ◌*◌, ◌<◌, ◌≤◌, List, [], ◌∷◌, ◌++◌, length, replicate, get_or, set, Bool, true, false, ◌||◌, if◌then◌else◌, eqb, eqb-true, eq-eqb, ne_eqb, sym, refl, ap, add-one, arith}
+use Rattle.std.proofs.Common.{◌≡◌, ◌≢◌, ℕ, zero, suc, ◌+◌, ◌*◌, ◌<◌, ◌≤◌, List, [], ◌∷◌, ◌++◌, length, replicate, get_or, set, Bool, true, false, ◌||◌, if◌then◌else◌, eqb, eqb-true, eq-eqb, ne_eqb, sym, refl, ap, ◌∙◌, ⊎_elim, All, add-one, arith}
 use Rattle.std.specs.List.{list_any}
-use Rattle.std.proofs.lemmas.Bool.{cond-true, cond-false, cond_both, or_parts, eqb-false, false≢true}
+use Rattle.std.proofs.lemmas.Bool.{cond-true, cond-false, cond_both, or_cases, or_parts, eqb-false, false≢true, true_from_ne_false}
+use Rattle.std.proofs.lemmas.List.Elements.{All-head, All-tail}
 use mathlib.Core.Option.{some, some-injective, some-ne-none}
 use lib.ListN.{get_elem?}
 use Rattle.tg_word.specs.declared.Place.{Place}
@@ -34,10 +35,9 @@ module _ {A : Type 0} where
   weigh_at f (x ∷ xs) (suc i) d low = omega (arith, weigh_at f xs i d (omega arith))
 
   pub weigh_two : (f : A → ℕ) (l : List A) (i j : ℕ) (d : A) → i < j → j < length l → f (get_or l i d) + f (get_or l j d) ≤ weigh f l
-  weigh_two f [] i j d lt low = absurd (omega arith)
-  weigh_two f (x ∷ xs) i zero d lt low = absurd (omega arith)
   weigh_two f (x ∷ xs) zero (suc j) d lt low = omega (arith, weigh_at f xs j d (omega arith))
   weigh_two f (x ∷ xs) (suc i) (suc j) d lt low = omega (arith, weigh_two f xs i j d (omega arith) (omega arith))
+  weigh_two f xs i j d lt low = absurd (omega arith)
 
   pub weigh-le : (f g : A → ℕ) → ((x : A) → f x ≤ g x) → (l : List A) → weigh f l ≤ weigh g l
   weigh-le f g below [] = omega arith
@@ -48,11 +48,11 @@ module _ {A : Type 0} where
   weigh-le_at f g [] below = omega arith
   weigh-le_at f g (x ∷ xs) below = omega (arith, below zero x refl, weigh-le_at f g xs (λ j y e. below (suc j) y e))
 
-  -- where one element alone has f, and an element without f has no g, all of g is that element's
-  pub weigh_alone : (f g : A → ℕ) (l : List A) (j : ℕ) (v : A) → get_elem? l j ≡ some v → weigh f l ≤ 1 → 0 < f v
+  -- where no other element has any of f, and an element without f has no g, all of g is that element's
+  pub weigh_alone : (f g : A → ℕ) (l : List A) (j : ℕ) (v : A) → get_elem? l j ≡ some v → weigh f l ≤ f v
       → ((i : ℕ) (x : A) → get_elem? l i ≡ some x → f x ≡ 0 → g x ≡ 0) → weigh g l ≡ g v
-  weigh_alone f g [] j v e most has follows = absurd (some-ne-none v (sym e))
-  weigh_alone f g (x ∷ xs) zero v e most has follows =
+  weigh_alone f g [] j v e most follows = absurd (some-ne-none v (sym e))
+  weigh_alone f g (x ∷ xs) zero v e most follows =
       let same = some-injective x v e in
       let f_is = ap f same in
       let none = all_none f g xs (omega arith) (λ i y at. follows (suc i) y at) in
@@ -61,25 +61,25 @@ module _ {A : Type 0} where
       all_none : (f g : A → ℕ) (l : List A) → weigh f l ≡ 0 → ((i : ℕ) (x : A) → get_elem? l i ≡ some x → f x ≡ 0 → g x ≡ 0) → weigh g l ≡ 0
       all_none f g [] none follows = refl
       all_none f g (x ∷ xs) none follows = omega (arith, follows zero x refl (omega arith), all_none f g xs (omega arith) (λ i y at. follows (suc i) y at))
-  weigh_alone f g (x ∷ xs) (suc j) v e most has follows =
+  weigh_alone f g (x ∷ xs) (suc j) v e most follows =
       let part = weigh_one_le f xs j v e in
-      omega (arith, follows zero x refl (omega arith), weigh_alone f g xs j v e (omega arith) has (λ i y at. follows (suc i) y at))
+      omega (arith, follows zero x refl (omega arith), weigh_alone f g xs j v e (omega arith) (λ i y at. follows (suc i) y at))
 
 pub weigh_below_more : (h : ℕ → ℕ) (n : ℕ) → weigh_below h (n + 1) ≡ h n + weigh_below h n
 weigh_below_more h n = rw add-one refl
 
-none_below : (x n : ℕ) → n ≤ x → weigh_below (one_at x) n ≡ 0
-none_below x zero h = refl
-none_below x (suc n) h = let ne : n ≢ x = (λ e. omega arith) in omega (arith, none_below x n (omega arith), cond-false {A = ℕ} (eqb n x) 1 0 (ne_eqb n x ne))
+-- a number at or above n is not below n, one below n is, and once
+pub one_past : (x n : ℕ) → n ≤ x → weigh_below (one_at x) n ≡ 0
+one_past x zero h = refl
+one_past x (suc n) h = let ne : n ≢ x = (λ e. omega arith) in omega (arith, one_past x n (omega arith), cond-false {A = ℕ} (eqb n x) 1 0 (ne_eqb n x ne))
 
--- a number stands at most once below n
+pub one_here : (x n : ℕ) → x < n → 0 < weigh_below (one_at x) n
+one_here x zero h = absurd (omega arith)
+one_here x (suc n) h = cond_both (eqb n x) 1 0 (λ y. 0 < y + weigh_below (one_at x) n) (λ _. omega arith) (λ e. let ne = eqb-false n x e in omega (arith, one_here x n (omega arith)))
+
 pub one_below : (x n : ℕ) → weigh_below (one_at x) n ≤ 1
 one_below x zero = omega arith
-one_below x (suc n) = go (eqb n x) refl (one_below x n)
-  where
-    go : (b : Bool) → eqb n x ≡ b → weigh_below (one_at x) n ≤ 1 → weigh_below (one_at x) (suc n) ≤ 1
-    go true e h = let same : n ≡ x = eqb-true n x e in omega (arith, cond-true {A = ℕ} (eqb n x) 1 0 e, none_below x n (omega arith))
-    go false e h = omega (arith, cond-false {A = ℕ} (eqb n x) 1 0 e)
+one_below x (suc n) = cond_both (eqb n x) 1 0 (λ y. y + weigh_below (one_at x) n ≤ 1) (λ e. let same = eqb-true n x e in omega (arith, one_past x n (omega arith))) (λ _. omega (arith, one_below x n))
 
 pub weigh_words-set : (h : ℕ × Place → ℕ) (i : ℕ) (ws : List ℕ) (c n w : ℕ) → n ≡ i + c → c < length ws → get_or ws c 0 ≡ 0 → w ≢ 0
     → weigh_words h i (set ws c w) ≡ weigh_words h i ws + h (n, place_of w)
@@ -103,10 +103,6 @@ pub weigh-scale : {A : Type 0} (f : A → ℕ) (l : List A) → weigh (λ x. 64 
 weigh-scale f [] = refl
 weigh-scale f (x ∷ xs) = omega (arith, weigh-scale f xs)
 
-pub weigh-linear : {A : Type 0} (f g : A → ℕ) (l : List A) → weigh (λ x. 64 * f x + g x) l ≡ 64 * weigh f l + weigh g l
-weigh-linear f g [] = refl
-weigh-linear f g (x ∷ xs) = omega (arith, weigh-linear f g xs)
-
 pub weigh-add : {A : Type 0} (f g : A → ℕ) (l : List A) → weigh (λ x. f x + g x) l ≡ weigh f l + weigh g l
 weigh-add f g [] = refl
 weigh-add f g (x ∷ xs) = omega (arith, weigh-add f g xs)
@@ -125,35 +121,19 @@ module _ {A : Type 0} where
   -- some item passes a test exactly where the weight that counts those which pass it isn't 0
   pub any_weighs : (f : A → Bool) (l : List A) → list_any f l ≡ true → 0 < weigh (λ x. if f x then 1 else 0) l
   any_weighs f [] h = absurd (false≢true h)
-  any_weighs f (x ∷ l) h = go (f x) h (any_weighs f l)
-    where
-      go : (b : Bool) → (b || list_any f l) ≡ true → (list_any f l ≡ true → 0 < weigh (λ x. if f x then 1 else 0) l) → 0 < (if b then 1 else 0) + weigh (λ x. if f x then 1 else 0) l
-      go true h rest = omega arith
-      go false h rest = omega (arith, rest h)
+  any_weighs f (x ∷ l) h = ⊎_elim (λ e. omega (arith, cond-true {A = ℕ} (f x) 1 0 e)) (λ e. omega (arith, any_weighs f l e)) (or_cases (f x) (list_any f l) h)
 
   pub weighs_any : (f : A → Bool) (l : List A) → 0 < weigh (λ x. if f x then 1 else 0) l → list_any f l ≡ true
   weighs_any f [] h = absurd (omega arith)
-  weighs_any f (x ∷ l) h = go (f x) h (weighs_any f l)
-    where
-      go : (b : Bool) → 0 < (if b then 1 else 0) + weigh (λ x. if f x then 1 else 0) l → (0 < weigh (λ x. if f x then 1 else 0) l → list_any f l ≡ true) → (b || list_any f l) ≡ true
-      go true h rest = refl
-      go false h rest = rest (omega arith)
+  weighs_any f (x ∷ l) h = true_from_ne_false (f x || list_any f l) (λ none. let a = or_parts (f x) (list_any f l) none in false≢true (sym a.1 ∙ weighs_any f l (omega (arith, cond-false {A = ℕ} (f x) 1 0 a.0))))
+
+  pub any_all : (P : A → Type 0) (f : A → Bool) (l : List A) → All P l → list_any f l ≡ true → (x : A) × (f x ≡ true) × P x
+  any_all P f [] all h = absurd (false≢true h)
+  any_all P f (x ∷ l) all h = ⊎_elim (λ e. (x, e, All-head P x l all)) (λ e. any_all P f l (All-tail P x l all) e) (or_cases (f x) (list_any f l) h)
 
   pub none_weighs : (f : A → Bool) (l : List A) → list_any f l ≡ false → weigh (λ x. if f x then 1 else 0) l ≡ 0
   none_weighs f [] h = refl
   none_weighs f (x ∷ l) h = let a = or_parts (f x) (list_any f l) h in omega (arith, cond-false {A = ℕ} (f x) 1 0 a.0, none_weighs f l a.1)
-
--- a number at or above n is not below n, and one below n is, once
-pub one_past : (x n : ℕ) → n ≤ x → weigh_below (one_at x) n ≡ 0
-one_past x n h = none_below x n h
-
-pub one_here : (x n : ℕ) → x < n → 0 < weigh_below (one_at x) n
-one_here x zero h = absurd (omega arith)
-one_here x (suc n) h = go (eqb n x) refl (one_here x n)
-  where
-    go : (b : Bool) → eqb n x ≡ b → (x < n → 0 < weigh_below (one_at x) n) → 0 < weigh_below (one_at x) (suc n)
-    go true e rest = omega (arith, cond-true {A = ℕ} (eqb n x) 1 0 e)
-    go false e rest = let ne = eqb-false n x e in omega (arith, rest (omega arith))
 
 -- as many as there are items
 pub weigh_ones : {A : Type 0} (l : List A) → weigh (λ _. 1) l ≡ length l

@@ -21,12 +21,14 @@ pub fn the_rule_holds_after_all_events()
 {}
 
 /// No event changes a place that a cell has.
+#[tactic(auto, using(crate::proofs::Courses::places_stay, crate::proofs::Courses::events_stay))]
 pub fn places_never_change()
     ensures event { (c : Course) (helper : ℕ) (e : Event) → IsTrue (can_happen c helper e) → (cell : ℕ) → forwarding_word c.race cell ≢ 0 → forwarding_word (happens c helper e).race cell ≡ forwarding_word c.race cell }
     ensures events { (c : Course) (events : List (ℕ × Event)) (cell : ℕ) → forwarding_word c.race cell ≢ 0 → forwarding_word (course_after c events).race cell ≡ forwarding_word c.race cell }
 {}
 
 /// Where one record stands for all helpers and is complete, the cells with a place are the closure of the roots.
+#[tactic(auto, using(crate::proofs::Closure::closure))]
 pub fn a_complete_race_is_the_closure()
     ensures { (c : Course) (id : ℕ) (v : Record) → KeepsRule c → get_elem? c.race.records id ≡ some v → v.share ≡ c.net.helpers → IsCompleteRecord c.net v → (cell : ℕ) → (forwarding_word c.race cell ≢ 0) ↔ IsReachedCell c.net cell }
 {}
@@ -68,6 +70,7 @@ pub fn one_record_stands_alone()
 {}
 
 /// Wins stay earned when two records become one.
+#[tactic(auto, using(crate::proofs::Courses::earned_both))]
 pub fn wins_stay_earned_under_join()
     ensures { (net : Net) (v w : Record) → HasEarnedWins net v → HasEarnedWins net w → HasEarnedWins net (both v w) }
 {}

@@ -50,15 +50,8 @@ under_first {told = told} {start = start} {bytes = bytes} {t = t} {before = befo
   goes_on = λ lines end behind text es reads tells. (lines, reads, subst (λ (x : Line). Tells told t (x ∷ lines) text es) (sym same) tells);
 }
 
--- one line came
-pub same_line : (o : Option Line) (l m : Line) → o ≡ Some l → o ≡ Some m → l ≡ m
-same_line o l m a b = let both : Some l ≡ Some m = sym a ∙ b in cc
-
-wrote_known : (taken after : Option (List ℕ)) (known bytes : List ℕ) → taken ≡ Some known → Wrote taken bytes after → after ≡ Some (known ++ bytes)
-wrote_known taken after known bytes is w = let P : Option (List ℕ) → Type 0 = λ x. Wrote x bytes after in subst P is w
-
-wrote_some_known : (taken after : Option (List ℕ)) (known bytes : List ℕ) → taken ≡ Some known → WroteSome taken bytes after → WroteSome (Some known) bytes after
-wrote_some_known taken after known bytes is w = let P : Option (List ℕ) → Type 0 = λ x. WroteSome x bytes after in subst P is w
+wrote_known : (W : Option (List ℕ) → List ℕ → Option (List ℕ) → Type 0) (taken after : Option (List ℕ)) (known bytes : List ℕ) → taken ≡ Some known → W taken bytes after → W (Some known) bytes after
+wrote_known W taken after known bytes is w = subst (λ x. W x bytes after) is w
 
 -- the entry of this line stands behind those before
 had_more : {P : Type 0} (begun made : List Entry) (r r' : Run P) (l : Line) (a : Answer) (stock : List Value) → r.store.entries ≡ begun ++ made → values_left r.supply ≡ stock → MakesEntry r l a r' → r'.store.entries ≡ begun ++ (made ++ entered l a stock)
@@ -73,7 +66,7 @@ under_end {told = told} {start = start} {bytes = bytes} {t = t} {first = first} 
     let W : List Value → Type 0 = λ x. Wrote taken (told l a x) after in (
       h.sofar ++ told l a stock,
       h.made ++ entered l a stock,
-      wrote_known taken after (before ++ h.sofar) (told l a stock) h.took (subst W h.shows.1 wrote) ∙ ap Some (append_assoc before h.sofar (told l a stock)),
+      wrote_known Wrote taken after (before ++ h.sofar) (told l a stock) h.took (subst W h.shows.1 wrote) ∙ ap Some (append_assoc before h.sofar (told l a stock)),
       had_more begun h.made r r' l a stock h.had h.shows.1 makes,
       h.goes_on [] end behind (told l a stock) (entered l a stock) ends (a, v.0, [], [], v.2, sym (append-nil (told l a stock)), sym (append-nil (entered l a stock)), (refl, refl)),
     )
@@ -84,7 +77,7 @@ under_cut T {told = told} {start = start} {bytes = bytes} {t = t} {first = first
     let v = handles h.scene h.shows in
     let stock = h.scene.stock in
     let W : List Value → Type 0 = λ x. WroteSome taken (told l a x) after in
-    let w = wrote_some_known taken after (before ++ h.sofar) (told l a stock) h.took (subst W h.shows.1 wrote) in (
+    let w = wrote_known WroteSome taken after (before ++ h.sofar) (told l a stock) h.took (subst W h.shows.1 wrote) in (
       h.rest,
       h.leaves,
       inr (
@@ -95,6 +88,9 @@ under_cut T {told = told} {start = start} {bytes = bytes} {t = t} {first = first
         h.cuts [] h.rest w.0 (entered l a stock) (may_stop_writing s.workers s.lines.room s.count s.opening h.rest) refl (a, v.0, w.1, v.2, w.2, refl),
       ),
     )
+
+as_one : {X Y : Type 0} (P : X → Y → Type 0) {a b : X} {c d : Y} → a ≡ b → c ≡ d → P b d → P a c
+as_one P {b = b} {c = c} e f h = subst (λ x. P x c) (sym e) (subst (λ y. P b y) (sym f) h)
 
 -- what is told of a line is written, and a further line is read
 pub under_next : {P : Type 0} {told : LineText} {start : Script} {bytes : List ℕ} {t : Scene} {first : Line} {begun : List Entry} {before : List ℕ} {s : Script} {r : Run P} {l : Line} {left taken : Option (List ℕ)} (a : Answer) (r' : Run P) (after : Option (List ℕ)) (next : Line) (s' : Script) (left' : Option (List ℕ)) → Under told start bytes t first begun before s r l left taken → Handles r l a r' → MakesEntry r l a r' → Wrote taken (told l a (values_left r.supply)) after → ((rest : List ℕ) → left ≡ Some rest → (rest' : List ℕ) × (left' ≡ Some rest') × Passes s rest next s' rest') → Under told start bytes t first begun before s' r' next left' after
@@ -110,41 +106,28 @@ under_next {told = told} {start = start} {bytes = bytes} {t = t} {first = first}
       made = h.made ++ entered l a stock;
       shows = v.1;
       leaves = n.1;
-      took = wrote_known taken after (before ++ h.sofar) (told l a stock) h.took (subst W h.shows.1 wrote) ∙ ap Some (append_assoc before h.sofar (told l a stock));
+      took = wrote_known Wrote taken after (before ++ h.sofar) (told l a stock) h.took (subst W h.shows.1 wrote) ∙ ap Some (append_assoc before h.sofar (told l a stock));
       had = had_more begun h.made r r' l a stock h.had h.shows.1 makes;
       cuts = λ lines behind cut es reads is_behind is_cut.
           let one = reads_behind (next ∷ []) s.workers s.lines.room s.count s.opening h.rest n.0 (n.2 [] (Some fault.OutOfMemory) n.0 refl) in
-          subst (λ (x : List ℕ). CutsTold told start bytes t first behind x ((h.made ++ entered l a stock) ++ es)) (sym (append_assoc h.sofar (told l a stock) cut))
-          (
-          subst (λ (x : List Entry). CutsTold told start bytes t first behind (h.sofar ++ (told l a stock ++ cut)) x) (sym (append_assoc h.made (entered l a stock) es))
+          as_one (CutsTold told start bytes t first behind) (append_assoc h.sofar (told l a stock) cut) (append_assoc h.made (entered l a stock) es)
           (h.cuts (next ∷ lines) behind (told l a stock ++ cut) (entered l a stock ++ es) (n.2 lines (Some fault.WriteFailed) behind reads)
-          (behind-append (next ∷ []) lines h.rest n.0 behind one is_behind) (a, v.0, cut, es, v.2, refl, refl, is_cut))
-          );
+          (behind-append (next ∷ []) lines h.rest n.0 behind one is_behind) (a, v.0, cut, es, v.2, refl, refl, is_cut));
       goes_on = λ lines end behind text es reads tells.
-          subst (λ (x : List ℕ). IsTold told start bytes t first end behind x ((h.made ++ entered l a stock) ++ es)) (sym (append_assoc h.sofar (told l a stock) text))
-          (
-          subst (λ (x : List Entry). IsTold told start bytes t first end behind (h.sofar ++ (told l a stock ++ text)) x) (sym (append_assoc h.made (entered l a stock) es))
-          (h.goes_on (next ∷ lines) end behind (told l a stock ++ text) (entered l a stock ++ es) (n.2 lines end behind reads) (a, v.0, text, es, v.2, refl, refl, tells))
-          );
+          as_one (IsTold told start bytes t first end behind) (append_assoc h.sofar (told l a stock) text) (append_assoc h.made (entered l a stock) es)
+          (h.goes_on (next ∷ lines) end behind (told l a stock ++ text) (entered l a stock ++ es) (n.2 lines end behind reads) (a, v.0, text, es, v.2, refl, refl, tells));
     }
 
 -- ---- faults
 
 pub tells_fault : (T : Type 0) (f : ScriptFault) (told : LineText) (s : Script) (bytes : List ℕ) (t : Scene) (first : Line) (begun : List Entry) (before left : List ℕ) (entries : List Entry) (after : Option (List ℕ)) → IsOfReading f → StandsTold told s bytes t first begun before (Some f) left entries after → TellsAll {T = T} told s bytes t first begun before (Err f) left entries after
-tells_fault T fault.ReadFailed told s bytes t first begun before left entries after r h = (r, h)
-tells_fault T fault.InputTooLong told s bytes t first begun before left entries after r h = (r, h)
-tells_fault T (fault.LineTooLong n) told s bytes t first begun before left entries after r h = (r, h)
-tells_fault T (fault.BadLine n) told s bytes t first begun before left entries after r h = (r, h)
 tells_fault T fault.WriteFailed told s bytes t first begun before left entries after r h = inl h
 tells_fault T fault.OutOfMemory told s bytes t first begun before left entries after r h = absurd r
 tells_fault T fault.HeapFull told s bytes t first begun before left entries after r h = absurd r
 tells_fault T fault.BadLimits told s bytes t first begun before left entries after r h = absurd r
+tells_fault T f told s bytes t first begun before left entries after r h = (r, h)
 
 -- a line that came behind another that is no edge line is no edge line
 pub next_command : (s : Script) (l : Line) (t : Script) → s.opening ≡ false → Follows s l t → IsCommand l × (t.opening ≡ false)
 next_command s (line.Edge edge) t closed f = absurd (false≢true (sym closed ∙ f.stands.0))
-next_command s (line.Create x label) t closed f = (tt, f.opening)
-next_command s (line.Spawn x label) t closed f = (tt, f.opening)
-next_command s (line.Plain x c) t closed f = (tt, f.opening)
-next_command s line.Full t closed f = (tt, f.opening)
-next_command s line.Minor t closed f = (tt, f.opening)
+next_command s l t closed f = (tt, f.opening)

@@ -16,7 +16,4 @@ count_le which m n a b =
     omega (arith, le, a.number, b.number)
 
 pub count_same : (which : ℕ → Type 0) (m n : ℕ) → IsCountOf which m → IsCountOf which n → m ≡ n
-count_same which m n a b =
-    let up = count_le which m n a b in
-    let down = count_le which n m b a in
-    omega (arith, up, down)
+count_same which m n a b = omega (arith, count_le which m n a b, count_le which n m b a)

@@ -17,14 +17,9 @@ use Rattle.tg_script.specs.Inner.Telling.{UsesStreams}
 use Rattle.tg_script.proofs.LinesLaws.{keeps_known}
 
 reading_due : (start : Start) (f : ScriptFault) → IsOfReading f → IsDue start f
-reading_due start fault.ReadFailed h = tt
-reading_due start fault.InputTooLong h = tt
-reading_due start (fault.LineTooLong n) h = tt
-reading_due start (fault.BadLine n) h = tt
-reading_due start fault.WriteFailed h = tt
-reading_due start fault.OutOfMemory h = tt
 reading_due start fault.HeapFull h = absurd h
 reading_due start fault.BadLimits h = absurd h
+reading_due start f h = tt
 
 pub keeping_due : (start : Start) (f : ScriptFault) → IsOfKeeping f → IsDue start f
 keeping_due start f (inl h) = reading_due start f h
@@ -37,14 +32,9 @@ lines_due start (Err f) h = reading_due start f h
 
 -- where no store is opened
 pub opening_due : (p : Plan) (start : Start) (f : ScriptFault) → p.workers ≡ start.workers → p.limit ≡ start.limit → OpensStore p start.blocks (Err f) → IsDue start f
-opening_due p start fault.ReadFailed workers limit h = tt
-opening_due p start fault.InputTooLong workers limit h = tt
-opening_due p start (fault.LineTooLong n) workers limit h = tt
-opening_due p start (fault.BadLine n) workers limit h = tt
-opening_due p start fault.WriteFailed workers limit h = tt
-opening_due p start fault.OutOfMemory workers limit h = tt
 opening_due p start fault.HeapFull workers limit h = omega (arith, h.1, workers)
 opening_due p start fault.BadLimits workers limit h = λ room. h (omega (arith, room.0, limit), omega (arith, room.1, limit), omega (arith, room.2, workers, limit))
+opening_due p start f workers limit h = tt
 
 -- at the end
 pub finished_due : {T : Type 0} (start : Start) (outcome result : Result T ScriptFault) (before after : Option (List ℕ)) (failures failures' : ℕ) →
@@ -57,13 +47,8 @@ finished_due start outcome result before after failures failures' due (kept, inr
 -- where no store is opened there was none
 pub opening_fails : (T : Type 0) (p : Plan) (blocks : ℕ) (f : ScriptFault) → OpensStore p blocks (Err f) → (read_failures {T = T} (Err f) ≡ 0) × (write_failures {T = T} (Err f) ≡ 0)
 opening_fails T p blocks fault.ReadFailed h = absurd h
-opening_fails T p blocks fault.InputTooLong h = (refl, refl)
-opening_fails T p blocks (fault.LineTooLong n) h = (refl, refl)
-opening_fails T p blocks (fault.BadLine n) h = (refl, refl)
 opening_fails T p blocks fault.WriteFailed h = absurd h
-opening_fails T p blocks fault.OutOfMemory h = (refl, refl)
-opening_fails T p blocks fault.HeapFull h = (refl, refl)
-opening_fails T p blocks fault.BadLimits h = (refl, refl)
+opening_fails T p blocks f h = (refl, refl)
 
 -- at the end
 pub finished_read : {T : Type 0} (outcome result : Result T ScriptFault) (before after : Option (List ℕ)) (failures failures' : ℕ) →

@@ -1,6 +1,6 @@
 -- What was written for the whole of a script whose entries are written.
 use Rattle.std.specs.Prelude.{IsOk}
-use Rattle.std.proofs.Common.{◌≡◌, ◌≤◌, ◌+◌, inl, inr, ℕ, List, [], ◌∷◌, ◌++◌, length, drop, true, Option, Some, None, Result, Ok, Err, refl, sym, ap, ◌∙◌, subst, arith, append_assoc, append-nil}
+use Rattle.std.proofs.Common.{◌≡◌, ◌≤◌, inl, inr, ℕ, List, [], ◌∷◌, ◌++◌, length, drop, true, option_to_list, Option, Some, None, Result, Ok, Err, refl, sym, ap, ◌∙◌, subst, arith, append_assoc, append-nil}
 use Rattle.std.proofs.lemmas.Bool.{false≢true}
 use Rattle.std.proofs.Math.Seq.{drop-append_seam}
 use Rattle.std.specs.List.{flat_map}
@@ -25,7 +25,7 @@ use Rattle.tg_script.specs.Running.{Finishes}
 use Rattle.tg_script.specs.Script.{CanOpen, MayAnswer, Scene, Start, commands_of, edges_of}
 use Rattle.tg_script.specs.Inner.Telling.{AreLegal, EntersAll, ReadsCommands, StandsTold, TellsFirst, entry_of_line}
 use Rattle.tg_script.proofs.LinesLaws.{keeps_known, may_stop_writing, reads_stop}
-use Rattle.tg_script.proofs.RanLaws.{AreParts, commands_of-edges, parts_of, ran_keeps, ran_unbegun}
+use Rattle.tg_script.proofs.RanLaws.{AreParts, commands_of-edges, parts_of, ran_unbegun}
 use Rattle.tg_script.proofs.TellLaws.{entries_cut, entries_told}
 
 -- ---- the entries that a line made
@@ -78,6 +78,11 @@ has_entries (Ok done) s bytes t (Some l) p begun before left entries after fine 
     let k = has_told None s bytes t l p begun before left entries after none legal h in
     record { lines = l ∷ k.0; reads = (k.0, refl, k.1); legal = k.2; stands = k.3 }
 
+-- the text was cut short, and tells something of each line that was read
+cut_short : (T : Type 0) (s : Script) (bytes : List ℕ) (t : Scene) (first : Option Line) (p : Plan) (before left : List ℕ) (after : Option (List ℕ)) (lines : List Line) (es : List Entry) (front rest : List ℕ) → ReadsCommands s bytes first lines (Some fault.WriteFailed) left → AreLegal t lines es → history_text p es ≡ front ++ rest → after ≡ Some (before ++ front) → EntersAll {T = T} s bytes t first p before (Err fault.WriteFailed) left after
+cut_short T s bytes t first p before left after lines es front rest reads legal cut stands =
+    (lines, [], es, front, rest, subst (λ (x : List Line). ReadsCommands s bytes first x (Some fault.WriteFailed) left) (sym (append-nil lines)) reads, omega arith, legal, cut, stands)
+
 -- a fault was met in reading
 reading_stands : (U : Type 0) (f : ScriptFault) (s : Script) (bytes : List ℕ) (t : Scene) (l : Line) (p : Plan) (begun : List Entry) (before left : List ℕ) (entries : List Entry) (after : Option (List ℕ)) → begun ≡ [] → IsLegal t.graph entries → IsOfReading f × StandsTold entry_of_line s bytes t l begun (before ++ head_text p) (Some f) left entries after →
     IsOfReading f × (lines : List Line) × (es : List Entry) × ReadsCommands s bytes (Some l) lines (Some f) left × AreLegal t lines es × (after ≡ Some (before ++ unended_text p lines es))
@@ -87,72 +92,43 @@ reading_stands U f s bytes t l p begun before left entries after none legal h =
 
 pub enters_fault : (T : Type 0) (f : ScriptFault) (s : Script) (bytes : List ℕ) (t : Scene) (first : Option Line) (p : Plan) (begun : List Entry) (before left : List ℕ) (entries : List Entry) (after : Option (List ℕ)) → begun ≡ [] → IsLegal t.graph entries → TellsFirst {T = T} entry_of_line s bytes t first begun (before ++ head_text p) (Err f) left entries after → EntersAll {T = T} s bytes t first p before (Err f) left after
 enters_fault T f s bytes t None p begun before left entries after none legal h = absurd (false≢true h.0)
-enters_fault T fault.ReadFailed s bytes t (Some l) p begun before left entries after none legal h = reading_stands T fault.ReadFailed s bytes t l p begun before left entries after none legal h
-enters_fault T fault.InputTooLong s bytes t (Some l) p begun before left entries after none legal h = reading_stands T fault.InputTooLong s bytes t l p begun before left entries after none legal h
-enters_fault T (fault.LineTooLong n) s bytes t (Some l) p begun before left entries after none legal h = reading_stands T (fault.LineTooLong n) s bytes t l p begun before left entries after none legal h
-enters_fault T (fault.BadLine n) s bytes t (Some l) p begun before left entries after none legal h = reading_stands T (fault.BadLine n) s bytes t l p begun before left entries after none legal h
 enters_fault T fault.WriteFailed s bytes t (Some l) p begun before left entries after none legal (inl h) =
     let k = has_told (Some fault.WriteFailed) s bytes t l p begun before left entries after none legal h in
-    let whole : k.0 ++ [] ≡ k.0 = append-nil k.0 in (
-      l ∷ k.0,
-      [],
-      entries,
-      head_text p ++ flat_map entry_text entries,
-      end_text (length entries),
-      (k.0 ++ [], refl, subst (λ (x : List Line). ReadsFrom s bytes x (Some fault.WriteFailed) left) (sym whole) k.1),
-      omega arith,
-      k.2,
-      refl,
-      k.3,
-    )
+    cut_short T s bytes t (Some l) p before left after (l ∷ k.0) entries (head_text p ++ flat_map entry_text entries) (end_text (length entries)) (k.0, refl, k.1) k.2 refl k.3
 enters_fault T fault.WriteFailed s bytes t (Some l) p begun before left entries after none legal (inr h) =
     let lines = h.4.0 in
     let k = entries_cut (l ∷ lines) t h.0 h.1 h.4.3 in
     let is = same_entries begun h.1 entries none h.3 in
     let head = head_text p in
     let end = end_text (length entries) in
-    let cut : flat_map entry_text entries ≡ h.0 ++ k.1 = ap (flat_map entry_text) is ∙ k.2 in (
-      l ∷ lines,
-      [],
-      entries,
-      head ++ h.0,
-      k.1 ++ end,
-      (lines ++ [], refl, subst (λ (x : List Line). ReadsFrom s bytes x (Some fault.WriteFailed) left) (sym (append-nil lines)) h.4.1),
-      omega arith,
-      (subst (λ (x : List Entry). AreEntered t (l ∷ lines) x) (sym is) k.0, legal),
-      ap (λ (x : List ℕ). (head ++ x) ++ end) cut ∙ ap (λ (x : List ℕ). x ++ end) (sym (append_assoc head h.0 k.1)) ∙ append_assoc (head ++ h.0) k.1 end,
-      h.2 ∙ ap Some (append_assoc before head h.0),
-    )
+    let cut : flat_map entry_text entries ≡ h.0 ++ k.1 = ap (flat_map entry_text) is ∙ k.2 in
+    cut_short T s bytes t (Some l) p before left after (l ∷ lines) entries (head ++ h.0) (k.1 ++ end) (lines, refl, h.4.1) (subst (λ (x : List Entry). AreEntered t (l ∷ lines) x) (sym is) k.0, legal)
+    (ap (λ (x : List ℕ). (head ++ x) ++ end) cut ∙ ap (λ (x : List ℕ). x ++ end) (sym (append_assoc head h.0 k.1)) ∙ append_assoc (head ++ h.0) k.1 end)
+    (h.2 ∙ ap Some (append_assoc before head h.0))
 enters_fault T fault.OutOfMemory s bytes t (Some l) p begun before left entries after none legal h = absurd h.0
 enters_fault T fault.HeapFull s bytes t (Some l) p begun before left entries after none legal h = absurd h.0
 enters_fault T fault.BadLimits s bytes t (Some l) p begun before left entries after none legal h = absurd h.0
+enters_fault T f s bytes t (Some l) p begun before left entries after none legal h = reading_stands T f s bytes t l p begun before left entries after none legal h
 
 -- ---- the opening in front, and the end behind
 
+-- no line behind the opening was read, but the first that had come
+none_told : (s : Script) (bytes : List ℕ) (first : Option Line) → ReadsCommands s bytes first (option_to_list first) (Some fault.WriteFailed) bytes × (length (option_to_list first) ≤ 1)
+none_told s bytes None = ((refl, refl, refl), omega arith)
+none_told s bytes (Some l) = (([], refl, may_stop_writing s.workers s.lines.room s.count s.opening bytes), omega arith)
+
 -- the opening was cut short
 pub enters_opening_cut : (T : Type 0) (s : Script) (bytes : List ℕ) (t : Scene) (first : Option Line) (p : Plan) (before : List ℕ) (after : Option (List ℕ)) → WroteSome (Some before) (head_text p) after → EntersAll {T = T} s bytes t first p before (Err fault.WriteFailed) bytes after
-enters_opening_cut T s bytes t None p before after (front, rest, cut, stands) =
-    let end = end_text 0 in (
+enters_opening_cut T s bytes t first p before after (front, rest, cut, stands) =
+    let end = end_text 0 in
+    let none = none_told s bytes first in (
       [],
-      [],
-      [],
-      front,
-      rest ++ end,
-      (refl, refl, refl),
-      omega arith,
-      (refl, tt),
-      ap (λ (x : List ℕ). x ++ end) (append-nil (head_text p) ∙ cut) ∙ append_assoc front rest end,
-      stands,
-    )
-enters_opening_cut T s bytes t (Some l) p before after (front, rest, cut, stands) =
-    let end = end_text 0 in (
-      [],
-      l ∷ [],
+      option_to_list first,
       [],
       front,
       rest ++ end,
-      ([], refl, may_stop_writing s.workers s.lines.room s.count s.opening bytes),
-      omega arith,
+      none.0,
+      none.1,
       (refl, tt),
       ap (λ (x : List ℕ). x ++ end) (append-nil (head_text p) ∙ cut) ∙ append_assoc front rest end,
       stands,
@@ -167,46 +143,29 @@ enters_done done s bytes t first p before left entries mid after plan h wrote =
     (h.lines, entries, h.reads, h.legal, plan, w ∙ ap Some (append_assoc before text end))
 
 -- no line is left to be told
-stops_writing : (s : Script) (bytes : List ℕ) (first : Option Line) (lines : List Line) (left : List ℕ) → ReadsCommands s bytes first lines None left → ReadsCommands s bytes first (lines ++ []) (Some fault.WriteFailed) left
-stops_writing s bytes None lines left h = (append-nil lines ∙ h.0, h.1, refl)
+stops_writing : (s : Script) (bytes : List ℕ) (first : Option Line) (lines : List Line) (left : List ℕ) → ReadsCommands s bytes first lines None left → ReadsCommands s bytes first lines (Some fault.WriteFailed) left
+stops_writing s bytes None lines left h = (h.0, h.1, refl)
 stops_writing s bytes (Some l) lines left h =
-    (h.0, append-nil lines ∙ h.1, reads_stop fault.WriteFailed may_stop_writing h.0 s.workers s.lines.room s.count s.opening bytes left h.2)
+    (h.0, h.1, reads_stop fault.WriteFailed may_stop_writing h.0 s.workers s.lines.room s.count s.opening bytes left h.2)
 
 -- the end was cut short
 pub enters_end_cut : (T : Type 0) (s : Script) (bytes : List ℕ) (t : Scene) (first : Option Line) (p : Plan) (before left : List ℕ) (entries : List Entry) (mid after : Option (List ℕ)) → HasEntries s bytes t first p before left entries mid → WroteSome mid (end_text (length entries)) after → EntersAll {T = T} s bytes t first p before (Err fault.WriteFailed) left after
 enters_end_cut T s bytes t first p before left entries mid after h wrote =
     let end = end_text (length entries) in
     let text = head_text p ++ flat_map entry_text entries in
-    let w : WroteSome (Some (before ++ text)) end after = subst (λ (x : Option (List ℕ)). WroteSome x end after) h.stands wrote in (
-      h.lines,
-      [],
-      entries,
-      text ++ w.0,
-      w.1,
-      stops_writing s bytes first h.lines left h.reads,
-      omega arith,
-      h.legal,
-      ap (λ (x : List ℕ). text ++ x) w.2 ∙ sym (append_assoc text w.0 w.1),
-      w.3 ∙ ap Some (append_assoc before text w.0),
-    )
+    let w : WroteSome (Some (before ++ text)) end after = subst (λ (x : Option (List ℕ)). WroteSome x end after) h.stands wrote in
+    cut_short T s bytes t first p before left after h.lines entries (text ++ w.0) w.1 (stops_writing s bytes first h.lines left h.reads) h.legal
+    (ap (λ (x : List ℕ). text ++ x) w.2 ∙ sym (append_assoc text w.0 w.1)) (w.3 ∙ ap Some (append_assoc before text w.0))
 
 -- ---- what a call wrote of it
 
--- the opening that was written is the plan's, behind what was known to stand
-pub opening_wrote : (p q : Plan) (before : List ℕ) (taken after : Option (List ℕ)) → q ≡ p → taken ≡ Some before → Wrote taken (head_text q) after → after ≡ Some (before ++ head_text p)
-opening_wrote p q before taken after same known wrote =
-    subst (λ (x : Plan). after ≡ Some (before ++ head_text x)) same (subst (λ (x : Option (List ℕ)). Wrote x (head_text q) after) known wrote)
+-- the opening that was written, or a front of it, is the plan's, behind what was known to stand
+pub as_opening : (W : Option (List ℕ) → List ℕ → Option (List ℕ) → Type 0) (p q : Plan) (before : List ℕ) (taken after : Option (List ℕ)) → q ≡ p → taken ≡ Some before → W taken (head_text q) after → W (Some before) (head_text p) after
+as_opening W p q before taken after same known wrote = subst (λ (x : Plan). W (Some before) (head_text x) after) same (subst (λ (x : Option (List ℕ)). W x (head_text q) after) known wrote)
 
-pub opening_cut : (p q : Plan) (before : List ℕ) (taken after : Option (List ℕ)) → q ≡ p → taken ≡ Some before → WroteSome taken (head_text q) after → WroteSome (Some before) (head_text p) after
-opening_cut p q before taken after same known wrote =
-    subst (λ (x : Plan). WroteSome (Some before) (head_text x) after) same (subst (λ (x : Option (List ℕ)). WroteSome x (head_text q) after) known wrote)
-
--- the number that was written is that of the entries
-pub end_wrote : (held entries : List Entry) (count : ℕ) (taken after : Option (List ℕ)) → count ≡ length held → held ≡ entries → Wrote taken (end_text count) after → Wrote taken (end_text (length entries)) after
-end_wrote held entries count taken after is same wrote = subst (λ (n : ℕ). Wrote taken (end_text n) after) (is ∙ ap (λ (es : List Entry). length es) same) wrote
-
-pub end_cut : (held entries : List Entry) (count : ℕ) (taken after : Option (List ℕ)) → count ≡ length held → held ≡ entries → WroteSome taken (end_text count) after → WroteSome taken (end_text (length entries)) after
-end_cut held entries count taken after is same wrote = subst (λ (n : ℕ). WroteSome taken (end_text n) after) (is ∙ ap (λ (es : List Entry). length es) same) wrote
+-- the number that was written, or a front of it, is that of the entries
+pub as_end : (W : Option (List ℕ) → List ℕ → Option (List ℕ) → Type 0) (held entries : List Entry) (count : ℕ) (taken after : Option (List ℕ)) → count ≡ length held → held ≡ entries → W taken (end_text count) after → W taken (end_text (length entries)) after
+as_end W held entries count taken after is same wrote = subst (λ (n : ℕ). W taken (end_text n) after) (is ∙ ap (λ (es : List Entry). length es) same) wrote
 
 -- ---- the whole of a script
 
@@ -280,13 +239,10 @@ ran_entering (Err fault.WriteFailed) start t bytes rest edges first before left 
       cut = subst (λ (x : List Edge). history_text (plan_with start x) h.2 ≡ h.3 ++ h.4) (sym parts.edges_are) h.8;
       stands = h.9;
     }
-ran_entering (Err fault.ReadFailed) start t bytes rest edges first before left after can command reads h = ran_reading fault.ReadFailed start t bytes rest edges first before left after can command reads h
-ran_entering (Err fault.InputTooLong) start t bytes rest edges first before left after can command reads h = ran_reading fault.InputTooLong start t bytes rest edges first before left after can command reads h
-ran_entering (Err (fault.LineTooLong n)) start t bytes rest edges first before left after can command reads h = ran_reading (fault.LineTooLong n) start t bytes rest edges first before left after can command reads h
-ran_entering (Err (fault.BadLine n)) start t bytes rest edges first before left after can command reads h = ran_reading (fault.BadLine n) start t bytes rest edges first before left after can command reads h
 ran_entering (Err fault.OutOfMemory) start t bytes rest edges first before left after can command reads h = absurd h.0
 ran_entering (Err fault.HeapFull) start t bytes rest edges first before left after can command reads h = absurd h.0
 ran_entering (Err fault.BadLimits) start t bytes rest edges first before left after can command reads h = absurd h.0
+ran_entering (Err f) start t bytes rest edges first before left after can command reads h = ran_reading f start t bytes rest edges first before left after can command reads h
 
 -- ---- the store isn't opened
 
@@ -297,10 +253,6 @@ unopened_stands f start bytes before edges left after h same =
     stands_entered start bytes before (Some f) unended_text edges [] [] left after parts (inl parts.commands_are) (refl, tt) (same ∙ ap Some (sym (append-nil before)))
 
 pub entering_unbegun : (T : Type 0) (f : ScriptFault) (start : Start) (bytes before left : List ℕ) (after : Option (List ℕ)) → Unbegun start bytes f left → after ≡ Some before → RanEntering {T = T} start bytes before (Err f) left after
-entering_unbegun T fault.ReadFailed start bytes before left after h same = unopened_stands fault.ReadFailed start bytes before h.edges left after h.reads same
-entering_unbegun T fault.InputTooLong start bytes before left after h same = unopened_stands fault.InputTooLong start bytes before h.edges left after h.reads same
-entering_unbegun T (fault.LineTooLong n) start bytes before left after h same = unopened_stands (fault.LineTooLong n) start bytes before h.edges left after h.reads same
-entering_unbegun T (fault.BadLine n) start bytes before left after h same = unopened_stands (fault.BadLine n) start bytes before h.edges left after h.reads same
 entering_unbegun T fault.WriteFailed start bytes before left after h same =
     let parts = edges_alone start bytes h.edges (Some fault.WriteFailed) left h.reads in
     record {
@@ -320,44 +272,23 @@ entering_unbegun T fault.WriteFailed start bytes before left after h same =
 entering_unbegun T fault.OutOfMemory start bytes before left after h same = ran_unbegun T fault.OutOfMemory start bytes before left after h same
 entering_unbegun T fault.HeapFull start bytes before left after h same = ran_unbegun T fault.HeapFull start bytes before left after h same
 entering_unbegun T fault.BadLimits start bytes before left after h same = ran_unbegun T fault.BadLimits start bytes before left after h same
+entering_unbegun T f start bytes before left after h same = unopened_stands f start bytes before h.edges left after h.reads same
 
 -- ---- the sink is finished
 
-stands_keeps : (start : Start) (bytes before : List ℕ) (end : Option ScriptFault) (text : Plan → List Line → List Entry → List ℕ) (left : List ℕ) (mid after : Option (List ℕ)) → (s : StandsEntered start bytes before end text left mid) → KeepsBytes mid after → StandsEntered start bytes before end text left after
-stands_keeps start bytes before end text left mid after s keeps = record {
-  lines = s.lines;
-  entries = s.entries;
-  reads = s.reads;
-  run = s.run;
-  stands = keeps_known mid after (before ++ text (plan_of start s.lines) (commands_of s.lines) s.entries) s.stands keeps;
-}
+-- what is known to stand
+entering_known : {T : Type 0} (r : Result T ScriptFault) (start : Start) (bytes before left : List ℕ) (mid : Option (List ℕ)) → RanEntering start bytes before r left mid → (known : List ℕ) × (mid ≡ Some known)
+entering_known (Ok done) start bytes before left mid h = (_, h.1.stands)
+entering_known (Err fault.WriteFailed) start bytes before left mid h = (_, h.stands)
+entering_known (Err fault.OutOfMemory) start bytes before left mid h = (before, h.1)
+entering_known (Err fault.HeapFull) start bytes before left mid h = (before, h.3)
+entering_known (Err fault.BadLimits) start bytes before left mid h = (before, h.2)
+entering_known (Err f) start bytes before left mid h = (_, h.stands)
 
 entering_keeps : {T : Type 0} (r : Result T ScriptFault) (start : Start) (bytes before left : List ℕ) (mid after : Option (List ℕ)) → RanEntering start bytes before r left mid → KeepsBytes mid after → RanEntering start bytes before r left after
-unfolding stands_keeps
-entering_keeps (Ok done) start bytes before left mid after h keeps =
-    (h.0, stands_keeps start bytes before None (λ p commands es. history_text p es) left mid after h.1 keeps, h.2)
-entering_keeps (Err fault.ReadFailed) start bytes before left mid after h keeps = stands_keeps start bytes before (Some fault.ReadFailed) unended_text left mid after h keeps
-entering_keeps (Err fault.InputTooLong) start bytes before left mid after h keeps = stands_keeps start bytes before (Some fault.InputTooLong) unended_text left mid after h keeps
-entering_keeps (Err (fault.LineTooLong n)) start bytes before left mid after h keeps = stands_keeps start bytes before (Some (fault.LineTooLong n)) unended_text left mid after h keeps
-entering_keeps (Err (fault.BadLine n)) start bytes before left mid after h keeps = stands_keeps start bytes before (Some (fault.BadLine n)) unended_text left mid after h keeps
-entering_keeps (Err fault.WriteFailed) start bytes before left mid after h keeps =
-    record {
-      lines = h.lines;
-      commands = h.commands;
-      later = h.later;
-      entries = h.entries;
-      front = h.front;
-      rest = h.rest;
-      reads = h.reads;
-      are = h.are;
-      few = h.few;
-      run = h.run;
-      cut = h.cut;
-      stands = keeps_known mid after (before ++ h.front) h.stands keeps;
-    }
-entering_keeps {T} (Err fault.OutOfMemory) start bytes before left mid after h keeps = ran_keeps {T = T} (Err fault.OutOfMemory) start bytes before left mid after h keeps
-entering_keeps {T} (Err fault.HeapFull) start bytes before left mid after h keeps = ran_keeps {T = T} (Err fault.HeapFull) start bytes before left mid after h keeps
-entering_keeps {T} (Err fault.BadLimits) start bytes before left mid after h keeps = ran_keeps {T = T} (Err fault.BadLimits) start bytes before left mid after h keeps
+entering_keeps r start bytes before left mid after h keeps =
+    let known = entering_known r start bytes before left mid h in
+    subst (λ (o : Option (List ℕ)). RanEntering start bytes before r left o) (known.1 ∙ sym (keeps_known mid after known.0 known.1 keeps)) h
 
 -- the whole text was written, but the sink was not finished
 entering_unfinished : {T : Type 0} (r : Result T ScriptFault) (start : Start) (bytes before left : List ℕ) (mid after : Option (List ℕ)) → IsOk r → RanEntering start bytes before r left mid → KeepsBytes mid after → RanEntering {T = T} start bytes before (Err fault.WriteFailed) left after

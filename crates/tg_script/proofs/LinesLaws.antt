@@ -1,5 +1,5 @@
 -- How the next line of a script stands to what is read of its bytes.
-use Rattle.std.proofs.Common.{◌≡◌, ◌≢◌, ℕ, ◌+◌, ◌-◌, ◌≤◌, Bool, List, [], ◌∷◌, ◌++◌, length, Option, Some, None, refl, sym, ap, ◌∙◌, subst, arith, length-append, append_assoc, append-nil, Ok}
+use Rattle.std.proofs.Common.{◌≡◌, ◌≢◌, ℕ, ◌+◌, ◌-◌, ◌≤◌, Bool, List, [], ◌∷◌, ◌++◌, length, Option, Some, None, refl, sym, ap, ◌∙◌, subst, arith, length-append, append_assoc, append-nil, Ok, Err, IsErrAnd}
 use Rattle.tg_text.specs.declared.line.Line.{Line}
 use Rattle.tg_text.specs.declared.fault.ScriptFault.{ScriptFault}
 use Rattle.tg_text.specs.declared.source.Fetched.{Fetched}
@@ -14,6 +14,7 @@ use Rattle.std.proofs.lemmas.List.Concat.{flat_map-append}
 use Rattle.tg_text.specs.declared.fault.ScriptFault.TheVariants as fault
 use Rattle.tg_text.specs.Sinks.{KeepsBytes, Wrote}
 use Rattle.std.specs.Prelude.{IfErr, Result}
+use Rattle.std.proofs.lemmas.Result.{err_from_is_err_and}
 use Rattle.tg_script.specs.Lines.{CountsFailures, IsBehind, IsFresh, NextLine, OnlyReads, Passes, ReadsFrom, line_bytes, read_failures, write_failures}
 use Rattle.tg_script.specs.Inner.Beginning.{ReadsFirst, ReadsFront}
 
@@ -113,6 +114,10 @@ wrote_keeps None mid after bytes w k = tt
 wrote_keeps (Some xs) mid after bytes w k = keeps_known mid after (xs ++ bytes) w k
 
 -- ---- more lines are read
+
+-- what a call answered that handed a fault on
+pub err_is : {T F : Type 0} (r : Result T F) (f : F) → IsErrAnd r (λ e. e ≡ f) → r ≡ Err f
+err_is r f h = let e = err_from_is_err_and r h in e.1 ∙ ap Err e.2
 
 pub no_failures : {S K : Type 0} (read : S → ℕ) (wrote : K → ℕ) (source : S) (sink : K) → CountsFailures read wrote source source sink sink 0 0
 no_failures read wrote source sink = record { read_failed = omega arith; write_failed = omega arith }

@@ -1,6 +1,6 @@
 -- What is read of the edge lines of a script.
 use mathlib.Core.Bool.{true≢false}
-use Rattle.std.proofs.Common.{◌≡◌, inl, inr, ◌<◌, length, arith, ℕ, true, false, cond, List, [], ◌∷◌, ◌++◌, Option, Some, Result, Ok, Err, refl, sym, ap, ◌∙◌, subst}
+use Rattle.std.proofs.Common.{◌≡◌, inl, inr, ◌<◌, length, arith, length-append, ℕ, true, false, cond, List, [], ◌∷◌, ◌++◌, Some, Result, Ok, Err, refl, sym, ap, ◌∙◌, subst}
 use Rattle.tg_model.specs.declared.edge.Edge.{Edge}
 use Rattle.tg_text.specs.declared.line.Line.{Line}
 use Rattle.tg_text.specs.declared.line.Line.TheVariants as line
@@ -37,17 +37,13 @@ edges_fault workers t bytes rest edges f left b of_reading h = record {
   reads = front_all workers t bytes rest (edge_lines edges) (Some f) left b h;
 }
 
-some_edge : (edges : List Edge) (edge : Edge) → edges ++ edge ∷ [] ≡ [] → ⊥
-some_edge [] edge none = cc
-some_edge (e ∷ edges) edge none = cc
-
 -- there was no memory for an edge
 pub edges_unkept : (workers : ℕ) (t u : Script) (bytes rest after : List ℕ) (edges : List Edge) (edge : Edge) → ReadsFront workers bytes (edge_lines edges) t rest → Passes t rest (line.Edge edge) u after → StopsAtEdges workers bytes fault.OutOfMemory after
 edges_unkept workers t u bytes rest after edges edge b p =
     let more = edges ++ edge ∷ [] in
     record {
       edges = more;
-      some = λ is. some_edge edges edge;
+      some = λ is none. (let e = ap (λ (l : List Edge). length l) none in omega (arith, e, length-append edges (edge ∷ [])));
       reads = front_all workers u bytes after (edge_lines more) (Some fault.OutOfMemory) after (edges_more workers t u bytes rest after edges more edge refl b p) refl;
     }
 
@@ -65,11 +61,7 @@ edge_taken s l t edge same opening f =
 
 pub command_taken : (s : Script) (l : Line) (t : Script) → Follows s l t → ((edge : Edge) → l ≡ line.Edge edge → ⊥) → IsCommand l × (t.opening ≡ false)
 command_taken s (line.Edge edge) t f other = absurd (other edge refl)
-command_taken s (line.Create x label) t f other = (tt, f.opening)
-command_taken s (line.Spawn x label) t f other = (tt, f.opening)
-command_taken s (line.Plain x command) t f other = (tt, f.opening)
-command_taken s line.Full t f other = (tt, f.opening)
-command_taken s line.Minor t f other = (tt, f.opening)
+command_taken s l t f other = (tt, f.opening)
 
 pub joined : (workers : ℕ) (s : Script) (edges more : List Edge) (edge : Edge) → s.workers ≡ workers → All (JoinsWorkers workers) edges → JoinsWorkers s.workers edge → more ≡ edges ++ edge ∷ [] → All (JoinsWorkers workers) more
 joined workers s edges more edge same all here is =

@@ -1,7 +1,7 @@
 -- What was written for the whole of a script.
 use mathlib.Core.Bool.{false≢true}
 use Rattle.std.specs.Prelude.{IsOk}
-use Rattle.std.proofs.Common.{◌≡◌, ◌≢◌, inl, inr, ℕ, true, List, [], ◌∷◌, ◌++◌, length, Option, Some, None, Result, Ok, Err, refl, sym, ap, ◌∙◌, subst, arith, append_assoc, append-nil}
+use Rattle.std.proofs.Common.{◌≡◌, ◌≢◌, inl, inr, ℕ, true, List, [], ◌∷◌, ◌++◌, length, Option, Some, None, Result, Ok, Err, refl, sym, ap, ◌∙◌, subst, ⊎_elim, arith, append_assoc, append-nil}
 use Rattle.tg_model.specs.declared.edge.Edge.{Edge}
 use Rattle.tg_model.specs.Opened.{Plan, HasLimits}
 use Rattle.tg_text.specs.declared.line.Line.{Line}
@@ -45,21 +45,13 @@ edges_unkept_whole start bytes (e ∷ edges) left some h =
 
 pub edges_of-front : (edges : List Edge) (l : Line) (lines : List Line) → IsCommand l → edges_of (edge_lines edges ++ l ∷ lines) ≡ edges
 edges_of-front [] (line.Edge e) lines command = absurd (false≢true command.0)
-edges_of-front [] (line.Create x label) lines command = refl
-edges_of-front [] (line.Spawn x label) lines command = refl
-edges_of-front [] (line.Plain x c) lines command = refl
-edges_of-front [] line.Full lines command = refl
-edges_of-front [] line.Minor lines command = refl
 edges_of-front (e ∷ edges) l lines command = ap (λ x. e ∷ x) (edges_of-front edges l lines command)
+edges_of-front [] l lines command = refl
 
 pub commands_of-front : (edges : List Edge) (l : Line) (lines : List Line) → IsCommand l → commands_of (edge_lines edges ++ l ∷ lines) ≡ l ∷ lines
 commands_of-front [] (line.Edge e) lines command = absurd (false≢true command.0)
-commands_of-front [] (line.Create x label) lines command = refl
-commands_of-front [] (line.Spawn x label) lines command = refl
-commands_of-front [] (line.Plain x c) lines command = refl
-commands_of-front [] line.Full lines command = refl
-commands_of-front [] line.Minor lines command = refl
 commands_of-front (e ∷ edges) l lines command = commands_of-front edges l lines command
+commands_of-front [] l lines command = refl
 
 -- ---- the store is not opened
 
@@ -77,41 +69,28 @@ room_of p start workers limit h = (omega (arith, h.0, limit), omega (arith, h.1,
 
 -- a fault came at the edge lines
 pub unbegun_edges : (f : ScriptFault) (start : Start) (bytes left : List ℕ) → IsOfKeeping f → StopsAtEdges start.workers bytes f left → Unbegun start bytes f left
-unbegun_edges fault.ReadFailed start bytes left met h = h
-unbegun_edges fault.InputTooLong start bytes left met h = h
-unbegun_edges (fault.LineTooLong n) start bytes left met h = h
-unbegun_edges (fault.BadLine n) start bytes left met h = h
-unbegun_edges fault.WriteFailed start bytes left met h = h
 unbegun_edges fault.OutOfMemory start bytes left met h = inl h
-unbegun_edges fault.HeapFull start bytes left (inl met) h = absurd met
-unbegun_edges fault.HeapFull start bytes left (inr met) h = absurd cc
-unbegun_edges fault.BadLimits start bytes left (inl met) h = absurd met
-unbegun_edges fault.BadLimits start bytes left (inr met) h = absurd cc
+unbegun_edges fault.HeapFull start bytes left met h = let no : ⊥ = ⊎_elim (λ (n : ⊥). n) (λ (e : fault.HeapFull ≡ fault.OutOfMemory). cc) met in absurd no
+unbegun_edges fault.BadLimits start bytes left met h = let no : ⊥ = ⊎_elim (λ (n : ⊥). n) (λ (e : fault.BadLimits ≡ fault.OutOfMemory). cc) met in absurd no
+unbegun_edges f start bytes left met h = h
 
 -- the store wasn't opened behind them
 pub unbegun_store : (p : Plan) (f : ScriptFault) (start : Start) (t : Script) (bytes rest : List ℕ) (edges : List Edge) (first : Option Line) → p.workers ≡ start.workers → p.limit ≡ start.limit → OpensStore p start.blocks (Err f) → IsBehindEdges t first → ReadsFirst start.workers bytes (edge_lines edges) first t rest → Unbegun start bytes f rest
-unbegun_store p fault.ReadFailed start t bytes rest edges first workers limit h command reads = absurd h
-unbegun_store p fault.InputTooLong start t bytes rest edges first workers limit h command reads = absurd h
-unbegun_store p (fault.LineTooLong n) start t bytes rest edges first workers limit h command reads = absurd h
-unbegun_store p (fault.BadLine n) start t bytes rest edges first workers limit h command reads = absurd h
-unbegun_store p fault.WriteFailed start t bytes rest edges first workers limit h command reads = absurd h
 unbegun_store p fault.OutOfMemory start t bytes rest edges first workers limit h command reads =
     inr (room_of p start workers limit h, unopened start t bytes rest edges first fault.OutOfMemory command reads (λ w r c o b. refl))
 unbegun_store p fault.HeapFull start t bytes rest edges first workers limit h command reads =
     (room_of p start workers limit h.0, omega (arith, h.1, workers), unopened start t bytes rest edges first fault.HeapFull command reads (λ w r c o b. refl))
 unbegun_store p fault.BadLimits start t bytes rest edges first workers limit h command reads =
     ((λ room. h (omega (arith, room.0, limit), omega (arith, room.1, limit), omega (arith, room.2, workers, limit))), unopened start t bytes rest edges first fault.BadLimits command reads (λ w r c o b. refl))
+unbegun_store p f start t bytes rest edges first workers limit h command reads = absurd h
 
 pub ran_unbegun : (T : Type 0) (f : ScriptFault) (start : Start) (bytes before left : List ℕ) (after : Option (List ℕ)) → Unbegun start bytes f left → after ≡ Some before → Ran {T = T} start bytes before (Err f) left after
-ran_unbegun T fault.ReadFailed start bytes before left after h same = edges_written start bytes before h.edges (Some fault.ReadFailed) left after h.reads same
-ran_unbegun T fault.InputTooLong start bytes before left after h same = edges_written start bytes before h.edges (Some fault.InputTooLong) left after h.reads same
-ran_unbegun T (fault.LineTooLong n) start bytes before left after h same = edges_written start bytes before h.edges (Some (fault.LineTooLong n)) left after h.reads same
-ran_unbegun T (fault.BadLine n) start bytes before left after h same = edges_written start bytes before h.edges (Some (fault.BadLine n)) left after h.reads same
 ran_unbegun T fault.WriteFailed start bytes before left after h same = inl (edges_written start bytes before h.edges (Some fault.WriteFailed) left after h.reads same)
 ran_unbegun T fault.OutOfMemory start bytes before left after (inl h) same = (inl (edges_unkept_whole start bytes h.edges left (h.some refl) h.reads), same)
 ran_unbegun T fault.OutOfMemory start bytes before left after (inr h) same = (inr h, same)
 ran_unbegun T fault.HeapFull start bytes before left after h same = (h.0, h.1, h.2, same)
 ran_unbegun T fault.BadLimits start bytes before left after h same = (h.0, h.1, same)
+ran_unbegun T f start bytes before left after h same = edges_written start bytes before h.edges (Some f) left after h.reads same
 
 -- ---- the store is opened
 
@@ -159,10 +138,6 @@ cut_off start t bytes rest edges l before left begun entries after can command r
 
 ran_commands : {T : Type 0} (r : Result T ScriptFault) (start : Start) (t : Script) (bytes rest : List ℕ) (edges : List Edge) (l : Line) (before left : List ℕ) (begun entries : List Entry) (after : Option (List ℕ)) → CanOpen start → IsCommand l → ReadsFront start.workers bytes (edge_lines edges ++ l ∷ []) t rest → TellsAll reply_of_line t rest (scene_with start edges) l begun before r left entries after → Ran start bytes before r left after
 ran_commands (Ok done) start t bytes rest edges l before left begun entries after can command front h = (can, told_written start t bytes rest edges l before None left begun entries after can command front h)
-ran_commands (Err fault.ReadFailed) start t bytes rest edges l before left begun entries after can command front h = told_written start t bytes rest edges l before (Some fault.ReadFailed) left begun entries after can command front h.1
-ran_commands (Err fault.InputTooLong) start t bytes rest edges l before left begun entries after can command front h = told_written start t bytes rest edges l before (Some fault.InputTooLong) left begun entries after can command front h.1
-ran_commands (Err (fault.LineTooLong n)) start t bytes rest edges l before left begun entries after can command front h = told_written start t bytes rest edges l before (Some (fault.LineTooLong n)) left begun entries after can command front h.1
-ran_commands (Err (fault.BadLine n)) start t bytes rest edges l before left begun entries after can command front h = told_written start t bytes rest edges l before (Some (fault.BadLine n)) left begun entries after can command front h.1
 ran_commands (Err fault.WriteFailed) start t bytes rest edges l before left begun entries after can command front (inl h) =
     inl (told_written start t bytes rest edges l before (Some fault.WriteFailed) left begun entries after can command front h)
 ran_commands (Err fault.WriteFailed) start t bytes rest edges l before left begun entries after can command front (inr h) =
@@ -170,6 +145,7 @@ ran_commands (Err fault.WriteFailed) start t bytes rest edges l before left begu
 ran_commands (Err fault.OutOfMemory) start t bytes rest edges l before left begun entries after can command front h = absurd h.0
 ran_commands (Err fault.HeapFull) start t bytes rest edges l before left begun entries after can command front h = absurd h.0
 ran_commands (Err fault.BadLimits) start t bytes rest edges l before left begun entries after can command front h = absurd h.0
+ran_commands (Err f) start t bytes rest edges l before left begun entries after can command front h = told_written start t bytes rest edges l before (Some f) left begun entries after can command front h.1
 
 -- the lines were run, where there is one behind the edges
 pub ran_first : {T : Type 0} (r : Result T ScriptFault) (start : Start) (t : Script) (bytes rest : List ℕ) (edges : List Edge) (first : Option Line) (before left : List ℕ) (begun entries : List Entry) (after : Option (List ℕ)) → CanOpen start → IsBehindEdges t first → ReadsFirst start.workers bytes (edge_lines edges) first t rest → TellsFirst reply_of_line t rest (scene_with start edges) first begun before r left entries after → Ran start bytes before r left after
@@ -186,16 +162,13 @@ written_keeps start bytes before end left mid after h keeps = (h.0, keeps_known 
 
 pub ran_keeps : {T : Type 0} (r : Result T ScriptFault) (start : Start) (bytes before left : List ℕ) (mid after : Option (List ℕ)) → Ran start bytes before r left mid → KeepsBytes mid after → Ran start bytes before r left after
 ran_keeps (Ok done) start bytes before left mid after h keeps = (h.0, written_keeps start bytes before None left mid after h.1 keeps)
-ran_keeps (Err fault.ReadFailed) start bytes before left mid after h keeps = written_keeps start bytes before (Some fault.ReadFailed) left mid after h keeps
-ran_keeps (Err fault.InputTooLong) start bytes before left mid after h keeps = written_keeps start bytes before (Some fault.InputTooLong) left mid after h keeps
-ran_keeps (Err (fault.LineTooLong n)) start bytes before left mid after h keeps = written_keeps start bytes before (Some (fault.LineTooLong n)) left mid after h keeps
-ran_keeps (Err (fault.BadLine n)) start bytes before left mid after h keeps = written_keeps start bytes before (Some (fault.BadLine n)) left mid after h keeps
 ran_keeps (Err fault.WriteFailed) start bytes before left mid after (inl h) keeps = inl (written_keeps start bytes before (Some fault.WriteFailed) left mid after h keeps)
 ran_keeps (Err fault.WriteFailed) start bytes before left mid after (inr h) keeps =
     inr (h.0, h.1, h.2, h.3, h.4, h.5, keeps_known mid after (before ++ h.1) h.6 keeps)
 ran_keeps (Err fault.OutOfMemory) start bytes before left mid after h keeps = (h.0, keeps_known mid after before h.1 keeps)
 ran_keeps (Err fault.HeapFull) start bytes before left mid after h keeps = (h.0, h.1, h.2, keeps_known mid after before h.3 keeps)
 ran_keeps (Err fault.BadLimits) start bytes before left mid after h keeps = (h.0, h.1, keeps_known mid after before h.2 keeps)
+ran_keeps (Err f) start bytes before left mid after h keeps = written_keeps start bytes before (Some f) left mid after h keeps
 
 -- the whole text was written, but the sink was not finished
 ran_unfinished : {T : Type 0} (r : Result T ScriptFault) (start : Start) (bytes before left : List ℕ) (mid after : Option (List ℕ)) → IsOk r → Ran start bytes before r left mid → KeepsBytes mid after → Ran {T = T} start bytes before (Err fault.WriteFailed) left after

@@ -1,6 +1,6 @@
 -- Each line is answered by the scene that the run shows.
 use mathlib.Core.Bool.{true≢false}
-use Rattle.std.proofs.Common.{◌≡◌, ◌≢◌, inl, inr, ◌↔◌, ℕ, ◌<◌, ◌≤◌, nat_lt, true, false, cond, eqb, length, List, [], ◌∷◌, ◌++◌, Result, Ok, Err, refl, sym, ap, ap₂, ◌∙◌, subst, append-nil}
+use Rattle.std.proofs.Common.{◌≡◌, ◌≢◌, inl, inr, ◌↔◌, ℕ, ◌<◌, ◌≤◌, nat_lt, Bool, true, false, cond, eqb, length, List, [], ◌∷◌, ◌++◌, Result, Ok, Err, refl, sym, ap, ◌∙◌, subst, append-nil}
 use Rattle.std.specs.Prelude.{IfOk, IfErr}
 use Rattle.std.specs.List.{list_any}
 use Rattle.std.proofs.lemmas.Bool.{lt-ltb, le-ltb}
@@ -56,14 +56,11 @@ subject_held g x h =
 pub stands_still : (old new : StoreState) (g : ProtectionGraph) → new.opening ≡ old.opening → new.entries ≡ old.entries → StandsFor old g → StandsFor new g
 stands_still old new g opening entries stands = (λ i. graph_of_store (record { opening = opening i; entries = entries i; handed = new.handed; heap = new.heap; collections = new.collections })) ∙ stands
 
-other_way : {T E : Type 0} (x : T) (e : E) → Ok x ≡ Err e → ⊥
-other_way x e same = cc
-
 -- ---- commands
 
 pub apply_done : {P : Type 0} (old new : Run P) (x : ℕ) (command : Command) (answer : Reply) → ((g : ProtectionGraph) → StandsFor old.store g → answer ≡ answer_of g x (deed.Plain command)) → ((g : ProtectionGraph) → StandsFor old.store g → StandsFor new.store (step g x (deed.Plain command))) → ((g : ProtectionGraph) → StandsFor old.store g → (Ok answer ≡ Err apply.NoSuchWorker) ↔ (¬ IsSubject g x)) → new.supply ≡ old.supply → new.helpers ≡ old.helpers → Handles old (line.Plain x command) (told.Reply answer) new
 apply_done old new x command answer answers steps unknown supply helpers s shown =
-    let subject = subject_held s.graph x (λ none. other_way answer apply.NoSuchWorker ((unknown s.graph shown.0).1 none)) in (
+    let subject = subject_held s.graph x (λ none. let e = (unknown s.graph shown.0).1 none in cc) in (
       record s { graph = step s.graph x (deed.Plain command) },
       (steps s.graph shown.0, ap values_left supply ∙ shown.1, helpers ∙ shown.2),
       inl (inl (subject, ap told.Reply (answers s.graph shown.0), refl)),
@@ -113,33 +110,25 @@ record IsFull (g : ProtectionGraph) (x : ℕ) (d : Deed) (r : Reply) : Type 0 wh
   answer : answer_of g x d ≡ r
   same : step g x d ≡ g
 
+full_of : {g : ProtectionGraph} {x : ℕ} {d : Deed} {r : Reply} (b : Bool) (y : Reply) (h : ProtectionGraph) → IsSubject g x → answer_of g x d ≡ cond b y r → step g x d ≡ cond b h g → b ≡ false → IsFull g x d r
+full_of {g = g} {r = r} b y h subject answer same closed = record {
+  subject = subject;
+  answer = answer ∙ ap (λ t. cond t y r) closed;
+  same = same ∙ ap (λ t. cond t h g) closed;
+}
+
 vertices_full : (kind : Making) (g : ProtectionGraph) (x : ℕ) (label : RightSet) (value : Value) → IsSubject g x × (g.limit ≤ g.made) → IsFull g x (deed_making kind label value) reply.VerticesFull
-vertices_full Object g x label value (subject, full) =
-    let closed = le-ltb g.made g.limit full in
-    record {
-      subject = subject;
-      answer = ap (λ b. cond b (reply.Name g.made) reply.VerticesFull) closed;
-      same = ap (λ b. cond b (with_vertex g x label value) g) closed;
-    }
+vertices_full Object g x label value (subject, full) = full_of (nat_lt g.made g.limit) (reply.Name g.made) (with_vertex g x label value) subject refl refl (le-ltb g.made g.limit full)
 vertices_full Subject g x label value (subject, full) =
-    let closed = le-ltb g.made g.limit full in
     let few = nat_lt (length g.subjects) MAX_WORKERS in
-    record {
-      subject = subject;
-      answer = ap (λ b. cond b (cond few (reply.Name g.made) reply.WorkersFull) reply.VerticesFull) closed;
-      same = ap (λ b. cond b (cond few (with_subject g x label value) g) g) closed;
-    }
+    full_of (nat_lt g.made g.limit) (cond few (reply.Name g.made) reply.WorkersFull) (cond few (with_subject g x label value) g) subject refl refl (le-ltb g.made g.limit full)
 
 workers_full : (kind : Making) (g : ProtectionGraph) (x : ℕ) (label : RightSet) (value : Value) → (kind ≡ Subject) × IsSubject g x × (g.made < g.limit) × (MAX_WORKERS ≤ length g.subjects) → IsFull g x (deed_making kind label value) reply.WorkersFull
 workers_full Object g x label value (is, subject, room, many) = let no : ⊥ = cc in absurd no
 workers_full Subject g x label value (is, subject, room, many) =
     let roomy = lt-ltb g.made g.limit room in
-    let closed = le-ltb (length g.subjects) MAX_WORKERS many in
-    record {
-      subject = subject;
-      answer = ap₂ (λ b c. cond b (cond c (reply.Name g.made) reply.WorkersFull) reply.VerticesFull) roomy closed;
-      same = ap₂ (λ b c. cond b (cond c (with_subject g x label value) g) g) roomy closed;
-    }
+    let few = nat_lt (length g.subjects) MAX_WORKERS in
+    full_of few (reply.Name g.made) (with_subject g x label value) subject (ap (λ b. cond b (cond few (reply.Name g.made) reply.WorkersFull) reply.VerticesFull) roomy) (ap (λ b. cond b (cond few (with_subject g x label value) g) g) roomy) (le-ltb (length g.subjects) MAX_WORKERS many)
 
 -- what a store says that was to make a vertex of a kind for x, with this value
 pub record Makes {P : Type 0} (old new : StoreState) (kind : Making) (x : ℕ) (label : RightSet) (value : Value) (made : Result ℕ (CreateRefused P)) : Type 0 where
@@ -213,23 +202,15 @@ makes_one store new kind x label value left r entry opening = record {
   opening = opening;
 }
 
--- there is none, since the refusal is neither of those that have one
-makes_refused : (store new : StoreState) (kind : Making) (x : ℕ) (label : RightSet) (values : List Value) (why : CreateFault) (r : Refusal) → why ≢ create.VerticesFull → why ≢ create.WorkersFull → (why ≢ create.VerticesFull → why ≢ create.WorkersFull → IsUnchanged store new) → MakesEntryBy store values (line_making kind x label) (told.Refused r) new
-makes_refused store new kind x label values why r no_more too_many others =
-    let same = others no_more too_many in
-    makes_none store new values (line_making kind x label) (told.Refused r) (enters_none kind x label values r) same.entries same.opening
-
+-- the entry of a refusal that has one, and that there is none of another
 making_refused_entry : (store new : StoreState) (kind : Making) (x : ℕ) (label : RightSet) (value : Value) (left : List Value) (why : CreateFault) → (why ≡ create.VerticesFull → OnlyEnters store new x (deed_making kind label value) reply.VerticesFull) → (why ≡ create.WorkersFull → OnlyEnters store new x (deed_making kind label value) reply.WorkersFull) → (why ≢ create.VerticesFull → why ≢ create.WorkersFull → IsUnchanged store new) → new.opening ≡ store.opening → MakesEntryBy store (value ∷ left) (line_making kind x label) (create_answer why) new
 making_refused_entry store new kind x label value left create.VerticesFull no_more too_many others opening =
     makes_one store new kind x label value left reply.VerticesFull (no_more refl).entry opening
 making_refused_entry store new kind x label value left create.WorkersFull no_more too_many others opening =
     makes_one store new kind x label value left reply.WorkersFull (too_many refl).entry opening
-making_refused_entry store new kind x label value left create.NoSuchWorker no_more too_many others opening =
-    makes_refused store new kind x label (value ∷ left) create.NoSuchWorker refusal.Worker (λ e. cc) (λ e. cc) others
-making_refused_entry store new kind x label value left create.OutOfMemory no_more too_many others opening =
-    makes_refused store new kind x label (value ∷ left) create.OutOfMemory refusal.Memory (λ e. cc) (λ e. cc) others
-making_refused_entry store new kind x label value left create.HeapFull no_more too_many others opening =
-    makes_refused store new kind x label (value ∷ left) create.HeapFull refusal.Heap (λ e. cc) (λ e. cc) others
+making_refused_entry store new kind x label value left why no_more too_many others opening =
+    let same = others (λ e. cc) (λ e. cc) in
+    makes_none store new (value ∷ left) (line_making kind x label) (create_answer why) (enters_none kind x label (value ∷ left) _) same.entries same.opening
 
 pub making_entry : {P : Type 0} (store new : StoreState) (kind : Making) (x : ℕ) (label : RightSet) (value : Value) (left : List Value) (made : Result ℕ (CreateRefused P)) → EntersMade store new x (deed_making kind label value) made → MakesEntryBy store (value ∷ left) (line_making kind x label) (making_answer made) new
 making_entry store new kind x label value left (Ok name) enters = makes_one store new kind x label value left (reply.Name name) enters.named enters.opening

@@ -25,8 +25,7 @@ use Rattle.tg_threads.proofs.TellLaws.{Within, made_by, nobodys_told, others_ret
 -- the entry at a place that is told
 abbrev pub entry_at : List Entry → Told → Option Entry
 entry_at entries (came.Entered at) = slice_get entries at
-entry_at entries (came.Collected kept) = None
-entry_at entries (came.Refused r) = None
+entry_at entries t = None
 
 -- the entries that are told of, in this order
 abbrev pub made_of : List Entry → List Told → List Entry
@@ -39,9 +38,8 @@ Fits arena served entries b t = Tells arena served b.line b.value (entry_at entr
 -- the same of all lines, where the lines of these workers are run
 abbrev pub FitAll : Arena → (ℕ → Bool) → List Entry → List Boxed → List Told → Type 0
 FitAll arena served entries [] [] = Unit {0}
-FitAll arena served entries [] (t ∷ ts) = ⊥
-FitAll arena served entries (b ∷ bs) [] = ⊥
 FitAll arena served entries (b ∷ bs) (t ∷ ts) = Fits arena served entries b t × FitAll arena (served_past served b.line t) entries bs ts
+FitAll arena served entries bs ts = ⊥
 
 -- ---- one worker's lines
 
@@ -78,18 +76,15 @@ past_within workers served l (came.Entered at) within = λ x is. within x (kept 
   kept : (b c : Bool) → cond b false c ≡ true → c ≡ true
   kept true c is = absurd (false≢true is)
   kept false c is = is
-past_within workers served l (came.Collected kept) within = within
-past_within workers served l (came.Refused r) within = within
+past_within workers served l t within = within
 
 past_same : (x : ℕ) (served other : ℕ → Bool) (l : Line) (t : Told) → served x ≡ other x → served_past served l t x ≡ served_past other l t x
 past_same x served other l (came.Entered at) same = ap (cond (is_retire_of x l) false) same
-past_same x served other l (came.Collected kept) same = same
-past_same x served other l (came.Refused r) same = same
+past_same x served other l t same = same
 
 past_others : (x : ℕ) (served : ℕ → Bool) (l : Line) (t : Told) → is_retire_of x l ≡ false → served x ≡ served_past served l t x
 past_others x served l (came.Entered at) none = ap (λ b. cond b false (served x)) (sym none)
-past_others x served l (came.Collected kept) none = refl
-past_others x served l (came.Refused r) none = refl
+past_others x served l t none = refl
 
 -- a line is told with its entry, where that is there
 behind_past : (entries : List Entry) (served : ℕ → Bool) (l : Line) (t : Told) → IsThere entries t → served_past served l t ≡ served_behind served l (entry_at entries t)
@@ -97,8 +92,7 @@ behind_past entries served l (came.Entered at) there = ⊎_elim
     (λ here. ap (λ o. served_behind served l o) (sym here.2))
     (λ (past : (length entries ≤ at) × (slice_get entries at ≡ None)). absurd (omega (arith, there, past.0)))
     (slice_get_cases entries at).1
-behind_past entries served l (came.Collected kept) there = refl
-behind_past entries served l (came.Refused r) there = refl
+behind_past entries served l t there = refl
 
 -- ---- all lines
 
@@ -134,8 +128,6 @@ head_fits arena served entries false b t bs ps is h = absurd (false≢true is)
 pub woven : (arena : Arena) (workers : ℕ) (served : ℕ → Bool) (seen : Seen) (entries : List Entry) (bs : List Boxed) (ts : List Told) → 0 < workers → Within workers served → ((x : ℕ) → x < workers → seen x x ≡ served x) →
     All IsCommand (map (λ b. b.line) bs) → AllZip (λ l t. runner_of workers l ≡ None → t ≡ came.Refused refusal.Worker) (map (λ b. b.line) bs) ts → Own arena workers seen entries bs ts → FitAll arena served entries bs ts
 woven arena workers served seen entries [] [] low within same commands nobodys own = tt
-woven arena workers served seen entries [] (t ∷ ts) low within same commands nobodys own = absurd nobodys
-woven arena workers served seen entries (b ∷ bs) [] low within same commands nobodys own = absurd nobodys
 woven arena workers served seen entries (b ∷ bs) (t ∷ ts) low within same commands nobodys own = (
   by_runner (runner_of workers b.line) refl,
   woven arena workers (served_past served b.line t) (seen_past workers seen b.line t) entries bs ts low (past_within workers served b.line t within)
@@ -154,12 +146,11 @@ woven arena workers served seen entries (b ∷ bs) (t ∷ ts) low within same co
       let below = runner_below workers y b.line low by in
       let fits = head_fits arena (seen y) entries (is_run_by workers y b.line) b t (lines_of workers y bs) (told_by y) (run_same workers y y b.line by refl) (own y below) in
       (told_same arena workers y (seen y) served b.line b.value (entry_at entries t) (told_answer entries t) by (same y below) fits.0, fits.1)
+woven arena workers served seen entries bs ts low within same commands nobodys own = absurd nobodys
 
 -- the lines and their entries are told, in order
 pub fit_told : (arena : Arena) (served : ℕ → Bool) (entries : List Entry) (bs : List Boxed) (ts : List Told) → FitAll arena served entries bs ts → AreTold arena served bs (made_of entries ts) (text_of_told entries ts)
 fit_told arena served entries [] [] h = (refl, refl)
-fit_told arena served entries [] (t ∷ ts) h = absurd h
-fit_told arena served entries (b ∷ bs) [] h = absurd h
 fit_told arena served entries (b ∷ bs) (t ∷ ts) h = (
   entry_at entries t,
   told_answer entries t,
@@ -170,13 +161,13 @@ fit_told arena served entries (b ∷ bs) (t ∷ ts) h = (
   refl,
   subst (λ after. AreTold arena after bs (made_of entries ts) (text_of_told entries ts)) (behind_past entries served b.line t h.0.1) (fit_told arena (served_past served b.line t) entries bs ts h.1),
 )
+fit_told arena served entries bs ts h = absurd h
 
 -- each entry is where it is told to be
 pub fit_there : (arena : Arena) (served : ℕ → Bool) (entries : List Entry) (bs : List Boxed) (ts : List Told) → FitAll arena served entries bs ts → All (IsThere entries) ts
 fit_there arena served entries [] [] h = All-nil (IsThere entries)
-fit_there arena served entries [] (t ∷ ts) h = absurd h
-fit_there arena served entries (b ∷ bs) [] h = absurd h
 fit_there arena served entries (b ∷ bs) (t ∷ ts) h = All-cons (IsThere entries) t ts h.0.1 (fit_there arena (served_past served b.line t) entries bs ts h.1)
+fit_there arena served entries bs ts h = absurd h
 
 -- ---- the entries of one worker
 
@@ -203,18 +194,16 @@ run_of workers x y l by = ap (λ o. option_map_or (λ z. z == x) o false) by
 pub own_made : (arena : Arena) (workers : ℕ) (served : ℕ → Bool) (entries : List Entry) (x : ℕ) (bs : List Boxed) (ts : List Told) → Within workers served → FitAll arena served entries bs ts →
     filter (λ e. e.worker == x) (made_of entries ts) ≡ made_of entries (told_of workers x (map (λ b. b.line) bs) ts)
 own_made arena workers served entries x [] [] within h = refl
-own_made arena workers served entries x [] (t ∷ ts) within h = absurd h
-own_made arena workers served entries x (b ∷ bs) [] within h = absurd h
 own_made arena workers served entries x (b ∷ bs) (t ∷ ts) within h =
     entry_step entries (made_of entries ts) x (entry_at entries t) (is_run_by workers x b.line) b.line t
     (filter (λ (q : Line × Told). is_run_by workers x q.0) (zip (map (λ (c : Boxed). c.line) bs) ts)) refl
     (λ e is. run_of workers x e.worker b.line (made_by arena workers served b.line b.value e (told_answer entries t) within (subst (λ o. Tells arena served b.line b.value o (told_answer entries t)) is h.0.0)))
     (own_made arena workers (served_past served b.line t) entries x bs ts (past_within workers served b.line t within) h.1)
+own_made arena workers served entries x bs ts within h = absurd h
 
 -- no worker's thread ran a line of a worker that there isn't
 pub told_past : (workers x : ℕ) (lines : List Line) (ts : List Told) → 0 < workers → workers ≤ x → told_of workers x lines ts ≡ []
-told_past workers x [] ts low past = refl
-told_past workers x (l ∷ lines) [] low past = refl
 told_past workers x (l ∷ lines) (t ∷ ts) low past =
     let ps = filter (λ (q : Line × Told). is_run_by workers x q.0) (zip lines ts) in
     ap (λ c. map (λ (q : Line × Told). q.1) (cond c ((l, t) ∷ ps) ps)) (run_past workers x l low past) ∙ told_past workers x lines ts low past
+told_past workers x lines ts low past = refl

@@ -1,9 +1,9 @@
 -- Where one worker alone has lines, a race is a plain run.
-use Rattle.std.proofs.Common.{◌≡◌, ◌≢◌, ◌≤◌, ◌+◌, ◌==◌, inl, ℕ, Bool, true, false, cond, List, [], ◌∷◌, ◌++◌, length, Option, Some, None, refl, sym, ap, ◌∙◌, subst, arith}
+use Rattle.std.proofs.Common.{◌≡◌, ◌≢◌, ◌≤◌, ◌+◌, ◌==◌, inl, ℕ, Bool, true, false, cond, List, [], ◌∷◌, ◌++◌, length, Option, Some, None, refl, sym, ap, ◌∙◌, subst, ⊎_elim, arith}
 use Rattle.std.specs.Prelude.{nat_lt}
 use Rattle.std.specs.List.{All, filter}
 use Rattle.std.specs.Option.{option_to_list}
-use Rattle.std.proofs.lemmas.Bool.{eqb-false, eq-eqb, ne_eqb}
+use Rattle.std.proofs.lemmas.Bool.{cases_eq, eq-eqb, ne_eqb}
 use Rattle.std.proofs.lemmas.List.Elements.{All-head, All-tail}
 use Rattle.tg_model.specs.declared.value.Value.{Value}
 use Rattle.tg_model.specs.declared.opening.TheConstants.{MAX_WORKERS}
@@ -22,7 +22,7 @@ use Rattle.tg_text.specs.Texts.{answer_text}
 use Rattle.tg_script.specs.Script.{Scene, Answers, AnswersMaking, IsOutput, create_of, spawn_of, stock_left}
 use Rattle.tg_weave.specs.Boxes.{first_of, behind_first, box_of, stock_behind, boxed}
 use Rattle.tg_threads.specs.Output.{Arena, EntersOrRefuses, IsMade, IsServed, Tells, AreTold, HasEach, IsOfFirst, IsOfOne, served_behind}
-use Rattle.tg_threads.proofs.TellLaws.{asked_of, made_of_box, none_is_some}
+use Rattle.tg_threads.proofs.TellLaws.{asked_of, making_of, none_is_some}
 
 -- ---- the history is that of the lines
 
@@ -36,15 +36,11 @@ tail_none false e es h = h
 only_first : (entries : List Entry) → ((x : ℕ) → x ≢ 0 → filter (λ e. e.worker == x) entries ≡ []) → filter (λ e. e.worker == 0) entries ≡ entries
 only_first [] none = refl
 only_first (e ∷ entries) none =
-    by_test (e.worker == 0) refl (only_first entries (λ x other. tail_none (e.worker == x) e (filter (λ e'. e'.worker == x) entries) (none x other))) where
-      front : ℕ → List Entry
-      front x = filter (λ e. e.worker == x) entries
-
-      by_test : (b : Bool) → (e.worker == 0) ≡ b → front 0 ≡ entries → cond (e.worker == 0) (e ∷ front 0) (front 0) ≡ e ∷ entries
-      by_test true is rest = ap (λ b. cond b (e ∷ front 0) (front 0)) is ∙ ap (λ es. e ∷ es) rest
-      by_test false is rest =
-          let here : cond (e.worker == e.worker) (e ∷ front e.worker) (front e.worker) ≡ [] = none e.worker (eqb-false e.worker 0 is) in
-          absurd (no_cons e (front e.worker) (sym (ap (λ b. cond b (e ∷ front e.worker) (front e.worker)) (eq-eqb e.worker e.worker refl)) ∙ here))
+    let front : ℕ → List Entry = λ x. filter (λ e'. e'.worker == x) entries in
+    ⊎_elim
+    (λ (is : e.worker ≡ 0). ap (λ b. cond b (e ∷ front 0) (front 0)) (eq-eqb e.worker 0 is) ∙ ap (λ es. e ∷ es) (only_first entries (λ x other. tail_none (e.worker == x) e (front x) (none x other))))
+    (λ (other : e.worker ≢ 0). absurd (no_cons e (front e.worker) (sym (ap (λ b. cond b (e ∷ front e.worker) (front e.worker)) (eq-eqb e.worker e.worker refl)) ∙ none e.worker other)))
+    (cases_eq e.worker 0)
 
 -- all are of worker 0
 abbrev AreFirst : List Entry → Type 0
@@ -63,17 +59,11 @@ first_none (e ∷ es) h x other =
     let rest = filter (λ e. e.worker == x) es in
     ap (λ b. cond b (e ∷ rest) rest) (ne_eqb e.worker x (λ same. other (sym same ∙ h.0))) ∙ first_none es h.1 x other
 
--- what a making line told of its entry
-making_first : (arena : Arena) (x : ℕ) (making : Value → Deed) (b : Bool) (box : Option Value) (en : Entry) (a : Answer) → IsServed b (IsMade arena.shared x making box (Some en) a) (Some en) a → en.worker ≡ x
-making_first arena x making b box en a h = let asked = asked_of b (IsMade arena.shared x making box (Some en) a) en a h in (made_of_box arena x making box en a asked.1).2.0
-
 tells_first : (arena : Arena) (served : ℕ → Bool) (l : Line) (box : Option Value) (en : Entry) (a : Answer) → Tells arena served l box (Some en) a → IsOfFirst l → en.worker ≡ 0
-tells_first arena served (line.Edge edge) box en a h first = absurd first
-tells_first arena served (line.Create x label) box en a h first = making_first arena x (create_of label) (served x) box en a h ∙ first
-tells_first arena served (line.Spawn x label) box en a h first = making_first arena x (spawn_of label) (served x) box en a h ∙ first
+tells_first arena served (line.Create x label) box en a h first = (making_of arena x (create_of label) (served x) box en a h).1 ∙ first
+tells_first arena served (line.Spawn x label) box en a h first = (making_of arena x (spawn_of label) (served x) box en a h).1 ∙ first
 tells_first arena served (line.Plain x command) box en a h first = (asked_of (served x) (EntersOrRefuses arena.shared x (deed.Plain command) (Some en) a) en a h).1.0 ∙ first
-tells_first arena served line.Full box en a h first = absurd first
-tells_first arena served line.Minor box en a h first = absurd first
+tells_first arena served l box en a h first = absurd first
 
 one_first : (arena : Arena) (served : ℕ → Bool) (l : Line) (box : Option Value) (e : Option Entry) (a : Answer) (more : List Entry) → Tells arena served l box e a → IsOfFirst l → AreFirst more → AreFirst (option_to_list e ++ more)
 one_first arena served l box None a more h first rest = rest
@@ -125,7 +115,6 @@ making_one arena s x making (value ∷ rest) b en a h legal room left =
 
 answers_one : (l : Line) (s : Scene) (arena : Arena) (served : ℕ → Bool) (en : Entry) (a : Answer) → Tells arena served l (box_of s.stock l) (Some en) a → IsLegalEntry s.graph en → HasRoom en → IsOfFirst l →
     Answers s l a (record s { graph = step s.graph en.worker en.deed; stock = stock_behind s.stock l })
-answers_one (line.Edge edge) s arena served en a h legal room first = absurd first
 answers_one (line.Create x label) s arena served en a h legal room first =
     making_one arena s x (create_of label) s.stock (served x) en a h legal room (λ value rest full crowded. created_left (nat_lt s.graph.made s.graph.limit) s.graph.made rest s.stock full)
 answers_one (line.Spawn x label) s arena served en a h legal room first =
@@ -138,8 +127,7 @@ answers_one (line.Plain x command) s arena served en a h legal room first =
       entered.2 ∙ ap told.Reply (legal.reply ∙ (λ i. answer_of s.graph (entered.0 i) (entered.1 i))),
       λ i. record s { graph = step s.graph (entered.0 i) (entered.1 i); stock = s.stock },
     )
-answers_one line.Full s arena served en a h legal room first = absurd first
-answers_one line.Minor s arena served en a h legal room first = absurd first
+answers_one l s arena served en a h legal room first = absurd first
 
 runs_plain : (lines : List Line) (s : Scene) (arena : Arena) (served : ℕ → Bool) (made : List Entry) (text : List ℕ) → IsLegal s.graph made → AreTold arena served (boxed s.stock lines) made text → All IsOfFirst lines → length made ≡ length lines → All HasRoom made → IsOutput s lines text
 runs_plain [] s arena served made text legal h first entered room = h.1

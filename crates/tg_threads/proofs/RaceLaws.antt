@@ -47,25 +47,15 @@ fresh_length workers sessions fresh =
 
 -- all edges stand in front
 pub edges_before : (edges : List Edge) (lines : List Line) → All IsCommand lines → edges_of (edge_lines edges ++ lines) ≡ edges
-edges_before [] [] h = refl
 edges_before [] (line.Edge e ∷ lines) h = absurd (false≢true (All-head IsCommand (line.Edge e) lines h).0)
-edges_before [] (line.Create x label ∷ lines) h = refl
-edges_before [] (line.Spawn x label ∷ lines) h = refl
-edges_before [] (line.Plain x command ∷ lines) h = refl
-edges_before [] (line.Full ∷ lines) h = refl
-edges_before [] (line.Minor ∷ lines) h = refl
 edges_before (e ∷ edges) lines h = ap (λ es. e ∷ es) (edges_before edges lines h)
+edges_before [] lines h = refl
 
 -- and the other lines behind them
 pub commands_behind : (edges : List Edge) (lines : List Line) → All IsCommand lines → commands_of (edge_lines edges ++ lines) ≡ lines
-commands_behind [] [] h = refl
 commands_behind [] (line.Edge e ∷ lines) h = absurd (false≢true (All-head IsCommand (line.Edge e) lines h).0)
-commands_behind [] (line.Create x label ∷ lines) h = refl
-commands_behind [] (line.Spawn x label ∷ lines) h = refl
-commands_behind [] (line.Plain x command ∷ lines) h = refl
-commands_behind [] (line.Full ∷ lines) h = refl
-commands_behind [] (line.Minor ∷ lines) h = refl
 commands_behind (e ∷ edges) lines h = commands_behind edges lines h
+commands_behind [] lines h = refl
 
 -- ---- what the threads brought back
 
@@ -124,12 +114,10 @@ pub race_told : {T : Type 0} (r : Result T RaceFault) (race_text : RaceText) (st
 race_told (Ok done) race_text start shared bytes before left lines s ts after whole new opening raced h =
     (lines, race_text s.opening s.entries (text_of_told s.entries ts), whole, raced_output race_text start shared lines s ts new opening raced h.0, h.1)
 race_told (Err (fault.Script f)) race_text start shared bytes before left lines s ts after whole new opening raced h = absurd h
-race_told (Err fault.OutOfMemory) race_text start shared bytes before left lines s ts after whole new opening raced h = (lines, whole, h)
-race_told (Err fault.NoThread) race_text start shared bytes before left lines s ts after whole new opening raced h = (lines, whole, h)
-race_told (Err fault.ReceiptMismatch) race_text start shared bytes before left lines s ts after whole new opening raced h = (lines, whole, h)
 race_told (Err fault.AuditFailed) race_text start shared bytes before left lines s ts after whole new opening raced h = absurd h
 race_told (Err fault.WriteFailed) race_text start shared bytes before left lines s ts after whole new opening raced h =
     (lines, h.1, h.2, whole, subst (λ text. IsRaceOutput race_text start lines text) h.3 (raced_output race_text start shared lines s ts new opening raced h.0), h.4)
+race_told r race_text start shared bytes before left lines s ts after whole new opening raced h = (lines, whole, h)
 
 -- the audit of a store that gave no entry up is refused for want of memory alone
 pub own_audit_fault : {A : Type 0} (handed : ℕ) (r : Result A StoreAuditFault) (f : StoreAuditFault) → r ≡ Err f → handed ≡ 0 → (r ≡ Err audit.NotWhole → 0 < handed) → (f ≡ audit.NotWhole) ⊎ (f ≡ audit.OutOfMemory) → f ≡ audit.OutOfMemory
@@ -155,23 +143,18 @@ unaudited_fault f (Err why) memory is = subst IsOfTelling (sym (is ∙ ap race_f
 -- and where the replies are
 pub telling_due : {T : Type 0} (start : Start) (r : Result T RaceFault) → IfErr r IsOfTelling → IfErr r (IsRaceDue start)
 telling_due start (Ok done) h = tt
-telling_due start (Err (fault.Script f)) h = absurd h
 telling_due start (Err fault.OutOfMemory) h = tt
-telling_due start (Err fault.NoThread) h = absurd h
-telling_due start (Err fault.ReceiptMismatch) h = absurd h
-telling_due start (Err fault.AuditFailed) h = absurd h
 telling_due start (Err fault.WriteFailed) h = tt
+telling_due start r h = absurd h
 
 -- ---- the end
 
 race_keeps : {T : Type 0} (r : Result T RaceFault) (race_text : RaceText) (start : Start) (bytes before left : List ℕ) (mid after : Option (List ℕ)) → HasRaced race_text start bytes before r left mid → KeepsBytes mid after → HasRaced race_text start bytes before r left after
 race_keeps (Ok done) race_text start bytes before left mid after h keeps = (h.0, h.1, h.2, h.3, keeps_known mid after (before ++ h.1) h.4 keeps)
 race_keeps (Err (fault.Script f)) race_text start bytes before left mid after h keeps = (h.0, keeps_known mid after before h.1 keeps)
-race_keeps (Err fault.OutOfMemory) race_text start bytes before left mid after h keeps = (h.0, h.1, keeps_known mid after before h.2 keeps)
-race_keeps (Err fault.NoThread) race_text start bytes before left mid after h keeps = (h.0, h.1, keeps_known mid after before h.2 keeps)
-race_keeps (Err fault.ReceiptMismatch) race_text start bytes before left mid after h keeps = (h.0, h.1, keeps_known mid after before h.2 keeps)
 race_keeps (Err fault.AuditFailed) race_text start bytes before left mid after h keeps = absurd h
 race_keeps (Err fault.WriteFailed) race_text start bytes before left mid after h keeps = (h.0, h.1, h.2, h.3, h.4, keeps_known mid after (before ++ h.1) h.5 keeps)
+race_keeps r race_text start bytes before left mid after h keeps = (h.0, h.1, keeps_known mid after before h.2 keeps)
 
 -- the whole text was written, but the sink was not finished
 race_unfinished : {T : Type 0} (r : Result T RaceFault) (race_text : RaceText) (start : Start) (bytes before left : List ℕ) (after : Option (List ℕ)) → IsOk r → HasRaced race_text start bytes before r left after → HasRaced {T = T} race_text start bytes before (Err fault.WriteFailed) left after

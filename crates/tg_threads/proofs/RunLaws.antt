@@ -16,7 +16,6 @@ use Rattle.tg_model.specs.declared.reply.Reply.{Reply}
 use Rattle.tg_model.specs.declared.reply.Reply.TheVariants as reply
 use Rattle.tg_journal.specs.declared.entry.Entry.{Entry}
 use Rattle.tg_space.specs.declared.kind.Kind.{Kind}
-use Rattle.tg_space.specs.declared.kind.Kind.TheVariants as kind
 use Rattle.tg_text.specs.declared.line.Line.{Line}
 use Rattle.tg_text.specs.declared.line.Line.TheVariants as line
 use Rattle.tg_text.specs.declared.answer.Answer.{Answer}
@@ -37,6 +36,7 @@ use Rattle.tg_weave.specs.declared.task.Told.{Told}
 use Rattle.tg_weave.specs.declared.task.Told.TheVariants as came
 use Rattle.tg_weave.specs.Boxes.{Boxed}
 use Rattle.tg_weave.proofs.ShareLaws.{named}
+use Rattle.tg_threads.proofs.ShareLaws.{mapped_each}
 use Rattle.tg_threads.specs.Output.{Arena, EntersOrRefuses, IsCollected, IsMade, IsOfStore, IsServed, Tells, has_thread}
 use Rattle.tg_threads.specs.Tasks.{IsRunBy, HasAsked, HasMade, HasCollected, HasRun, RunsOne, Runs, is_deed, served_past, subject_spawned, subjects_spawned}
 
@@ -44,18 +44,13 @@ use Rattle.tg_threads.specs.Tasks.{IsRunBy, HasAsked, HasMade, HasCollected, Has
 
 -- only the answers that there may be no more vertices, or no more subjects, are replies, and none is of a collection
 pub replied : (why : CreateFault) (r : Reply) → create_answer why ≡ answer.Reply r → ((why ≡ create.VerticesFull) × (reply.VerticesFull ≡ r)) ⊎ ((why ≡ create.WorkersFull) × (reply.WorkersFull ≡ r))
-replied create.NoSuchWorker r is = absurd cc
 replied create.VerticesFull r is = inl (refl, cc)
 replied create.WorkersFull r is = inr (refl, cc)
-replied create.OutOfMemory r is = absurd cc
-replied create.HeapFull r is = absurd cc
+replied why r is = absurd cc
 
 pub never_collected : (why : CreateFault) (kept : Option ℕ) → answer.Collected kept ≡ create_answer why → ⊥
 never_collected create.NoSuchWorker kept is = cc
-never_collected create.VerticesFull kept is = cc
-never_collected create.WorkersFull kept is = cc
-never_collected create.OutOfMemory kept is = cc
-never_collected create.HeapFull kept is = cc
+never_collected why kept is = cc
 
 -- what is told of an answer, with its place
 told_of_answer : (start : SharedStart) (old new : SessionState) (d : Deed) (r : Reply) (t : Told) → IsAnswered start old new d r → ((front : List Receipt) (last : Receipt) → new.receipts ≡ front ++ last ∷ [] → t ≡ came.Entered last.at) → HasAsked start d t old new
@@ -98,21 +93,13 @@ more_subjects old new at d r adds =
 no_subject : (old new : SessionState) (at : ℕ) (d : Deed) (r : Reply) → subject_spawned d r ≡ [] → AddsReceipt old new at d r → subjects_spawned new.receipts ≡ subjects_spawned old.receipts
 no_subject old new at d r none adds = more_subjects old new at d r adds ∙ ap (λ (l : List ℕ). subjects_spawned old.receipts ++ l) none ∙ append-nil (subjects_spawned old.receipts)
 
-plain_none : (command : Command) (r : Reply) → subject_spawned (deed.Plain command) r ≡ []
-plain_none command r = refl
-
-create_none : (label : RightSet) (value : Value) (r : Reply) → subject_spawned (create_of label value) r ≡ []
-create_none label value r = refl
-
 full_none : (d : Deed) → subject_spawned d reply.VerticesFull ≡ []
 full_none (deed.Create label law state) = refl
-full_none (deed.Spawn label law state) = refl
-full_none (deed.Plain command) = refl
+full_none d = refl
 
 crowded_none : (d : Deed) → subject_spawned d reply.WorkersFull ≡ []
 crowded_none (deed.Create label law state) = refl
-crowded_none (deed.Spawn label law state) = refl
-crowded_none (deed.Plain command) = refl
+crowded_none d = refl
 
 asked_none : (start : SharedStart) (d : Deed) → ((r : Reply) → subject_spawned d r ≡ []) → (t : Told) (old new : SessionState) → HasAsked start d t old new → subjects_spawned new.receipts ≡ subjects_spawned old.receipts
 asked_none start d none (came.Entered at) old new h = no_subject old new at d h.0 (none h.0) h.1
@@ -126,11 +113,9 @@ made_none start making none (Some value) t old new h = asked_none start (making 
 -- a spawn that made no subject leaves them
 pub not_spawned : (start : SharedStart) (d : Deed) (why : CreateFault) (old new : SessionState) → (why ≡ create.VerticesFull → IsAnswered start old new d reply.VerticesFull) → (why ≡ create.WorkersFull → IsAnswered start old new d reply.WorkersFull) →
     (why ≢ create.VerticesFull → why ≢ create.WorkersFull → KeepsReceipts old new) → subjects_spawned new.receipts ≡ subjects_spawned old.receipts
-not_spawned start d create.NoSuchWorker old new full crowded kept = ap subjects_spawned (kept (λ e. let no : ⊥ = cc in no) (λ e. let no : ⊥ = cc in no)).1
 not_spawned start d create.VerticesFull old new full crowded kept = let h = full refl in no_subject old new _ d reply.VerticesFull (full_none d) h.3.0
 not_spawned start d create.WorkersFull old new full crowded kept = let h = crowded refl in no_subject old new _ d reply.WorkersFull (crowded_none d) h.3.0
-not_spawned start d create.OutOfMemory old new full crowded kept = ap subjects_spawned (kept (λ e. let no : ⊥ = cc in no) (λ e. let no : ⊥ = cc in no)).1
-not_spawned start d create.HeapFull old new full crowded kept = ap subjects_spawned (kept (λ e. let no : ⊥ = cc in no) (λ e. let no : ⊥ = cc in no)).1
+not_spawned start d why old new full crowded kept = ap subjects_spawned (kept (λ e. let no : ⊥ = cc in no) (λ e. let no : ⊥ = cc in no)).1
 
 pub ok_where : {T E : Type 0} (r : Result T E) (Q : Type 0) → Q → IfOk r (λ _. Q)
 ok_where (Ok t) Q held = held
@@ -141,10 +126,10 @@ pub still_each : (old new : SessionState) (sessions : List SessionState) → sub
 still_each old new sessions same fresh = subst (λ (names : List ℕ). AreFresh names sessions) (sym same) fresh
 
 pub plain_each : (start : SharedStart) (command : Command) (t : Told) (old new : SessionState) (sessions : List SessionState) → HasAsked start (deed.Plain command) t old new → AreFresh (subjects_spawned old.receipts) sessions → AreFresh (subjects_spawned new.receipts) sessions
-plain_each start command t old new sessions h = still_each old new sessions (asked_none start (deed.Plain command) (plain_none command) t old new h)
+plain_each start command t old new sessions h = still_each old new sessions (asked_none start (deed.Plain command) (λ r. refl) t old new h)
 
 pub create_each : (start : SharedStart) (label : RightSet) (box : Option Value) (t : Told) (old new : SessionState) (sessions : List SessionState) → HasMade start (create_of label) box t old new → AreFresh (subjects_spawned old.receipts) sessions → AreFresh (subjects_spawned new.receipts) sessions
-create_each start label box t old new sessions h = still_each old new sessions (made_none start (create_of label) (create_none label) box t old new h)
+create_each start label box t old new sessions h = still_each old new sessions (made_none start (create_of label) (λ value r. refl) box t old new h)
 
 -- one more of a subject that was made
 pub one_spawned : (old new fresh : SessionState) (at : ℕ) (d : Deed) (r : Reply) (sessions : List SessionState) → subject_spawned d r ≡ fresh.worker ∷ [] → AddsReceipt old new at d r → IsFresh fresh → AreFresh (subjects_spawned old.receipts) sessions →
@@ -185,15 +170,21 @@ asked_told : (arena : Arena) (workers x : ℕ) (served : ℕ → Bool) (d : Deed
 asked_told arena workers x served d e a old by is h =
     as_served (served x) (EntersOrRefuses arena.shared x d e a) e a (served_by workers x served old by is) (subst (λ n. EntersOrRefuses arena.shared n d e a) (sym (named x workers old.worker by).1) h)
 
+-- a line for which the session asked for a deed
+told_runs : (arena : Arena) (served : ℕ → Bool) (b : Boxed) (d : Deed) (t : Told) (old new : SessionState) → ((e : Option Entry) (a : Answer) → EntersOrRefuses arena.shared old.worker d e a → Tells arena served b.line b.value e a) →
+    HasAsked arena.shared d t old new → HasRun arena served b t old new
+told_runs arena served b d (came.Entered at) old new tells h =
+    let e : Entry = record { worker = old.worker; deed = d; reply = h.0 } in
+    (receipt_of at e ∷ [], h.1.0, h.1.1, h.1.2, (e, refl, tells (Some e) (answer.Reply h.0) (refl, refl, refl)))
+told_runs arena served b d (came.Collected kept) old new tells h = absurd h
+told_runs arena served b d (came.Refused r) old new tells h =
+    let k = none_more old new h.1 in
+    ([], k.0, k.1, k.2, (refl, tells None (answer.Refused r) (r, h.0, refl)))
+
 pub asked_runs : (arena : Arena) (workers x : ℕ) (served : ℕ → Bool) (command : Command) (box : Option Value) (t : Told) (old new : SessionState) → served old.worker ≡ true → IsRunBy workers old.worker (record { line = line.Plain x command; value = box }) →
     HasAsked arena.shared (deed.Plain command) t old new → HasRun arena served (record { line = line.Plain x command; value = box }) t old new
-asked_runs arena workers x served command box (came.Entered at) old new is by h =
-    let e : Entry = record { worker = old.worker; deed = deed.Plain command; reply = h.0 } in
-    (receipt_of at e ∷ [], h.1.0, h.1.1, h.1.2, (e, refl, asked_told arena workers x served (deed.Plain command) (Some e) (answer.Reply h.0) old by is (refl, refl, refl)))
-asked_runs arena workers x served command box (came.Collected kept) old new is by h = absurd h
-asked_runs arena workers x served command box (came.Refused r) old new is by h =
-    let k = none_more old new h.1 in
-    ([], k.0, k.1, k.2, (refl, asked_told arena workers x served (deed.Plain command) None (answer.Refused r) old by is (r, h.0, refl)))
+asked_runs arena workers x served command box t old new is by =
+    told_runs arena served (record { line = line.Plain x command; value = box }) (deed.Plain command) t old new (λ e a told. asked_told arena workers x served (deed.Plain command) e a old by is told)
 
 -- the same of a deed that makes a vertex
 pub made_runs : (arena : Arena) (workers x : ℕ) (served : ℕ → Bool) (b : Boxed) (making : Value → Deed) (t : Told) (old new : SessionState) → served old.worker ≡ true → runner_named workers x ≡ Some old.worker →
@@ -211,20 +202,11 @@ made_runs arena workers x served b making t old new is by tells h = by_box b.val
       let told : Tells arena served b.line b.value None (answer.Refused refusal.Stock) = tells None (answer.Refused refusal.Stock)
       (as_served (served x) (IsMade arena.shared x making b.value None (answer.Refused refusal.Stock)) None (answer.Refused refusal.Stock) on (subst (λ box. IsMade arena.shared x making box None (answer.Refused refusal.Stock)) (sym none) (refl, refl))) in
       ([], k.0, k.1, k.2, subst (λ a. RunsOne arena served b a []) (sym h.0) (refl, told))
-  by_box (Some value) some h = by_told t h where
+  by_box (Some value) some h = told_runs arena served b (making value) t old new as_told h where
     as_told : (e : Option Entry) (a : Answer) → EntersOrRefuses arena.shared old.worker (making value) e a → Tells arena served b.line b.value e a
     as_told e a h =
         tells e a (as_served (served x) (IsMade arena.shared x making b.value e a) e a on
         (subst (λ box. IsMade arena.shared x making box e a) (sym some) (subst (λ n. EntersOrRefuses arena.shared n (making value) e a) (sym same) h)))
-
-    by_told : (t : Told) → HasAsked arena.shared (making value) t old new → HasRun arena served b t old new
-    by_told (came.Entered at) h =
-        let e : Entry = record { worker = old.worker; deed = making value; reply = h.0 } in
-        (receipt_of at e ∷ [], h.1.0, h.1.1, h.1.2, (e, refl, as_told (Some e) (answer.Reply h.0) (refl, refl, refl)))
-    by_told (came.Collected kept) h = absurd h
-    by_told (came.Refused r) h =
-        let k = none_more old new h.1 in
-        ([], k.0, k.1, k.2, (refl, as_told None (answer.Refused r) (r, h.0, refl)))
 
 -- a line that isn't refused, and asks for a deed, is of a worker whose lines are run
 pub served_of : (served : Bool) (l : Line) (refused : Bool) → refused ≡ (if served then false else is_deed l) → refused ≡ false → is_deed l ≡ true → served ≡ true
@@ -232,24 +214,17 @@ served_of true l refused is not_refused asks = refl
 served_of false l refused is not_refused asks = absurd (false≢true (sym not_refused ∙ is ∙ asks))
 
 -- a collection
-collected_runs : (arena : Arena) (served : ℕ → Bool) (b : Boxed) (k : Kind) (t : Told) (s : SessionState) → ((e : Option Entry) (a : Answer) → IsCollected arena k e a → Tells arena served b.line b.value e a) → HasCollected arena k t → HasRun arena served b t s s
+pub collected_runs : (arena : Arena) (served : ℕ → Bool) (b : Boxed) (k : Kind) (t : Told) (s : SessionState) → ((e : Option Entry) (a : Answer) → IsCollected arena k e a → Tells arena served b.line b.value e a) → HasCollected arena k t → HasRun arena served b t s s
 collected_runs arena served b k (came.Entered at) s tells h = absurd h
 collected_runs arena served b k (came.Collected kept) s tells h = ([], refl, sym (append-nil s.receipts), refl, (refl, tells None (answer.Collected kept) (refl, inl (kept, h, refl))))
 collected_runs arena served b k (came.Refused r) s tells h = ([], refl, sym (append-nil s.receipts), refl, (refl, tells None (answer.Refused r) (refl, inr (r, h, refl))))
-
-pub full_runs : (arena : Arena) (served : ℕ → Bool) (box : Option Value) (t : Told) (s : SessionState) → HasCollected arena kind.Full t → HasRun arena served (record { line = line.Full; value = box }) t s s
-full_runs arena served box t s = collected_runs arena served (record { line = line.Full; value = box }) kind.Full t s (λ e a told. told)
-
-pub minor_runs : (arena : Arena) (served : ℕ → Bool) (box : Option Value) (t : Told) (s : SessionState) → HasCollected arena kind.Nursery t → HasRun arena served (record { line = line.Minor; value = box }) t s s
-minor_runs arena served box t s = collected_runs arena served (record { line = line.Minor; value = box }) kind.Nursery t s (λ e a told. told)
 
 -- ---- many lines
 
 -- whose lines are run behind all of them
 abbrev pub served_after : (ℕ → Bool) → List Boxed → List Told → ℕ → Bool
-served_after served [] ts = served
-served_after served (b ∷ bs) [] = served
 served_after served (b ∷ bs) (t ∷ ts) = served_after (served_past served b.line t) bs ts
+served_after served bs ts = served
 
 -- one line more
 pub runs_more : (arena : Arena) (served : ℕ → Bool) (bs : List Boxed) (ts : List Told) (rs : List Receipt) (b : Boxed) (t : Told) (more : List Receipt) → Runs arena served bs ts rs → RunsOne arena (served_after served bs ts) b t more →
@@ -265,19 +240,15 @@ runs_more arena served (b' ∷ bs) ts rs b t more h one =
       ap (λ us. served_after served (b' ∷ (bs ++ b ∷ [])) (us ++ t ∷ [])) h.4 ∙ rest.1 ∙ ap (λ us. served_past (served_after served (b' ∷ bs) us) b.line t) (sym h.4),
     )
 
-mapped_in : {X Y : Type 0} (f : X → Y) (P : Y → Type 0) (xs : List X) (x : X) (ys : List X) → All P (map f ((xs ++ x ∷ []) ++ ys)) → P (f x)
-mapped_in f P [] x ys all = All-head P (f x) (map f ys) all
-mapped_in f P (y ∷ xs) x ys all = mapped_in f P xs x ys (All-tail P (f y) (map f ((xs ++ x ∷ []) ++ ys)) all)
-
 -- what holds of all of them holds of the one that comes next
-pub mapped_at : {X Y : Type 0} (f : X → Y) (P : Y → Type 0) (xs : List X) (x : X) (ys all : List X) → (xs ++ x ∷ []) ++ ys ≡ all → All P (map f all) → P (f x)
-mapped_at f P xs x ys all is h = mapped_in f P xs x ys (subst (λ l. All P (map f l)) (sym is) h)
-
 pub all_next : {X : Type 0} (P : X → Type 0) (xs : List X) (x : X) (ys all : List X) → (xs ++ x ∷ []) ++ ys ≡ all → All P all → P x
 all_next {X = X} P xs x ys all is h = go xs (subst (All P) (sym is) h) where
   go : (xs : List X) → All P ((xs ++ x ∷ []) ++ ys) → P x
   go [] all = All-head P x ys all
   go (y ∷ xs) all = go xs (All-tail P y ((xs ++ x ∷ []) ++ ys) all)
+
+pub mapped_at : {X Y : Type 0} (f : X → Y) (P : Y → Type 0) (xs : List X) (x : X) (ys all : List X) → (xs ++ x ∷ []) ++ ys ≡ all → All P (map f all) → P (f x)
+mapped_at f P xs x ys all is h = all_next (λ x. P (f x)) xs x ys all is (mapped_each f P all h)
 
 -- Lines of worker x were run, came to this, and its lines are run behind them or not.
 pub record HasRunSo (arena : Arena) (workers x : ℕ) (served : Bool) (bs : List Boxed) (ts : List Told) (s : SessionState) : Type 0 where

@@ -33,7 +33,7 @@ each_assigned {P = P} workers bs works sessions fresh is lines =
     paired (λ w. w.session.worker) lines_in (λ x. lines_of workers x bs) works (lines ∙ ap (map (λ x. lines_of workers x bs)) (sym named))
     ∙ ap (map {B = ℕ × List Boxed} (λ x. (x, lines_of workers x bs))) named
 
-mapped_each : {X Y : Type 0} (f : X → Y) (P : Y → Type 0) (xs : List X) → All P (map f xs) → All (λ x. P (f x)) xs
+pub mapped_each : {X Y : Type 0} (f : X → Y) (P : Y → Type 0) (xs : List X) → All P (map f xs) → All (λ x. P (f x)) xs
 mapped_each f P [] h = All-nil (λ x. P (f x))
 mapped_each f P (x ∷ xs) h = All-cons (λ x. P (f x)) x xs (All-head P (f x) (map f xs) h) (mapped_each f P xs (All-tail P (f x) (map f xs) h))
 

@@ -177,58 +177,25 @@ none_by x entries sessions each own none = ⊎_elim
     (λ (others : All (λ s. s.worker ≢ x) sessions). none_of x entries sessions each others)
     (idle_or_none x entries sessions own none)
 
-next_place : (k i : ℕ) → k + suc i ≡ (k + 1) + i
-next_place k i = omega arith
-
-some_inside : (n : ℕ) → 0 < suc n
-some_inside n = omega arith
-
-next_inside : (i n : ℕ) → i < n → suc i < suc n
-next_inside i n low = omega arith
-
-fewer_left : (k n workers : ℕ) → k + suc n ≤ workers → (k + 1) + n ≤ workers
-fewer_left k n workers few = omega arith
-
-not_past : (x worker k n workers : ℕ) → worker ≡ x → worker ≡ k + 0 → workers ≤ x → k + suc n ≤ workers → ⊥
-not_past x worker k n workers is here past few = omega arith
+-- what holds of each worker's session, and of each that never had a receipt, holds of all
+each_session : (P : SessionState → Type 0) → ((s : SessionState) → IsFresh s → P s) → (all : List (Finished SessionState)) →
+    ((i : ℕ) → i < length all → (f : Finished SessionState) × (slice_get all i ≡ Some f) × P f.session × All IsFresh f.spawned.items) → All P (all_sessions all)
+each_session P fresh [] each = All-nil P
+each_session P fresh (f ∷ all) each =
+    let here = each 0 (omega arith) in
+    let same : f ≡ here.0 = same_Some f here.0 here.1 in
+    let none : All IsFresh f.spawned.items = subst (λ (g : Finished SessionState). All IsFresh g.spawned.items) (sym same) here.3 in
+    let later : All P (all_sessions all) = each_session P fresh all (λ i low. each (suc i) (omega (arith, low))) in
+    All-cons P f.session (f.spawned.items ++ all_sessions all) (subst (λ (g : Finished SessionState). P g.session) (sym same) here.2) (All-append P f.spawned.items (all_sessions all) (All-weaker IsFresh P fresh f.spawned.items none) later)
 
 -- no session of one who is no worker of the opening has a receipt
-none_past : (workers x k : ℕ) (all : List (Finished SessionState)) → workers ≤ x → ((i : ℕ) → i < length all → (f : Finished SessionState) × (slice_get all i ≡ Some f) × (f.session.worker ≡ k + i) × All IsFresh f.spawned.items) →
-    k + length all ≤ workers → All (λ s. s.worker ≡ x → s.receipts ≡ []) (all_sessions all)
-none_past workers x k [] past each few = All-nil (λ s. s.worker ≡ x → s.receipts ≡ [])
-none_past workers x k (f ∷ all) past each few =
-    let P : SessionState → Type 0 = λ s. s.worker ≡ x → s.receipts ≡ [] in
-    let here = each 0 (some_inside (length all)) in
-    let same : f ≡ here.0 = same_Some f here.0 here.1 in
-    let worker : f.session.worker ≡ k + 0 = ap (λ (g : Finished SessionState). g.session.worker) same ∙ here.2 in
-    let none : All IsFresh f.spawned.items = subst (λ (g : Finished SessionState). All IsFresh g.spawned.items) (sym same) here.3 in
-    let later : All P (all_sessions all) =
-    none_past workers x (k + 1) all past
-    (λ i low. let next = each (suc i) (next_inside i (length all) low) in (next.0, next.1, next.2 ∙ next_place k i, next.3))
-    (fewer_left k (length all) workers few) in
-    All-cons P f.session (f.spawned.items ++ all_sessions all) (λ is. absurd (not_past x f.session.worker k (length all) workers is worker past few))
-    (All-append P f.spawned.items (all_sessions all) (All-weaker IsFresh P (λ s h is. h.0) f.spawned.items none) later)
-
 others_none : (arena : Arena) (workers x : ℕ) (bs : List Boxed) (all : List (Finished SessionState)) → AllBring arena workers (all_assigned workers bs) all → workers ≤ x → All (λ s. s.worker ≡ x → s.receipts ≡ []) (all_sessions all)
 others_none arena workers x bs all h past =
     let long : length all ≡ workers = bring_as_many arena workers (all_assigned workers bs) all h ∙ length-map-range_with_len (λ x. (x, lines_of workers x bs)) 0 workers in
-    none_past workers x 0 all past
-    (λ i low. let b = brought arena workers bs all h i (omega (arith, low, long)) in (b.0, b.1.at, b.1.worker ∙ (let e : i ≡ 0 + i = omega arith in e), b.1.none))
-    (omega (arith, long))
+    each_session (λ s. s.worker ≡ x → s.receipts ≡ []) (λ s h is. h.0) all
+    (λ i low. let b = brought arena workers bs all h i (omega (arith, low, long)) in (b.0, b.1.at, (λ is. absurd (omega (arith, is, b.1.worker, low, long, past))), b.1.none))
 
 -- ---- nobody handed out a receipt
-
-none_handed_by : (all : List (Finished SessionState)) → ((i : ℕ) → i < length all → (f : Finished SessionState) × (slice_get all i ≡ Some f) × (f.session.handed ≡ 0) × All IsFresh f.spawned.items) →
-    All (λ s. s.handed ≡ 0) (all_sessions all)
-none_handed_by [] each = All-nil (λ s. s.handed ≡ 0)
-none_handed_by (f ∷ all) each =
-    let P : SessionState → Type 0 = λ s. s.handed ≡ 0 in
-    let here = each 0 (some_inside (length all)) in
-    let same : f ≡ here.0 = same_Some f here.0 here.1 in
-    let none : All IsFresh f.spawned.items = subst (λ (g : Finished SessionState). All IsFresh g.spawned.items) (sym same) here.3 in
-    let later : All P (all_sessions all) = none_handed_by all (λ i low. each (suc i) (next_inside i (length all) low)) in
-    All-cons P f.session (f.spawned.items ++ all_sessions all) (ap (λ (g : Finished SessionState). g.session.handed) same ∙ here.2)
-    (All-append P f.spawned.items (all_sessions all) (All-weaker IsFresh P (λ s h. h.1) f.spawned.items none) later)
 
 sum_none : (sessions : List SessionState) → All (λ s. s.handed ≡ 0) sessions → handed_of sessions ≡ 0
 sum_none [] none = refl
@@ -240,7 +207,7 @@ pub brought_none_handed : (arena : Arena) (workers : ℕ) (bs : List Boxed) (all
 brought_none_handed arena workers bs all h =
     let long : length all ≡ workers = bring_as_many arena workers (all_assigned workers bs) all h ∙ length-map-range_with_len (λ x. (x, lines_of workers x bs)) 0 workers in
     sum_none (all_sessions all)
-    (none_handed_by all (λ i low. let b = brought arena workers bs all h i (omega (arith, low, long)) in (b.0, b.1.at, b.1.handed, b.1.none)))
+    (each_session (λ s. s.handed ≡ 0) (λ s h. h.1) all (λ i low. let b = brought arena workers bs all h i (omega (arith, low, long)) in (b.0, b.1.at, b.1.handed, b.1.none)))
 
 -- ---- the race
 

@@ -1,10 +1,10 @@
 -- What the workers' sessions brought back, line by line in script order.
-use Rattle.std.proofs.Common.{◌≡◌, ◌≢◌, ◌<◌, ◌+◌, ℕ, Bool, true, false, cond, List, [], ◌∷◌, ◌++◌, length, map, filter, get_or, set, take, drop, zero, suc, slice_get, option_map, Option, Some, None, slice_index, refl, sym, ap, ◌∙◌, subst, arith, append-nil, add-zero, length-append, ⊎_elim}
+use Rattle.std.proofs.Common.{◌≡◌, ◌≢◌, ◌<◌, ◌+◌, ℕ, Bool, true, false, cond, List, [], ◌∷◌, ◌++◌, length, map, filter, get_or, set, take, drop, suc, slice_get, option_map, Option, Some, None, slice_index, refl, sym, ap, ◌∙◌, subst, arith, append-nil, add-zero, length-append, ⊎_elim}
 use Rattle.std.specs.List.{AllZip, range_with_len, zip}
 use Rattle.std.proofs.Math.Seq.{drop-cons}
 use Rattle.std.proofs.lemmas.Bool.{cases_eq}
 use Rattle.std.proofs.lemmas.Option.{slice_get-get_or, slice_get-map, get_or_from_slice_get, same_Some}
-use Rattle.std.proofs.lemmas.List.{length-set, get_or-set_same, get_or-set_other, get_or-map, take_more, take_all, take-append-drop}
+use Rattle.std.proofs.lemmas.List.{length-set, get_or-set_same, get_or-set_other, get_or-map, map-append, take_more, take_all, take-append-drop}
 use Rattle.std.proofs.lemmas.List.Elements.{filter-append}
 use Rattle.std.proofs.lemmas.List.FromFn.{fill_by_all, get_or-map-range_with_len}
 use Rattle.tg_text.specs.declared.line.Line.{Line}
@@ -12,39 +12,32 @@ use Rattle.tg_text.specs.declared.answer.Refusal.TheVariants as refusal
 use Rattle.tg_weave.specs.declared.task.Told.{Told}
 use Rattle.tg_weave.specs.declared.task.Told.TheVariants as came
 use Rattle.tg_weave.specs.Shares.{runner_of, is_run_by, told_of, IsInScriptOrder}
-use Rattle.tg_weave.proofs.ShareLaws.{map_push, run_same, run_other, run_none, runner_below}
+use Rattle.tg_weave.proofs.ShareLaws.{run_same, run_other, run_none, runner_below}
 
 -- how many of these lines worker x's session runs
 abbrev pub count_of : ℕ → ℕ → List Line → ℕ
 count_of workers x lines = length (filter (is_run_by workers x) lines)
 
-count_push : (workers x : ℕ) (lines : List Line) (l : Line) (b : Bool) → is_run_by workers x l ≡ b → count_of workers x (lines ++ l ∷ []) ≡ count_of workers x lines + cond b 1 0
-count_push workers x lines l true is =
-    let more : filter (is_run_by workers x) (lines ++ l ∷ []) ≡ filter (is_run_by workers x) lines ++ l ∷ [] = filter-append (is_run_by workers x) lines (l ∷ []) ∙ ap (λ t. filter (is_run_by workers x) lines ++ cond t (l ∷ []) []) is in
-    ap (λ (m : List Line). length m) more ∙ length-append (filter (is_run_by workers x) lines) (l ∷ [])
-count_push workers x lines l false is =
-    let more : filter (is_run_by workers x) (lines ++ l ∷ []) ≡ filter (is_run_by workers x) lines ++ [] = filter-append (is_run_by workers x) lines (l ∷ []) ∙ ap (λ t. filter (is_run_by workers x) lines ++ cond t (l ∷ []) []) is in
-    ap (λ (m : List Line). length m) more ∙ length-append (filter (is_run_by workers x) lines) []
+count_append : (workers x : ℕ) (lines more : List Line) → count_of workers x (lines ++ more) ≡ count_of workers x lines + count_of workers x more
+count_append workers x lines more =
+    ap (λ (m : List Line). length m) (filter-append (is_run_by workers x) lines more) ∙ length-append (filter (is_run_by workers x) lines) (filter (is_run_by workers x) more)
+
+count_push : (workers x : ℕ) (lines : List Line) (l : Line) (b : Bool) → is_run_by workers x l ≡ b → count_of workers x (lines ++ l ∷ []) ≡ count_of workers x lines + length (cond b (l ∷ []) [])
+count_push workers x lines l b is = count_append workers x lines (l ∷ []) ∙ ap (λ t. count_of workers x lines + length (cond t (l ∷ []) [])) is
 
 zip_push : (lines : List Line) (ts : List Told) (l : Line) (t : Told) → length ts ≡ length lines → zip (lines ++ l ∷ []) (ts ++ t ∷ []) ≡ zip lines ts ++ (l, t) ∷ []
 zip_push [] [] l t long = refl
-zip_push [] (u ∷ ts) l t long = absurd (omega (arith, long))
-zip_push (m ∷ lines) [] l t long = absurd (omega (arith, long))
 zip_push (m ∷ lines) (u ∷ ts) l t long = ap (λ ps. (m, u) ∷ ps) (zip_push lines ts l t (omega (arith, long)))
+zip_push lines ts l t long = absurd (omega (arith, long))
 
 told_push : (workers x : ℕ) (lines : List Line) (ts : List Told) (l : Line) (t : Told) (b : Bool) → length ts ≡ length lines → is_run_by workers x l ≡ b →
-    told_of workers x (lines ++ l ∷ []) (ts ++ t ∷ []) ≡ told_of workers x lines ts ++ cond b (t ∷ []) []
+    told_of workers x (lines ++ l ∷ []) (ts ++ t ∷ []) ≡ told_of workers x lines ts ++ map (λ (q : Line × Told). q.1) (cond b ((l, t) ∷ []) [])
 told_push workers x lines ts l t b long is =
     let p : Line × Told → Bool = λ q. is_run_by workers x q.0 in
     ap (λ ps. map (λ (q : Line × Told). q.1) (filter p ps)) (zip_push lines ts l t long)
     ∙ ap (map (λ (q : Line × Told). q.1)) (filter-append p (zip lines ts) ((l, t) ∷ []))
-    ∙ ap (λ c. map (λ (q : Line × Told). q.1) (filter p (zip lines ts) ++ cond c ((l, t) ∷ []) [])) is
-    ∙ by_test b where
-      by_test : (c : Bool) → map (λ (q : Line × Told). q.1) (filter (λ (q : Line × Told). is_run_by workers x q.0) (zip lines ts) ++ cond c ((l, t) ∷ []) []) ≡ told_of workers x lines ts ++ cond c (t ∷ []) []
-      by_test true = map_push (λ (q : Line × Told). q.1) (filter (λ (q : Line × Told). is_run_by workers x q.0) (zip lines ts)) (l, t)
-      by_test false =
-          let before = filter (λ (q : Line × Told). is_run_by workers x q.0) (zip lines ts) in
-          ap (map (λ (q : Line × Told). q.1)) (append-nil before) ∙ sym (append-nil (map (λ (q : Line × Told). q.1) before))
+    ∙ map-append (λ (q : Line × Told). q.1) (filter p (zip lines ts)) (filter p ((l, t) ∷ []))
+    ∙ ap (λ c. told_of workers x lines ts ++ map (λ (q : Line × Told). q.1) (cond c ((l, t) ∷ []) [])) is
 
 -- a line that no session runs is refused
 abbrev IsNobodys : ℕ → Line → Told → Type 0
@@ -52,9 +45,8 @@ IsNobodys workers l t = runner_of workers l ≡ None → t ≡ came.Refused refu
 
 nobodys_push : (workers : ℕ) (lines : List Line) (ts : List Told) (l : Line) (t : Told) → AllZip (IsNobodys workers) lines ts → IsNobodys workers l t → AllZip (IsNobodys workers) (lines ++ l ∷ []) (ts ++ t ∷ [])
 nobodys_push workers [] [] l t h one = (one, tt)
-nobodys_push workers [] (u ∷ ts) l t h one = absurd h
-nobodys_push workers (m ∷ lines) [] l t h one = absurd h
 nobodys_push workers (m ∷ lines) (u ∷ ts) l t h one = (h.0, nobodys_push workers lines ts l t h.1 one)
+nobodys_push workers lines ts l t h one = absurd h
 
 -- These lines were seen, and so many of each worker's.
 pub record IsSeen (workers : ℕ) (brought : List (List Told)) (lines : List Line) (ts : List Told) (seen : List ℕ) : Type 0 where
@@ -77,9 +69,6 @@ seen_nobodys workers brought lines ts seen l t s by is = record {
       ∙ ap (λ n. take n (get_or brought x [])) (sym same);
 }
 
-not_none : (o : Option ℕ) (y : ℕ) → o ≡ Some y → o ≡ None → ⊥
-not_none o y h none = cc
-
 pub seen_one : (workers y : ℕ) (brought : List (List Told)) (lines : List Line) (ts : List Told) (seen : List ℕ) (l : Line) (t : Told) → IsSeen workers brought lines ts seen → y < workers → runner_of workers l ≡ Some y →
     count_of workers y lines < length (get_or brought y []) → get_or (get_or brought y []) (count_of workers y lines) t ≡ t →
     IsSeen workers brought (lines ++ l ∷ []) (ts ++ t ∷ []) (set seen y (slice_index seen y + 1))
@@ -92,7 +81,7 @@ seen_one workers y brought lines ts seen l t s low by more is = record {
       (λ (other : x ≢ y). get_or-set_other seen y x (slice_index seen y + 1) 0 other ∙ s.count x below
       ∙ sym (count_push workers x lines l false (run_other workers x y l by (λ same. other (sym same))) ∙ add-zero (count_of workers x lines)))
       (cases_eq x y);
-  nobodys = nobodys_push workers lines ts l t s.nobodys (λ none. absurd (not_none (runner_of workers l) y by none));
+  nobodys = nobodys_push workers lines ts l t s.nobodys (λ none. absurd cc);
   own = λ x below. ⊎_elim
       (λ (same : x ≡ y). subst (λ z. told_of workers z (lines ++ l ∷ []) (ts ++ t ∷ []) ≡ take (count_of workers z (lines ++ l ∷ [])) (get_or brought z [])) (sym same) at_y)
       (λ (other : x ≢ y).
@@ -121,10 +110,6 @@ seen_all workers brought lines ts seen long whole s = record {
 
 -- ---- the step of the loop
 
-count_append : (workers x : ℕ) (lines more : List Line) → count_of workers x (lines ++ more) ≡ count_of workers x lines + count_of workers x more
-count_append workers x lines more =
-    ap (λ (m : List Line). length m) (filter-append (is_run_by workers x) lines more) ∙ length-append (filter (is_run_by workers x) lines) (filter (is_run_by workers x) more)
-
 count_front : (workers x : ℕ) (l : Line) (lines : List Line) → is_run_by workers x l ≡ true → 0 < count_of workers x (l ∷ lines)
 count_front workers x l lines by =
     let is : count_of workers x (l ∷ lines) ≡ suc (count_of workers x lines) = ap (λ c. length (cond c (l ∷ filter (is_run_by workers x) lines) (filter (is_run_by workers x) lines))) by in
@@ -140,9 +125,8 @@ count_below workers x i lines l low at by =
     omega (arith, all, more)
 
 pub length_at : {F : Type 0} (told : F → List Told) (finished : List F) (x : ℕ) → length (get_or (map told finished) x []) ≡ get_or (map (λ f. length (told f)) finished) x 0
-length_at told [] x = refl
-length_at told (f ∷ finished) zero = refl
 length_at told (f ∷ finished) (suc x) = length_at told finished x
+length_at told finished x = refl
 
 -- as many as its worker has lines
 pub whole_at : {F : Type 0} (told : F → List Told) (finished : List F) (lines : List Line) → map (λ f. length (told f)) finished ≡ map (λ x. count_of (length finished) x lines) (range_with_len 0 (length finished)) →

@@ -1,10 +1,11 @@
 -- Who runs a line, and the lines that each session is given.
-use Rattle.std.proofs.Common.{◌≡◌, ◌≢◌, ◌<◌, ◌≤◌, ◌+◌, ◌==◌, ℕ, zero, suc, Bool, true, false, cond, List, [], ◌∷◌, ◌++◌, length, map, get_or, set, drop, Option, Some, None, refl, sym, ap, ◌∙◌, subst, arith, eq-eqb, ne_eqb, eqb-true, append-nil, append_assoc, ⊎_elim}
+use Rattle.std.proofs.Common.{◌≡◌, ◌≢◌, ◌<◌, ◌≤◌, ◌+◌, ◌==◌, ℕ, zero, suc, true, false, cond, List, [], ◌∷◌, ◌++◌, length, map, get_or, set, drop, Option, Some, None, refl, sym, ap, ◌∙◌, subst, arith, eq-eqb, ne_eqb, eqb-true, append-nil, append_assoc, ⊎_elim}
 use Rattle.std.specs.Prelude.{nat_lt}
 use Rattle.std.specs.List.{All}
 use Rattle.std.specs.Option.{option_map_or}
-use Rattle.std.proofs.lemmas.List.{at_drop_all, drop_more, flat_map_more, length-map, length-set, get_or-map, get_or-set_same, get_or-set_other, map-set}
-use Rattle.std.proofs.lemmas.Bool.{cases_eq, ltb-true}
+use Rattle.std.proofs.lemmas.List.{at_drop_all, drop_more, flat_map_more, length-map, length-set, get_or-map, get_or-set_same, get_or-set_other, map-append, map-set}
+use Rattle.std.proofs.lemmas.Bool.{cases_eq, cond_both, false_from_ne_true, ltb-true}
+use Rattle.std.proofs.lemmas.Option.{same_Some}
 use Rattle.std.proofs.lemmas.List.Elements.{All-head, All-tail, filter-append}
 use Rattle.std.proofs.lemmas.List.FromFn.{fill_by_all}
 use Rattle.tg_text.specs.declared.line.Line.{Line}
@@ -16,8 +17,7 @@ use Rattle.tg_weave.specs.declared.work.Finished.{Finished}
 use Rattle.tg_weave.specs.Shares.{runner_of, is_run_by, lines_of, all_lines, all_sessions, sessions_in}
 
 pub map_push : {X Y : Type 0} (f : X → Y) (xs : List X) (x : X) → map f (xs ++ x ∷ []) ≡ map f xs ++ f x ∷ []
-map_push f [] x = refl
-map_push f (y ∷ xs) x = ap (λ l. f y ∷ l) (map_push f xs x)
+map_push f xs x = map-append f xs (x ∷ [])
 
 -- one more came of what was left
 pub one_more : {X : Type 0} (yielded rest left all : List X) (x : X) → left ≡ x ∷ rest → yielded ++ left ≡ all → (yielded ++ x ∷ []) ++ rest ≡ all
@@ -61,16 +61,9 @@ sessions_more {S} yielded one sessions then now was first others =
 
 -- ---- who runs a line
 
-some_same : {X : Type 0} (a b : X) → Some a ≡ Some b → a ≡ b
-some_same a b h = cc
-
-named_test : (b : Bool) (x workers y : ℕ) → nat_lt x workers ≡ b → cond b (Some x) None ≡ Some y → (x < workers) × (x ≡ y)
-named_test true x workers y t h = (ltb-true x workers t, some_same x y h)
-named_test false x workers y t h = absurd cc
-
 -- the worker that a line names is one of the workers
 pub named : (x workers y : ℕ) → cond (nat_lt x workers) (Some x) None ≡ Some y → (x < workers) × (x ≡ y)
-named x workers y h = named_test (nat_lt x workers) x workers y refl h
+named x workers y = cond_both (nat_lt x workers) (Some x) None (λ o. o ≡ Some y → (x < workers) × (x ≡ y)) (λ t h. (ltb-true x workers t, same_Some x y h)) (λ t h. absurd cc)
 
 pub run_same : (workers x y : ℕ) (l : Line) → runner_of workers l ≡ Some y → y ≡ x → is_run_by workers x l ≡ true
 run_same workers x y l by same = ap (λ o. option_map_or (λ z. z == x) o false) by ∙ eq-eqb y x same
@@ -94,14 +87,10 @@ runner_below workers y (line.Edge edge) low by = absurd cc
 runner_below workers y (line.Create x label) low by = let n = named x workers y by in subst (λ z. z < workers) n.1 n.0
 runner_below workers y (line.Spawn x label) low by = let n = named x workers y by in subst (λ z. z < workers) n.1 n.0
 runner_below workers y (line.Plain x command) low by = let n = named x workers y by in subst (λ z. z < workers) n.1 n.0
-runner_below workers y line.Full low by = let zero_is : 0 ≡ y = cc in subst (λ z. z < workers) zero_is low
-runner_below workers y line.Minor low by = let zero_is : 0 ≡ y = cc in subst (λ z. z < workers) zero_is low
+runner_below workers y l low by = let zero_is : 0 ≡ y = cc in subst (λ z. z < workers) zero_is low
 
 pub run_past : (workers x : ℕ) (l : Line) → 0 < workers → workers ≤ x → is_run_by workers x l ≡ false
-run_past workers x l low past = by_runner (runner_of workers l) refl where
-  by_runner : (o : Option ℕ) → runner_of workers l ≡ o → is_run_by workers x l ≡ false
-  by_runner None by = run_none workers x l by
-  by_runner (Some y) by = let below = runner_below workers y l low by in run_other workers x y l by (λ same. absurd (omega (arith, below, past, same)))
+run_past workers x l low past = false_from_ne_true (is_run_by workers x l) (λ t. let below = runner_below workers x l low (run_by workers x l t) in omega (arith, below, past))
 
 -- ---- a worker's lines
 

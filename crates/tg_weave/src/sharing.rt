@@ -89,8 +89,9 @@ fn deal<S: Drop, P: Payload>(
 {
     let workers = works.len() as u64;
     for task in tasks {
-        if let Some(worker) = runner(workers, &task.line) {
-            give(&mut works[worker as usize], task)?;
+        match runner(workers, &task.line) {
+            Some(worker) => give(&mut works[worker as usize], task)?,
+            None => drop(task),
         }
     }
     Ok(works)

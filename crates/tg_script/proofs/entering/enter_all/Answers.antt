@@ -1,9 +1,10 @@
-use Rattle.std.proofs.Common.{◌++◌, ◌+◌, Ok, arith, refl, subst}
-use Rattle.std.proofs.lemmas.Result.{err_from_is_err_and}
+use Rattle.std.proofs.Common.{◌++◌, Ok, arith, refl, subst}
 use Rattle.tg_model.specs.Opened.{IsPlan}
+use Rattle.tg_text.specs.Sinks.{Wrote, WroteSome}
 use Rattle.tg_entries.specs.Texts.{head_text}
+use Rattle.tg_script.proofs.LinesLaws.{err_is}
 use Rattle.tg_script.proofs.DueLaws.{uses_no_line}
-use Rattle.tg_script.proofs.EnteringLaws.{enters_done, enters_end_cut, enters_fault, enters_opening_cut, has_entries, legal_from, opening_cut, opening_wrote, end_cut, end_wrote}
+use Rattle.tg_script.proofs.EnteringLaws.{as_end, as_opening, enters_done, enters_end_cut, enters_fault, enters_opening_cut, has_entries, legal_from}
 use Rattle.tg_script.proofs.entering.enter_all.Goals as goal
 
 -- The opening was cut short.
@@ -14,7 +15,7 @@ returns-in_default-clause-written g c = λ t rest before shows left taken.
       rest,
       left,
       enters_opening_cut (Unit {0}) c.args.begun.script rest t c.args.begun.first p before (k.taken c.write_opening.new.sink)
-          (opening_cut p c.opening.result.now before (k.taken c.args.sink.now) (k.taken c.write_opening.new.sink) c.opening.ensures taken c.in_default.ensures.0),
+          (as_opening WroteSome p c.opening.result.now before (k.taken c.args.sink.now) (k.taken c.write_opening.new.sink) c.opening.ensures taken c.in_default.ensures.0),
     )
 
 -- A fault was met at the lines.
@@ -23,11 +24,10 @@ returns-in_err-entered-clause-written g c = λ t rest before shows left taken.
     let k = g.K.Sink in
     let s = c.args.begun.run.store in
     let new = c.run_commands-entered.new.run.store in
-    let e = err_from_is_err_and c.from_residual.result c.from_residual.ensures.1 in
-    let begun = opening_wrote s.opening c.opening.result.now before (k.taken c.args.sink.now) (k.taken c.write_opening.new.sink) c.opening.ensures taken c.in-Ok.ensures.0 in
+    let begun = as_opening Wrote s.opening c.opening.result.now before (k.taken c.args.sink.now) (k.taken c.write_opening.new.sink) c.opening.ensures taken c.in-Ok.ensures.0 in
     let n = c.in_err-entered.ensures.written t rest (before ++ head_text s.opening) shows left begun in
     let legal = legal_from s.opening new.opening s.entries new.entries t.graph c.requires.none shows.0 c.in_err-entered.ensures.kept c.journal.ensures.faithful.legal in
-    rw (e.1, e.2) (
+    rw (err_is c.from_residual.result _ c.from_residual.ensures.1) (
       n.0,
       n.1,
       enters_fault (Unit {0}) c.in_err-entered.field-0.0 c.args.begun.script rest t c.args.begun.first s.opening s.entries before n.0 new.entries (k.taken c.run_commands-entered.new.sink) c.requires.none legal n.2,
@@ -39,14 +39,14 @@ returns-in_default-write_end-clause-written g c = λ t rest before shows left ta
     let k = g.K.Sink in
     let s = c.args.begun.run.store in
     let new = c.run_commands-entered.new.run.store in
-    let begun = opening_wrote s.opening c.opening.result.now before (k.taken c.args.sink.now) (k.taken c.write_opening.new.sink) c.opening.ensures taken c.in-Ok.ensures.0 in
+    let begun = as_opening Wrote s.opening c.opening.result.now before (k.taken c.args.sink.now) (k.taken c.write_opening.new.sink) c.opening.ensures taken c.in-Ok.ensures.0 in
     let n = c.in_ok-entered.ensures.written t rest (before ++ head_text s.opening) shows left begun in
     let legal = legal_from s.opening new.opening s.entries new.entries t.graph c.requires.none shows.0 c.in_ok-entered.ensures.kept c.journal.ensures.faithful.legal in
     let has = has_entries (Ok c.in_ok-entered.field-0) c.args.begun.script rest t c.args.begun.first s.opening s.entries before n.0 new.entries (k.taken c.run_commands-entered.new.sink) refl c.requires.none legal n.2 in (
       n.0,
       n.1,
       enters_end_cut (Unit {0}) c.args.begun.script rest t c.args.begun.first s.opening before n.0 new.entries (k.taken c.run_commands-entered.new.sink) (k.taken c.write_end.new.sink) has
-          (end_cut c.journal.result.now.entries new.entries c.len-count.result (k.taken c.run_commands-entered.new.sink) (k.taken c.write_end.new.sink) c.len-count.ensures c.journal.ensures.entries c.in_default-write_end.ensures.0),
+          (as_end WroteSome c.journal.result.now.entries new.entries c.len-count.result (k.taken c.run_commands-entered.new.sink) (k.taken c.write_end.new.sink) c.len-count.ensures c.journal.ensures.entries c.in_default-write_end.ensures.0),
     )
 
 pub returns-clause-written : goal.returns-clause-written
@@ -54,7 +54,7 @@ returns-clause-written g c = λ t rest before shows left taken.
     let k = g.K.Sink in
     let s = c.args.begun.run.store in
     let new = c.run_commands-entered.new.run.store in
-    let begun = opening_wrote s.opening c.opening.result.now before (k.taken c.args.sink.now) (k.taken c.write_opening.new.sink) c.opening.ensures taken c.in-Ok.ensures.0 in
+    let begun = as_opening Wrote s.opening c.opening.result.now before (k.taken c.args.sink.now) (k.taken c.write_opening.new.sink) c.opening.ensures taken c.in-Ok.ensures.0 in
     let n = c.in_ok-entered.ensures.written t rest (before ++ head_text s.opening) shows left begun in
     let legal = legal_from s.opening new.opening s.entries new.entries t.graph c.requires.none shows.0 c.in_ok-entered.ensures.kept c.journal.ensures.faithful.legal in
     let plan = subst IsPlan c.in_ok-entered.ensures.kept c.journal.ensures.faithful.plan in
@@ -62,7 +62,7 @@ returns-clause-written g c = λ t rest before shows left taken.
       n.0,
       n.1,
       enters_done {T = Unit {0}} tt c.args.begun.script rest t c.args.begun.first s.opening before n.0 new.entries (k.taken c.run_commands-entered.new.sink) (k.taken c.write_end.new.sink) plan has
-          (end_wrote c.journal.result.now.entries new.entries c.len-count.result (k.taken c.run_commands-entered.new.sink) (k.taken c.write_end.new.sink) c.len-count.ensures c.journal.ensures.entries c.in-Ok-write_end.ensures.0),
+          (as_end Wrote c.journal.result.now.entries new.entries c.len-count.result (k.taken c.run_commands-entered.new.sink) (k.taken c.write_end.new.sink) c.len-count.ensures c.journal.ensures.entries c.in-Ok-write_end.ensures.0),
     )
 
 pub returns-in_default-clause-streams : goal.returns-in_default-clause-streams
@@ -72,9 +72,8 @@ returns-in_default-clause-streams g c =
 
 pub returns-in_err-entered-clause-streams : goal.returns-in_err-entered-clause-streams
 returns-in_err-entered-clause-streams g c =
-    let e = err_from_is_err_and c.from_residual.result c.from_residual.ensures.1 in
     let uses = c.in_err-entered.ensures.streams in
-    rw (e.1, e.2) (record {
+    rw (err_is c.from_residual.result _ c.from_residual.ensures.1) (record {
       fault = uses.fault;
       failures = record { read_failed = uses.failures.read_failed; write_failed = omega (arith, uses.failures.write_failed, c.in-Ok.ensures.1) };
       asked = uses.asked;

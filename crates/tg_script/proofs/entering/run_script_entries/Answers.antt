@@ -1,6 +1,6 @@
-use Rattle.std.proofs.Common.{◌+◌, arith, subst, Err}
+use Rattle.std.proofs.Common.{arith, subst, Err}
 use Rattle.tg_model.specs.Opened.{Plan}
-use Rattle.tg_script.specs.Inner.Beginning.{plan_with, scene_with}
+use Rattle.tg_script.specs.Inner.Beginning.{scene_with}
 use Rattle.tg_script.specs.Inner.Telling.{EntersAll}
 use Rattle.tg_script.specs.Script.{start_with}
 use Rattle.tg_script.proofs.DueLaws.{runs_begun, runs_finished, runs_unbegun, sink_finished}

@@ -1,11 +1,10 @@
-use Rattle.std.proofs.Common.{[], ◌+◌, inl, inr, refl, sym, ap, subst, arith, rules, List, None}
+use Rattle.std.proofs.Common.{◌+◌, inl, inr, refl, sym, ap, subst, arith, rules, List, None}
 use Rattle.std.specs.List.{All}
-use Rattle.std.proofs.lemmas.Result.{err_from_is_err_and}
 use Rattle.tg_model.specs.declared.edge.Edge.{Edge}
 use Rattle.tg_model.specs.Opened.{JoinsWorkers}
 use Rattle.tg_script.specs.Opening.{edge_lines}
 use Rattle.tg_script.specs.Inner.Beginning.{ReadsFront}
-use Rattle.tg_script.proofs.LinesLaws.{fresh_front, front_all, front_more, reads_none, reads_then}
+use Rattle.tg_script.proofs.LinesLaws.{err_is, fresh_front, front_all, front_more, reads_none, reads_then}
 use Rattle.tg_script.proofs.OpeningLaws.{edges_more, edges_fault, edges_unkept, pushed, edge_taken, command_taken, joined}
 use Rattle.tg_script.proofs.opening.read_edges.Goals as goal
 
@@ -28,14 +27,12 @@ pub returns-in_err-line-clause-bytes : goal.returns-in_err-line-clause-bytes
 returns-in_err-line-clause-bytes g c = λ bytes known.
     let i = c.loop-edges.invariant.bytes bytes known in
     let n = c.in_err-line.ensures.bytes i.0 i.1 in
-    let p = err_from_is_err_and c.from_residual.result c.from_residual.ensures.1 in
-    rw (p.1, p.2) (n.0, n.1, edges_fault c.args.workers c.loop-edges.script bytes i.0 c.loop-edges.edges.items c.in_err-line.field-0.0 n.0 i.2 n.2.0 n.2.1)
+    rw (err_is c.from_residual.result _ c.from_residual.ensures.1) (n.0, n.1, edges_fault c.args.workers c.loop-edges.script bytes i.0 c.loop-edges.edges.items c.in_err-line.field-0.0 n.0 i.2 n.2.0 n.2.1)
 
 pub returns-in_err-line-clause-reading : goal.returns-in_err-line-clause-reading
 returns-in_err-line-clause-reading g c =
-    let p = err_from_is_err_and c.from_residual.result c.from_residual.ensures.1 in
     let reading = c.in_err-line.ensures.reading in
-    rw (p.1, p.2) (record {
+    rw (err_is c.from_residual.result _ c.from_residual.ensures.1) (record {
       reading = reads_then c.loop-edges.invariant.reading reading (inl reading.fault) refl refl;
       asked = omega (arith, c.in_err-line.ensures.asked, c.loop-edges.invariant.asked);
       asked_of_line = tt;

@@ -1,9 +1,8 @@
-use Rattle.std.proofs.Common.{refl, ◌+◌, ◌∙◌, ◌≡◌, arith, Some, None, subst, Option}
-use Rattle.std.proofs.lemmas.Result.{err_from_is_err_and}
-use Rattle.tg_text.specs.declared.line.Line.{Line}
+use Rattle.std.proofs.Common.{refl, ◌+◌, ◌∙◌, arith, sym, Some, None}
+use Rattle.std.proofs.lemmas.Option.{same_Some}
 use Rattle.tg_script.specs.Inner.Supply.{values_left}
-use Rattle.tg_script.proofs.LinesLaws.{no_failures, wrote_keeps}
-use Rattle.tg_script.proofs.CommandLaws.{under_first, under_end, under_cut, under_next, tells_fault, next_command, same_line}
+use Rattle.tg_script.proofs.LinesLaws.{err_is, no_failures, wrote_keeps}
+use Rattle.tg_script.proofs.CommandLaws.{under_first, under_end, under_cut, under_next, tells_fault, next_command}
 use Rattle.tg_script.proofs.run_script.run_commands.Goals as goal
 
 pub returns-in_default-clause-written : goal.returns-in_default-clause-written
@@ -17,7 +16,7 @@ lines-init g c =
     record {
       command = behind.0;
       opening = behind.1;
-      under = λ first t rest before is shows left taken. under_first first c.in-Some.first (same_line c.args.first first c.in-Some.first is c.in-Some.is) shows left taken;
+      under = λ first t rest before is shows left taken. under_first first c.in-Some.first (same_Some first c.in-Some.first (sym is ∙ c.in-Some.is)) shows left taken;
       failures = no_failures s.failures k.failures c.args.source.now c.args.sink.now;
       kept = refl {a = c.args.run.now.store.opening};
       asked = refl {a = s.asked c.args.source.now + c.args.script.now.lines.room};
@@ -42,11 +41,10 @@ pub returns-in_err-came-clause-written : goal.returns-in_err-came-clause-written
 returns-in_err-came-clause-written g c = λ t rest before shows left taken.
     let k = g.K.Sink in
     let w = c.in-Ok.ensures in
-    let p = err_from_is_err_and c.from_residual.result c.from_residual.ensures.1 in
     let u = c.lines.invariant.under c.in-Some.first t rest before c.in-Some.is shows left taken in
     let n = c.in_err-came.ensures.bytes u.rest u.leaves in
     let wrote = wrote_keeps (k.taken c.lines.sink) (k.taken c.run_line.new.sink) (k.taken c.next.new.sink) (g.T.Telling.told c.lines.line w.0 (values_left c.lines.run.supply)) w.3.0 c.in_err-came.ensures.reading.taken in
-    rw (p.1, p.2) (rw c.in-Some.is (
+    rw (err_is c.from_residual.result _ c.from_residual.ensures.1) (rw c.in-Some.is (
       n.0,
       n.1,
       tells_fault (Unit {0}) c.in_err-came.field-0.0 g.T.Telling.told c.args.script.now rest t c.in-Some.first c.args.run.now.store.entries before n.0 c.run_line.new.run.store.entries (k.taken c.next.new.sink) n.2.0
@@ -55,10 +53,9 @@ returns-in_err-came-clause-written g c = λ t rest before shows left taken.
 
 pub returns-in_err-came-clause-streams : goal.returns-in_err-came-clause-streams
 returns-in_err-came-clause-streams g c =
-    let p = err_from_is_err_and c.from_residual.result c.from_residual.ensures.1 in
     let had = c.lines.invariant.failures in
     let reading = c.in_err-came.ensures.reading in
-    rw (p.1, p.2) (rw c.in-Some.is (record {
+    rw (err_is c.from_residual.result _ c.from_residual.ensures.1) (rw c.in-Some.is (record {
       fault = reading.fault;
       failures = record { read_failed = omega (arith, reading.failures.read_failed, had.read_failed); write_failed = omega (arith, reading.failures.write_failed, c.in-Ok.ensures.3.1, had.write_failed) };
       asked = omega (arith, c.in_err-came.ensures.asked, c.lines.invariant.asked);

@@ -1,4 +1,4 @@
-use Rattle.std.proofs.Common.{◌+◌, arith, Err}
+use Rattle.std.proofs.Common.{arith, Err}
 use Rattle.tg_script.specs.Inner.Beginning.{scene_with}
 use Rattle.tg_script.specs.Script.{start_with}
 use Rattle.tg_script.proofs.RanLaws.{ran_finished, ran_first, ran_unbegun}

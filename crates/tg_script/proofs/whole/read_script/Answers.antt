@@ -1,28 +1,24 @@
-use Rattle.std.proofs.Common.{◌≡◌, ◌++◌, [], ◌∷◌, ◌+◌, ◌≤◌, ◌<◌, inl, inr, refl, ap, ◌∙◌, sym, subst, arith, rules, append-nil, append_assoc, Some, None, List, Option}
+use Rattle.std.proofs.Common.{◌≡◌, ◌++◌, [], ◌∷◌, inl, inr, refl, ap, ◌∙◌, sym, subst, arith, rules, append-nil, append_assoc, Some, List}
 use Rattle.std.specs.List.{All}
-use Rattle.std.specs.Option.{option_map_or}
 use Rattle.std.proofs.lemmas.List.Elements.{All-push}
-use Rattle.std.proofs.lemmas.Result.{err_from_is_err_and}
 use Rattle.tg_text.specs.declared.line.Line.{Line}
 use Rattle.tg_text.specs.declared.fault.ScriptFault.TheVariants as fault
 use Rattle.tg_script.specs.Opening.{IsCommand, edge_lines}
 use Rattle.tg_script.specs.Inner.Beginning.{ReadsFirst, ReadsFront}
-use Rattle.tg_script.proofs.LinesLaws.{front_all, front_next, reads_none, reads_then}
+use Rattle.tg_script.proofs.LinesLaws.{err_is, front_all, front_next, reads_then}
 use Rattle.tg_script.proofs.OpeningLaws.{pushed}
 use Rattle.tg_script.proofs.WholeLaws.{next_asked, next_behind, next_smaller}
 use Rattle.tg_script.proofs.whole.read_script.Goals as goal
 
 pub returns-in_err-edges-clause-bytes : goal.returns-in_err-edges-clause-bytes
 returns-in_err-edges-clause-bytes g c = λ bytes known.
-    let p = err_from_is_err_and c.from_residual.result c.from_residual.ensures.1 in
     let n = c.in_err-edges.ensures.bytes bytes known in
-    rw (p.1, p.2) (n.0, n.1, (edge_lines n.2.edges, n.2.reads))
+    rw (err_is c.from_residual.result _ c.from_residual.ensures.1) (n.0, n.1, (edge_lines n.2.edges, n.2.reads))
 
 pub returns-in_err-edges-clause-reading : goal.returns-in_err-edges-clause-reading
 returns-in_err-edges-clause-reading g c =
-    let p = err_from_is_err_and c.from_residual.result c.from_residual.ensures.1 in
     let reading = c.in_err-edges.ensures.reading.reading in
-    rw (p.1, p.2) (record { fault = reading.fault; failures = reading.failures; taken = reading.taken })
+    rw (err_is c.from_residual.result _ c.from_residual.ensures.1) (record { fault = reading.fault; failures = reading.failures; taken = reading.taken })
 
 pub loop-next-init : goal.loop-next-init
 loop-next-init g c =
@@ -61,14 +57,12 @@ returns-in_err-next-clause-bytes g c = λ bytes known.
     let i = (rw c.in-Some.is at c.loop-next.invariant.bytes) bytes known in
     let n = c.in_err-next.ensures.bytes i.0 i.1 in
     let lines = (edge_lines c.in_ok-edges.field-0.edges.items ++ c.loop-next.lines.items) ++ c.in-Some.line ∷ [] in
-    let p = err_from_is_err_and c.from_residual-in_err-next.result c.from_residual-in_err-next.ensures.1 in
-    rw (p.1, p.2) (n.0, n.1, (lines, front_all c.args.workers c.loop-next.script bytes i.0 lines (Some c.in_err-next.field-0.0) n.0 i.2 n.2.1))
+    rw (err_is c.from_residual-in_err-next.result _ c.from_residual-in_err-next.ensures.1) (n.0, n.1, (lines, front_all c.args.workers c.loop-next.script bytes i.0 lines (Some c.in_err-next.field-0.0) n.0 i.2 n.2.1))
 
 pub returns-in_err-next-clause-reading : goal.returns-in_err-next-clause-reading
 returns-in_err-next-clause-reading g c =
-    let p = err_from_is_err_and c.from_residual-in_err-next.result c.from_residual-in_err-next.ensures.1 in
     let reading = c.in_err-next.ensures.reading in
-    rw (p.1, p.2) (reads_then c.loop-next.invariant.reading reading (inl reading.fault) refl refl)
+    rw (err_is c.from_residual-in_err-next.result _ c.from_residual-in_err-next.ensures.1) (reads_then c.loop-next.invariant.reading reading (inl reading.fault) refl refl)
 
 pub returns-in_err-next-clause-asked : goal.returns-in_err-next-clause-asked
 returns-in_err-next-clause-asked g c =

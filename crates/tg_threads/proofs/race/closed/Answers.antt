@@ -1,15 +1,9 @@
-use Rattle.std.proofs.Common.{◌≡◌, ◌∙◌, ◌+◌, ◌≤◌, ℕ, List, ap, arith, drop, length, max, refl, subst}
+use Rattle.std.proofs.Common.{◌≡◌, ◌∙◌, ℕ, List, ap, arith, drop, length, refl, subst}
 use Rattle.std.proofs.Math.Nat.{le-max_right}
 use Rattle.tg_journal.specs.declared.entry.Entry.{Entry}
-use Rattle.tg_shared.specs.Sessions.{AreSharedOut, MayClose, SessionState, handed_of, held_from}
+use Rattle.tg_shared.specs.Sessions.{AreSharedOut, MayClose, SessionState, held_from}
 use Rattle.tg_threads.proofs.RaceLaws.{unclosed}
 use Rattle.tg_threads.proofs.race.closed.Goals as goal
-
-none_out : (start out : ℕ) → max start out ≡ 0 → out ≡ 0
-none_out start out is = let most : out ≤ max start out = le-max_right start out in omega (arith, most, is)
-
-from_first : (first handed since : ℕ) → first ≡ 0 → handed ≡ 0 → since ≡ 0 → first + handed ≡ since
-from_first first handed since a b c = omega (arith, a, b, c)
 
 pub returns-in-Ok : goal.returns-in-Ok
 returns-in-Ok g c =
@@ -23,8 +17,8 @@ returns-in-Ok g c =
         opening = c.in-Ok.ensures.back.gone_on.opening;
         matching = subst (λ (n : ℕ). MayClose entries n items) since c.in-Ok.ensures.back.matching;
         shared_out = subst (λ (n : ℕ). AreSharedOut (drop n entries) items) since
-            (c.in-Ok.ensures.shared_out c.requires.none_ended (from_first (length start.entries) (handed_of items) (held_from start c.in-Ok.store) first c.requires.none_handed since));
-        none_handed = none_out (length start.entries) c.in-Ok.store.handed since;
+            (c.in-Ok.ensures.shared_out c.requires.none_ended (omega (arith, first, c.requires.none_handed, since)));
+        none_handed = omega (arith, le-max_right (length start.entries) c.in-Ok.store.handed, since);
       };
       due = tt;
     }

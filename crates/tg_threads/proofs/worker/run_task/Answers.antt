@@ -2,26 +2,25 @@ use Rattle.std.proofs.Common.{arith, if◌then◌else◌, ◌+◌, ◌≤◌, �
 use Rattle.std.specs.Vec.{vec_len}
 use Rattle.std.proofs.lemmas.Result.{IfOk-weaker}
 use Rattle.tg_text.specs.declared.line.Line.{Line}
+use Rattle.tg_space.specs.declared.kind.Kind.TheVariants as kind
 use Rattle.tg_text.specs.declared.line.Line.TheVariants as line
 use Rattle.tg_script.specs.Script.{create_of, spawn_of}
 use Rattle.tg_weave.specs.Boxes.{Boxed}
 use Rattle.tg_weave.specs.Shares.{runner_of}
 use Rattle.tg_threads.specs.Output.{arena_of}
 use Rattle.tg_threads.specs.Tasks.{HasRun, is_deed, is_spawn_line}
-use Rattle.tg_threads.proofs.RunLaws.{asked_runs, create_each, full_runs, made_runs, minor_runs, plain_each, served_of}
+use Rattle.tg_threads.proofs.RunLaws.{asked_runs, collected_runs, create_each, made_runs, plain_each, served_of}
 use Rattle.tg_threads.proofs.worker.run_task.Goals as goal
 
 pub returns-in-Full-clause-run : goal.returns-in-Full-clause-run
 returns-in-Full-clause-run g c = λ workers before is by.
-    let s = c.args.session.now in
-    let P : Line → Type 0 = λ l. HasRun (arena_of g.L.Round.start c.args.helpers) before (record { line = l; value = c.args.task.draft }) c.collect.result s s in
-    subst P (sym c.in-Full.is) (full_runs (arena_of g.L.Round.start c.args.helpers) before c.args.task.draft c.collect.result s c.collect.ensures)
+    let b : Boxed = record { line = line.Full; value = c.args.task.draft } in
+    rw c.in-Full.is (collected_runs (arena_of g.L.Round.start c.args.helpers) before b kind.Full c.collect.result c.args.session.now (λ e a told. told) c.collect.ensures)
 
 pub returns-in-Minor-clause-run : goal.returns-in-Minor-clause-run
 returns-in-Minor-clause-run g c = λ workers before is by.
-    let s = c.args.session.now in
-    let P : Line → Type 0 = λ l. HasRun (arena_of g.L.Round.start c.args.helpers) before (record { line = l; value = c.args.task.draft }) c.collect-in-Minor.result s s in
-    subst P (sym c.in-Minor.is) (minor_runs (arena_of g.L.Round.start c.args.helpers) before c.args.task.draft c.collect-in-Minor.result s c.collect-in-Minor.ensures)
+    let b : Boxed = record { line = line.Minor; value = c.args.task.draft } in
+    rw c.in-Minor.is (collected_runs (arena_of g.L.Round.start c.args.helpers) before b kind.Nursery c.collect-in-Minor.result c.args.session.now (λ e a told. told) c.collect-in-Minor.ensures)
 
 pub returns-in-Plain-clause-run : goal.returns-in-Plain-clause-run
 returns-in-Plain-clause-run g c = λ workers before is by.

@@ -38,34 +38,18 @@ loop-task-preserved-in-Continue-1 g c =
     let w = c.index_mut.result.now in
     let after = c.give.new.work in
     let session_of : Work g.row.S.Denot g.row.P.Denot → g.row.S.Denot = λ v. v.session in
-    let step = dealt_step lines_in works n y (map boxed_of c.loop-task.yielded) (boxed_of task) w after low by c.loop-task.invariant.dealt c.index_mut.ensures.value c.in_ok-give.ensures.lines in
+    let step = dealt_step lines_in works n y (map boxed_of c.loop-task.yielded) (boxed_of task) w after low by c.loop-task.invariant.dealt c.index_mut.ensures.value c.in_ok-give-in-Some-runner.ensures.lines in
     record {
       left = one_more c.loop-task.yielded c.next.new.self.rest.items c.loop-task.task-iterator.rest.items c.args.tasks.items c.in-Some.task c.in-Some.ensures.steps.0 c.loop-task.invariant.left;
       dealt = subst (λ bs. IsDealt n bs (map lines_in (set works y after))) (sym (map_push boxed_of c.loop-task.yielded task)) step;
-      sessions = map-set_same session_of works y after w (c.in_ok-give.ensures.session ∙ ap session_of c.index_mut.ensures.value) ∙ c.loop-task.invariant.sessions;
+      sessions = map-set_same session_of works y after w (c.in_ok-give-in-Some-runner.ensures.session ∙ ap session_of c.index_mut.ensures.value) ∙ c.loop-task.invariant.sessions;
     }
-
-pub loop-task-preserved-in_default : goal.loop-task-preserved-in_default
-loop-task-preserved-in_default g c = record {
-  left = one_more c.loop-task.yielded c.next.new.self.rest.items c.loop-task.task-iterator.rest.items c.args.tasks.items c.in-Some.task c.in-Some.ensures.steps.0 c.loop-task.invariant.left;
-  dealt = dealt_nobodys boxed_of (length c.args.works.items) c.len-workers.result c.loop-task.yielded c.in-Some.task (map lines_in c.loop-task.works.items) (c.len-workers.ensures ∙ c.args.works.ok.0)
-      (sym c.runner.ensures ∙ c.in_default.is) c.loop-task.invariant.dealt;
-  sessions = c.loop-task.invariant.sessions;
-}
-
-pub loop-task-preserved-in_default-2 : goal.loop-task-preserved-in_default-2
-loop-task-preserved-in_default-2 g c = record {
-  left = one_more c.loop-task.yielded c.next.new.self.rest.items c.loop-task.task-iterator.rest.items c.args.tasks.items c.in-Some.task c.in-Some.ensures.steps.0 c.loop-task.invariant.left;
-  dealt = dealt_nobodys boxed_of (length c.args.works.items) c.len-workers.result c.loop-task.yielded c.in-Some.task (map lines_in c.loop-task.works.items) (c.len-workers.ensures ∙ c.args.works.ok.0)
-      (sym c.runner.ensures ∙ c.in_default.is) c.loop-task.invariant.dealt;
-  sessions = c.loop-task.invariant.sessions;
-}
 
 pub loop-task-preserved : goal.loop-task-preserved
 loop-task-preserved g c = record {
   left = one_more c.loop-task.yielded c.next.new.self.rest.items c.loop-task.task-iterator.rest.items c.args.tasks.items c.in-Some.task c.in-Some.ensures.steps.0 c.loop-task.invariant.left;
   dealt = dealt_nobodys boxed_of (length c.args.works.items) c.len-workers.result c.loop-task.yielded c.in-Some.task (map lines_in c.loop-task.works.items) (c.len-workers.ensures ∙ c.args.works.ok.0)
-      (sym c.runner.ensures ∙ c.in_default.is) c.loop-task.invariant.dealt;
+      (sym c.runner.ensures ∙ c.in-None-runner.is) c.loop-task.invariant.dealt;
   sessions = c.loop-task.invariant.sessions;
 }
 

@@ -8,8 +8,7 @@ use Rattle.tg_weave.proofs.sharing.share_out.Goals as goal
 
 pub deal-requires-clause-workers : goal.deal-requires-clause-workers
 deal-requires-clause-workers g c =
-    let session_of : Work g.row.S.Denot g.row.P.Denot → g.row.S.Denot = λ w. w.session in
-    subst (λ (n : ℕ). 0 < n) (sym (as_many session_of c.in_ok-works.works.items c.args.sessions.items c.in_ok-works.ensures.sessions)) c.requires
+    subst (λ (n : ℕ). 0 < n) (sym (as_many _ c.in_ok-works.works.items c.args.sessions.items c.in_ok-works.ensures.sessions)) c.requires
 
 pub returns-clause-sessions : goal.returns-clause-sessions
 returns-clause-sessions g c =
@@ -18,7 +17,6 @@ returns-clause-sessions g c =
 
 pub returns-clause-lines : goal.returns-clause-lines
 returns-clause-lines g c =
-    let session_of : Work g.row.S.Denot g.row.P.Denot → g.row.S.Denot = λ w. w.session in
     let whole : List Boxed = boxed c.args.stock.items c.args.lines.now in
-    subst (λ (n : ℕ). IfOk c.deal.result (λ works. map lines_in works.items ≡ all_lines n whole)) (as_many session_of c.in_ok-works.works.items c.args.sessions.items c.in_ok-works.ensures.sessions)
+    subst (λ (n : ℕ). IfOk c.deal.result (λ works. map lines_in works.items ≡ all_lines n whole)) (as_many _ c.in_ok-works.works.items c.args.sessions.items c.in_ok-works.ensures.sessions)
     (subst (λ (bs : List Boxed). IfOk c.deal.result (λ works. map lines_in works.items ≡ all_lines (length c.in_ok-works.works.items) bs)) c.in_ok-tasks.ensures c.deal.ensures.lines)
