@@ -16,12 +16,11 @@ each other, each script is run three times then, and the least counts.
 --write makes the figures anew, beside the kit that built the program: with another kit they are to be. PROGRAM is
 crates/tgstore/out/tgstore unless it is given. Exit status 1 where a collection takes more, or a run ended otherwise than it is to.
 Where valgrind isn't here, nothing is run."""
-import argparse
 import os
 import subprocess
 import sys
 
-from counted import BUILT, can_count, instructions
+from counted import instructions, run
 
 FIGURES = os.path.join(os.path.dirname(os.path.abspath(__file__)), "cells.figures")
 FEW, MANY = 5, 25
@@ -102,16 +101,9 @@ def check(program):
     return 1 if failed else 0
 
 
-def main():
-    words = argparse.ArgumentParser(usage=__doc__)
-    words.add_argument("program", nargs="?", default=BUILT)
-    words.add_argument("--write", action="store_true")
-    asked = words.parse_args()
-    if not can_count():
-        print("cells: valgrind isn't here: left out")
-        return 0
+def count(asked):
     return write_figures(asked.program) if asked.write else check(asked.program)
 
 
 if __name__ == "__main__":
-    sys.exit(main())
+    sys.exit(run("cells", __doc__, count, {"--write": {"action": "store_true"}}))

@@ -1,4 +1,5 @@
 """counted.py: what the scripts share that count the instructions of the program, under valgrind."""
+import argparse
 import os
 import re
 import shutil
@@ -13,6 +14,20 @@ BUILT = os.path.join(HERE, "..", "crates", "tgstore", "out", "tgstore")
 def can_count():
     """Whether valgrind is here."""
     return bool(shutil.which("valgrind"))
+
+
+def run(name, usage, check, options=None):
+    """Reads the command line, and where valgrind is, answers the status of the check, which is handed what was asked. It has the
+    program by the name of that, and these options with what argparse is told of each."""
+    words = argparse.ArgumentParser(usage=usage)
+    words.add_argument("program", nargs="?", default=BUILT)
+    for option, how in (options or {}).items():
+        words.add_argument(option, **how)
+    asked = words.parse_args()
+    if not can_count():
+        print(f"{name}: valgrind isn't here: left out")
+        return 0
+    return check(asked)
 
 
 def instructions(program, options, lines):

@@ -11,10 +11,9 @@ at most 1.5 times the first. No clause speaks of it: a walk over all that is the
 For each size two scripts are run, with and without the commands that are counted; their difference over the number of times is what
 one costs. PROGRAM is crates/tgstore/out/tgstore unless it is given; --only leaves out what hasn't the text in its name. Exit
 status 1 where one costs more, or a run ended otherwise than it is to. Where valgrind isn't here, nothing is run."""
-import argparse
 import sys
 
-from counted import BUILT, can_count, instructions
+from counted import instructions, run
 
 TIMES = 100
 MOST_TIMES = 1.5
@@ -56,17 +55,10 @@ def is_bounded(program, name):
     return many <= MOST_TIMES * few
 
 
-def main():
-    words = argparse.ArgumentParser(usage=__doc__)
-    words.add_argument("program", nargs="?", default=BUILT)
-    words.add_argument("--only", default="")
-    asked = words.parse_args()
-    if not can_count():
-        print("growth: valgrind isn't here: left out")
-        return 0
+def count(asked):
     kept = [is_bounded(asked.program, name) for name in CHECKS if asked.only in name]
     return 0 if all(kept) else 1
 
 
 if __name__ == "__main__":
-    sys.exit(main())
+    sys.exit(run("growth", __doc__, count, {"--only": {"default": ""}}))

@@ -11,7 +11,7 @@ PROGRAM is crates/tgstore/out/tgstore unless it is given. Exit status 1 where ta
 otherwise than it is to. Where valgrind isn't here, nothing is run."""
 import sys
 
-from counted import BUILT, can_count, instructions
+from counted import instructions, run
 
 SHORT_ROW, LONG_ROW = 200, 20_000
 NAMES = 100
@@ -36,15 +36,11 @@ def of_one_take(program, size):
     return (taken - made) / TAKES
 
 
-def main():
-    program = sys.argv[1] if len(sys.argv) > 1 else BUILT
-    if not can_count():
-        print("takes: valgrind isn't here: left out")
-        return 0
-    short, long = (of_one_take(program, size) for size in (SHORT_ROW, LONG_ROW))
+def count(asked):
+    short, long = (of_one_take(asked.program, size) for size in (SHORT_ROW, LONG_ROW))
     print(f"a take from a row of {SHORT_ROW}: {short:.0f} instructions; of {LONG_ROW}: {long:.0f}, {long / short:.2f} times as many")
     return 0 if long <= MOST_TIMES * short else 1
 
 
 if __name__ == "__main__":
-    sys.exit(main())
+    sys.exit(run("takes", __doc__, count))
