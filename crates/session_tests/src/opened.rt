@@ -2,25 +2,11 @@
 
 use std::alloc::Global;
 use std::sync::Wait;
-use tg_model::{Command, Law, Numbers, Opening, Value};
-use tg_payload::{CellPayload, Draft};
+use tg_model::{Command, Opening};
+use tg_payload::{CellPayload, Draft, values_of};
 use tg_rights::Label;
 use tg_shared::{Round, Session, SharedStore};
 use tg_store::{Limits, Store};
-
-// A cell with 0.
-fn zero() -> Value {
-    Value {
-        law: Law::Cell,
-        state: Numbers::one(0),
-    }
-}
-
-// An opening of two workers, who store cells with 0. Five vertices may be made.
-fn opening(alloc: Global) -> Option<Opening> {
-    let values = vec![in alloc; zero(), zero()].ok()?;
-    Opening::new(2, Vec::new(alloc), values, 5).ok()
-}
 
 // A draft of a cell with 0.
 fn draft(alloc: Global) -> Option<Draft<CellPayload>> {
@@ -29,20 +15,25 @@ fn draft(alloc: Global) -> Option<Draft<CellPayload>> {
 
 // The drafts of two workers.
 fn two_drafts(alloc: Global) -> Option<Vec<Draft<CellPayload>>> {
-    match (draft(alloc), draft(alloc)) {
-        (Some(first), Some(second)) => vec![in alloc; first, second].ok(),
-        _ => None,
+    let mut drafts = Vec::new(alloc);
+    for _ in 0..2 {
+        drafts.push(draft(alloc)?).ok()?;
     }
+    Some(drafts)
 }
 
-/// A store with this opening.
+// An opening of two workers with these drafts. Five vertices may be made.
+fn opening_of(alloc: Global, drafts: &[Draft<CellPayload>]) -> Option<Opening> {
+    let values = values_of(alloc, drafts).ok()?;
+    Opening::new(2, Vec::new(alloc), values, 5).ok()
+}
+
+/// A store of two workers, who store cells with 0.
 pub(crate) fn open_store(alloc: Global) -> Option<Store<CellPayload>> {
-    match (Limits::new(64, 16), opening(alloc), two_drafts(alloc)) {
-        (Ok(limits), Some(opening), Some(drafts)) => {
-            Store::open(alloc, opening, limits, drafts).ok()
-        }
-        _ => None,
-    }
+    let limits = Limits::new(64, 16).ok()?;
+    let drafts = two_drafts(alloc)?;
+    let opening = opening_of(alloc, &drafts)?;
+    Store::open(alloc, opening, limits, drafts).ok()
 }
 
 /// Lets the session make a vertex, which it may read and write. Whether it does.

@@ -16,7 +16,7 @@ use tg_store::{ApplyFault, Store};
 // A part of a journal: the place of its first entry, the one behind its last, and whether receipts match it.
 type Part = (u64, u64, bool);
 
-// What is seen while the store is shared.
+// What is seen while the store is shared: where it can't be, nothing.
 #[derive(Clone, Copy)]
 struct Told {
     // the bits of what each of the two sessions is told that it holds over the vertex that the first one made
@@ -28,6 +28,13 @@ struct Told {
     // how many edges a worker gives up who is ended, and why its session's next line is refused
     ended: (Option<u64>, Option<ApplyFault>),
 }
+
+const NOTHING: Told = Told {
+    labels: [0, 0],
+    parts: [(0, 0, false), (0, 0, false)],
+    taken_over: [false, false],
+    ended: (None, None),
+};
 
 // The bits of what the session's worker holds over vertex 2; 0 where it holds nothing.
 fn held_by<L: Round, R: Wait>(
@@ -146,24 +153,26 @@ fn tell<L: Round, R: Wait>(
     store: &SharedStore<L, CellPayload>,
     keeper: &mut Keeper<L>,
     sessions: &mut [Session<L>],
-) -> Option<Told>
+) -> Told
     requires in_parts { L.start.in_parts ≡ true }
     requires may_end { L.start.may_end ≡ true }
 {
     match sessions {
-        [first, second] => Some(tell_of_two(rt, alloc, store, keeper, first, second)),
-        _ => None,
+        [first, second] => tell_of_two(rt, alloc, store, keeper, first, second),
+        _ => NOTHING,
     }
 }
 
 // What is seen, and of the store that is had back with both sessions: how many entries its keeper made, how many there
 // are, and from which place on it holds them.
-type Seen = (Option<Told>, Option<[u64; 3]>);
+type Seen = (Told, Option<[u64; 3]>);
 
 // The numbers of the entries, where the store was had back.
-fn entries_of(entered: u64, closed: Option<&Store<CellPayload>>) -> Option<[u64; 3]> {
-    let journal = closed?.journal();
-    Some([entered, journal.len(), journal.start()])
+fn entries_of(entered: u64, closed: Option<Store<CellPayload>>) -> Option<[u64; 3]> {
+    let store = closed?;
+    let entries = [entered, store.journal().len(), store.journal().start()];
+    store.let_go();
+    Some(entries)
 }
 
 fn seen_of_shared<L: Round, R: Wait>(rt: &R, alloc: Global, shared: Shared<L, CellPayload>) -> Seen
@@ -178,10 +187,7 @@ fn seen_of_shared<L: Round, R: Wait>(rt: &R, alloc: Global, shared: Shared<L, Ce
     let told = tell(rt, alloc, &store, &mut keeper, &mut sessions);
     let locked = store.into_locked();
     let entered = locked.entered();
-    let closed = locked.close(sessions).ok();
-    let entries = entries_of(entered, closed.as_ref());
-    drop(closed);
-    (told, entries)
+    (told, entries_of(entered, locked.close(sessions).ok()))
 }
 
 fn seen_of_store<L: Round, R: Wait>(
@@ -196,7 +202,10 @@ fn seen_of_store<L: Round, R: Wait>(
 {
     match SharedStore::<L, CellPayload>::new(alloc, blank, store) {
         Ok(shared) => seen_of_shared(rt, alloc, shared),
-        Err(_) => (None, None),
+        Err(refused) => {
+            refused.store.let_go();
+            (NOTHING, None)
+        }
     }
 }
 
@@ -209,55 +218,41 @@ fn share<R: Wait>(rt: &R, alloc: Global, store: Store<CellPayload>) -> Seen {
 fn story<R: Wait>(rt: &R, alloc: Global) -> Seen {
     match open_store(alloc) {
         Some(store) => share(rt, alloc, store),
-        None => (None, None),
+        None => (NOTHING, None),
     }
 }
 
 // What is told of the store while it is shared.
-fn while_shared<R: Wait>(rt: &R, alloc: Global) -> Option<Told> {
+fn while_shared<R: Wait>(rt: &R, alloc: Global) -> Told {
     story(rt, alloc).0
-}
-
-// The labels, where they were told; and so on.
-fn labels<R: Wait>(rt: &R, alloc: Global) -> Option<[u8; 2]> {
-    Some(while_shared(rt, alloc)?.labels)
-}
-
-fn parts<R: Wait>(rt: &R, alloc: Global) -> Option<[Part; 2]> {
-    Some(while_shared(rt, alloc)?.parts)
-}
-
-fn taken_over<R: Wait>(rt: &R, alloc: Global) -> Option<[bool; 2]> {
-    Some(while_shared(rt, alloc)?.taken_over)
-}
-
-fn ended<R: Wait>(rt: &R, alloc: Global) -> Option<(Option<u64>, Option<ApplyFault>)> {
-    Some(while_shared(rt, alloc)?.ended)
 }
 
 // A session is told the label of its own worker.
 #[test]
 fn labels_are_told(rt: HostRuntime) {
-    assert_eq!(rt; labels(&rt, rt.alloc()), Some([3, 0]));
+    assert_eq!(rt; while_shared(&rt, rt.alloc()).labels, [3, 0]);
 }
 
 // A part begins where the last one ended, and the receipts so far match the first.
 #[test]
 fn a_journal_is_taken_in_parts(rt: HostRuntime) {
-    assert_eq!(rt; parts(&rt, rt.alloc()), Some([(0, 1, true), (1, 4, false)]));
+    assert_eq!(rt;
+        while_shared(&rt, rt.alloc()).parts,
+        [(0, 1, true), (1, 4, false)]
+    );
 }
 
 // A session with a receipt isn't taken over, and then it is.
 #[test]
 fn a_session_is_taken_over(rt: HostRuntime) {
-    assert_eq!(rt; taken_over(&rt, rt.alloc()), Some([false, true]));
+    assert_eq!(rt; while_shared(&rt, rt.alloc()).taken_over, [false, true]);
 }
 
 // A worker that is ended gives up its edge, and its session is answered that there is no such worker.
 #[test]
 fn a_worker_is_ended(rt: HostRuntime) {
     let wanted = (Some(1), Some(ApplyFault::NoSuchWorker));
-    assert_eq!(rt; ended(&rt, rt.alloc()), Some(wanted));
+    assert_eq!(rt; while_shared(&rt, rt.alloc()).ended, wanted);
 }
 
 // The store is closed without the session that was taken over, and with that of the worker that was ended; it holds
