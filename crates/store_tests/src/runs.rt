@@ -10,8 +10,7 @@ use std::test::Fail;
 use std::thread::Threads;
 use tg_payload::{CellPayload, Draft};
 use tg_script::{
-    Bytes, Count, Helpers, Limits, OneThread, ScriptFault, Settings, Written, drafts_of,
-    run_in_memory,
+    Bytes, Count, Helpers, Limits, OneThread, ScriptFault, Settings, Written, run_in_memory,
 };
 use tg_threads::{RaceFault, Turnstile, run_race};
 
@@ -31,8 +30,12 @@ fn settings() -> Option<Settings> {
 
 // What two workers store: cells with 0.
 fn cells(alloc: Global) -> Option<Vec<Draft<CellPayload>>> {
-    let cells = vec![in alloc; CellPayload::new(0), CellPayload::new(0)].ok()?;
-    drafts_of(alloc, cells).ok()
+    let mut cells = Vec::new(alloc);
+    for _ in 0..2 {
+        let cell = Draft::new(alloc, CellPayload::new(0)).ok()?;
+        cells.push(cell).ok()?;
+    }
+    Some(cells)
 }
 
 // As many lines as have more than 65,536 bytes of replies.

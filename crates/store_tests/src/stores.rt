@@ -40,10 +40,11 @@ fn draft(alloc: Global, tag: u64) -> Option<Draft<Tagged>> {
 
 // The drafts of two workers.
 fn two_drafts(alloc: Global) -> Option<Vec<Draft<Tagged>>> {
-    match (draft(alloc, 10), draft(alloc, 11)) {
-        (Some(first), Some(second)) => vec![in alloc; first, second].ok(),
-        _ => None,
+    let mut drafts = Vec::new(alloc);
+    for tag in 10..12 {
+        drafts.push(draft(alloc, tag)?).ok()?;
     }
+    Some(drafts)
 }
 
 // An opening of two workers with these drafts.
@@ -62,10 +63,9 @@ fn open(alloc: Global) -> Option<Store<Tagged>> {
 
 // Lets worker 0 make a vertex with the tag 12. Why it is refused, where it is.
 fn why_not_made(alloc: Global, store: &mut Store<Tagged>) -> Option<CreateFault> {
-    match (Label::read_text(b"rw"), draft(alloc, 12)) {
-        (Some(label), Some(draft)) => Some(store.create(0, label, draft).err()?.why),
-        _ => None,
-    }
+    let label = Label::read_text(b"rw")?;
+    let draft = draft(alloc, 12)?;
+    Some(store.create(0, label, draft).err()?.why)
 }
 
 // The tag of the vertex and its number, added up, where they are lent to worker 0, and else 0.
@@ -92,7 +92,7 @@ fn seen_of_lent(alloc: Global) -> Option<(bool, [u64; 2])> {
     let mut store = open(alloc)?;
     let is_done = makes_and_writes(alloc, &mut store);
     let seen = [lent(&store, 2), lent(&store, 0)];
-    drop(store);
+    store.let_go();
     Some((is_done, seen))
 }
 
@@ -118,7 +118,7 @@ fn seen_of_full(alloc: Global) -> Option<(Option<CreateFault>, [Option<RoomFault
     let why = why_full(alloc, &mut store);
     let full = store.collect(Kind::Full).err();
     let nursery = store.collect(Kind::Nursery).err();
-    drop(store);
+    store.let_go();
     Some((why, [full, nursery]))
 }
 
