@@ -1,6 +1,7 @@
 //! Collections that succeed, by one thread and by several helpers, and heaps to collect.
 ghost use Rattle.std.specs.Prelude.{◌≡◌, ◌<◌, ◌≤◌, length};
 ghost use Rattle.tg_space.specs.Soundness.{AreSound};
+ghost use Rattle.tg_space.specs.SpaceList.{cells_of};
 ghost use Rattle.tg_word.specs.Word.{IsPlace};
 
 mod helpers;
@@ -12,9 +13,9 @@ use std::sync::Wait;
 use std::thread::Threads;
 use tg_block::{CHUNK_TAG, OBJECT_TAG, WORDS};
 use tg_evac::collect_one;
-use tg_parallel::{HelpersFault, NoGate, collect_many, collect_seated};
+use tg_parallel::{Gate, HelpersFault, NoGate, collect_many, collect_seated};
 use tg_rights::{Right, Rights};
-use tg_space::{Forwarding, Kind, Limits, Root, Spaces, Spare};
+use tg_space::{Forwarding, Kind, Limits, RoomFault, Root, Spaces, Spare};
 use tg_word::{Place, Slot, pack};
 
 // The cells of a heap with one block of Old, one of Aged and one of a nursery.
@@ -149,20 +150,45 @@ fn as_taken(alloc: Global, roots: &[Root]) -> Result<Vec<Root>, AllocError> {
 fn same_at_a_seat(alloc: Global, spaces: &Spaces, roots: &[Root], kind: Kind) -> bool
     requires { AreSound spaces.now.spaces roots.now }
 {
-    let Ok(taken) = as_taken(alloc, roots) else {
-        return false;
-    };
-    if !are_sound(spaces, &taken) {
-        return false;
-    }
-    let one = collect_one(alloc, spaces, &taken, kind, Spare::none(alloc));
-    let seated = collect_seated(alloc, spaces, roots, kind, Spare::none(alloc));
-    match (&one, &seated) {
-        (Ok(one), Ok(seated)) => {
-            kind == Kind::Nursery || have_same_words(&one.forward, &seated.forward, spaces.cells())
+    match as_taken(alloc, roots) {
+        Ok(taken) => {
+            are_sound(spaces, &taken) && is_as_by_one(alloc, spaces, roots, kind, &taken)
         }
-        (Err(one), Err(seated)) => one == seated,
-        _ => false,
+        Err(_) => false,
+    }
+}
+
+// The same, where one thread has these roots.
+fn is_as_by_one(alloc: Global, spaces: &Spaces, roots: &[Root], kind: Kind, taken: &[Root]) -> bool
+    requires sound { AreSound spaces.now.spaces roots.now }
+    requires taken { AreSound spaces.now.spaces taken.now }
+{
+    match collect_one(alloc, spaces, taken, kind, Spare::none(alloc)) {
+        Ok(one) => is_moved_so(alloc, spaces, roots, kind, &one.forward),
+        Err(why) => is_refused_so(alloc, spaces, roots, kind, why),
+    }
+}
+
+// Whether a seat is served, and gives each cell this place in a full collection.
+fn is_moved_so(alloc: Global, spaces: &Spaces, roots: &[Root], kind: Kind, one: &Forwarding) -> bool
+    requires sound { AreSound spaces.now.spaces roots.now }
+    requires each { length one.now.words ≡ length (cells_of spaces.now.spaces) }
+{
+    match collect_seated(alloc, spaces, roots, kind, Spare::none(alloc)) {
+        Ok(seated) => {
+            kind == Kind::Nursery || have_same_words(one, &seated.forward, spaces.cells())
+        }
+        Err(_) => false,
+    }
+}
+
+// Whether a seat is refused for this.
+fn is_refused_so(alloc: Global, spaces: &Spaces, roots: &[Root], kind: Kind, why: RoomFault) -> bool
+    requires { AreSound spaces.now.spaces roots.now }
+{
+    match collect_seated(alloc, spaces, roots, kind, Spare::none(alloc)) {
+        Ok(_) => false,
+        Err(seated) => seated == why,
     }
 }
 
@@ -178,20 +204,21 @@ fn have_same_words(one: &Forwarding, other: &Forwarding, cells: u64) -> bool
     true
 }
 
-// Why a collection by so many helpers is refused.
-fn refusal_by<R: Threads + Wait + Sync>(
+// Why a collection by so many helpers, who pass the gate, is refused.
+fn refusal_by<R: Threads + Wait + Sync, G: Gate>(
     rt: &R,
     alloc: Global,
     spaces: &Spaces,
     roots: &[Root],
     kind: Kind,
     helpers: u32,
+    gate: &G,
 ) -> Option<HelpersFault>
     requires sound { AreSound spaces.now.spaces roots.now }
     requires many { (1 ≤ helpers) × (helpers ≤ 8) }
 {
     let spare = Spare::none(alloc);
-    collect_many(rt, alloc, spaces, roots, kind, helpers, &NoGate, spare).err()
+    collect_many(rt, alloc, spaces, roots, kind, helpers, gate, spare).err()
 }
 
 // The same of one helper, two and eight.
@@ -205,9 +232,9 @@ fn refusals<R: Threads + Wait + Sync>(
     requires { AreSound spaces.now.spaces roots.now }
 {
     [
-        refusal_by(rt, alloc, spaces, roots, kind, 1),
-        refusal_by(rt, alloc, spaces, roots, kind, 2),
-        refusal_by(rt, alloc, spaces, roots, kind, 8),
+        refusal_by(rt, alloc, spaces, roots, kind, 1, &NoGate),
+        refusal_by(rt, alloc, spaces, roots, kind, 2, &NoGate),
+        refusal_by(rt, alloc, spaces, roots, kind, 8, &NoGate),
     ]
 }
 
@@ -228,25 +255,24 @@ fn refusals_each_way<R: Threads + Wait + Sync>(
     Some(refusals(rt, alloc, spaces, roots, kind))
 }
 
-// The same of the linked cells by their rows, with this remembered chunk where there is one.
+// The same of the linked cells by their rows, with these remembered chunks.
 fn refusals_of_linked<R: Threads + Wait + Sync>(
     rt: &R,
     alloc: Global,
     kind: Kind,
-    remembered: Option<u64>,
+    remembered: &[Root],
 ) -> Option<[Option<HelpersFault>; 3]> {
     let spaces = heap_of(alloc, Content::Linked, 16)?;
     let mut roots = rows_of(alloc, Content::Linked, CELLS)?;
-    if let Some(number) = remembered {
-        roots.push(Root::Remembered(place_at(number))).ok()?;
-    }
+    roots.extend_from_slice(remembered).ok()?;
     refusals_each_way(rt, alloc, &spaces, &roots, kind)
 }
 
 // Rows, and for a nursery collection a remembered chunk of Old that refers to a young object.
 #[test]
 fn collections_succeed_where_there_is_room(rt: HostRuntime) {
-    let full = refusals_of_linked(&rt, rt.alloc(), Kind::Full, None);
-    let nursery = refusals_of_linked(&rt, rt.alloc(), Kind::Nursery, Some(22));
+    let remembered = [Root::Remembered(place_at(22))];
+    let full = refusals_of_linked(&rt, rt.alloc(), Kind::Full, &[]);
+    let nursery = refusals_of_linked(&rt, rt.alloc(), Kind::Nursery, &remembered);
     assert_eq!(rt; [full, nursery], [Some([None; 3]); 2]);
 }

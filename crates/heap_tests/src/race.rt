@@ -16,10 +16,22 @@ const SECOND: Place = Place {
     cell: 1,
 };
 
+// A list for each number, which has that alone.
+fn lists(alloc: Global, numbers: &[u64]) -> Result<Vec<Vec<u64>>, AllocError> {
+    let mut lists = Vec::new(alloc);
+    for number in numbers {
+        let mut list = Vec::new(alloc);
+        list.push(*number)?;
+        lists.push(list)?;
+    }
+    Ok(lists)
+}
+
 // Two roots, to the cells 0 and 1, which lead to one another; nothing leads to the cell 2.
 fn three_cells(alloc: Global) -> Result<World, AllocError> {
-    let roots = vec![in alloc; vec![in alloc; 0u64]?, vec![in alloc; 1]?]?;
-    let targets = vec![in alloc; vec![in alloc; 1u64]?, vec![in alloc; 0]?, Vec::new(alloc)]?;
+    let roots = lists(alloc, &[0, 1])?;
+    let mut targets = lists(alloc, &[1, 0])?;
+    targets.push(Vec::new(alloc))?;
     World::start(
         alloc,
         Shape {

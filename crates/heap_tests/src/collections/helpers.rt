@@ -2,14 +2,14 @@
 ghost use Rattle.std.specs.Prelude.{◌≤◌};
 
 use super::sound::are_sound;
-use super::{CELLS, Content, heap_of, rows_of, same_at_a_seat};
+use super::{CELLS, Content, heap_of, refusal_by, rows_of, same_at_a_seat};
 use std::alloc::Global;
 use std::sync::Wait;
 use std::sync::atomic::{AtomicU64, Ordering};
 use std::thread;
 use std::thread::Threads;
-use tg_parallel::{Gate, HelpersFault, NoGate, collect_many};
-use tg_space::{Kind, Root, Spaces, Spare};
+use tg_parallel::{Gate, HelpersFault, NoGate};
+use tg_space::{Kind, Root, Spaces};
 
 // A heap to collect: what stands in it, how many blocks each space may have, and how many first cells have their rows
 // as roots.
@@ -20,41 +20,38 @@ struct Heap {
     rows: u64,
 }
 
-// Whether a full collection of a sound heap by so many helpers, who pass the gate, is made, or why it is refused. One
-// by a seat is as one by one thread.
-fn outcome_of<R: Threads + Wait + Sync, G: Gate>(
+// Why a full collection of a sound heap by so many helpers, who pass the gate, is refused, where it is. One by a seat
+// is as one by one thread.
+fn refusal_of<R: Threads + Wait + Sync, G: Gate>(
     rt: &R,
     alloc: Global,
     spaces: &Spaces,
     roots: &[Root],
     helpers: u32,
     gate: &G,
-) -> Option<Result<(), HelpersFault>>
+) -> Option<Option<HelpersFault>>
     requires { (1 ≤ helpers) × (helpers ≤ 8) }
 {
     if !are_sound(spaces, roots) || !same_at_a_seat(alloc, spaces, roots, Kind::Full) {
         return None;
     }
-    let spare = Spare::none(alloc);
-    match collect_many(rt, alloc, spaces, roots, Kind::Full, helpers, gate, spare) {
-        Ok(_) => Some(Ok(())),
-        Err(why) => Some(Err(why)),
-    }
+    let kind = Kind::Full;
+    Some(refusal_by(rt, alloc, spaces, roots, kind, helpers, gate))
 }
 
 // The same of this heap.
-fn outcome<R: Threads + Wait + Sync, G: Gate>(
+fn refusal<R: Threads + Wait + Sync, G: Gate>(
     rt: &R,
     alloc: Global,
     heap: Heap,
     helpers: u32,
     gate: &G,
-) -> Option<Result<(), HelpersFault>>
+) -> Option<Option<HelpersFault>>
     requires { (1 ≤ helpers) × (helpers ≤ 8) }
 {
     let spaces = heap_of(alloc, heap.content, heap.space_blocks)?;
     let roots = rows_of(alloc, heap.content, heap.rows)?;
-    outcome_of(rt, alloc, &spaces, &roots, helpers, gate)
+    refusal_of(rt, alloc, &spaces, &roots, helpers, gate)
 }
 
 // A gate at which each of so many helpers waits at its first pass for all others, for so many turns, until one was
@@ -122,12 +119,13 @@ fn give_way() {
     }
 }
 
-// What helpers who met at a gate left: how often they passed it, whether one missed another, and what came of it.
+// What helpers who met at a gate left: how often they passed it, whether one missed another, and why they were refused,
+// where they were.
 #[derive(Clone, Copy, PartialEq, Eq, Debug)]
 struct Met {
     passes: u64,
     is_missed: bool,
-    outcome: Result<(), HelpersFault>,
+    refusal: Option<HelpersFault>,
 }
 
 // A full collection of the heap by so many helpers who meet.
@@ -135,11 +133,11 @@ fn met_on<R: Threads + Wait + Sync>(rt: &R, alloc: Global, heap: Heap, helpers: 
     requires { (1 ≤ helpers) × (helpers ≤ 8) }
 {
     let gate = Meet::of(alloc, helpers)?;
-    let outcome = outcome(rt, alloc, heap, helpers, &gate)?;
+    let refusal = refusal(rt, alloc, heap, helpers, &gate)?;
     Some(Met {
         passes: gate.passes(),
         is_missed: gate.is_missed(),
-        outcome,
+        refusal,
     })
 }
 
@@ -163,7 +161,7 @@ fn served_with(passes: u64) -> Option<Met> {
     Some(Met {
         passes,
         is_missed: false,
-        outcome: Ok(()),
+        refusal: None,
     })
 }
 
@@ -189,9 +187,9 @@ fn is_one_refused<R: Threads + Wait + Sync>(rt: &R, alloc: Global) -> Option<boo
         rows: 64,
     };
     let met = met_on(rt, alloc, heap, 2)?;
-    match (met.outcome, met.passes) {
-        (Err(HelpersFault::HeapFull), 9) => Some(true),
-        (Ok(()), 10) => Some(false),
+    match (met.refusal, met.passes) {
+        (Some(HelpersFault::HeapFull), 9) => Some(true),
+        (None, 10) => Some(false),
         _ => None,
     }
 }
@@ -213,12 +211,12 @@ fn a_refused_helper_stops_no_other(rt: HostRuntime) {
     assert_eq!(rt; is_one_of_twenty_refused(&rt, rt.alloc()), Some(true));
 }
 
-// What comes of a collection by so many helpers where all cells are live, and Old may have a block less than they need.
-fn outcome_of_full<R: Threads + Wait + Sync>(
+// Why a collection by so many helpers is refused where all cells are live, and Old may have a block less than they need.
+fn refusal_of_full<R: Threads + Wait + Sync>(
     rt: &R,
     alloc: Global,
     helpers: u32,
-) -> Option<Result<(), HelpersFault>>
+) -> Option<Option<HelpersFault>>
     requires { (1 ≤ helpers) × (helpers ≤ 8) }
 {
     let heap = Heap {
@@ -226,12 +224,14 @@ fn outcome_of_full<R: Threads + Wait + Sync>(
         space_blocks: 2,
         rows: CELLS,
     };
-    outcome(rt, alloc, heap, helpers, &NoGate)
+    refusal(rt, alloc, heap, helpers, &NoGate)
 }
 
 #[test]
 fn a_full_heap_is_refused(rt: HostRuntime) {
-    let refused = Some(Err(HelpersFault::HeapFull));
-    assert_eq!(rt; outcome_of_full(&rt, rt.alloc(), 1), refused);
-    assert_eq!(rt; outcome_of_full(&rt, rt.alloc(), 4), refused);
+    let refusals = [
+        refusal_of_full(&rt, rt.alloc(), 1),
+        refusal_of_full(&rt, rt.alloc(), 4),
+    ];
+    assert_eq!(rt; refusals, [Some(Some(HelpersFault::HeapFull)); 2]);
 }

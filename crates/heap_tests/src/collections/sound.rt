@@ -97,7 +97,10 @@ fn is_all_zero(words: &[u64]) -> bool
 fn has_object_layout(spaces: &Spaces, words: &[u64; WORDS]) -> bool
     ensures { IsTrue result → HasLayoutOf spaces.now.spaces words.now Object }
 {
-    words[3] == 0 && are_references(spaces, &words[4..7]) && is_link(spaces, words[7])
+    if words[3] != 0 {
+        return false;
+    }
+    are_references(spaces, &words[4..7]) && is_link(spaces, words[7])
 }
 
 fn has_chunk_layout(spaces: &Spaces, words: &[u64; WORDS]) -> bool
