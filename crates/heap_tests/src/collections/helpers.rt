@@ -211,7 +211,7 @@ fn a_refused_helper_stops_no_other(rt: HostRuntime) {
     assert_eq!(rt; is_one_of_twenty_refused(&rt, rt.alloc()), Some(true));
 }
 
-// Why a collection by so many helpers is refused where all cells are live, and Old may have a block less than they need.
+// Why a collection by so many helpers is refused where all cells live, and Old may have a block less than they need.
 fn refusal_of_full<R: Threads + Wait + Sync>(
     rt: &R,
     alloc: Global,
