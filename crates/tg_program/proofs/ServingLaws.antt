@@ -1,11 +1,12 @@
 -- A run with drafts of the payloads is a run from the start.
-use Rattle.std.proofs.Common.{◌≡◌, ◌≤◌, ◌<◌, ◌+◌, ◌∙◌, ℕ, List, map, replicate, Option, Some, Result, Ok, Err, IfErr, OnOk, true, false, ap, arith, inl, inr, refl, subst, sym}
+use Rattle.std.proofs.Common.{◌≡◌, ◌≤◌, ◌<◌, ◌+◌, ◌∙◌, ℕ, List, length, map, replicate, Option, Some, Result, Ok, Err, IfErr, OnOk, true, false, ap, arith, inl, inr, refl, subst, sym}
+use Rattle.std.proofs.lemmas.List.{length-replicate}
 use Rattle.std.specs.Prelude.{IsErrAnd, MatchResult}
 use Rattle.tg_model.specs.declared.value.Value.{Value}
 use Rattle.tg_text.specs.declared.fault.ScriptFault.{ScriptFault}
 use Rattle.tg_text.specs.declared.fault.ScriptFault.TheVariants as script
 use Rattle.tg_text.specs.declared.stock.StockItem.TheVariants.{Cell}
-use Rattle.tg_script.specs.Script.{start_with}
+use Rattle.tg_script.specs.Script.{MayStart, start_with}
 use Rattle.tg_script.specs.Lines.{read_failures}
 use Rattle.tg_threads.specs.declared.fault.RaceFault.{RaceFault}
 use Rattle.tg_threads.specs.Race.{HasRaced, race_read_failures, race_write_failures}
@@ -16,6 +17,11 @@ use Rattle.tg_program.specs.declared.stop.Stop.{Stop}
 use Rattle.tg_program.specs.declared.stop.Stop.TheVariants as stop
 use Rattle.tg_program.specs.Faults.{status_of_stop, stop_read_failures, stop_write_failures}
 use Rattle.tg_program.specs.Serving.{RanAs, Served, WasBegun, race_text_as, script_start_of}
+use Rattle.tg_program.specs.Starts.{IsReady}
+
+-- a script may start with a cell for each worker
+pub may_start : (start : Start) (values : List Value) → IsReady start → values ≡ replicate start.settings.workers (value_of Cell) → MayStart start.settings values
+may_start start values ready cells = record { number = ready; workers = ap length cells ∙ length-replicate start.settings.workers (value_of Cell) }
 
 pub ran_from : {T : Type 0} (start : Start) (values stock : List Value) (bytes before : List ℕ) (r : Result T ScriptFault) (left : List ℕ) (after : Option (List ℕ)) → values ≡ replicate start.settings.workers (value_of Cell) → stock ≡ map value_of start.stock.items → RanAs start.entries (start_with start.settings values stock) bytes before r left after → RanAs start.entries (script_start_of start) bytes before r left after
 ran_from start values stock bytes before r left after workers boxes ran =

@@ -1,17 +1,22 @@
 -- What the words of the command line say. How they are taken apart is clap's matter: behind the program's name `--NAME` takes
 -- the next word, `--NAME=TEXT` takes the text, `--race`, `--entries` and `--why` stand alone, and no option comes twice.
-use Rattle.std.specs.Prelude.{◌≡◌, ℕ, Bool, true, false, List, [], Option, Some, None, codes, unwrap_or}
+use Rattle.std.specs.Prelude.{◌≡◌, ℕ, Bool, true, false, List, [], ◌∷◌, Option, Some, None, codes, unwrap_or}
 use Rattle.std.specs.Option.{option_map_or}
 use Rattle.std.specs.Str.Parse.{digits_value, without_leading_plus}
 use Rattle.tg_word.specs.declared.TheConstants.{MOST_SPACE_BLOCKS}
 use Rattle.clap.specs.Words.{App, Rule, first_of, matches_of, new_app, new_rule, one_of, one_text, rule_of, with_rule}
 use Rattle.clap.specs.Simple.{on_top}
 use Rattle.clap.specs.declared.builder.arg.Arg.{Arg}
+use Rattle.clap.specs.declared.builder.action.ArgAction.{ArgAction}
 use Rattle.clap.specs.declared.builder.action.ArgAction.TheVariants.{Set, SetTrue}
 use Rattle.clap.specs.declared.builder.value_parser.ValueParser.TheVariants.{Unsigned}
 use Rattle.clap.specs.declared.parser.matches.Found.{Found}
 use Rattle.tg_script.specs.declared.run_script.Settings.{Settings}
 use Rattle.tg_program.specs.declared.settings.Options.{Options}
+
+-- an option with this action
+abbrev pub rule_with : List ℕ → ArgAction → Rule
+rule_with name action = record (new_rule name) { long = Some name; action = Some action }
 
 -- an option with one value
 abbrev pub option_rule : List ℕ → Rule
@@ -29,6 +34,25 @@ flag_rule name = record (new_rule name) { long = Some name; action = Some SetTru
 pub record IsArgOf (asked : Rule) (arg : Arg) : Type 0 where
   pub rule : rule_of arg ≡ asked
   pub local : arg.global ≡ false
+
+-- options of these rules, in turn
+abbrev pub AreArgsOf : List Rule → List Arg → Type 0
+AreArgsOf [] [] = Unit {0}
+AreArgsOf (rule ∷ rules) (arg ∷ args) = IsArgOf rule arg × AreArgsOf rules args
+AreArgsOf rules args = ⊥
+
+-- the rules of the options that there are
+abbrev pub option_rules : List Rule
+option_rules =
+    number_rule (codes "workers")
+    ∷ number_rule (codes "helpers")
+    ∷ number_rule (codes "vertices")
+    ∷ number_rule (codes "blocks")
+    ∷ option_rule (codes "stock")
+    ∷ flag_rule (codes "race")
+    ∷ flag_rule (codes "entries")
+    ∷ flag_rule (codes "why")
+    ∷ []
 
 -- the program, which has a version
 abbrev pub bare_line : App

@@ -7,7 +7,7 @@ use crate::on_threads::OnThreads;
 use crate::settings::Options;
 use crate::start::{StartFault, prepare};
 use crate::stop::{Failure, Stop};
-use crate::streams::{Ended, serve_buffered};
+use crate::streams::serve_buffered;
 use crate::words::options;
 use clap::Error;
 use clap::error::ErrorKind;
@@ -52,20 +52,29 @@ pub fn exit_status(outcome: &Result<u8, Stop>) -> u8
     }
 }
 
-// Does what the words ask for, and answers the status.
+// Does what the words of the command line ask for, and answers the status.
 fn obey_words<R, I, O>(rt: &R, reader: I, writer: O) -> Result<u8, Failure>
 where
     R: AllocGlobal + Env + Print + Eprint + Threads + Wait + Sync,
     I: Read + Drop,
     O: Write + Drop,
 {
-    let words = words_of(rt)?;
-    match options(rt.alloc(), words.as_slice()) {
-        Ok(options) => {
-            serve_streams(rt, reader, writer, &options)?;
-            Ok(0)
-        }
-        Err(error) => Ok(tell(rt, &error)?),
+    match words_of(rt) {
+        Ok(words) => obey_texts(rt, reader, writer, words.as_slice()),
+        Err(stop) => Err(Failure::from(stop)),
+    }
+}
+
+// The same, of words that are text.
+fn obey_texts<R, I, O>(rt: &R, reader: I, writer: O, words: &[String]) -> Result<u8, Failure>
+where
+    R: AllocGlobal + Print + Eprint + Threads + Wait + Sync,
+    I: Read + Drop,
+    O: Write + Drop,
+{
+    match options(rt.alloc(), words) {
+        Ok(options) => serve_streams(rt, reader, writer, &options).and(Ok(0)),
+        Err(error) => tell(rt, &error).map_err(Failure::from),
     }
 }
 
@@ -105,19 +114,14 @@ where
     requires { AreInRange options.now.settings }
 {
     let alloc = rt.alloc();
-    let start = prepare(alloc, options).map_err(Stop::Start)?;
-    let Ended {
-        outcome,
-        reason,
-        ..
-    } = serve_buffered(
-        rt,
-        alloc,
-        &OnThreads::new(rt, alloc),
-        reader,
-        writer,
-        &start,
-        options.why,
-    )?;
-    outcome.map_err(|stop| Failure { stop, reason })
+    match prepare(alloc, options) {
+        Ok(start) => {
+            let collector = OnThreads::new(rt, alloc);
+            match serve_buffered(rt, alloc, &collector, reader, writer, &start, options.why) {
+                Ok(ended) => ended.into_outcome(),
+                Err(stop) => Err(Failure::from(stop)),
+            }
+        }
+        Err(fault) => Err(Failure::from(Stop::Start(fault))),
+    }
 }

@@ -18,13 +18,13 @@ pub enum Stop {
     #[error("write failed")]
     HelpUnwritten,
     /// Nothing was read, since a run can't start.
-    #[error("{0}")]
+    #[error(transparent)]
     Start(StartFault),
     /// The run met this fault.
-    #[error("{0}")]
+    #[error(transparent)]
     Script(ScriptFault),
     /// The race met this fault.
-    #[error("{0}")]
+    #[error(transparent)]
     Race(RaceFault),
 }
 

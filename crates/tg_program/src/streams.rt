@@ -9,7 +9,7 @@ ghost use Rattle.tg_program.specs.Starts.{MayServe};
 use crate::boxes::serve_with_boxes;
 use crate::noted::Noted;
 use crate::start::{Start, StartFault};
-use crate::stop::Stop;
+use crate::stop::{Failure, Stop};
 use std::alloc::Global;
 use std::io::{BufRead, BufReader, BufWriter, Read, Write};
 use std::marker::Brand;
@@ -29,6 +29,18 @@ pub(crate) struct Ended<R: Drop, W: Drop> {
     pub writer: W,
     pub outcome: Result<(), Stop>,
     pub reason: Option<&'static str>,
+}
+
+impl<R: Drop, W: Drop> Ended<R, W> {
+    /// How the run ended, and why a line was bad, where that was asked for.
+    pub(crate) fn into_outcome(self) -> Result<(), Failure> {
+        let Ended {
+            outcome,
+            reason,
+            ..
+        } = self;
+        outcome.map_err(|stop| Failure { stop, reason })
+    }
 }
 
 /// Runs the reader's script from the start with new boxes, and writes the replies. Whatever was written is flushed

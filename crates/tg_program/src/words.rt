@@ -4,13 +4,13 @@ ghost use Rattle.tg_space.specs.declared.limits.TheConstants.{MOST_BLOCKS};
 ghost use Rattle.tg_word.specs.declared.TheConstants.{MOST_SPACE_BLOCKS};
 ghost use Rattle.clap.specs.Words.{app_of, first_value, found_of, one_text};
 ghost use Rattle.tg_program.specs.Ranges.{AreInRange};
-ghost use Rattle.tg_program.specs.Words.{AreFound, AreSaid, IsArgOf, IsFlag, command_line, flag_rule, number_or, number_rule, option_rule};
+ghost use Rattle.tg_program.specs.Words.{AreFound, AreSaid, IsArgOf, IsFlag, bare_line, command_line, number_or, number_rule, option_rule, rule_with};
 
 use crate::help;
 use crate::settings::Options;
 use clap::error::ErrorKind;
 use clap::{Arg, ArgAction, ArgMatches, Command, Error};
-use std::alloc::Global;
+use std::alloc::{AllocError, Global};
 use std::convert::AsStr;
 use tg_model::{MAX_VERTICES, MAX_WORKERS};
 use tg_script::{Helpers, Limits, MOST_HELPERS, Settings};
@@ -37,17 +37,38 @@ pub fn options<'a, S: AsStr>(alloc: Global, words: &'a [S]) -> Result<Options<'a
     ensures said { IfOk result (AreSaid (map S.text words.entry.now)) }
     ensures in_range { IfOk result (λ o. AreInRange o.settings) }
 {
-    let mut command = command(alloc)?;
+    match command(alloc) {
+        Ok(mut command) => options_by(alloc, &mut command, words),
+        Err(wanting) => Err(Error::from(wanting)),
+    }
+}
+
+// The same, by this command line.
+fn options_by<'a, S: AsStr>(
+    alloc: Global,
+    command: &mut Command<'a>,
+    words: &'a [S],
+) -> Result<Options<'a>, Error>
+    requires { app_of command.now ≡ command_line }
+    ensures said { IfOk result (AreSaid (map S.text words.entry.now)) }
+    ensures in_range { IfOk result (λ o. AreInRange o.settings) }
+{
     let matches = command.try_get_matches_from_mut(words)?;
-    options_of(alloc, &mut command, &matches)
+    match options_of(&matches) {
+        Ok(options) => Ok(options),
+        Err(bad) => Err(error_of(alloc, command, &matches, bad)),
+    }
+}
+
+// The number of an option that is not in its range.
+#[derive(Clone, Copy)]
+struct BadNumber {
+    name: &'static str,
+    most: u64,
 }
 
 // The options that were found in the words, and the defaults of the others.
-fn options_of<'a>(
-    alloc: Global,
-    command: &mut Command,
-    matches: &ArgMatches<'a>,
-) -> Result<Options<'a>, Error>
+fn options_of<'a>(matches: &ArgMatches<'a>) -> Result<Options<'a>, BadNumber>
     ensures found { IfOk result (λ o. AreFound (found_of matches.now) o.settings) }
     ensures race { IfOk result (λ o. IsFlag (one_text (found_of matches.now) (codes "race")) o.race) }
     ensures entries { IfOk result (λ o. IsFlag (one_text (found_of matches.now) (codes "entries")) o.entries) }
@@ -55,57 +76,27 @@ fn options_of<'a>(
     ensures stock { IfOk result (λ o. o.stock.now ≡ unwrap_or (first_value (found_of matches.now) (codes "stock")) []) }
     ensures in_range { IfOk result (λ o. AreInRange o.settings) }
 {
-    let settings = settings_of(alloc, command, matches)?;
-    Ok(Options {
-        settings,
-        race: matches.get_flag("race"),
-        entries: matches.get_flag("entries"),
-        why: matches.get_flag("why"),
-        stock: matches.get_str("stock").unwrap_or(""),
-    })
+    match settings_of(matches) {
+        Ok(settings) => Ok(Options {
+            settings,
+            race: matches.get_flag("race"),
+            entries: matches.get_flag("entries"),
+            why: matches.get_flag("why"),
+            stock: matches.get_str("stock").unwrap_or(""),
+        }),
+        Err(bad) => Err(bad),
+    }
 }
 
 // The numbers that were found in the words, and the defaults of the others.
-fn settings_of(
-    alloc: Global,
-    command: &mut Command,
-    matches: &ArgMatches,
-) -> Result<Settings, Error>
+fn settings_of(matches: &ArgMatches) -> Result<Settings, BadNumber>
     ensures found { IfOk result (AreFound (found_of matches.now)) }
     ensures in_range { IfOk result AreInRange }
 {
-    let workers = number(
-        alloc,
-        command,
-        matches,
-        "workers",
-        DEFAULT_WORKERS,
-        MAX_WORKERS,
-    )?;
-    let helpers = number(
-        alloc,
-        command,
-        matches,
-        "helpers",
-        DEFAULT_HELPERS,
-        u64::from(MOST_HELPERS),
-    )?;
-    let max_vertices = number(
-        alloc,
-        command,
-        matches,
-        "vertices",
-        DEFAULT_VERTICES,
-        MAX_VERTICES,
-    )?;
-    let blocks = number(
-        alloc,
-        command,
-        matches,
-        "blocks",
-        DEFAULT_BLOCKS,
-        MOST_BLOCKS,
-    )?;
+    let workers = number(matches, "workers", DEFAULT_WORKERS, MAX_WORKERS)?;
+    let helpers = number(matches, "helpers", DEFAULT_HELPERS, u64::from(MOST_HELPERS))?;
+    let max_vertices = number(matches, "vertices", DEFAULT_VERTICES, MAX_VERTICES)?;
+    let blocks = number(matches, "blocks", DEFAULT_BLOCKS, MOST_BLOCKS)?;
     Ok(Settings {
         workers,
         helpers: helpers_of(helpers),
@@ -140,7 +131,7 @@ fn limits_of(blocks: u64) -> Limits
 }
 
 // The command line.
-fn command<'a>(alloc: Global) -> Result<Command<'a>, Error>
+fn command<'a>(alloc: Global) -> Result<Command<'a>, AllocError>
     ensures { IfOk result (λ command. app_of command ≡ command_line) }
 {
     let options = vec![in alloc;
@@ -149,28 +140,43 @@ fn command<'a>(alloc: Global) -> Result<Command<'a>, Error>
         number_arg(alloc, "vertices", help::VERTICES),
         number_arg(alloc, "blocks", help::BLOCKS),
         option_arg(alloc, "stock", "TEXT", help::STOCK),
-        flag_arg(alloc, "race", help::RACE),
-        flag_arg(alloc, "entries", help::ENTRIES),
-        flag_arg(alloc, "why", help::WHY),
+        arg_of(alloc, "race", help::RACE, ArgAction::SetTrue),
+        arg_of(alloc, "entries", help::ENTRIES, ArgAction::SetTrue),
+        arg_of(alloc, "why", help::WHY, ArgAction::SetTrue),
     ]?;
-    let command = Command::new(alloc, "tgstore")
-        .bin_name("tgstore")?
-        .version(help::VERSION)
-        .about(help::ABOUT)
-        .after_help(help::MANUAL)
-        .args(options)?;
-    Ok(command)
+    match bare_command(alloc) {
+        Ok(command) => command.args(options),
+        Err(wanting) => Err(wanting),
+    }
+}
+
+// The same, without its options.
+fn bare_command<'a>(alloc: Global) -> Result<Command<'a>, AllocError>
+    ensures { IfOk result (λ command. app_of command ≡ bare_line) }
+{
+    match Command::new(alloc, "tgstore").bin_name("tgstore") {
+        Ok(command) => Ok(
+            command
+                .version(help::VERSION)
+                .about(help::ABOUT)
+                .after_help(help::MANUAL),
+        ),
+        Err(wanting) => Err(wanting),
+    }
+}
+
+// An option with this action.
+fn arg_of<'a>(alloc: Global, name: &'a str, help: &'a str, action: ArgAction) -> Arg<'a>
+    ensures arg { IsArgOf (rule_with name.entry.now action) result }
+{
+    Arg::new(alloc, name).long(name).help(help).action(action)
 }
 
 // An option with one value.
 fn option_arg<'a>(alloc: Global, name: &'a str, value: &'a str, help: &'a str) -> Arg<'a>
     ensures arg { IsArgOf (option_rule name.entry.now) result }
 {
-    Arg::new(alloc, name)
-        .long(name)
-        .value_name(value)
-        .help(help)
-        .action(ArgAction::Set)
+    arg_of(alloc, name, help, ArgAction::Set).value_name(value)
 }
 
 // An option whose value is a number.
@@ -180,25 +186,13 @@ fn number_arg<'a>(alloc: Global, name: &'a str, help: &'a str) -> Arg<'a>
     option_arg(alloc, name, "N", help).value_parser(clap::value_parser!(u64))
 }
 
-// An option with no value.
-fn flag_arg<'a>(alloc: Global, name: &'a str, help: &'a str) -> Arg<'a>
-    ensures arg { IsArgOf (flag_rule name.entry.now) result }
-{
-    Arg::new(alloc, name)
-        .long(name)
-        .help(help)
-        .action(ArgAction::SetTrue)
-}
-
 // The number of an option, from 1 to `most`, or the default where the words don't have the option.
 fn number(
-    alloc: Global,
-    command: &mut Command,
     matches: &ArgMatches,
-    name: &str,
+    name: &'static str,
     default: u64,
     most: u64,
-) -> Result<u64, Error>
+) -> Result<u64, BadNumber>
     requires least { 1 ≤ default }
     requires most { default ≤ most }
     ensures in_range { IfOk result (λ n. (1 ≤ n) × (n ≤ most)) }
@@ -207,12 +201,29 @@ fn number(
     match matches.try_get_one::<u64>(name) {
         Ok(None) => Ok(default),
         Ok(Some(n)) if 1 <= n && n <= most => Ok(n),
-        _ => {
-            let text = matches.get_str(name).unwrap_or("");
-            let message = format!(in alloc;
-                "invalid value '{text}' for '--{name} <N>': {text} is not in 1..={most}"
-            )?;
-            Err(command.error(ErrorKind::ValueValidation, message.as_str())?)
-        }
+        _ => Err(BadNumber { name, most }),
     }
+}
+
+// The error of a number that is not in its range, or want of memory.
+fn error_of(alloc: Global, command: &mut Command, matches: &ArgMatches, bad: BadNumber) -> Error {
+    match tell_range(alloc, command, matches, bad) {
+        Ok(error) => error,
+        Err(wanting) => Error::from(wanting),
+    }
+}
+
+// What is said of a number that is not in its range.
+fn tell_range(
+    alloc: Global,
+    command: &mut Command,
+    matches: &ArgMatches,
+    bad: BadNumber,
+) -> Result<Error, AllocError> {
+    let BadNumber { name, most } = bad;
+    let text = matches.get_str(name).unwrap_or("");
+    let message = format!(in alloc;
+        "invalid value '{text}' for '--{name} <N>': {text} is not in 1..={most}"
+    )?;
+    command.error(ErrorKind::ValueValidation, message.as_str())
 }

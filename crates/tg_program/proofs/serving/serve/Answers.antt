@@ -1,7 +1,18 @@
 use Rattle.std.proofs.Common.{◌∙◌, ap, refl, ◌+◌}
 use Rattle.tg_program.specs.declared.stop.Stop.TheVariants as stop
-use Rattle.tg_program.proofs.ServingLaws.{is_told, not_begun, raced_from, ran_from, read_race, read_run, served_none, served_race, served_run, status_told, unfailed_told, wanting, wanting_read, wanting_status, wanting_unfailed, wanting_write, write_race, write_run}
+use Rattle.tg_program.proofs.ServingLaws.{is_told, may_start, not_begun, raced_from, ran_from, read_race, read_run, served_none, served_race, served_run, status_told, unfailed_told, wanting, wanting_read, wanting_status, wanting_unfailed, wanting_write, write_race, write_run}
 use Rattle.tg_program.proofs.serving.serve.Goals as goal
+
+pub race-requires-clause-startable : goal.race-requires-clause-startable
+race-requires-clause-startable g c = λ lifetimes outlive. may_start c.args.start.now c.in_ok-workers.workers.items c.requires.servable.ready (c.in_ok-workers.ensures ∙ c.requires.payloads.0)
+
+pub run-requires : goal.run-requires
+run-requires g c = record {
+  runnable = record {
+    ready = c.requires.servable.collector;
+    startable = may_start c.args.start.now c.in_ok-workers.workers.items c.requires.servable.ready (c.in_ok-workers.ensures ∙ c.requires.payloads.0);
+  };
+}
 
 pub returns-in_err-workers : goal.returns-in_err-workers
 returns-in_err-workers g c =

@@ -3,18 +3,17 @@ use Rattle.clap.specs.Words.{App, found_of, is_simple, matches_of}
 use Rattle.clap.specs.Walk.{rows_of}
 use Rattle.clap.proofs.OnLiterals.{clap_on_literals}
 use Rattle.tg_program.specs.Words.{command_line}
-use Rattle.tg_program.proofs.WordLaws.{are_said}
-use Rattle.tg_program.proofs.words.options.Goals as goal
+use Rattle.tg_program.proofs.WordLaws.{said_of}
+use Rattle.tg_program.proofs.words.options_by.Goals as goal
 
 is_simple_line : is_simple command_line ≡ true
 unfolding clap_on_literals
 is_simple_line = refl
 
-pub returns-clause-said : goal.returns-clause-said
-returns-clause-said g c =
+pub returns-in-Ok-clause-said : goal.returns-in-Ok-clause-said
+returns-in-Ok-clause-said g c =
     let words = map g.S.AsStr.text c.args.words.now in
     let found = found_of c.in_ok-matches.matches in
-    let line = c.in_ok-command.ensures in
     let rows : rows_of found ≡ matches_of command_line words =
-    (c.in_ok-matches.ensures.ok.2 (ap is_simple line ∙ is_simple_line)).0 ∙ ap (λ (a : App). matches_of a words) line in
-    are_said words found c.options_of.result rows c.options_of.ensures.found c.options_of.ensures.race c.options_of.ensures.entries c.options_of.ensures.why c.options_of.ensures.stock
+    (c.in_ok-matches.ensures.ok.2 (ap is_simple c.requires ∙ is_simple_line)).0 ∙ ap (λ (a : App). matches_of a words) c.requires in
+    said_of words found c.in-Ok.options rows c.in-Ok.ensures.found c.in-Ok.ensures.race c.in-Ok.ensures.entries c.in-Ok.ensures.why c.in-Ok.ensures.stock
