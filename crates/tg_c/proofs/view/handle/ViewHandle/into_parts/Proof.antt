@@ -1,41 +1,28 @@
 -- `into_parts` moves two fields, and what they own goes with them.
-use Rattle.tg_c.proofs.Handles.{of_sight as E, refl, sym, subst, List, [], ◌∷◌, ◌++◌, Ura, Val, ◌≡◌, Bool, true, fact, heard, SProp, ent, id⊢, ftrue, fsep, Memory, Routine, WpFn, Tables, Logic, Fun, WpFn-mono, Item, ‵, raw, ◌⊛◌, ◌$◌, ◌∵◌, !, qed, by, move, drop, use1, join, rewrite, split, fsplit, fjoin, suffices, done, whole, sub, agg, stop, fld, no_more, and_then, of_opd, returns, enter, alloc_all, pass_all, free_all, look_at, get, get_in, sets, yes, type_at, nothing, triple_of, entered, says, Stays, stay_dropped, walk_of, ends_at, Goes-dropped, walk_Meets, D, word, box_typed, box_out, box_in, From}
-use Rattle.tg_c.specs.contracts.view.handle.ViewHandle as Handle
+use Rattle.std.specs.Prelude.{◌≡◌, Bool, true}
+use mathlib.Core.Path.{refl, sym, subst}
+use base.Logic.{ent}
+use types.Logic.{sem}
+use base.Logic.{id⊢}
+use prog.Wp.{Tables}
 use contract.Running.{tables, tables_of}
+use denote.Triple.Spec.{triple_of}
+use denote.Triple.Table.{entered}
+use Rattle.std_alloc.proofs.BoxSteps.Form.{D, B}
+use Rattle.tg_c.proofs.Handles.{of_sight as E, Meets-into}
+use Rattle.tg_c.specs.contracts.view.handle.ViewHandle as Handle
 use Rattle.tg_c.specs.contracts.view.handle.ViewHandle.into_parts as F
 use Rattle.tg_c.specs.contracts.view.handle.ViewHandle.into_parts.Key.{name as #self}
 use Rattle.tg_c.proofs.view.handle.ViewHandle.into_parts.Statement as stated
 use Rattle.tg_c.proofs.view.handle.ViewHandle.into_parts.Code as code
 
-abbrev stayed : Stays (F.ended).signature.params (F.ended).kept
-stayed = (stay_dropped (From Handle.the_row) yes, tt)
-
-module _ {M : Type 1} {𝓤 : Ura M} (𝓛 : Logic 𝓤) (at_mem : Memory → SProp 𝓤) (run : Routine → Fun 𝓤) (𝓣 : Tables 𝓤 𝓛.H) where
-  open 𝓛 use {H}
-
-  walk : (z : (walk_of 𝓛 F.ended stayed (F.clauses 𝓛 at_mem run)).Ghost)
-      → ent 𝓤 ((walk_of 𝓛 F.ended stayed (F.clauses 𝓛 at_mem run)).pre z) (WpFn 𝓤 H 𝓣.C 𝓣.Λ code.function (z.0.4.0 ++ []) ((walk_of 𝓛 F.ended stayed (F.clauses 𝓛 at_mem run)).post z))
-  walk z =
-      let Post = (walk_of 𝓛 F.ended stayed (F.clauses 𝓛 at_mem run)).post z in
-      let v : D E = record { ptr = z.0.3.0.at; alloc = z.0.3.0.alloc; value = z.0.3.0.opened } in
-      let To = type_at (F.signature).result tt in
-      let made : To.Denot = record { ptr = v.ptr; alloc = v.alloc; value = v.value } in
-      qed 𝓛 ((‵ ftrue ⊛ ‵ (fsep (Handle.the_row.own_val z.0.3.0 z.0.4.0) ftrue)) ∷ raw (fact 𝓤 (z.0.3.0.is_open ≡ true)) ∷ []) ∵ move ! (1 ∷ []) $ heard ! (z.0.3.0.is_open ≡ true) (λ opened. split ! $ drop ! $ fsplit ! $
-      rewrite ! 0 (λ (t : Bool). ‵ (Handle.the_row.own_val (record z.0.3.0 { is_open = t }) z.0.4.0)) opened refl $
-      box_out E ! v z.0.4.0 (λ b o hv e ws fa. box_in E ! v b o v.value e refl $ use1 𝓛 (‵ (To.own_val made (word E hv b o ∷ []))) (id⊢ 𝓤 _) $ move ! (1 ∷ 2 ∷ []) $ drop ! $ drop ! $
-      let w = word E hv b o in
-      let Γ : List (Item 𝓤) = ‵ (To.own_val made (w ∷ [])) ∷ [] in
-      by ! (subst (λ (us : List Val). ent 𝓤 (types.Kit.⋆ 𝓛 Γ) (WpFn 𝓤 H 𝓣.C 𝓣.Λ code.function (us ++ []) Post)) (sym ws)
-      (qed 𝓛 Γ ∵ enter ! 𝓣.C 𝓣.Λ code.function (w ∷ []) _ $ alloc_all ! (λ ls. pass_all ! refl (box_typed E hv b o fa, tt) $
-      sets ! (of_opd ! (get_in ! (fld ! refl (stop !)) (sub ! 0 refl (whole !)))) refl (tt, tt) $ sets ! (of_opd ! (get_in ! (fld ! refl (stop !)) (sub ! 1 refl (whole !)))) refl fa $
-      sets ! (of_opd ! (get ! refl)) refl (tt, tt) $ sets ! (agg ! (and_then ! (get ! refl) (and_then ! (get ! refl) (no_more !)))) refl (box_typed E hv b o fa) $ returns ! (look_at ! 0 refl) $ free_all ! refl $
-      suffices ! _ (ends_at 𝓛 F.ended stayed (F.clauses 𝓛 at_mem run) z w made (tt, tt) (tt, tt)) $ says ! refl $
-      nothing ! $ nothing ! $ fjoin ! $ join ! $ nothing ! $ join ! $ done !)))))
+abbrev box : Handle.the_row.Denot → D E
+box h = record { ptr = h.at; alloc = h.alloc; value = h.opened }
 
 pub into_parts_spec : {M : Type 1} → stated.statement M
 unfolding tables_of
 into_parts_spec 𝓤 𝓛 𝓜 𝓡 wired =
     let 𝓣 : Tables 𝓤 𝓛.H = tables_of 𝓤 𝓛.H 𝓜 (tables 𝓤 𝓛.H 𝓜 𝓡 𝓡.env) in
     entered 𝓤 𝓛.H (triple_of 𝓛 F.signature (F.spec 𝓛 𝓜.mem 𝓡.returns)) 𝓣.C 𝓣.Λ #self code.function (code.unfolded 𝓤 𝓛.H 𝓜 𝓡 wired)
-    (walk_Meets 𝓛 F.ended stayed (Goes-dropped 𝓛 0 (From Handle.the_row) yes (λ κs x f. refl), tt) (F.clauses 𝓛 𝓜.mem 𝓡.returns) (WpFn 𝓤 𝓛.H 𝓣.C 𝓣.Λ code.function) (WpFn-mono 𝓤 𝓛.H 𝓛.laws 𝓣 code.function)
-    (walk 𝓛 𝓜.mem 𝓡.returns 𝓣))
+    (Meets-into E Handle.the_row Handle.the_type.name 𝓛 box (λ h. h.is_open ≡ true) (λ h p. p.value ≡ h.opened) 𝓣 (λ κs h f. refl) (λ h. tt) (λ h. refl)
+    (λ h vs is. subst (λ (t : Bool). ent 𝓤 (sem 𝓛 (Handle.the_row.own_val (record h { is_open = t }) vs)) (sem 𝓛 ((B E).own_val (box h) vs))) (sym is) (id⊢ 𝓤 _)) (λ d w. id⊢ 𝓤 _))
