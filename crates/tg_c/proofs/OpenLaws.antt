@@ -1,5 +1,5 @@
 -- An opening whose demands are met can be refused for want of memory alone.
-use Rattle.std.proofs.Common.{◌≡◌, ◌≤◌, ◌<◌, inl, inr, ℕ, List, IfErr, Result, Err, refl, sym, subst, ap, ◌∙◌, length, map, slice_get, arith}
+use Rattle.std.proofs.Common.{◌≡◌, Bool, true, false, ◌≤◌, ◌<◌, inl, inr, ℕ, List, IfErr, Result, Err, refl, sym, subst, ap, ◌∙◌, length, map, slice_get, arith}
 use Rattle.tg_model.specs.declared.edge.Edge.{Edge}
 use Rattle.tg_model.specs.declared.value.Value.{Value}
 use Rattle.tg_model.specs.declared.opening.OpeningFault.{OpeningFault}
@@ -26,6 +26,10 @@ wants workers edges limits r why met is want = subst (λ s. IfErr s (IsRefusedFo
 pub want_else : (fault why : CallRefusal) (says : Type 0) → ¬ says → IsMemoryOr fault says why → why ≡ refusal.OutOfMemory
 want_else fault why says none (inl want) = want
 want_else fault why says none (inr told) = absurd (none told.1)
+
+-- a place that is open isn't closed
+pub not_both : {is_open : Bool} → is_open ≡ true → is_open ≡ false → ⊥
+not_both is is_not = cc (is, is_not)
 
 pub not_done : (why : CallRefusal) → ¬ (status_of why ≡ 0)
 not_done refusal.NotOpen is = omega (arith, is)

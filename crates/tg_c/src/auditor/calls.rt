@@ -25,8 +25,8 @@ pub fn open(
     ensures opened { IfOk result (λ opened. IsOpenedAudit opened.value workers.now edges.now limits.now) }
     ensures refused { IfErr result (IsRefusedFor workers.now edges.now limits.now) }
 {
-    let asked = asked_for(alloc, workers, edges, limits)?;
-    let auditor = Auditor::open(alloc, &asked.opening)?;
+    let opening = asked_for(alloc, workers, edges, limits)?.opening;
+    let auditor = Auditor::open(alloc, &opening)?;
     Ok(Box::new(alloc, Audit::of(auditor))?)
 }
 
