@@ -24,8 +24,8 @@ use std::sync::Wait;
 use std::thread::Threads;
 
 fn main(rt: HostRuntime) -> ExitCode {
-    for story in STORIES {
-        if let Err(fault) = run(&rt, story) {
+    for story in &STORIES {
+        if let Err(fault) = run(&rt, *story) {
             let _ = eprintln!(rt; "{}: {fault}", story.name());
             return ExitCode::FAILURE;
         }

@@ -1,6 +1,5 @@
 //! A client, from its spawn to its last line.
 
-use crate::fault::StoryFault;
 use crate::sessions::{make, reply_to};
 use std::alloc::Global;
 use std::sync::Wait;
@@ -20,9 +19,9 @@ pub struct Leave {
     pub refused: Option<ApplyFault>,
 }
 
-/// A client whose session went off with it, and its document.
+/// What is known of a client: its name, and its document's.
 #[derive(Clone, Copy)]
-pub struct Silent {
+pub struct Place {
     pub client: u64,
     pub document: u64,
 }
@@ -30,6 +29,16 @@ pub struct Silent {
 /// A draft of a sum that begins with 0, which is what every vertex stores.
 pub fn zero(alloc: Global) -> Result<Draft<SumPayload>, StoreFault> {
     Ok(Draft::new(alloc, SumPayload::new(0))?)
+}
+
+// Makes a vertex that stores 0. Answers its name.
+fn make_zero<L: Round, R: Wait + AllocGlobal>(
+    rt: &R,
+    store: &SharedStore<L, SumPayload>,
+    session: &mut Session<L>,
+    rights: Label,
+) -> Result<u64, StoreFault> {
+    make(rt, store, session, rights, zero(rt.alloc())?)
 }
 
 // Lets the session's subject command. What is replied is passed over.
@@ -44,15 +53,15 @@ fn command<L: Round, P: Payload, R: Wait>(
 }
 
 /// Makes a document and spawns a client, with these rights over both, and puts its session behind those of the other
-/// clients. Hands the rights over the document on to the client. Answers the document's name.
+/// clients. Hands the rights over the document on to the client.
 pub fn welcome<L: Round, R: Wait + AllocGlobal>(
     rt: &R,
     store: &SharedStore<L, SumPayload>,
     service: &mut Session<L>,
     clients: &mut Vec<Session<L>>,
     rights: Label,
-) -> Result<u64, StoreFault> {
-    let document = make(rt, store, service, rights, zero(rt.alloc())?)?;
+) -> Result<Place, StoreFault> {
+    let document = make_zero(rt, store, service, rights)?;
     let client = spawn(rt, store, service, clients, rights)?;
     let grant = Command::Grant {
         via: client,
@@ -60,7 +69,7 @@ pub fn welcome<L: Round, R: Wait + AllocGlobal>(
         rights,
     };
     command(rt, store, service, grant)?;
-    Ok(document)
+    Ok(Place { client, document })
 }
 
 // Spawns a client over which the service has these rights. Answers its name.
@@ -84,14 +93,13 @@ pub fn welcome_and_lose<L: Round, R: Wait + AllocGlobal>(
     service: &mut Session<L>,
     clients: &mut Vec<Session<L>>,
     rights: Label,
-) -> Result<Silent, StoryFault> {
-    let document = welcome(rt, store, service, clients, rights)?;
-    let mut hung = clients.pop().ok_or(StoryFault::NoSession)?;
-    make(rt, store, &mut hung, rights, zero(rt.alloc())?)?;
-    Ok(Silent {
-        client: hung.worker(),
-        document,
-    })
+) -> Result<Place, StoreFault> {
+    let place = welcome(rt, store, service, clients, rights)?;
+    if let Some(hung) = clients.last_mut() {
+        make_zero(rt, store, hung, rights)?;
+    }
+    drop(clients.pop());
+    Ok(place)
 }
 
 /// Adds 1 to the document, twenty times.
@@ -118,7 +126,7 @@ pub fn work_and_leave<L: Round, R: Wait + AllocGlobal>(
 ) -> Result<Leave, StoreFault> {
     work(rt, store, client, document)?;
     for _ in 0..2 {
-        make(rt, store, client, rights, zero(rt.alloc())?)?;
+        make_zero(rt, store, client, rights)?;
     }
     take_leave(rt, store, client)
 }

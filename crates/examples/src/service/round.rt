@@ -2,12 +2,13 @@
 ghost use Rattle.std.specs.Prelude.{◌≡◌, true};
 ghost use Rattle.tg_shared.specs.Sessions.{MayShare};
 
-use super::client::{Leave, Silent, welcome, welcome_and_lose, work, work_and_leave, zero};
+use super::client::{Leave, Place, welcome, welcome_and_lose, work, work_and_leave, zero};
 use crate::fault::StoryFault;
 use crate::opening::{label, limits};
 use crate::sessions::reply_to;
 use crate::tell::tell_audit;
 use std::alloc::Global;
+use std::io;
 use std::marker::Brand;
 use std::sync::Wait;
 use std::sync::ledger::Blank;
@@ -28,9 +29,10 @@ pub fn run_story<R: Threads + Wait + Sync + Print + AllocGlobal>(rt: &R) -> Resu
 
 // A store with the service alone, in which at most 12 vertices may ever be made.
 fn open_store(alloc: Global) -> Result<Store<SumPayload>, StoreFault> {
+    let limits = limits()?;
     let drafts = vec![in alloc; zero(alloc)?]?;
     let opening = opening_of(alloc, &drafts)?;
-    Ok(Store::open(alloc, opening, limits()?, drafts)?)
+    Ok(Store::open(alloc, opening, limits, drafts)?)
 }
 
 fn opening_of(alloc: Global, drafts: &[Draft<SumPayload>]) -> Result<Opening, StoreFault> {
@@ -38,7 +40,7 @@ fn opening_of(alloc: Global, drafts: &[Draft<SumPayload>]) -> Result<Opening, St
     Ok(Opening::new(1, Vec::new(alloc), values, 12)?)
 }
 
-// Shares the store, serves, has it back and audits.
+// Shares the store, serves, has it back with all sessions but the one that hangs, and audits the journal.
 fn share<L: Round + Send + Sync, R: Threads + Wait + Sync + Print + AllocGlobal>(
     rt: &R,
     blank: Blank,
@@ -47,26 +49,14 @@ fn share<L: Round + Send + Sync, R: Threads + Wait + Sync + Print + AllocGlobal>
     requires shareable { MayShare L.name L.parts L.start blank store }
     requires may_end { L.start.may_end ≡ true }
 {
-    let shared = SharedStore::<L, SumPayload>::new(rt.alloc(), blank, store)?;
-    serve_and_reclaim(rt, shared)
-}
-
-// Serves, has the store back with all sessions but the one that hangs, and audits the journal.
-fn serve_and_reclaim<L: Round + Send + Sync, R: Threads + Wait + Sync + Print + AllocGlobal>(
-    rt: &R,
-    shared: Shared<L, SumPayload>,
-) -> Result<(), StoryFault>
-    requires may_end { L.start.may_end ≡ true }
-{
     let Shared {
         store,
         mut sessions,
         mut keeper,
-    } = shared;
+    } = SharedStore::<L, SumPayload>::new(rt.alloc(), blank, store)?;
     let served = serve(rt, &store, &mut keeper, &mut sessions);
     let entries = reclaim_and_audit(rt.alloc(), store, sessions);
-    served?;
-    Ok(tell_audit(rt, entries?)?)
+    Ok(tell_audit(rt, served.and(entries)?)?)
 }
 
 // Has the store back with the sessions that there are. How many entries its journal has, which passed its audit.
@@ -113,13 +103,28 @@ fn serve_clients<L: Round + Send + Sync, R: Threads + Wait + Sync + Print + Allo
 {
     let rights = label("rwg")?;
     let documents = welcome_three(rt, store, service, clients, rights)?;
-    let fourth = welcome_and_lose(rt, store, service, clients, rights)?;
+    let hung = welcome_and_lose(rt, store, service, clients, rights)?;
     let left = work_at_once(rt, store, clients, documents, rights)?;
+    tell_all(rt, store, keeper, service, left, documents, hung)
+}
+
+// Tells what one saw as it left and what each wrote, and ends the one that hangs.
+fn tell_all<L: Round, P: Payload, R: Wait + Print>(
+    rt: &R,
+    store: &SharedStore<L, P>,
+    keeper: &mut Keeper<L>,
+    service: &mut Session<L>,
+    left: Leave,
+    documents: [u64; 3],
+    hung: Place,
+) -> Result<(), StoryFault>
+    requires may_end { L.start.may_end ≡ true }
+{
     tell_leave(rt, left)?;
-    for document in documents {
-        tell_document(rt, store, service, document)?;
+    for document in &documents {
+        tell_document(rt, store, service, *document)?;
     }
-    end_if_silent(rt, store, keeper, service, fourth)
+    end_if_silent(rt, store, keeper, service, hung)
 }
 
 fn welcome_three<L: Round, R: Wait + AllocGlobal>(
@@ -132,7 +137,7 @@ fn welcome_three<L: Round, R: Wait + AllocGlobal>(
     let first = welcome(rt, store, service, clients, rights)?;
     let leaving = welcome(rt, store, service, clients, rights)?;
     let last = welcome(rt, store, service, clients, rights)?;
-    Ok([first, leaving, last])
+    Ok([first.document, leaving.document, last.document])
 }
 
 fn work_at_once<L: Round + Send + Sync, R: Threads + Wait + Sync + AllocGlobal>(
@@ -170,31 +175,33 @@ fn work_on_threads<L: Round + Send + Sync, R: Threads + Wait + Sync + AllocGloba
             move || work(rt, store, last, of_last),
         ),
     );
-    by_first?;
-    by_last?;
-    left
+    by_first.and(by_last).and(left)
 }
 
-fn tell_leave<R: Print>(rt: &R, left: Leave) -> Result<(), StoryFault> {
-    println!(rt; "{} vertices before a client leaves", left.before)?;
-    println!(rt; "it gives up {} edges", left.given_up)?;
-    println!(rt; "{} vertices after it", left.after)?;
-    if let Some(fault) = left.refused {
-        println!(rt; "its next line is refused: {fault}")?;
+fn tell_leave<R: Print>(rt: &R, left: Leave) -> io::Result<()> {
+    let Leave {
+        before,
+        given_up,
+        after,
+        refused,
+    } = left;
+    println!(rt; "{before} vertices before a client leaves\nit gives up {given_up} edges\n{after} vertices after it")?;
+    match refused {
+        Some(fault) => println!(rt; "its next line is refused: {fault}"),
+        None => Ok(()),
     }
-    Ok(())
 }
 
 fn tell_document<L: Round, P: Payload, R: Wait + Print>(
     rt: &R,
     store: &SharedStore<L, P>,
     service: &mut Session<L>,
-    target: u64,
+    document: u64,
 ) -> Result<(), StoryFault> {
-    if let Reply::Values(values) = reply_to(rt, store, service, Command::Read { target })? {
-        println!(rt; "document {target} says {:?}", values.as_slice())?;
+    match said(rt, store, service, document)? {
+        Some(number) => Ok(println!(rt; "document {document} says [{number}]")?),
+        None => Ok(()),
     }
-    Ok(())
 }
 
 // Ends the client if it hangs: if its document still says 0 when the others are done.
@@ -203,17 +210,32 @@ fn end_if_silent<L: Round, P: Payload, R: Wait + Print>(
     store: &SharedStore<L, P>,
     keeper: &mut Keeper<L>,
     service: &mut Session<L>,
-    silent: Silent,
+    place: Place,
 ) -> Result<(), StoryFault>
     requires may_end { L.start.may_end ≡ true }
 {
-    let Silent { client, document } = silent;
-    if says_zero(rt, store, service, document)? {
-        let (given_up, left) = end(rt, store, keeper, service, client)?;
-        println!(rt; "client {client} hangs, and is ended: it gives up {given_up} edges")?;
-        println!(rt; "{left} vertices after it")?;
+    match said(rt, store, service, place.document)? {
+        Some(0) => end_and_tell(rt, store, keeper, service, place.client),
+        _ => Ok(()),
     }
-    Ok(())
+}
+
+fn end_and_tell<L: Round, P: Payload, R: Wait + Print>(
+    rt: &R,
+    store: &SharedStore<L, P>,
+    keeper: &mut Keeper<L>,
+    service: &mut Session<L>,
+    client: u64,
+) -> Result<(), StoryFault>
+    requires may_end { L.start.may_end ≡ true }
+{
+    let (given_up, left) = end(rt, store, keeper, service, client)?;
+    Ok(tell_end(rt, client, given_up, left)?)
+}
+
+fn tell_end<R: Print>(rt: &R, client: u64, given_up: u64, left: u64) -> io::Result<()> {
+    println!(rt; "client {client} hangs, and is ended: it gives up {given_up} edges")?;
+    println!(rt; "{left} vertices after it")
 }
 
 // Ends the client, and collects. How many edges it gave up, and how many vertices are left.
@@ -231,15 +253,16 @@ fn end<L: Round, P: Payload, R: Wait>(
     Ok((given_up, left))
 }
 
-// Whether nothing was written to the document.
-fn says_zero<L: Round, P: Payload, R: Wait>(
+// The number that a document says.
+fn said<L: Round, P: Payload, R: Wait>(
     rt: &R,
     store: &SharedStore<L, P>,
     service: &mut Session<L>,
     target: u64,
-) -> Result<bool, StoryFault> {
-    match reply_to(rt, store, service, Command::Read { target })? {
-        Reply::Values(values) => Ok(matches!(values.as_slice(), [0])),
-        _ => Ok(false),
+) -> Result<Option<u64>, StoreFault> {
+    match reply_to(rt, store, service, Command::Read { target }) {
+        Ok(Reply::Values(values)) => Ok(values.as_slice().first().copied()),
+        Ok(_) => Ok(None),
+        Err(fault) => Err(fault),
     }
 }
