@@ -2,7 +2,7 @@
 
 use crate::fault::StoryFault;
 use std::alloc::Global;
-use tg_model::{Edge, Opening, Value};
+use tg_model::{Edge, Opening};
 use tg_payload::{CellPayload, Draft, values_of};
 use tg_rights::Label;
 use tg_store::{Limits, StoreFault};
@@ -44,13 +44,6 @@ pub fn cells_of_three(alloc: Global) -> Result<Vec<Draft<CellPayload>>, StoreFau
 
 /// The opening of a story of three, who store these cells and are joined by these edges.
 pub fn opening_of_three(alloc: Global, edges: Vec<Edge>) -> Result<Opening, StoreFault> {
-    match values_of_three(alloc) {
-        Ok(values) => Ok(Opening::new(THREE, edges, values, MOST_VERTICES)?),
-        Err(fault) => Err(fault),
-    }
-}
-
-// The values of these cells.
-fn values_of_three(alloc: Global) -> Result<Vec<Value>, StoreFault> {
-    Ok(values_of(alloc, &cells_of_three(alloc)?)?)
+    let values = values_of(alloc, &cells_of_three(alloc)?)?;
+    Ok(Opening::new(THREE, edges, values, MOST_VERTICES)?)
 }

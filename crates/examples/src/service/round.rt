@@ -185,7 +185,9 @@ fn tell_leave<R: Print>(rt: &R, left: Leave) -> io::Result<()> {
         after,
         refused,
     } = left;
-    println!(rt; "{before} vertices before a client leaves\nit gives up {given_up} edges\n{after} vertices after it")?;
+    println!(rt;
+        "{before} vertices before a client leaves\nit gives up {given_up} edges\n{after} vertices after it"
+    )?;
     match refused {
         Some(fault) => println!(rt; "its next line is refused: {fault}"),
         None => Ok(()),
@@ -198,10 +200,10 @@ fn tell_document<L: Round, P: Payload, R: Wait + Print>(
     service: &mut Session<L>,
     document: u64,
 ) -> Result<(), StoryFault> {
-    match said(rt, store, service, document)? {
-        Some(number) => Ok(println!(rt; "document {document} says [{number}]")?),
-        None => Ok(()),
+    if let Some(number) = said(rt, store, service, document)? {
+        println!(rt; "document {document} says [{number}]")?;
     }
+    Ok(())
 }
 
 // Ends the client if it hangs: if its document still says 0 when the others are done.
@@ -230,12 +232,9 @@ fn end_and_tell<L: Round, P: Payload, R: Wait + Print>(
     requires may_end { L.start.may_end ≡ true }
 {
     let (given_up, left) = end(rt, store, keeper, service, client)?;
-    Ok(tell_end(rt, client, given_up, left)?)
-}
-
-fn tell_end<R: Print>(rt: &R, client: u64, given_up: u64, left: u64) -> io::Result<()> {
     println!(rt; "client {client} hangs, and is ended: it gives up {given_up} edges")?;
-    println!(rt; "{left} vertices after it")
+    println!(rt; "{left} vertices after it")?;
+    Ok(())
 }
 
 // Ends the client, and collects. How many edges it gave up, and how many vertices are left.
