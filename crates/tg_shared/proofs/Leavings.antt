@@ -3,6 +3,8 @@ use Rattle.std.proofs.Common.{◌≡◌, ◌∙◌, ℕ, ◌+◌, ◌<◌, Bool,
 use Rattle.std.proofs.lemmas.List.{length-map}
 use Rattle.std.proofs.lemmas.List.Sums.{sum_by-cons}
 use Rattle.tg_rights.specs.RightSet.{RightSet}
+use Rattle.tg_model.specs.declared.command.Command.TheVariants.{Remove, Retire}
+use Rattle.tg_model.specs.declared.command.Deed.TheVariants.{Plain}
 use Rattle.tg_model.specs.Graph.{ProtectionGraph, IsSound, IsSubject, listing_of}
 use Rattle.tg_model.specs.Opened.{Plan, start_of}
 use Rattle.tg_model.proofs.SubjectLaws.{is_without}
@@ -38,6 +40,10 @@ adds_one old now new at next es e more one place own = (
   one.3 ∙ more.3,
   one.4 ∙ ap (λ b. retired_by b e.deed) more.4 ∙ sym (retired_push old.retired es e),
 )
+
+-- who gives rights up does not retire by it
+pub remove_stays : (target : ℕ) (rights : RightSet) → Plain (Remove rights target) ≡ Plain Retire → ⊥
+remove_stays target rights is = cc
 
 -- who has left has entered a retire
 pub retired_left : (retired : Bool) (g : ProtectionGraph) (x : ℕ) → retired_behind retired (leaving g x) ≡ true

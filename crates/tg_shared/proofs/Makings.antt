@@ -5,6 +5,7 @@ use Rattle.tg_rights.specs.RightSet.{RightSet}
 use Rattle.tg_model.specs.declared.command.Deed.{Deed}
 use Rattle.tg_model.specs.declared.reply.Reply.{Reply}
 use Rattle.tg_model.specs.declared.reply.Reply.TheVariants.{Name, VerticesFull, WorkersFull}
+use Rattle.tg_model.specs.declared.making.Making.TheVariants.{Object, Subject}
 use Rattle.tg_model.specs.declared.value.Value.{Value}
 use Rattle.tg_store.specs.Made.{IsMadeFor}
 use Rattle.tg_store.specs.declared.fault.CreateFault.{CreateFault}
@@ -14,6 +15,12 @@ use Rattle.tg_store.specs.Store.{StoreState}
 use Rattle.tg_shared.specs.Serving.{IsMadeAndNoted, NotesRefusal}
 use Rattle.tg_shared.specs.Sessions.{GoesOn, IsBalanced, Records, RecordsNothing, SessionState, SharedStart, made_subject, reply_entered, reply_made, sessions_made}
 use Rattle.tg_shared.proofs.Balances.{locked_entered, locked_same}
+
+pub object_not_subject : Object ≡ Subject → ⊥
+object_not_subject is = cc
+
+pub same_reply : {told : Option Reply} {a b : Reply} → told ≡ Some a → told ≡ Some b → a ≡ b
+same_reply is here = cc
 
 -- a refusal that makes an entry has one of two replies
 pub entered_as : (E : Reply → Type 0) (why : CreateFault) (reply : Reply) → reply_entered why ≡ Some reply → (why ≡ fault.VerticesFull → E VerticesFull) → (why ≡ fault.WorkersFull → E WorkersFull) → E reply

@@ -1,5 +1,5 @@
 -- The reply to a served command, computed on the content of a heap, is that of the graph that it stands for.
-use Rattle.std.proofs.Common.{◌≡◌, ℕ, ◌<◌, ◌+◌, List, None, Some, refl, sym, ap, ◌∙◌, arith}
+use Rattle.std.proofs.Common.{◌≡◌, ℕ, ◌<◌, ◌+◌, List, None, Some, refl, sym, ap, subst, ◌∙◌, arith}
 use Rattle.std.proofs.lemmas.List.Sums.{get_or-le-sum_by}
 use Rattle.std.specs.List.{All, sum_by}
 use Rattle.std.specs.Prelude.{Option}
@@ -16,10 +16,14 @@ use Rattle.tg_model.specs.Rules.{Permits, denial_of, reply_of, step, subjects_af
 use Rattle.tg_model.proofs.AllowedLaws.{permits-no_denial, plain_cases, step-allowed, step-denied}
 use Rattle.tg_model.proofs.NameLaws.{each_reply}
 use Rattle.tg_rows.specs.Content.{Content}
-use Rattle.tg_graph.specs.Heap.{HeapState, content_of, subject_names}
+use Rattle.tg_subjects.specs.Subjects.{IsSubjectNamed}
+use Rattle.tg_subjects.specs.declared.subject.Subject.{Subject}
+use Rattle.tg_rows.specs.Rows.{IsVertexAt}
+use Rattle.tg_graph.specs.Heap.{HeapState, content_of, nursery_of, subject_names}
 use Rattle.tg_graph.specs.Standing.{IsContentOf}
 use Rattle.tg_graph.proofs.StandingLaws.{denial_of-stands, StandsFor-denied, StandsFor-served, IsSameContent-self}
 use Rattle.tg_rules.specs.Effect.{IsContentAfter, IsReplyOn, OnlyLooks, ShowsSomething}
+use Rattle.tg_rules.specs.Verdict.{HasSubject}
 use Rattle.tg_rules.proofs.DecisionLaws.{answer-denied, answer-served}
 use Rattle.tg_rules.proofs.LookingLaws.{content-looked, subjects-looked}
 use Rattle.tg_store.specs.Counts.{refusal_told}
@@ -35,6 +39,14 @@ pub reply_of-done : (label : ℕ → ℕ → RightSet) (value : ℕ → Option V
 reply_of-done label value n x command changes =
     each_reply (λ r. (ShowsSomething r → ⊥) → r ≡ Done) (λ none. refl) (λ values none. absurd (none tt)) (λ edges none. absurd (none tt)) label value n x command
     (λ shows. changes (shows_alike label value n x command shows))
+
+-- the active subject that was found by its name
+pub subject_found : (heap : HeapState) (name : ℕ) (found : Subject) → IsSubjectNamed heap.subjects name found → found.nursery ≡ nursery_of heap name → IsVertexAt heap.table.spaces name found.place → HasSubject heap found
+subject_found heap name found is nursery vertex = record {
+  there = is.there;
+  nursery = nursery ∙ ap (nursery_of heap) (sym is.named);
+  vertex = subst (λ (x : ℕ). IsVertexAt heap.table.spaces x found.place) (sym is.named) vertex;
+}
 
 -- who is to be served may do it on the graph too
 pub permitted : (c : Content) (g : ProtectionGraph) → IsContentOf c g → (x : ℕ) (command : Command) → IsSubject g x → denial_of c.label c.value x command ≡ None → Permits g.label g.value x command

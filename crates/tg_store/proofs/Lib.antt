@@ -1,3 +1,4 @@
+mod Apart
 mod AnswerLaws
 pub mod BlockLaws
 mod CollectLaws

@@ -17,22 +17,22 @@ pub enum StoreFault {
     #[error("out of memory")]
     OutOfMemory,
     /// The opening or the limits aren't as asked.
-    #[error("{0}")]
+    #[error(transparent)]
     Opening(OpeningFault),
     /// The store was not opened.
-    #[error("{0}")]
+    #[error(transparent)]
     Open(OpenFault),
     /// A vertex was not made.
-    #[error("{0}")]
+    #[error(transparent)]
     Create(CreateFault),
     /// A command was refused, which is no denial: a denial is a reply.
-    #[error("{0}")]
+    #[error(transparent)]
     Apply(ApplyFault),
     /// A collection was refused.
-    #[error("{0}")]
+    #[error(transparent)]
     Collect(RoomFault),
     /// The audit did not pass.
-    #[error("{0}")]
+    #[error(transparent)]
     Audit(StoreAuditFault),
 }
 

@@ -4,12 +4,13 @@ use Rattle.tg_graph.specs.Heap.{content_of}
 use Rattle.tg_journal.specs.declared.entry.Entry.{Entry}
 use Rattle.tg_store.specs.Counts.{refusal_told}
 use Rattle.tg_store.proofs.AnswerLaws.{looked-none, replied-looked}
+use Rattle.tg_store.proofs.Apart.{ok_not_err}
 use Rattle.tg_store.proofs.answer.look.Goals as goal
 
 pub returns-clause-answered : goal.returns-clause-answered
 returns-clause-answered g c = record {
   replied = replied-looked c.args.heap.now c.args.subject.name c.args.command.now c.in_ok-reply.reply c.requires.to_serve.served c.requires.looks c.in_ok-reply.ensures.reply;
-  kept = record { limits = refl; refused = tt; worker = (λ e. let f : ⊥ = cc e in absurd f) };
+  kept = record { limits = refl; refused = tt; worker = λ e. ok_not_err e };
 }
 
 pub push-requires : goal.push-requires

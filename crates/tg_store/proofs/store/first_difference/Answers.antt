@@ -2,6 +2,7 @@ use Rattle.std.proofs.Common.{◌≡◌, ◌≢◌, ◌∙◌, ℕ, false, true,
 use Rattle.std.proofs.lemmas.List.{take_more}
 use Rattle.tg_model.specs.declared.value.Value.{Value}
 use Rattle.tg_store.proofs.DifferenceLaws.{alike, differs_at, longer, past_the_end}
+use Rattle.tg_store.proofs.Apart.{false_not_true}
 use Rattle.tg_store.proofs.store.first_difference.Goals as goal
 
 -- two lists that agree before a place and at it agree as far as the next
@@ -26,7 +27,7 @@ returns-in_default g c = past_the_end c.args.values.now c.args.drafts.now c.loop
 pub returns-then-not-same : goal.returns-then-not-same
 returns-then-not-same g c =
     let found = c.in-Some.ensures.lookup in
-    let other : c.in-Some.draft.now ≢ c.index-values-at.result = λ same. let both : false ≡ true = sym c.if-not-same.true ∙ c.same.ensures.1 (c.value.ensures.same ∙ same) in cc both in
+    let other : c.in-Some.draft.now ≢ c.index-values-at.result = λ same. let both : false ≡ true = sym c.if-not-same.true ∙ c.same.ensures.1 (c.value.ensures.same ∙ same) in false_not_true both in
     differs_at c.args.values.now c.args.drafts.now c.loop-at.at c.index-values-at.result c.in-Some.draft.now c.loop-at-test.true found.3.0 c.index-values-at.is found.1 other c.loop-at.invariant.same
 
 pub returns-then-values-drafts : goal.returns-then-values-drafts

@@ -5,7 +5,7 @@ use Rattle.tg_model.specs.declared.command.Deed.{Deed}
 use Rattle.tg_store.specs.Store.{graph_of_store}
 use Rattle.tg_shared.specs.Serving.{IsMadeAndNoted, NotesRefusal}
 use Rattle.tg_shared.specs.Sessions.{LockedState, reply_made}
-use Rattle.tg_shared.proofs.Makings.{locked_noted, made_noted, refusal_noted}
+use Rattle.tg_shared.proofs.Makings.{locked_noted, made_noted, object_not_subject, refusal_noted}
 use Rattle.tg_shared.proofs.locked.Locked.create.Goals as goal
 
 pub invariant_of-self : goal.invariant_of-self
@@ -28,4 +28,4 @@ returns-clause-noted g c =
 
 pub returns-clause-no_workers_full : goal.returns-clause-no_workers_full
 returns-clause-no_workers_full g c =
-    IfErr-weaker c.make.result _ _ (λ refused told why. let no : ⊥ = cc (told why).0 in no) (c.make.ensures.too_many (graph_of_store c.self.inside.store) refl)
+    IfErr-weaker c.make.result _ _ (λ refused told why. object_not_subject (told why).0) (c.make.ensures.too_many (graph_of_store c.self.inside.store) refl)

@@ -13,6 +13,15 @@ returns-clause-sessions g c =
     let ss : List SessionState = c.in-Ok.sessions.items in
     λ graph stands. subst (λ (l : List ℕ). AreFresh l ss) (c.subjects.ensures.names graph stands) c.in-Ok.ensures.fresh
 
+at_most : (subjects active made : ℕ) → subjects ≡ active → active ≤ made → subjects ≤ made
+at_most subjects active made same low = omega arith
+
+none_yet : (first total : ℕ) → total ≡ 0 → first ≡ first + total
+none_yet first total none = omega arith
+
+cut_up : (made subjects left whole parts : ℕ) → made ≡ subjects → left + subjects ≡ whole → whole ≡ parts → made + left ≡ parts
+cut_up made subjects left whole parts same held all = omega arith
+
 few_enough : (subjects made limit parts : ℕ) → subjects ≤ made → made ≤ limit → parts ≡ limit + 1 → subjects < parts
 few_enough subjects made limit parts low within are = omega arith
 
@@ -20,7 +29,7 @@ pub sessions_of-requires : goal.sessions_of-requires
 sessions_of-requires g c =
     let faithful = c.journal.ensures.faithful in
     let names : length c.subjects.result.now ≡ length (graph_of_store c.args.store).subjects = sym (length-map c.subjects.result.now (λ (s : Subject). s.name)) ∙ ap (λ (l : List ℕ). length l) (c.subjects.ensures.names (graph_of_store c.args.store) refl) in
-    let low : length c.subjects.result.now ≤ (graph_of_store c.args.store).made = (let active = active_made c.args.store faithful in omega (arith, active, names)) in
+    let low : length c.subjects.result.now ≤ (graph_of_store c.args.store).made = at_most (length c.subjects.result.now) (length (graph_of_store c.args.store).subjects) (graph_of_store c.args.store).made names (active_made c.args.store faithful) in
     let within = made-opened c.args.store.opening c.args.store.entries faithful.plan in
     let parts : c.open-book.result.1.parts ≡ c.args.store.opening.limit + 1 = c.open-book.ensures.parts ∙ (sym c.requires.shareable.parts.0 ∙ c.requires.shareable.parts.1) in
     (few_enough (length c.subjects.result.now) (graph_of_store c.args.store).made c.args.store.opening.limit c.open-book.result.1.parts low within parts, c.open-book.ensures.amount, within_word c.args.store.opening.limit g.L.Ledger.parts faithful.plan.limits.1 (sym c.requires.shareable.parts.0 ∙ c.requires.shareable.parts.1))
@@ -32,8 +41,7 @@ invariant_of-locked g c =
     let faithful = c.journal.ensures.faithful in
     let names : length c.subjects.result.now ≡ length (graph_of_store c.args.store).subjects = sym (length-map c.subjects.result.now (λ (s : Subject). s.name)) ∙ ap (λ (l : List ℕ). length l) (c.subjects.ensures.names (graph_of_store c.args.store) refl) in
     let each : length (map (λ (s : SessionState). s.worker) ss) ≡ length c.subjects.result.now = ap (λ (l : List ℕ). length l) c.in-Ok.ensures.fresh.0 ∙ length-map c.subjects.result.now (λ (s : Subject). s.name) in
-    let number : c.len.result ≡ length c.subjects.result.now = (let len = c.len.ensures in let ok = c.in-Ok.sessions.ok.0 in omega (arith, len, ok, each, length-map ss (λ (s : SessionState). s.worker))) in
-    let active = active_made c.args.store faithful in
+    let number : c.len.result ≡ length c.subjects.result.now = c.len.ensures ∙ c.in-Ok.sessions.ok.0 ∙ sym (length-map ss (λ (s : SessionState). s.worker)) ∙ each in
     let total : c.open-book.result.0.total ≡ 0 = c.open-book.ensures.total in
     let parts : c.open-book.result.1.parts ≡ g.L.Ledger.parts = c.open-book.ensures.parts in
     let left : c.sessions_of.new.rest.parts + length c.subjects.result.now ≡ c.open-book.result.1.parts = c.in-Ok.ensures.rest.0 in
@@ -44,13 +52,13 @@ invariant_of-locked g c =
     let made : sessions_made start c.args.store.entries ≡ length (subjects_at start) =
     ap (sessions_made start) (ap (λ (s : SharedStart). s.entries) c.requires.shareable.start) ∙ sessions_start start in (
       record {
-        counted = shared ∙ (let e : length start.entries ≡ length start.entries + c.open-book.result.0.total = omega arith in e);
-        cut = (let e : c.len.result + c.sessions_of.new.rest.parts ≡ g.L.Ledger.parts = omega arith in e);
+        counted = shared ∙ none_yet (length start.entries) c.open-book.result.0.total total;
+        cut = cut_up c.len.result (length c.subjects.result.now) c.sessions_of.new.rest.parts c.open-book.result.1.parts g.L.Ledger.parts number left parts;
         enough = sym c.requires.shareable.parts.0 ∙ c.requires.shareable.parts.1;
-        made = omega (arith, active, names, number);
+        made = at_most c.len.result (length (graph_of_store c.args.store).subjects) (graph_of_store c.args.store).made (number ∙ names) (active_made c.args.store faithful);
       },
       first,
       (c.in-Ok.ensures.rest.1, λ _. refl),
       goes_on_start start c.args.store c.requires.shareable.start c.journal.ensures.within,
-      (let e : c.len.result ≡ sessions_made start c.args.store.entries = omega (arith, number, names, at_start, made) in e),
+      number ∙ names ∙ at_start ∙ sym made,
     )

@@ -1,4 +1,4 @@
-use Rattle.std.proofs.Common.{◌≡◌, ◌≤◌, ◌+◌, ◌∙◌, ◌++◌, ◌∷◌, [], ℕ, List, drop, length, take, add-zero, append_assoc, append-nil, arith, refl, sym, ap, subst}
+use Rattle.std.proofs.Common.{◌≡◌, ◌≤◌, ◌+◌, ◌∙◌, ◌++◌, ◌∷◌, [], ℕ, List, drop, false, length, take, add-zero, append_assoc, append-nil, arith, refl, sym, ap, subst}
 use Rattle.std.proofs.lemmas.List.{nil_from_length, take-append-le}
 use Rattle.std.proofs.Math.Seq.{take-length}
 use Rattle.std.proofs.lemmas.List.Sums.{sum_by-append, sum_by-cons}
@@ -169,7 +169,7 @@ returns g c =
       shared_out = λ none as_many gone. shared_out c.args.self.store.entries since_then items may (own_count none as_many ∙ ap (λ (n : ℕ). n + count_of items) gone);
       none_handed = λ none as_many not_one.
           none_gone here start c.args.self.store.handed (handed_of items) (count_of items) since_then (own_count none as_many) (held_at_most c.args.self.store.entries since_then items may) not_one refl inside;
-      mismatch = ((λ none. let no : ⊥ = cc none in absurd no), (λ no. absurd (no may)));
+      mismatch = ((λ none. absurd (not_both false none refl)), (λ no. absurd (no may)));
       only = tt;
       counted = tt;
     }

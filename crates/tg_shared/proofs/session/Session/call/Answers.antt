@@ -1,29 +1,24 @@
-use Rattle.std.proofs.Common.{List, Bool, ℕ, ◌≡◌, ◌∙◌, ◌∷◌, [], length, length-append, refl, sym, subst, ap, arith}
+use Rattle.std.proofs.Common.{Bool, ℕ, ◌≡◌, ◌∙◌, refl, sym, subst}
 use Rattle.tg_model.specs.declared.command.Deed.TheVariants.{Plain}
-use Rattle.tg_model.specs.Graph.{IsSubject, ProtectionGraph}
-use Rattle.tg_model.specs.Rules.{Permits, answer_of}
+use Rattle.tg_model.specs.Graph.{IsSubject}
+use Rattle.tg_model.specs.Rules.{Permits}
 use Rattle.tg_store.specs.Store.{StoreState, IsFaithful, graph_of_store}
-use Rattle.tg_shared.specs.declared.receipt.Receipt.{Receipt}
-use Rattle.tg_shared.specs.Receipts.{receipt_of}
 use Rattle.std.proofs.lemmas.Result.{err_from_is_err_and}
 use Rattle.tg_graph.specs.Heap.{nursery_of}
 use Rattle.tg_rules.specs.Effect.{AddsEdge, LacksCellsToServe}
 use Rattle.tg_shared.specs.Sessions.{LockedState}
-use Rattle.tg_shared.proofs.Calls.{err_here, found, kept, refused_as, refused_here, still}
+use Rattle.tg_shared.proofs.Calls.{err_here, found, kept, refused_as, refused_here, some_more, still, worker_not_full}
 use Rattle.tg_shared.proofs.Replies.{answered}
 use Rattle.tg_shared.proofs.session.Session.call.Goals as goal
 
 pub returns-then-retired : goal.returns-then-retired
 returns-then-retired g c = (
   (refl, (λ _. tt), (refl {A = ℕ}, refl, refl {A = ℕ}, refl {A = ℕ}, refl {A = Bool})),
-  record { receipt = tt; no_such_worker = λ _. c.retired.ensures.gone c.if-retired.true; full = λ is. let no : ⊥ = cc is in absurd no; retired = λ _. refl },
+  record { receipt = tt; no_such_worker = λ _. c.retired.ensures.gone c.if-retired.true; full = λ is. absurd (worker_not_full is); retired = λ _. refl },
 )
 
 pub last_reply-requires : goal.last_reply-requires
-last_reply-requires g c =
-    let graph : ProtectionGraph = graph_of_store c.deref_mut.result.now.store in
-    let more = ap (λ (rs : List Receipt). length rs) (c.in_ok-apply.ensures.served.entry graph refl).receipt.1 in
-    omega (arith, more, length-append c.make_room.new.self.receipts (receipt_of (length c.deref_mut.result.now.store.entries) (record { worker = c.make_room.new.self.worker; deed = Plain c.args.command; reply = answer_of graph c.make_room.new.self.worker (Plain c.args.command) }) ∷ []))
+last_reply-requires g c = some_more c.make_room.new.self.receipts c.apply.new.session.receipts _ (c.in_ok-apply.ensures.served.entry (graph_of_store c.deref_mut.result.now.store) refl).receipt.1
 
 pub returns : goal.returns
 returns g c =

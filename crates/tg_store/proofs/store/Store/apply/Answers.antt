@@ -1,5 +1,5 @@
 -- What is decided and changed on the heap is the graph's, and exactly that is entered.
-use Rattle.std.proofs.Common.{◌≡◌, ℕ, ◌∙◌, ◌++◌, ◌∷◌, [], List, None, ap, refl, rules, sym, subst}
+use Rattle.std.proofs.Common.{◌≡◌, ℕ, ◌∙◌, ◌++◌, ◌∷◌, [], List, None, ap, refl, sym, subst}
 use Rattle.std.proofs.lemmas.Result.{err_from_is_err_and}
 use Rattle.tg_model.specs.declared.command.Command.{Command}
 use Rattle.tg_model.specs.declared.command.Deed.TheVariants.{Plain}
@@ -13,8 +13,9 @@ use Rattle.tg_graph.specs.Heap.{IsActive, content_of, nursery_of}
 use Rattle.tg_rules.specs.Effect.{LacksCellsToServe}
 use Rattle.tg_store.specs.Inner.Answering.{IsReplied, entry_answered}
 use Rattle.tg_store.specs.Store.{StoreState, Enters, graph_of_store}
-use Rattle.tg_store.proofs.AnswerLaws.{made-plain, permitted}
+use Rattle.tg_store.proofs.AnswerLaws.{made-plain, permitted, subject_found}
 use Rattle.tg_store.proofs.StandLaws.{IsStore-entered, IsStore-unchanged, StandsFor-entered, active_seen, content_seen, stands_inside, subject_here, subject_seen}
+use Rattle.tg_store.proofs.Apart.{false_not_true, memory_not_asked, ok_not_err, ok_same, refused_as}
 use Rattle.tg_store.proofs.store.Store.apply.Goals as goal
 
 -- what is entered of a command, under the worker's name
@@ -25,14 +26,21 @@ entered_by before ready after asker worker command reply told named is same put 
 
 pub returns-in_default-clause-no_such_worker : goal.returns-in_default-clause-no_such_worker
 returns-in_default-clause-no_such_worker g c =
-    let none : IsActive c.self.inside.heap c.args.worker → ⊥ = λ is. let f : ⊥ = cc (c.in_default.ensures.active.1 is) in f in
+    let none : IsActive c.self.inside.heap c.args.worker → ⊥ = λ is. false_not_true (c.in_default.ensures.active.1 is) in
     λ graph stands. (λ _ subject. none (active_seen c.self.invariant c.self.view_is stands c.args.worker subject), λ _. refl)
 
 pub returns-in_err-reserve-clause-no_such_worker : goal.returns-in_err-reserve-clause-no_such_worker
 returns-in_err-reserve-clause-no_such_worker g c =
     let given = err_from_is_err_and c.from_residual.result c.from_residual.ensures.1 in
     λ graph stands.
-    (λ same _. let f : ⊥ = cc (same, given.1, given.2) in f, λ none. absurd (none (subject_seen c.self.invariant c.self.view_is stands c.args.worker (c.in-Some.ensures.active.0 refl))))
+    (λ same _. memory_not_asked given.1 given.2 same, λ none. absurd (none (subject_seen c.self.invariant c.self.view_is stands c.args.worker (c.in-Some.ensures.active.0 refl))))
+
+pub invariant_of-self : goal.invariant_of-self
+invariant_of-self g c =
+    IsStore-unchanged _ _ c.self.inside.made c.self.invariant (record { opening = refl; entries = c.reserve.ensures.entries; handed = c.reserve.ensures.start; heap = record { table = refl; entries = refl; subjects = refl; remembered = refl; indexed = refl }; collections = refl })
+
+pub answer_command-requires-clause-subject : goal.answer_command-requires-clause-subject
+answer_command-requires-clause-subject g c = subject_found c.self.inside.heap c.args.worker c.in-Some.subject c.in-Some.ensures.there c.in-Some.ensures.nursery c.in-Some.ensures.vertex
 
 pub invariant_of-self-in_err-reply : goal.invariant_of-self-in_err-reply
 invariant_of-self-in_err-reply g c =
@@ -48,7 +56,7 @@ pub returns-in_err-reply-clause-no_such_worker : goal.returns-in_err-reply-claus
 returns-in_err-reply-clause-no_such_worker g c =
     let given = err_from_is_err_and c.from_residual-in_err-reply.result c.from_residual-in_err-reply.ensures.1 in
     λ graph stands.
-    (λ same _. c.in_err-reply.ensures.answered.kept.worker (cc (same, given.1, given.2)), λ none. absurd (none (subject_seen c.self.invariant c.self.view_is stands c.args.worker (c.in-Some.ensures.active.0 refl))))
+    (λ same _. c.in_err-reply.ensures.answered.kept.worker (refused_as given.1 given.2 same), λ none. absurd (none (subject_seen c.self.invariant c.self.view_is stands c.args.worker (c.in-Some.ensures.active.0 refl))))
 
 pub returns-in_err-reply-clause-full : goal.returns-in_err-reply-clause-full
 returns-in_err-reply-clause-full g c =
@@ -56,7 +64,7 @@ returns-in_err-reply-clause-full g c =
     let named = c.in-Some.ensures.there.named in
     let given = err_from_is_err_and c.from_residual-in_err-reply.result c.from_residual-in_err-reply.ensures.1 in
     λ graph stands same.
-    let full = c.in_err-reply.ensures.full (cc (same, given.1, given.2)) in
+    let full = c.in_err-reply.ensures.full (refused_as given.1 given.2 same) in
     let none = subst (λ (x : ℕ). denial_of (content_of heap).label (content_of heap).value x c.args.command ≡ None) named full.0 in
     let lacks = subst (λ (x : ℕ). LacksCellsToServe heap.table (nursery_of heap c.args.worker) x c.args.command) named
     (subst (λ (n : ℕ). LacksCellsToServe heap.table n c.in-Some.subject.name c.args.command) c.in-Some.ensures.nursery full.2) in (
@@ -89,15 +97,15 @@ returns-clause-step g c = λ graph stands.
 
 pub returns-clause-denied : goal.returns-clause-denied
 returns-clause-denied g c = λ denial same.
-    let is : c.in_ok-reply.reply ≡ Denied denial = cc same in
+    let is : c.in_ok-reply.reply ≡ Denied denial = ok_same same in
     record {
       entry = entered_by _ _ _ c.in-Some.subject c.args.worker c.args.command _ _ c.in-Some.ensures.there.named is (c.reserve.ensures.entries ∙ ap (λ (s : StoreState). s.entries) c.self.view_is) c.in_ok-reply.ensures.entered.entry;
-      opening = search rules;
+      opening = ap (λ (s : StoreState). s.opening) c.self.view_is;
       handed = c.answer_command.ensures.entered.start ∙ c.reserve.ensures.start ∙ ap (λ (s : StoreState). s.handed) c.self.view_is;
       heap = c.in_ok-reply.ensures.denied denial same ∙ ap (λ (s : StoreState). s.heap) c.self.view_is;
-      collections = search rules;
+      collections = ap (λ (s : StoreState). s.collections) c.self.view_is;
     }
 
 pub returns-clause-no_such_worker : goal.returns-clause-no_such_worker
 returns-clause-no_such_worker g c = λ graph stands.
-    (λ same _. let f : ⊥ = cc same in f, λ none. absurd (none (subject_seen c.self.invariant c.self.view_is stands c.args.worker (c.in-Some.ensures.active.0 refl))))
+    (λ same _. ok_not_err same, λ none. absurd (none (subject_seen c.self.invariant c.self.view_is stands c.args.worker (c.in-Some.ensures.active.0 refl))))

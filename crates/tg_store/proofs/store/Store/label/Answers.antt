@@ -4,13 +4,14 @@ use Rattle.tg_rights.specs.RightSet.{label_of}
 use Rattle.tg_graph.specs.Heap.{content_of}
 use Rattle.tg_store.proofs.HeldLaws.{held_by_none, held_by_subject}
 use Rattle.tg_store.proofs.StandLaws.{stands_inside}
+use Rattle.tg_store.proofs.Apart.{false_not_true}
 use Rattle.tg_store.proofs.store.Store.label.Goals as goal
 
 pub returns-in_err-subject : goal.returns-in_err-subject
 returns-in_err-subject g c =
     record {
       held = λ graph stands.
-          held_by_none _ c.self.invariant.faithful c.args.worker c.args.target c.from_residual.result (λ is. let f : ⊥ = cc (c.in_err-subject.ensures.active.1 is) in f)
+          held_by_none _ c.self.invariant.faithful c.args.worker c.args.target c.from_residual.result (λ is. false_not_true (c.in_err-subject.ensures.active.1 is))
           c.from_residual.ensures graph (stands_inside c.self.invariant c.self.view_is stands);
     }
 

@@ -1,5 +1,5 @@
 -- What is given up on the heap and entered is what leaves the graph.
-use Rattle.std.proofs.Common.{◌≡◌, ◌∙◌, ◌++◌, ◌∷◌, [], ℕ, List, ap, length, map, refl, subst, sym}
+use Rattle.std.proofs.Common.{◌≡◌, ◌∙◌, ◌++◌, ◌∷◌, [], ℕ, ◌+◌, ◌<◌, ◌≤◌, List, ap, arith, length, map, refl, subst, sym}
 use Rattle.std.proofs.lemmas.List.{append_assoc}
 use Rattle.tg_rights.specs.RightSet.{RightSet}
 use Rattle.tg_model.specs.declared.command.Command.TheVariants.{Retire}
@@ -14,7 +14,8 @@ use Rattle.tg_graph.specs.Standing.{IsContentOf}
 use Rattle.tg_store.specs.Leaving.{HasLeft, leaving, removal, retiring}
 use Rattle.tg_store.specs.Store.{StoreState, graph_of_store}
 use Rattle.tg_store.proofs.LeaveLaws.{IsStore-left, graph_of_left, legal_removals, listed, sound_before}
-use Rattle.tg_store.proofs.StandLaws.{content_seen, subject_here, subject_seen}
+use Rattle.tg_store.proofs.AnswerLaws.{subject_found}
+use Rattle.tg_store.proofs.StandLaws.{IsStore-unchanged, content_seen, subject_here, subject_seen}
 use Rattle.tg_store.proofs.store.Store.leave.Goals as goal
 
 -- what was entered, told of the worker's name and of the graph's listing
@@ -32,6 +33,21 @@ left_heap before after g x w row named is sound subject stands each =
     let legal : IsLegal g (map (removal x) row) = subst (λ es. IsLegal g es) (λ i. map (removal (sym named i)) (sym is i)) (legal_removals g w sound subject) in
     let left = each g stands (subst (λ (y : ℕ). IsSubject g y) (sym named) subject) legal in
     subst (λ (h : ProtectionGraph). IsContentOf after h) (λ i. step (graph_after g (map (removal (named i)) (is i))) (named i) (Plain Retire)) left
+
+-- there is room for an entry of each edge, and one more
+room_for : (row count spare : ℕ) → count + 1 ≤ spare → count ≡ row → row < spare
+room_for row count spare room is = omega arith
+
+pub invariant_of-self : goal.invariant_of-self
+invariant_of-self g c =
+    IsStore-unchanged _ _ c.self.inside.made c.self.invariant (record { opening = refl; entries = c.reserve_many.ensures.entries; handed = c.reserve_many.ensures.start; heap = record { table = refl; entries = refl; subjects = refl; remembered = refl; indexed = refl }; collections = refl })
+
+pub leave_heap-requires-clause-subject : goal.leave_heap-requires-clause-subject
+leave_heap-requires-clause-subject g c = subject_found c.self.inside.heap c.args.worker c.in-Some.subject c.in-Some.ensures.there c.in-Some.ensures.nursery c.in-Some.ensures.vertex
+
+pub leave_heap-requires-clause-room : goal.leave_heap-requires-clause-room
+leave_heap-requires-clause-room g c =
+    room_for (length c.in_ok-row.row) (length c.as_slice-count.result.now) c.reserve_many.new.self.spare c.in_ok-reserve_many.ensures.room (ap (λ es. length es) c.as_slice-count.ensures)
 
 pub invariant_of-self-2 : goal.invariant_of-self-2
 invariant_of-self-2 g c =

@@ -21,6 +21,7 @@ use Rattle.tg_model.specs.Making.{deed_making}
 use Rattle.tg_store.specs.Making.{IsLimitMet, reply_at}
 use Rattle.tg_store.proofs.MakingLaws as making
 use Rattle.tg_store.proofs.StandLaws.{IsStore-unchanged, StandsFor-entered, active_seen, limit_of, stands_inside, subject_seen}
+use Rattle.tg_store.proofs.Apart.{false_not_true, memory_not_heap, memory_not_vertices, memory_not_worker, worker_not_heap, worker_not_vertices}
 use Rattle.tg_store.proofs.store.Store.make.Goals as goal
 use Rattle.tg_store.proofs.store.Store.make.Goals.{After-push_refusal, In_default-met}
 
@@ -56,12 +57,12 @@ has_room g c = subst (λ (s : StoreState). IsLimitMet (graph_of_store s) c.args.
 
 pub returns-in_default-clause-refusals : goal.returns-in_default-clause-refusals
 returns-in_default-clause-refusals g c =
-    let none : IsActive c.self.inside.heap c.args.worker → ⊥ = λ is. let f : ⊥ = cc (c.in_default.ensures.active.1 is) in f in
+    let none : IsActive c.self.inside.heap c.args.worker → ⊥ = λ is. false_not_true (c.in_default.ensures.active.1 is) in
     record {
       no_such_worker = (λ graph stands. (λ _ subject. none (active_seen c.self.invariant c.self.view_is stands c.args.worker subject), λ _. refl));
-      no_more = (λ _ _. (λ e. let f : ⊥ = cc e in absurd f));
+      no_more = λ _ _ e. absurd (worker_not_vertices e);
       exhausted = (λ graph stands subject _. absurd (none (active_seen c.self.invariant c.self.view_is stands c.args.worker subject)));
-      full = (λ _ _. (λ e. let f : ⊥ = cc e in absurd f));
+      full = λ _ _ e. absurd (worker_not_heap e);
       same_graph = (λ _ stands. stands);
       handed_back = refl;
       opening = refl;
@@ -69,6 +70,13 @@ returns-in_default-clause-refusals g c =
       limits = refl;
       collections = refl;
     }
+
+pub invariant_of-self : goal.invariant_of-self
+invariant_of-self g c =
+    IsStore-unchanged _ _ c.self.inside.made c.self.invariant (record { opening = refl; entries = c.deed_to_enter.ensures.room.entries; handed = c.deed_to_enter.ensures.room.start; heap = record { table = refl; entries = refl; subjects = refl; remembered = refl; indexed = refl }; collections = refl })
+
+pub add_vertex-requires-clause-worker : goal.add_vertex-requires-clause-worker
+add_vertex-requires-clause-worker g c = c.in-Some.ensures.active.0 refl
 
 pub invariant_of-self-in-Some-met : goal.invariant_of-self-in-Some-met
 invariant_of-self-in-Some-met g c =
@@ -138,6 +146,11 @@ invariant_of-self-2 g c =
     making.IsStore-made _ c.self.inside.made c.self.invariant c.args.worker (c.in-Some.ensures.active.0 refl) c.args.kind c.args.label c.args.draft (has_room g (goal.at.invariant_of-self-2 g c).In_default-met) _ c.value.ensures.fits refl entry
     c.in_ok-add_vertex.ensures.made c.in_ok-add_vertex.ensures.subjects
 
+pub returns-clause-entry : goal.returns-clause-entry
+returns-clause-entry g c =
+    making.enters c.args.self.now.entries _ c.push.new.self.entries c.args.worker c.args.kind c.args.label c.args.draft _ _ (Name c.self.inside.made) c.in-Ok.ensures.deed c.value.ensures.same
+    (c.deed_to_enter.ensures.room.entries ∙ ap (λ (s : StoreState). s.entries) c.self.view_is) c.push.ensures.entries
+
 pub returns-clause-made : goal.returns-clause-made
 returns-clause-made g c =
     let old : StoreState = record { opening = c.self.inside.opening; entries = c.self.inside.journal.entries; handed = c.self.inside.journal.start; heap = c.self.inside.heap; collections = c.self.inside.collections } in
@@ -177,10 +190,10 @@ pub returns-in_default-deed_to_enter-clause-refusals : goal.returns-in_default-d
 returns-in_default-deed_to_enter-clause-refusals g c =
     record {
       no_such_worker = (λ graph stands.
-          (λ e _. let f : ⊥ = cc e in f, λ none. absurd (none (subject_seen c.self.invariant c.self.view_is stands c.args.worker (c.in-Some.ensures.active.0 refl)))));
-      no_more = (λ _ _. (λ e. let f : ⊥ = cc e in absurd f));
+          (λ e _. memory_not_worker e, λ none. absurd (none (subject_seen c.self.invariant c.self.view_is stands c.args.worker (c.in-Some.ensures.active.0 refl)))));
+      no_more = λ _ _ e. absurd (memory_not_vertices e);
       exhausted = (λ graph stands subject _. (inr refl));
-      full = (λ _ _. (λ e. let f : ⊥ = cc e in absurd f));
+      full = λ _ _ e. absurd (memory_not_heap e);
       same_graph = (λ graph stands. (ap (λ es. graph_after (start_of c.self.inside.opening) es) c.deed_to_enter.ensures.room.entries ∙ stands_inside c.self.invariant c.self.view_is stands));
       handed_back = refl;
       opening = ap (λ (s : StoreState). s.opening) c.self.view_is;
@@ -243,7 +256,7 @@ add_vertex-requires-clause-few g c =
 
 pub returns-in_default-clause-crowded : goal.returns-in_default-clause-crowded
 returns-in_default-clause-crowded g c =
-    let none : IsActive c.self.inside.heap c.args.worker → ⊥ = λ is. let f : ⊥ = cc (c.in_default.ensures.active.1 is) in f in
+    let none : IsActive c.self.inside.heap c.args.worker → ⊥ = λ is. false_not_true (c.in_default.ensures.active.1 is) in
     λ _ graph stands subject _ _.
     absurd (none (active_seen c.self.invariant c.self.view_is stands c.args.worker subject))
 

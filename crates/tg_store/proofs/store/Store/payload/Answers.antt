@@ -3,11 +3,12 @@ use Rattle.std.proofs.Common.{refl}
 use Rattle.tg_graph.specs.Heap.{content_of}
 use Rattle.tg_store.proofs.ReadLaws.{read-lent, read-permitted}
 use Rattle.tg_store.proofs.StandLaws.{active_seen, content_seen, subject_seen}
+use Rattle.tg_store.proofs.Apart.{false_not_true}
 use Rattle.tg_store.proofs.store.Store.payload.Goals as goal
 
 pub returns-in_default-clause-allowed : goal.returns-in_default-clause-allowed
 returns-in_default-clause-allowed g c = λ graph stands.
-    (λ some. let f : ⊥ = cc some in absurd f, λ is. let f : ⊥ = cc (c.in_default.ensures.active.1 (active_seen c.self.invariant c.self.view_is stands c.args.worker is.0)) in absurd f)
+    (λ some. absurd (false_not_true some), λ is. absurd (false_not_true (c.in_default.ensures.active.1 (active_seen c.self.invariant c.self.view_is stands c.args.worker is.0))))
 
 pub returns-clause-allowed : goal.returns-clause-allowed
 returns-clause-allowed g c = λ graph stands.

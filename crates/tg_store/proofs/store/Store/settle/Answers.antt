@@ -1,15 +1,22 @@
 -- The heap then has what can be reached, and stands for the same graph.
 use Rattle.std.proofs.Common.{◌∙◌, refl, ap, sym, subst}
 use Rattle.std.proofs.lemmas.Result.{err_from_is_err_and}
-use Rattle.tg_space.specs.Collection.{collected_in}
-use Rattle.tg_graph.specs.Heap.{content_of, subject_names}
+use Rattle.tg_space.specs.Collection.{IsCollection, collected_in}
+use Rattle.tg_graph.specs.Heap.{HeapState, content_of, roots_of, subject_names}
 use Rattle.tg_graph.specs.Kept.{VerticesOfOldStay}
 use Rattle.tg_graph.proofs.StandingLaws.{StandsFor-collected}
 use Rattle.tg_store.specs.Counts.{with_one_collection}
-use Rattle.tg_store.specs.Store.{HasAdopted, StoreState, graph_of_store}
+use Rattle.tg_store.specs.Store.{HasAdopted, IsStore, StoreState, graph_of_store}
 use Rattle.tg_store.proofs.CollectLaws.{counted_left, names_left}
 use Rattle.tg_store.proofs.StandLaws.{IsStore-kept}
 use Rattle.tg_store.proofs.store.Store.settle.Goals as goal
+
+pub settle-requires : goal.settle-requires
+settle-requires g c = subst (λ (s : StoreState). IsCollection c.args.kind s.heap.table.spaces (roots_of c.args.kind s.heap) (collected_in c.args.copied)) (sym c.self.view_is) c.requires
+
+pub invariant_of-self : goal.invariant_of-self
+invariant_of-self g c =
+    subst (λ (h : HeapState). IsStore (record { opening = c.self.inside.opening; entries = c.self.inside.journal.entries; handed = c.self.inside.journal.start; heap = h; collections = c.self.inside.collections }) c.self.inside.made) (sym c.in_err-count.ensures.refused) c.self.invariant
 
 pub invariant_of-self-2 : goal.invariant_of-self-2
 invariant_of-self-2 g c =

@@ -7,6 +7,7 @@ use Rattle.tg_rights.specs.RightSet.{has}
 use Rattle.tg_rights.specs.declared.Right.{Right}
 use Rattle.tg_model.specs.declared.edge.Edge.{Edge}
 use Rattle.tg_store.specs.Holding.{IsHolderIn}
+use Rattle.tg_store.proofs.Apart.{not_both}
 use Rattle.tg_store.proofs.store.holders.holders_in.Goals.{then-is_held_along+in_ok-push, else-is_held_along}
 use Rattle.tg_store.proofs.store.holders.holders_in.Goals as goal
 
@@ -63,7 +64,7 @@ loop-edge-preserved c =
           (one_more c.loop-edge.names.items (take i es) e right y (c.is_held_along.ensures.0 w.if-is_held_along.true) c.loop-edge.invariant)
       | else-is_held_along w ↦
           subst (λ names. AreIn names (take i es ++ e ∷ []) right y) (sym (ap (λ v. v.items) w.names-is))
-          (no_more c.loop-edge.names.items (take i es) e right y (λ leads. cc (c.is_held_along.ensures.1 leads, w.if-is_held_along.false)) c.loop-edge.invariant)
+          (no_more c.loop-edge.names.items (take i es) e right y (λ leads. not_both (c.is_held_along.ensures.1 leads) w.if-is_held_along.false) c.loop-edge.invariant)
     ] in
     subst (λ ds. AreIn c.if-is_held_along.names.items ds right y) (sym more) next
 
