@@ -5,7 +5,11 @@ use Rattle.tg_rights.specs.RightSet.{RightSet}
 use Rattle.tg_model.specs.declared.command.Deed.{Deed}
 use Rattle.tg_model.specs.declared.reply.Reply.{Reply}
 use Rattle.tg_model.specs.declared.reply.Reply.TheVariants.{Name, VerticesFull, WorkersFull}
+use Rattle.tg_model.specs.declared.command.Command.TheVariants.{Retire}
+use Rattle.tg_model.specs.declared.command.Deed.TheVariants.{Plain}
+use Rattle.tg_model.specs.declared.making.Making.{Making}
 use Rattle.tg_model.specs.declared.making.Making.TheVariants.{Object, Subject}
+use Rattle.tg_model.specs.Making.{deed_making}
 use Rattle.tg_model.specs.declared.value.Value.{Value}
 use Rattle.tg_store.specs.Made.{IsMadeFor}
 use Rattle.tg_store.specs.declared.fault.CreateFault.{CreateFault}
@@ -18,6 +22,11 @@ use Rattle.tg_shared.proofs.Balances.{locked_entered, locked_same}
 
 pub object_not_subject : Object ≡ Subject → ⊥
 object_not_subject is = cc
+
+-- who makes a vertex does not retire by it
+pub making_stays : (kind : Making) (label : RightSet) (value : Value) → deed_making kind label value ≡ Plain Retire → ⊥
+making_stays Object label value is = cc
+making_stays Subject label value is = cc
 
 pub same_reply : {told : Option Reply} {a b : Reply} → told ≡ Some a → told ≡ Some b → a ≡ b
 same_reply is here = cc

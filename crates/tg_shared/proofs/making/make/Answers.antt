@@ -1,18 +1,44 @@
-use Rattle.std.proofs.Common.{◌≡◌, ◌∙◌, ℕ, rules, subst}
+use Rattle.std.proofs.Common.{◌≡◌, ◌<◌, ◌≤◌, ◌∙◌, ℕ, length, rules, subst, sym}
+use Rattle.std.specs.Prelude.{IfErr, IfOk}
 use Rattle.std.proofs.lemmas.Result.{IfErr-weaker}
 use Rattle.tg_model.specs.declared.command.Deed.{Deed}
+use Rattle.tg_model.specs.declared.making.Making.TheVariants.{Subject}
+use Rattle.tg_model.specs.declared.opening.TheConstants.{MAX_WORKERS}
+use Rattle.tg_model.specs.Graph.{IsSubject}
 use Rattle.tg_model.specs.Making.{deed_making}
+use Rattle.tg_store.specs.declared.fault.CreateFault.TheVariants.{WorkersFull}
+use Rattle.tg_store.specs.Made.{IsMadeFor, MayRefuse}
 use Rattle.tg_store.specs.Store.{Enters}
-use Rattle.tg_shared.proofs.Makings.{made_as}
+use Rattle.tg_shared.proofs.Makings.{made_as, making_stays, same_reply}
 use Rattle.tg_shared.proofs.making.make.Goals.{in-Some, in_default}
 use Rattle.tg_shared.proofs.making.make.Goals as goal
+
+pub note-requires-clause-gone : goal.note-requires-clause-gone
+note-requires-clause-gone g c = λ is. absurd (making_stays c.args.kind c.args.label _ (sym c.deed-deed.ensures ∙ is))
+
+-- what the store told of the worker is told of the session's
+pub returns-clause-made : goal.returns-clause-made
+returns-clause-made g c =
+    subst (λ (n : ℕ). IfOk c.make-answer.result (IsMadeFor (deed_making c.args.kind c.args.label c.args.draft) n c.args.label c.args.draft c.args.store.now c.make-answer.new.self)) c.worker-worker.ensures c.make-answer.ensures.made
+
+pub returns-clause-refusals : goal.returns-clause-refusals
+returns-clause-refusals g c =
+    subst (λ (n : ℕ). MayRefuse (deed_making c.args.kind c.args.label c.args.draft) n c.args.draft c.args.store.now c.make-answer.new.self c.make-answer.result) c.worker-worker.ensures c.make-answer.ensures.refusals
+
+pub returns-clause-too_many : goal.returns-clause-too_many
+returns-clause-too_many g c = λ graph stands.
+    subst (λ (n : ℕ). IfErr c.make-answer.result (λ refused. refused.why ≡ WorkersFull → (c.args.kind ≡ Subject) × IsSubject graph n × (graph.made < graph.limit) × (MAX_WORKERS ≤ length graph.subjects))) c.worker-worker.ensures
+    (c.make-answer.ensures.too_many graph stands)
+
+pub returns-clause-crowded : goal.returns-clause-crowded
+returns-clause-crowded g c = λ is graph stands subject low many. c.make-answer.ensures.crowded is graph stands (subst (λ (n : ℕ). IsSubject graph n) (sym c.worker-worker.ensures) subject) low many
 
 pub returns-clause-noted : goal.returns-clause-noted
 returns-clause-noted g c = λ reply is.
     let deed : Deed = deed_making c.args.kind c.args.label c.args.draft in
     elim c.match-reply_made.branch [
       | in-Some w ↦
-          let same : w.in-Some.reply ≡ reply = cc in
+          let same : w.in-Some.reply ≡ reply = same_reply (sym w.in-Some.ensures) is in
           let entry : Enters c.args.store.now c.make-answer.new.self c.worker-worker.result deed reply =
           made_as (Enters c.args.store.now c.make-answer.new.self c.worker-worker.result deed) c.make-answer.result reply is c.make-answer.ensures.entry
           (IfErr-weaker c.make-answer.result _ _ (λ refused told why. (told why).entry) c.make-answer.ensures.no_more_entry)

@@ -1,15 +1,38 @@
 -- What an end leaves behind the lock.
-use Rattle.std.proofs.Common.{◌≡◌, ◌+◌, ◌∙◌, ℕ, length, arith, refl, subst, sym}
+use Rattle.std.proofs.Common.{◌≡◌, ◌+◌, ◌∙◌, ℕ, Err, Ok, ap, length, arith, refl, subst, sym}
+use Rattle.std.proofs.lemmas.Result.{err_from_is_err_and}
 use Rattle.tg_model.specs.Graph.{listing_of}
 use Rattle.tg_store.specs.Store.{StoreState, graph_of_store}
-use Rattle.tg_shared.specs.Sessions.{IsBalanced}
+use Rattle.tg_shared.specs.Serving.{EndsWorker}
+use Rattle.tg_shared.specs.Sessions.{IsBalanced, LockedState}
 use Rattle.tg_shared.proofs.Balances.{not_both, part_left, some_part}
 use Rattle.tg_shared.proofs.Leavings.{locked_left}
+use Rattle.tg_shared.proofs.Replies.{ends}
 use Rattle.tg_shared.proofs.locked.Locked.end.Goals as goal
 
 -- what was counted is what was entered
 counted_all : (before now after entered count row : ℕ) → now ≡ before + (count + 1) → after ≡ now → before ≡ entered → count ≡ row → after ≡ entered + (row + 1)
 counted_all before now after entered count row more same is all = omega arith
+
+pub returns-in_err-count-clause-ended : goal.returns-in_err-count-clause-ended
+returns-in_err-count-clause-ended g c =
+    let given = err_from_is_err_and c.from_residual.result c.from_residual.ensures.1 in
+    let told = c.in_err-count.ensures in
+    subst (EndsWorker c.args.worker c.args.self.now.store c.leave.new.self) (sym (given.1 ∙ ap Err given.2))
+    (subst (λ (b : LockedState). EndsWorker c.args.worker b.store c.leave.new.self (Err c.in_err-count.field-0.0)) c.self.view_is
+    (ends c.self.inside.store c.leave.new.self c.args.worker c.args.worker (Err c.in_err-count.field-0.0) refl tt (λ _ _. tt) told.no_such_worker told.never_full told.refused))
+
+pub returns-clause-ended : goal.returns-clause-ended
+returns-clause-ended g c =
+    let told = c.in_ok-count.ensures in
+    subst (λ (b : LockedState). EndsWorker c.args.worker b.store c.leave.new.self (Ok c.in_ok-count.count)) c.self.view_is
+    (ends c.self.inside.store c.leave.new.self c.args.worker c.args.worker (Ok c.in_ok-count.count) refl told.left told.count told.no_such_worker told.never_full tt)
+
+pub returns-clause-entered : goal.returns-clause-entered
+returns-clause-entered g c = ap (λ (b : LockedState). b.entered + (c.in_ok-count.count + 1)) c.self.view_is
+
+pub returns-clause-sessions : goal.returns-clause-sessions
+returns-clause-sessions g c = ap (λ (b : LockedState). b.sessions) c.self.view_is
 
 pub add-requires : goal.add-requires
 add-requires g c =
