@@ -1,5 +1,5 @@
 -- The entries by which a worker leaves: their receipts, and what they make of the balance behind the lock.
-use Rattle.std.proofs.Common.{◌≡◌, ◌∙◌, ℕ, ◌+◌, ◌<◌, Bool, true, List, [], ◌∷◌, ◌++◌, length, add-zero, length-append, map, append_assoc, refl, sym, ap, subst, arith}
+use Rattle.std.proofs.Common.{◌≡◌, ◌∙◌, ℕ, ◌+◌, ◌<◌, ◌^◌, Bool, true, List, [], ◌∷◌, ◌++◌, length, add-zero, length-append, map, append_assoc, refl, sym, ap, subst, arith}
 use Rattle.std.proofs.lemmas.List.{length-map}
 use Rattle.std.proofs.lemmas.List.Sums.{sum_by-cons}
 use Rattle.tg_rights.specs.RightSet.{RightSet}
@@ -75,6 +75,13 @@ length_leaving g x =
     let all = length-append (map (removal x) row) (retiring x ∷ []) in
     let each = length-map row (removal x) in
     omega (arith, all, each)
+
+-- all entries have a number, and so have those that are made of a leave
+pub entries_fit : (old new : StoreState) (x count places : ℕ) → HasLeft x old new → count ≡ length (listing_of (graph_of_store old).label (graph_of_store old).made x) → places ≡ length new.entries → places < 2 ^ 64 → length old.entries + (count + 1) < 2 ^ 64
+entries_fit old new x count places left is long fits =
+    let row = length_leaving (graph_of_store old) x in
+    let all = ap (λ (es : List Entry). length es) left.entries in
+    omega (arith, row, all, length-append old.entries (leaving (graph_of_store old) x), is, long, fits)
 
 none_spawned : (x : ℕ) (row : List (ℕ × RightSet)) → spawned (map (removal x) row ++ retiring x ∷ []) ≡ 0
 none_spawned x [] = let last = sum_by-cons (λ e. one (is_spawn e)) (retiring x) [] in omega (arith, last)

@@ -43,6 +43,12 @@ pub made_as : {P : Type 0} (E : Reply → Type 0) (answer : Result ℕ (CreateRe
 made_as E (Ok name) reply is named v w = let same : Name name ≡ reply = cc in subst E same named
 made_as E (Err refused) reply is named v w = entered_as E refused.why reply is v w
 
+-- and leaves the heap as it was
+pub heap_stays : {P : Type 0} (old new : StoreState) (answer : Result ℕ (CreateRefused P)) → IfErr answer (λ refused. refused.why ≡ fault.VerticesFull → new.heap ≡ old.heap) → IfErr answer (λ refused. refused.why ≡ fault.WorkersFull → new.heap ≡ old.heap)
+    → IfErr answer (λ refused. (reply : Reply) → reply_entered refused.why ≡ Some reply → new.heap ≡ old.heap)
+heap_stays old new (Ok name) v w = tt
+heap_stays old new (Err refused) v w = λ reply is. entered_as (λ _. new.heap ≡ old.heap) refused.why reply is v w
+
 entered_none : (why : CreateFault) → why ≢ fault.VerticesFull → why ≢ fault.WorkersFull → reply_entered why ≡ None
 entered_none fault.VerticesFull v w = absurd (v refl)
 entered_none fault.WorkersFull v w = absurd (w refl)

@@ -166,10 +166,10 @@ impl<L: Round> Session<L> {
         let mut locked = store.locked.lock(rt);
         // for what is told of it: the shared store, gone on
         let _ = locked.store();
-        let count = locked.leave(self)?;
+        let left = locked.leave(self);
         // and that the new entries are legal
         let _ = locked.store();
-        Ok(count)
+        left
     }
 
     /// The rights that the session's subject holds over a vertex, by one call of

@@ -72,10 +72,10 @@ impl<L: Round> Keeper<L> {
         let mut locked = store.locked.lock(rt);
         // for what is told of it: the shared store, gone on
         let _ = locked.store();
-        let count = locked.end(worker)?;
+        let ended = locked.end(worker);
         // and of the one that is left
         let _ = locked.store();
-        Ok(count)
+        ended
     }
 
     /// The picture of what the active subjects reach, by one call of [`Locked::picture`](crate::Locked::picture) under

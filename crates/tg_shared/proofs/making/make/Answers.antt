@@ -9,7 +9,7 @@ use Rattle.tg_model.specs.Making.{deed_making}
 use Rattle.tg_store.specs.declared.fault.CreateFault.TheVariants.{WorkersFull}
 use Rattle.tg_store.specs.Made.{IsMadeFor, MayRefuse}
 use Rattle.tg_store.specs.Store.{Enters}
-use Rattle.tg_shared.proofs.Makings.{made_as, making_stays, same_reply}
+use Rattle.tg_shared.proofs.Makings.{heap_stays, made_as, making_stays, same_reply}
 use Rattle.tg_shared.proofs.making.make.Goals.{in-Some, in_default}
 use Rattle.tg_shared.proofs.making.make.Goals as goal
 
@@ -32,6 +32,11 @@ returns-clause-too_many g c = λ graph stands.
 
 pub returns-clause-crowded : goal.returns-clause-crowded
 returns-clause-crowded g c = λ is graph stands subject low many. c.make-answer.ensures.crowded is graph stands (subst (λ (n : ℕ). IsSubject graph n) (sym c.worker-worker.ensures) subject) low many
+
+pub returns-clause-same_heap : goal.returns-clause-same_heap
+returns-clause-same_heap g c =
+    heap_stays c.args.store.now c.make-answer.new.self c.make-answer.result (IfErr-weaker c.make-answer.result _ _ (λ refused told why. (told why).heap) c.make-answer.ensures.no_more_entry)
+    (IfErr-weaker c.make-answer.result _ _ (λ refused told why. (told why).heap) c.make-answer.ensures.too_many_entry)
 
 pub returns-clause-noted : goal.returns-clause-noted
 returns-clause-noted g c = λ reply is.

@@ -1,21 +1,20 @@
 -- The worker has left a store that may have been behind the lock, and what it left may have been there too.
 use Rattle.std.proofs.Common.{◌∙◌, refl, sym}
-use Rattle.std.proofs.lemmas.Result.{err_from_is_err_and}
-use Rattle.tg_model.specs.Graph.{IsSubject}
 use Rattle.tg_store.specs.Store.{StoreState, graph_of_store}
-use Rattle.tg_shared.proofs.Calls.{err_here, found_with, refused_as}
+use Rattle.tg_shared.specs.Sessions.{EndsAtSome}
+use Rattle.tg_shared.proofs.Calls.{both_told, err_told, found_with}
 use Rattle.tg_shared.proofs.keeper.Keeper.end.Goals as goal
 
-pub returns-in_err-count-clause-no_such_worker : goal.returns-in_err-count-clause-no_such_worker
-returns-in_err-count-clause-no_such_worker g c =
-    let given = err_from_is_err_and c.from_residual.result c.from_residual.ensures.1 in
+pub returns : goal.returns
+returns g c =
+    let told = c.end-ended.ensures.ended in
     let old : StoreState = c.deref_mut.result.now.store in
-    err_here c.from_residual.result given.0 _ given.1 (λ why.
-    found_with g.L.Round.start (λ (s : StoreState). ¬ IsSubject (graph_of_store s) c.args.worker) c.deref.result.now c.deref_mut.result.now (c.deref.ensures ∙ sym c.deref_mut.ensures.value) c.store.ensures.gone_on c.store.ensures.faithful
-    ((c.in_err-count.ensures.ended.no_such_worker (graph_of_store old) refl).0 (refused_as given.2 why)))
-
-pub returns-clause-ended : goal.returns-clause-ended
-returns-clause-ended g c =
-    let old : StoreState = c.deref_mut.result.now.store in
-    let after = found_with g.L.Round.start _ c.deref-2.result.now c.end.new.self c.deref-2.ensures c.store-2.ensures.gone_on c.store-2.ensures.faithful (c.in_ok-count.ensures.ended.left, c.in_ok-count.ensures.ended.count (graph_of_store old) refl) in
-    found_with g.L.Round.start _ c.deref.result.now c.deref_mut.result.now (c.deref.ensures ∙ sym c.deref_mut.ensures.value) c.store.ensures.gone_on c.store.ensures.faithful after
+    let same = c.deref.ensures ∙ sym c.deref_mut.ensures.value in
+    record {
+      ended = both_told c.end-ended.result _ _ _ (EndsAtSome g.L.Round.start c.args.worker) (λ left _ number count.
+          let after = found_with g.L.Round.start _ c.deref-2.result.now c.end-ended.new.self c.deref-2.ensures c.store-2.ensures.gone_on c.store-2.ensures.faithful (left, count) in
+          found_with g.L.Round.start _ c.deref.result.now c.deref_mut.result.now same c.store.ensures.gone_on c.store.ensures.faithful after) told.left told.left (told.count (graph_of_store old) refl);
+      no_such_worker = err_told c.end-ended.result _ _ (λ is.
+          found_with g.L.Round.start _ c.deref.result.now c.deref_mut.result.now same c.store.ensures.gone_on c.store.ensures.faithful ((told.no_such_worker (graph_of_store old) refl).0 is));
+      never_full = told.never_full;
+    }

@@ -6,6 +6,7 @@ use Rattle.tg_store.specs.Store.{graph_of_store}
 use Rattle.tg_shared.specs.Serving.{IsMadeAndNoted, NotesRefusal}
 use Rattle.tg_shared.specs.Sessions.{LockedState, reply_made}
 use Rattle.tg_shared.proofs.Makings.{locked_noted, made_noted, object_not_subject, refusal_noted}
+use Rattle.tg_shared.proofs.Replies.{refusals_same}
 use Rattle.tg_shared.proofs.locked.Locked.create.Goals as goal
 
 pub invariant_of-self : goal.invariant_of-self
@@ -19,6 +20,9 @@ returns-clause-served g c =
     let deed : Deed = Deed.Create c.args.label c.args.draft.law c.args.draft.state in
     subst (λ (b : LockedState). IfOk c.make.result (IsMadeAndNoted deed c.args.label c.args.draft b.store c.make.new.store c.args.session.now c.make.new.session)) c.self.view_is
     (made_noted deed c.args.label c.args.draft c.self.inside.store c.make.new.store c.args.session.now c.make.new.session c.make.result c.make.ensures.noted c.make.ensures.made)
+
+pub returns-clause-refusals : goal.returns-clause-refusals
+returns-clause-refusals g c = refusals_same _ _ _ _ _ _ _ _ (ap (λ (b : LockedState). b.store) c.self.view_is) refl c.make.ensures.refusals
 
 pub returns-clause-noted : goal.returns-clause-noted
 returns-clause-noted g c =

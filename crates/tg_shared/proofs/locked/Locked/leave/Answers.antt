@@ -1,14 +1,15 @@
 -- What a leave leaves behind the lock, and what its session knows then.
-use Rattle.std.proofs.Common.{◌≡◌, ◌∙◌, ◌+◌, ℕ, List, length, Err, Ok, ap, refl, subst, sym}
+use Rattle.std.proofs.Common.{◌≡◌, ◌∙◌, ◌+◌, ◌<◌, ◌≤◌, ◌^◌, ℕ, List, length, Err, Ok, ap, arith, refl, subst, sym}
 use Rattle.std.proofs.lemmas.Result.{err_from_is_err_and}
 use Rattle.tg_rights.specs.RightSet.{RightSet}
 use Rattle.tg_model.specs.Graph.{ProtectionGraph, IsSubject, listing_of}
+use Rattle.tg_journal.specs.declared.entry.Entry.{Entry}
 use Rattle.tg_store.specs.Leaving.{HasLeft}
 use Rattle.tg_store.specs.Store.{graph_of_store}
 use Rattle.tg_shared.specs.Serving.{EndsWorker}
 use Rattle.tg_shared.specs.Sessions.{LockedState}
 use Rattle.tg_shared.proofs.Balances.{goes_on_more}
-use Rattle.tg_shared.proofs.Leavings.{gone_left, locked_left}
+use Rattle.tg_shared.proofs.Leavings.{entries_fit, gone_left, locked_left}
 use Rattle.tg_shared.proofs.Replies.{ends}
 use Rattle.tg_shared.proofs.locked.Locked.leave.Goals as goal
 
@@ -25,6 +26,27 @@ returns-clause-ended g c =
     let told = c.in_ok-count.ensures in
     subst (λ (b : LockedState). EndsWorker c.args.session.now.worker b.store c.leave.new.self (Ok c.in_ok-count.count)) c.self.view_is
     (ends c.self.inside.store c.leave.new.self c.worker-worker.result c.args.session.now.worker (Ok c.in_ok-count.count) c.worker-worker.ensures told.left told.count told.no_such_worker told.never_full tt)
+
+room_for : (row count spare : ℕ) → count + 1 ≤ spare → count ≡ row → row < spare
+room_for row count spare room is = omega arith
+
+pub note_leaving-requires-clause-room : goal.note_leaving-requires-clause-room
+note_leaving-requires-clause-room g c =
+    room_for (length c.in_ok-row.row) (length c.as_slice.result.now) c.make_room_for.new.self.spare c.in_ok-make_room_for.ensures.spare (ap (λ (es : List (ℕ × RightSet)). length es) c.as_slice.ensures)
+
+places_fit : (at before row count : ℕ) → at ≡ before → row ≡ count → before + (count + 1) < 2 ^ 64 → at + row < 2 ^ 64
+places_fit at before row count here same fits = omega (arith, here, same, fits)
+
+pub note_leaving-requires-clause-places : goal.note_leaving-requires-clause-places
+note_leaving-requires-clause-places g c =
+    let old = c.self.inside.store in
+    let graph : ProtectionGraph = graph_of_store old in
+    let row = length (listing_of graph.label graph.made c.worker-worker.result) in
+    places_fit c.len-at.result (length old.entries) (length c.in_ok-row.row) row (c.len-at.ensures ∙ ap (λ (es : List Entry). length es) c.journal.ensures.entries) (ap (λ (es : List (ℕ × RightSet)). length es) (c.in_ok-row.ensures.edges graph refl))
+    (entries_fit old c.leave.new.self c.worker-worker.result row c.len.result c.in_ok-count.ensures.left refl (c.len.ensures ∙ ap (λ (es : List Entry). length es) c.journal-2.ensures.entries) c.len.type_inv)
+
+pub returns-clause-numbers : goal.returns-clause-numbers
+returns-clause-numbers g c = record { sessions = ap (λ (b : LockedState). b.sessions) c.self.view_is; entered = ap (λ (b : LockedState). b.entered) c.self.view_is }
 
 pub note_leaving-requires-clause-gone : goal.note_leaving-requires-clause-gone
 note_leaving-requires-clause-gone g c =

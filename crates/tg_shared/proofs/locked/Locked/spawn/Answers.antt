@@ -2,12 +2,14 @@ use Rattle.std.proofs.Common.{◌≡◌, ◌∙◌, ◌+◌, ℕ, false, length,
 use Rattle.std.proofs.lemmas.Result.{err_from_is_err_and}
 use Rattle.tg_model.specs.declared.command.Deed.{Deed}
 use Rattle.tg_model.specs.declared.reply.Reply.{Reply}
+use Rattle.tg_store.specs.declared.fault.CreateRefused.{CreateRefused}
 use Rattle.tg_store.specs.Made.{MayRefuse}
 use Rattle.tg_store.specs.Store.{Enters, StoreState, graph_of_store}
 use Rattle.tg_shared.specs.declared.session.Session.{Session}
 use Rattle.tg_shared.specs.Serving.{IsMadeAndNoted, NotesRefusal}
 use Rattle.tg_shared.specs.Sessions.{LockedState, made_subject}
 use Rattle.tg_shared.proofs.Balances.{balanced_spawned, goes_on_more, grown, made_more, part_left, parts_left, within_word}
+use Rattle.tg_shared.proofs.Calls.{err_here}
 use Rattle.tg_shared.proofs.Makings.{entered_as, locked_noted, refused_noted}
 use Rattle.tg_shared.proofs.Replies.{refusals_made, refusals_none, refusals_same}
 use Rattle.tg_shared.proofs.locked.Locked.spawn.Goals as goal
@@ -50,6 +52,20 @@ invariant_of-self-2 g c =
       goes_on_more c.self.inside.store c.make.new.store _ entry told.refusals.opening g.L.Round.start c.self.invariant.3 told.refusals.limits (λ _. told.refusals.handed),
       one_more c.self.inside.sessions _ _ c.self.invariant.4 (made_more g.L.Round.start c.self.inside.store c.make.new.store c.args.session.now.worker deed (Reply.Name c.in_ok-name.name) entry (grown g.L.Round.start c.self.inside.store c.self.invariant.3)),
     )
+
+pub returns-clause-entered : goal.returns-clause-entered
+returns-clause-entered g c = ap (λ (b : LockedState). b.entered) c.self.view_is
+
+pub returns-clause-one_more : goal.returns-clause-one_more
+returns-clause-one_more g c = ap (λ (b : LockedState). b.sessions + 1) c.self.view_is
+
+pub returns-in_err-name-clause-too_many : goal.returns-in_err-name-clause-too_many
+returns-in_err-name-clause-too_many g c =
+    let given = err_from_is_err_and c.from_residual.result c.from_residual.ensures.1 in
+    λ graph stands.
+    err_here c.from_residual.result given.0 _ given.1 (λ why.
+    let all = c.in_err-name.ensures.too_many graph (ap (λ (b : LockedState). graph_of_store b.store) c.self.view_is ∙ stands) (ap (λ (r : CreateRefused g.row.P.Denot). r.why) (sym given.2) ∙ why) in
+    (all.1, all.2, all.3))
 
 pub returns-in_err-name-clause-refusals : goal.returns-in_err-name-clause-refusals
 returns-in_err-name-clause-refusals g c =

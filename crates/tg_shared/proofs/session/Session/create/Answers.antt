@@ -3,8 +3,11 @@ use Rattle.std.proofs.lemmas.Result.{IfOk-weaker}
 use Rattle.tg_store.specs.Store.{StoreState, IsFaithful}
 use Rattle.tg_shared.specs.Sessions.{LockedState}
 use Rattle.tg_shared.proofs.Calls.{found}
-use Rattle.tg_shared.proofs.Replies.{answered, kept_unless, refusals_at_some}
+use Rattle.tg_shared.proofs.Replies.{answered, kept_unless, refusals_at_some, refusals_unasked}
 use Rattle.tg_shared.proofs.session.Session.create.Goals as goal
+
+pub returns-in-Err-clause-refusals : goal.returns-in-Err-clause-refusals
+returns-in-Err-clause-refusals g c = refusals_unasked g.L.Round.start _ c.args.draft c.args.self.now _ _ refl c.in-Err.ensures.why
 
 pub returns : goal.returns
 returns g c =

@@ -3,8 +3,14 @@ use Rattle.std.proofs.lemmas.Result.{IfErr-weaker, IfOk-weaker}
 use Rattle.tg_store.specs.Store.{StoreState, IsFaithful}
 use Rattle.tg_shared.specs.Sessions.{LockedState}
 use Rattle.tg_shared.proofs.Calls.{found, kept}
-use Rattle.tg_shared.proofs.Replies.{answered, refusals_at_some}
+use Rattle.tg_shared.proofs.Replies.{answered, few_workers, refusals_at_some, refusals_unasked}
 use Rattle.tg_shared.proofs.session.Session.spawn.Goals as goal
+
+pub returns-in-Err-clause-refusals : goal.returns-in-Err-clause-refusals
+returns-in-Err-clause-refusals g c = refusals_unasked g.L.Round.start _ c.args.draft c.args.self.now _ _ refl c.in-Err.ensures.why
+
+pub returns-in-Err-clause-workers_full : goal.returns-in-Err-clause-workers_full
+returns-in-Err-clause-workers_full g c = few_workers c.in-Err.why c.in-Err.ensures.why
 
 pub returns : goal.returns
 returns g c =
