@@ -193,9 +193,7 @@ impl<P: Payload> Store<P> {
 
     /// Lets the store go, with all that it holds, as `drop` does. But by `drop` a caller's crate proves anew how each
     /// part of a store is dropped, and here that is proved already.
-    pub fn let_go(self) {
-        drop(self);
-    }
+    pub fn let_go(self) {}
 
     /// How many vertices, payloads and blocks the heap has, how many entries were made, how many of them are held,
     /// how many tell of each refusal, and how many collections of each kind were done since the store was opened, of
