@@ -100,15 +100,14 @@ pub(crate) fn read_words<'a, S: AsStr>(
 fn command<'a>(alloc: Global, line: &CommandLine) -> Result<Command<'a>, AllocError> {
     let mut args = Vec::new(alloc);
     add_args(&mut args, alloc, line.choices)?;
-    bare_command(alloc, line)?.args(args)
+    bare_command(alloc, line).args(args)?.bin_name(line.name)
 }
 
-// The same, without its options.
-fn bare_command<'a>(alloc: Global, line: &CommandLine) -> Result<Command<'a>, AllocError> {
+// The same, without its options, and without the name that its texts give it.
+fn bare_command<'a>(alloc: Global, line: &CommandLine) -> Command<'a> {
     Command::new(alloc, line.name)
         .about(line.about)
         .after_help(line.manual)
-        .bin_name(line.name)
 }
 
 // Adds options, as clap has them.
@@ -118,18 +117,29 @@ fn add_args<'a>(
     choices: &[Choice],
 ) -> Result<(), AllocError> {
     for choice in choices {
-        args.push(arg_of(alloc, choice)?)?;
+        add(args, arg_of(alloc, choice))?;
     }
+    Ok(())
+}
+
+// Adds an item, where there was memory to make it.
+fn add<T: Drop>(items: &mut Vec<T>, made: Result<T, AllocError>) -> Result<(), AllocError> {
+    items.push(made?)?;
     Ok(())
 }
 
 // An option, as clap has it.
 fn arg_of<'a>(alloc: Global, choice: &Choice) -> Result<Arg<'a>, AllocError> {
+    named_arg(alloc, choice)
+        .value_name(choice.value)
+        .value_parser(choice.parser)
+        .requires_all(choice.needs)
+}
+
+// The same, without what is said of its value.
+fn named_arg<'a>(alloc: Global, choice: &Choice) -> Arg<'a> {
     Arg::new(alloc, choice.name)
         .long(choice.name)
         .help(choice.help)
         .action(choice.action)
-        .value_name(choice.value)
-        .value_parser(choice.parser)
-        .requires_all(choice.needs)
 }
