@@ -27,6 +27,8 @@ pub fn opening(alloc: Global, rights: Label) -> Result<Opening, StoreFault> {
 
 /// A store with this opening.
 pub fn open_store(alloc: Global, rights: Label) -> Result<Store<CellPayload>, StoreFault> {
+    let limits = limits()?;
+    let drafts = cells_of_three(alloc)?;
     let opening = opening(alloc, rights)?;
-    Ok(Store::open(alloc, opening, limits()?, cells_of_three(alloc)?)?)
+    Ok(Store::open(alloc, opening, limits, drafts)?)
 }

@@ -3,6 +3,7 @@
 use super::errands::Errands;
 use crate::fault::StoryFault;
 use crate::tell::tell_audit;
+use std::io;
 
 /// What became of the story.
 #[derive(Clone, Copy)]
@@ -15,25 +16,26 @@ pub struct Ending {
 
 /// Prints it, with the number of entries of the journal, which passed its audit.
 pub fn print_ending<R: Print>(rt: &R, ending: &Ending, entries: u64) -> Result<(), StoryFault> {
+    print_errands(rt, ending)?;
+    Ok(tell_audit(rt, entries)?)
+}
+
+fn print_errands<R: Print>(rt: &R, ending: &Ending) -> io::Result<()> {
     let Ending {
         ledger,
         paper,
         errands,
     } = ending;
-    println!(rt; "the deputy makes a ledger, whose name is {ledger}")?;
-    println!(rt; "the client makes a paper, whose name is {paper}")?;
-    print_errands(rt, errands)?;
-    Ok(tell_audit(rt, entries)?)
-}
-
-fn print_errands<R: Print>(rt: &R, errands: &Errands) -> Result<(), StoryFault> {
     let by_deputy = outcome(errands.ledger_by_deputy);
     let paper_by_hand = outcome(errands.paper_by_hand);
     let ledger_by_hand = outcome(errands.ledger_by_hand);
-    println!(rt; "the deputy writes to the ledger for the client: {by_deputy}")?;
-    println!(rt; "its hand writes to the paper for the client: {paper_by_hand}")?;
-    println!(rt; "its hand writes to the ledger for the client: {ledger_by_hand}")?;
-    Ok(())
+    println!(rt;
+        "the deputy makes a ledger, whose name is {ledger}\n\
+         the client makes a paper, whose name is {paper}\n\
+         the deputy writes to the ledger for the client: {by_deputy}\n\
+         its hand writes to the paper for the client: {paper_by_hand}\n\
+         its hand writes to the ledger for the client: {ledger_by_hand}"
+    )
 }
 
 fn outcome(is_done: bool) -> &'static str {

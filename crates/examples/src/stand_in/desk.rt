@@ -110,7 +110,7 @@ impl<P: Payload> Desk<P> {
         let grant = Command::Grant {
             via: client,
             target: self.stand_in,
-            rights: read_right()?,
+            rights: read_right(),
         };
         Ok(answered(&mut self.store, OWNER, grant)?)
     }
@@ -263,10 +263,10 @@ fn answered<P: Payload>(
 }
 
 // The right to read, as a label.
-fn read_right() -> Result<Label, DeskFault>
-    ensures { IfOk result (λ rights. rights ≡ only RightOf.R) }
+fn read_right() -> Label
+    ensures { result ≡ only RightOf.R }
 {
-    Label::new(Rights::of(Right::R)).ok_or(DeskFault::NoNumber)
+    Label::new(Rights::of(Right::R)).unwrap()
 }
 
 // The first number that a reply tells.
