@@ -23,6 +23,38 @@ const VISITOR: u64 = 1;
 // At most 10 vertices may ever be made, workers included.
 const MOST_VERTICES: u64 = 10;
 
+// The steps of the story.
+#[derive(Clone, Copy)]
+enum Step {
+    HandOn,
+    Read,
+    Write,
+    WriteAsVisitor,
+    GiveBack,
+    GiveUp,
+    Collect,
+}
+
+// The visitor reads the document, before and after a collection and a write of the caretaker. It gives the right back,
+// and can't read the document any more. Then the caretaker gives up its own: no one can read the document or hand it
+// on, and the next collection drops it.
+const STEPS: [Step; 14] = [
+    Step::HandOn,
+    Step::Read,
+    Step::Collect,
+    Step::Read,
+    Step::Write,
+    Step::Read,
+    Step::WriteAsVisitor,
+    Step::GiveBack,
+    Step::Collect,
+    Step::Read,
+    Step::GiveUp,
+    Step::HandOn,
+    Step::Collect,
+    Step::Read,
+];
+
 /// What the workers and the document store.
 #[derive(Drop)]
 pub struct Boxes<P: Payload> {
@@ -55,20 +87,9 @@ fn tell_story<P: Payload, R: Print + AllocGlobal>(
     document: P,
 ) -> Result<(), StoryFault> {
     let document = make_document(rt, store, document)?;
-    tell_of(rt, store, document)?;
+    tell(rt, store, document)?;
     let entries = audited(rt.alloc(), store)?;
     Ok(tell_audit(rt, entries)?)
-}
-
-// Tells what becomes of the document.
-fn tell_of<P: Payload, R: Print>(
-    rt: &R,
-    store: &mut Store<P>,
-    document: u64,
-) -> Result<(), StoryFault> {
-    hand_on(rt, store, document)?;
-    visit(rt, store, document)?;
-    take_back(rt, store, document)
 }
 
 // A store with two workers, of whom the caretaker has these rights over the visitor.
@@ -78,9 +99,10 @@ fn open_store<P: Payload>(
     visitor: P,
     rights: Label,
 ) -> Result<Store<P>, StoreFault> {
+    let limits = limits()?;
     let drafts = drafts_of(alloc, caretaker, visitor)?;
     let opening = opening_of(alloc, &drafts, rights)?;
-    Ok(Store::open(alloc, opening, limits()?, drafts)?)
+    Ok(Store::open(alloc, opening, limits, drafts)?)
 }
 
 // What the two workers store, by rising name.
@@ -118,7 +140,7 @@ fn make_document<P: Payload, R: Print + AllocGlobal>(
     document: P,
 ) -> Result<u64, StoryFault> {
     let name = make(rt.alloc(), store, label("rw")?, document)?;
-    tell_reply(rt, "caretaker makes a document", &Reply::Name(name))?;
+    println!(rt; "caretaker makes a document: ok, its name is {name}")?;
     Ok(name)
 }
 
@@ -130,6 +152,42 @@ fn make<P: Payload>(
     payload: P,
 ) -> Result<u64, StoreFault> {
     Ok(store.create(CARETAKER, rights, Draft::new(alloc, payload)?)?)
+}
+
+// Tells what becomes of the document, one step after the other.
+fn tell<P: Payload, R: Print>(
+    rt: &R,
+    store: &mut Store<P>,
+    document: u64,
+) -> Result<(), StoryFault> {
+    for step in &STEPS {
+        take(rt, store, *step, document)?;
+    }
+    Ok(())
+}
+
+fn take<P: Payload, R: Print>(
+    rt: &R,
+    store: &mut Store<P>,
+    step: Step,
+    document: u64,
+) -> Result<(), StoryFault> {
+    match step {
+        Step::HandOn => hand_on(rt, store, document),
+        Step::Read => ask(rt, store, VISITOR, "visitor reads", read(document)),
+        Step::Write => ask(rt, store, CARETAKER, "caretaker writes 2", write(document)),
+        Step::WriteAsVisitor => ask(rt, store, VISITOR, "visitor writes 2", write(document)),
+        Step::GiveBack => give_up(rt, store, VISITOR, "visitor gives r back", document, "r"),
+        Step::GiveUp => give_up(
+            rt,
+            store,
+            CARETAKER,
+            "caretaker gives up rw",
+            document,
+            "rw",
+        ),
+        Step::Collect => collect(rt, store),
+    }
 }
 
 // The caretaker hands the right to read the document on to the visitor.
@@ -144,66 +202,6 @@ fn hand_on<P: Payload, R: Print>(
         rights: label("r")?,
     };
     ask(rt, store, CARETAKER, "caretaker hands r on", grant)
-}
-
-// The visitor reads the document, before and after a collection and a write of the caretaker.
-fn visit<P: Payload, R: Print>(
-    rt: &R,
-    store: &mut Store<P>,
-    document: u64,
-) -> Result<(), StoryFault> {
-    ask(rt, store, VISITOR, "visitor reads", read(document))?;
-    collect(rt, store)?;
-    ask(rt, store, VISITOR, "visitor reads", read(document))?;
-    ask(
-        rt,
-        store,
-        CARETAKER,
-        "caretaker writes 2",
-        write(document, 2),
-    )?;
-    ask(rt, store, VISITOR, "visitor reads", read(document))?;
-    ask(rt, store, VISITOR, "visitor writes 2", write(document, 2))
-}
-
-// The visitor gives the right back, and then the caretaker gives up its own.
-fn take_back<P: Payload, R: Print>(
-    rt: &R,
-    store: &mut Store<P>,
-    document: u64,
-) -> Result<(), StoryFault> {
-    give_back(rt, store, document)?;
-    let_go(rt, store, document)
-}
-
-// The visitor gives the right back, and can't read the document any more.
-fn give_back<P: Payload, R: Print>(
-    rt: &R,
-    store: &mut Store<P>,
-    document: u64,
-) -> Result<(), StoryFault> {
-    give_up(rt, store, VISITOR, "visitor gives r back", document, "r")?;
-    collect(rt, store)?;
-    ask(rt, store, VISITOR, "visitor reads", read(document))
-}
-
-// The caretaker gives up its own: no one can read the document or hand it on, and the next collection drops it.
-fn let_go<P: Payload, R: Print>(
-    rt: &R,
-    store: &mut Store<P>,
-    document: u64,
-) -> Result<(), StoryFault> {
-    give_up(
-        rt,
-        store,
-        CARETAKER,
-        "caretaker gives up rw",
-        document,
-        "rw",
-    )?;
-    hand_on(rt, store, document)?;
-    collect(rt, store)?;
-    ask(rt, store, VISITOR, "visitor reads", read(document))
 }
 
 // The worker gives up the rights of these letters over the target.
@@ -263,6 +261,6 @@ fn read(target: u64) -> Command {
     Command::Read { target }
 }
 
-fn write(target: u64, value: u64) -> Command {
-    Command::Write { target, value }
+fn write(target: u64) -> Command {
+    Command::Write { target, value: 2 }
 }

@@ -262,8 +262,8 @@ fn answered<P: Payload>(
     Ok(store.apply(worker, command)?)
 }
 
-// The right to read, as a label.
-fn read_right() -> Label
+/// The right to read, as a label.
+pub fn read_right() -> Label
     ensures { result ≡ only RightOf.R }
 {
     Label::new(Rights::of(Right::R)).unwrap()

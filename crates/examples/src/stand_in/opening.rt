@@ -65,8 +65,8 @@ struct Furniture {
 
 fn to_open(alloc: Global, rights: Label) -> Result<Furniture, StoreFault> {
     Ok(Furniture {
-        opening: opening(alloc, rights)?,
         limits: limits()?,
+        opening: opening(alloc, rights)?,
         drafts: cells_of_three(alloc)?,
         thing: cell(alloc, FIRST_COUNT)?,
         stand_in: cell(alloc, 0)?,

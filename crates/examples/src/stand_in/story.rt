@@ -1,16 +1,66 @@
 //! The story of the owner, its client and the client's friend.
 
-use super::desk::{Desk, OWNER};
+use super::desk::{Desk, OWNER, read_right};
+use super::fault::DeskFault;
 use super::opening::{CLIENT, FRIEND, open_desk, opening};
 use crate::fault::StoryFault;
 use crate::opening::label;
 use crate::tell::{tell_audit, tell_reply};
 use std::alloc::Global;
 use tg_journal::audit;
-use tg_model::Command;
+use tg_model::{Command, Reply};
 use tg_payload::Payload;
 use tg_rights::Label;
 use tg_store::StoreFault;
+
+// The steps of the story: what the owner does, and what the client and its friend ask for.
+#[derive(Clone, Copy)]
+enum Step {
+    HandOut,
+    Fill,
+    Empty,
+    Change(u64),
+    ReadCount,
+    TakeCount,
+    Read,
+    HandOn,
+    ReadAsFriend,
+}
+
+// The client is handed the right to read what stands in, and asks for more. The owner fills what stands in, and the
+// client and its friend read it. Then the owner empties what stands in, and stops.
+const STEPS: [Step; 13] = [
+    Step::HandOut,
+    Step::ReadCount,
+    Step::TakeCount,
+    Step::Fill,
+    Step::Read,
+    Step::HandOn,
+    Step::Change(41),
+    Step::Fill,
+    Step::ReadAsFriend,
+    Step::Empty,
+    Step::Change(42),
+    Step::Read,
+    Step::ReadAsFriend,
+];
+
+impl Step {
+    // What is told of it, before the reply.
+    fn words(self) -> &'static str {
+        match self {
+            Step::HandOut => "owner hands r over the stand-in out",
+            Step::Fill => "owner fills the stand-in",
+            Step::Empty => "owner empties the stand-in",
+            Step::Change(_) => "owner changes the count",
+            Step::ReadCount => "client reads the count",
+            Step::TakeCount => "client takes r over the count",
+            Step::Read => "client reads the stand-in",
+            Step::HandOn => "client hands r on to its friend",
+            Step::ReadAsFriend => "friend reads the stand-in",
+        }
+    }
+}
 
 /// Opens a desk, tells the story at it, and audits the journal. Each step is a line on standard output.
 pub fn run_story<R: Print + AllocGlobal>(rt: &R) -> Result<(), StoryFault> {
@@ -25,106 +75,60 @@ fn tell_story<P: Payload, R: Print + AllocGlobal>(
     rt: &R,
     desk: &mut Desk<P>,
 ) -> Result<(), StoryFault> {
-    tell_all(rt, desk)?;
+    tell(rt, desk)?;
     let entries = audited(rt.alloc(), desk)?;
     Ok(tell_audit(rt, entries)?)
 }
 
-// The client is shown the count, and then it isn't any more.
-fn tell_all<P: Payload, R: Print>(rt: &R, desk: &mut Desk<P>) -> Result<(), StoryFault> {
-    hand_out(rt, desk)?;
-    serve(rt, desk)?;
-    take_back(rt, desk)
-}
-
-// The owner hands the right to read what stands in to the client.
-fn hand<P: Payload, R: Print>(rt: &R, desk: &mut Desk<P>) -> Result<(), StoryFault> {
-    let handed = desk.hand_out(CLIENT)?;
-    tell_reply(rt, "owner hands r over the stand-in out", &handed)?;
+// Takes the steps, one after the other, and prints the replies. A denial is a reply.
+fn tell<P: Payload, R: Print>(rt: &R, desk: &mut Desk<P>) -> Result<(), StoryFault> {
+    for step in &STEPS {
+        take(rt, desk, *step)?;
+    }
     Ok(())
 }
 
-// The client is handed the right to read what stands in, and asks for more.
-fn hand_out<P: Payload, R: Print>(rt: &R, desk: &mut Desk<P>) -> Result<(), StoryFault> {
-    hand(rt, desk)?;
-    let thing = desk.thing();
-    ask(
-        rt,
-        desk,
-        CLIENT,
-        "client reads the count",
-        Command::Read { target: thing },
-    )?;
-    let take = Command::Take {
+fn take<P: Payload, R: Print>(rt: &R, desk: &mut Desk<P>, step: Step) -> Result<(), StoryFault> {
+    let reply = answer(desk, step)?;
+    Ok(tell_reply(rt, step.words(), &reply)?)
+}
+
+fn answer<P: Payload>(desk: &mut Desk<P>, step: Step) -> Result<Reply, DeskFault> {
+    let count = desk.thing();
+    let stand_in = desk.stand_in();
+    match step {
+        Step::HandOut => desk.hand_out(CLIENT),
+        Step::Fill => desk.fill(),
+        Step::Empty => desk.put(0),
+        Step::Change(number) => desk.change(number),
+        Step::ReadCount => desk.ask(CLIENT, read(count)),
+        Step::TakeCount => desk.ask(CLIENT, take_from_owner(count)),
+        Step::Read => desk.ask(CLIENT, read(stand_in)),
+        Step::HandOn => desk.ask(CLIENT, hand_on(stand_in)),
+        Step::ReadAsFriend => desk.ask(FRIEND, read(stand_in)),
+    }
+}
+
+fn read(target: u64) -> Command {
+    Command::Read { target }
+}
+
+// The right to read the target is taken from the owner.
+fn take_from_owner(target: u64) -> Command {
+    Command::Take {
         via: OWNER,
-        target: thing,
-        rights: label("r")?,
-    };
-    ask(rt, desk, CLIENT, "client takes r over the count", take)
+        target,
+        rights: read_right(),
+    }
 }
 
-// The owner fills what stands in, and the client and its friend read it.
-fn serve<P: Payload, R: Print>(rt: &R, desk: &mut Desk<P>) -> Result<(), StoryFault> {
-    fill(rt, desk)?;
-    read(rt, desk, CLIENT, "client reads the stand-in")?;
-    let grant = Command::Grant {
+// The right to read the target is handed on to the friend.
+fn hand_on(target: u64) -> Command {
+    Command::Grant {
         via: FRIEND,
-        target: desk.stand_in(),
-        rights: label("r")?,
-    };
-    ask(rt, desk, CLIENT, "client hands r on to its friend", grant)?;
-    change(rt, desk, 41)?;
-    fill(rt, desk)?;
-    read(rt, desk, FRIEND, "friend reads the stand-in")
-}
-
-// The owner empties what stands in, and stops.
-fn take_back<P: Payload, R: Print>(rt: &R, desk: &mut Desk<P>) -> Result<(), StoryFault> {
-    empty(rt, desk)?;
-    change(rt, desk, 42)?;
-    read(rt, desk, CLIENT, "client reads the stand-in")?;
-    read(rt, desk, FRIEND, "friend reads the stand-in")
-}
-
-fn empty<P: Payload, R: Print>(rt: &R, desk: &mut Desk<P>) -> Result<(), StoryFault> {
-    let emptied = desk.put(0)?;
-    tell_reply(rt, "owner empties the stand-in", &emptied)?;
-    Ok(())
-}
-
-fn fill<P: Payload, R: Print>(rt: &R, desk: &mut Desk<P>) -> Result<(), StoryFault> {
-    let filled = desk.fill()?;
-    tell_reply(rt, "owner fills the stand-in", &filled)?;
-    Ok(())
-}
-
-fn change<P: Payload, R: Print>(rt: &R, desk: &mut Desk<P>, value: u64) -> Result<(), StoryFault> {
-    let changed = desk.change(value)?;
-    tell_reply(rt, "owner changes the count", &changed)?;
-    Ok(())
-}
-
-fn read<P: Payload, R: Print>(
-    rt: &R,
-    desk: &mut Desk<P>,
-    client: u64,
-    words: &str,
-) -> Result<(), StoryFault> {
-    let target = desk.stand_in();
-    ask(rt, desk, client, words, Command::Read { target })
-}
-
-// Puts a client's command to the store, and prints the reply. A denial is a reply.
-fn ask<P: Payload, R: Print>(
-    rt: &R,
-    desk: &mut Desk<P>,
-    client: u64,
-    words: &str,
-    command: Command,
-) -> Result<(), StoryFault> {
-    let reply = desk.ask(client, command)?;
-    tell_reply(rt, words, &reply)?;
-    Ok(())
+        target,
+        rights: read_right(),
+    }
 }
 
 // How many entries the journal has, which is a legal history of the opening that the program makes anew.
