@@ -1,9 +1,9 @@
 -- What is led on stays led to; and sets that nothing is led out of decide what could come about.
-use Rattle.std.proofs.Common.{◌≡◌, ◌≢◌, ◌⊎◌, inl, inr, ⊎_elim, ℕ, ◌+◌, ◌<◌, ◌≤◌, length, get_or, Bool, true, false, List, [], refl, sym, ap, ◌∙◌, subst, arith}
+use Rattle.std.proofs.Common.{◌≡◌, ◌≢◌, ◌⊎◌, inl, inr, ⊎_elim, ℕ, ◌+◌, ◌<◌, ◌≤◌, length, get_or, ltb, Bool, true, false, List, [], refl, sym, ap, ◌∙◌, subst, arith}
 use Rattle.std.specs.List.{All, AllWithin, Contains}
-use Rattle.std.proofs.lemmas.Bool.{false≢true}
+use Rattle.std.proofs.lemmas.Bool.{false≢true, ltb-true, ltb-false}
 use Rattle.std.proofs.lemmas.List.{get_or_default}
-use Rattle.std.proofs.lemmas.List.Elements.{All-contains}
+use Rattle.std.proofs.lemmas.List.Elements.{All-contains, AllWithin-more, at_read}
 use Rattle.tg_rights.specs.RightSet.{has}
 use Rattle.tg_rights.specs.declared.Right.{Right}
 use Rattle.tg_rights.specs.declared.Right.TheVariants.{T, G}
@@ -56,6 +56,24 @@ pub record GoesAlong (r : Right) (y : ℕ) (edges : List Edge) (start now : LedN
   pub still : number_led now ≡ number_led start → (sides_led now ≡ sides_led start) × AllWithin (KeepsAt (sides_led now) r y) edges 0 i
 
 module _ (r : Right) (y : ℕ) (edges : List Edge) (start : LedNames) where
+  pub along_none : GoesAlong r y edges start start 0
+  along_none = record {
+    led = λ silent g among led. led;
+    more = omega arith;
+    still = λ same. (refl, λ k d low below. absurd (omega (arith, below)));
+  }
+
+  pub along_same : (now : LedNames) (i : ℕ) (e : Edge) → GoesAlong r y edges start now i → i < length edges → e ≡ get_or edges i e → KeepsAt (sides_led now) r y e → GoesAlong r y edges start now (i + 1)
+  along_same now i e was inside is keeps = record {
+    led = was.led;
+    more = was.more;
+    still = λ same.
+        let so_far = was.still same in (
+          so_far.0,
+          AllWithin-more (KeepsAt (sides_led now) r y) edges 0 i so_far.1 (at_read edges (KeepsAt (sides_led now) r y) i e inside is keeps),
+        );
+  }
+
   pub along_more : (now new : LedNames) (i : ℕ) (e : Edge) (f : Bool) (v : ℕ) → GoesAlong r y edges start now i → i < length edges → e ≡ get_or edges i e → LeadsOn (sides_led now) r y e f v → IsPut (sides_led now) f v (sides_led new) → number_led now < number_led new → GoesAlong r y edges start new (i + 1)
   along_more now new i e f v was inside is leads put more = record {
     led = λ silent g among led.
@@ -97,6 +115,25 @@ module _ (silent : List ℕ) (p : Shown) (y : ℕ) (start : LedNames) where
     more = omega (arith, was.more, more);
     still = λ same. absurd (omega (arith, was.more, more, same));
   }
+
+-- ---- gone over once
+
+-- the rights in the edges of a picture are among the graph's
+pub pictured-among : (p : Shown) (g : ProtectionGraph) → IsPictureOf p g → (edges : List Edge) → edges ≡ p.edges → AreAmong edges g.label
+pictured-among p g picture edges is a b q h =
+    ap (λ m. has m q) (picture.labels a b) ∙ subst (λ (es : List Edge). Holds (label_in es) a q b) is h
+
+-- a count that was taken behind is more than the one before
+pub more_than : (a b before behind : ℕ) → a ≡ before → b ≡ behind → ltb a b ≡ true → before < behind
+more_than a b before behind at_before at_behind more =
+    let less = ltb-true a b more in
+    omega (arith, less, at_before, at_behind)
+
+-- or nothing was new between the two
+pub none_new : (a b before mid behind : ℕ) → a ≡ before → b ≡ behind → ltb a b ≡ false → before ≤ mid → mid ≤ behind → (mid ≡ before) × (behind ≡ mid)
+none_new a b before mid behind at_before at_behind none first second =
+    let most = ltb-false a b none in
+    (omega (arith, most, at_before, at_behind, first, second), omega (arith, most, at_before, at_behind, first, second))
 
 -- ---- who is granted to
 

@@ -9,6 +9,7 @@ use Rattle.tg_model.specs.declared.edge.Edge.{Edge}
 use Rattle.tg_model.specs.Graph.{ProtectionGraph}
 use Rattle.tg_model.specs.Opened.{label_in}
 use Rattle.tg_model.specs.Picture.{Holds, Shown, IsPictureOf}
+use Rattle.tg_could.specs.declared.chance.Chance.TheVariants.{Never, Perhaps}
 use Rattle.tg_could.specs.Turns.{NeverHolds}
 use Rattle.tg_could.specs.Separation.{Sides, MayAdd, Walks, IsEven}
 use Rattle.tg_could.specs.Names.{number_in}
@@ -20,6 +21,10 @@ use Rattle.tg_could.specs.declared.names.Names.{Names}
 use Rattle.tg_could.specs.declared.view.Facts.{Facts}
 use Rattle.tg_could.proofs.MarkLaws.{IsNot, keeps-walks, none_holds, Parts-edges, pictured-never, pictured-same, pictured-alone}
 use Rattle.tg_could.proofs.WordLaws.{within-trans, within-more, meets-down, meets-up, bridged-on, bridged-back, single-alike}
+
+-- two answers
+pub perhaps_not : Perhaps ≡ Never → ⊥
+perhaps_not same = cc
 
 module _ (names : Names) (islands : Islands) (incoming : Incoming) (x : ℕ) (r : Right) (y gathered : ℕ) (are : AreGathered incoming islands.reached.items (number_in names x) r (number_in names y) gathered) (edge : Edge) (stands : Stands names islands incoming edge) where
   -- who holds the right by an edge isn't x, and its word is counted

@@ -26,3 +26,11 @@ returns c t =
 
 pub returns-then-not-leads : goal.returns-then-not-leads
 returns-then-not-leads c t = absurd (false≢true t)
+
+pub returns-then-not-grant : goal.returns-then-not-grant
+returns-then-not-grant c t =
+    record {
+      take = λ h. absurd (false≢true (sym c.if-not-take.true ∙ (c.has-take.ensures ∙ h)));
+      granted = λ h. absurd (false≢true (sym c.if-not-grant.true ∙ (c.has-grant.ensures ∙ h)));
+      grant = λ h. absurd (false≢true (sym c.if-not-grant.true ∙ (c.has-grant.ensures ∙ h)));
+    }

@@ -1,7 +1,7 @@
 use Rattle.std.proofs.Common.{◌≡◌, ◌∙◌, sym, ap, subst, ℕ, false}
 use Rattle.tg_could.specs.Names.{number_in}
 use Rattle.tg_could.specs.View.{word_of, meets}
-use Rattle.tg_could.proofs.ViewLaws.{gathered-at, viewed-same, viewed-alone, viewed-never}
+use Rattle.tg_could.proofs.ViewLaws.{perhaps_not, gathered-at, viewed-same, viewed-alone, viewed-never}
 use Rattle.tg_could.proofs.view.Facts.could.Goals as goal
 
 pub returns-then-x-y : goal.returns-then-x-y
@@ -30,3 +30,12 @@ returns c silent shown g checked picture never =
     word c.with_later-word.ensures
     (subst (λ (n : ℕ). meets n word ≡ false) at (sym c.meets.ensures ∙ c.if-meets.false))
     (c.are_placed.ensures c.if-not-are_placed.false)
+
+pub returns-then-meets : goal.returns-then-meets
+returns-then-meets c silent shown g checked picture never = absurd (perhaps_not never)
+
+pub returns-then-not-are_placed : goal.returns-then-not-are_placed
+returns-then-not-are_placed c silent shown g checked picture never = absurd (perhaps_not never)
+
+pub returns-in_default : goal.returns-in_default
+returns-in_default c silent shown g checked picture never = absurd (perhaps_not never)
