@@ -92,6 +92,10 @@ one-more P items subjects i d same low all here =
     (AllWithin-more P items 0 i (subst (λ (l : List ℕ). AllWithin P l 0 i) (sym same) all)
     (λ e. subst P (get_or_default items i d e low) here))
 
+-- all subjects of a list that is another
+pub all-seen : (P : ℕ → Type 0) (items subjects : List ℕ) (i : ℕ) → items ≡ subjects → length items ≤ i → AllWithin P subjects 0 i → All P subjects
+all-seen P items subjects i same end seen k d inside = seen k d (omega arith) (omega (arith, inside, end, ap length same))
+
 module _ (silent : List ℕ) (p : Shown) (g : ProtectionGraph) (picture : IsPictureOf p g) where
   -- what stands on the graph stands on the picture
   pub on_picture : (a b : ℕ) (q : Right) → Holds g.label a q b → Holds (label_in p.edges) a q b

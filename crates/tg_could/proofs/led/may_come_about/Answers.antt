@@ -1,9 +1,10 @@
-use Rattle.std.proofs.Common.{List, subst}
+use Rattle.std.proofs.Common.{List, ◌∙◌, ap, subst}
+use Rattle.tg_rights.specs.RightSet.{has}
 use Rattle.tg_model.specs.declared.edge.Edge.{Edge}
 use Rattle.tg_model.specs.Opened.{label_in}
 use Rattle.tg_model.specs.Picture.{Holds}
 use Rattle.tg_could.proofs.MarkLaws.{pictured-same, pictured-alone}
-use Rattle.tg_could.proofs.SettledLaws.{closed_never, helped, decided}
+use Rattle.tg_could.proofs.SettledLaws.{held_turns, closed_never, helped, decided}
 use Rattle.tg_could.proofs.led.may_come_about.Goals as goal
 
 pub returns-then-x-y : goal.returns-then-x-y
@@ -36,3 +37,11 @@ returns c g picture =
     (λ none. closed_never silent p g picture x r y names c.in_ok-led.ensures.edges c.in_ok-led.ensures.actors lacks (c.lead_to.ensures.not_taken none) (c.lead_to.ensures.not_given none))
     c.if-x-y.false
     (helped silent p g picture x r y names (c.is_alone.ensures.helped c.if-is_alone.false))
+
+pub returns-then-not-lacks : goal.returns-then-not-lacks
+returns-then-not-lacks c g picture =
+    let x = c.args.x in
+    let r = c.args.right in
+    let y = c.args.y in
+    held_turns c.args.silent.now g x r y
+    (ap (λ m. has m r) (picture.labels x y) ∙ subst (λ (es : List Edge). Holds (label_in es) x r y) c.edges.ensures (c.lacks.ensures.held c.if-not-lacks.true))

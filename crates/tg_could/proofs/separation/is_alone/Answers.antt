@@ -1,7 +1,8 @@
 use Rattle.std.proofs.Common.{◌≡◌, ◌<◌, ℕ, inr, List, get_or, subst}
+use Rattle.std.proofs.lemmas.Bool.{false≢true}
 use Rattle.std.proofs.lemmas.List.{get_or_default}
 use Rattle.std.specs.List.{Contains}
-use Rattle.tg_could.proofs.MarkLaws.{one-more}
+use Rattle.tg_could.proofs.MarkLaws.{one-more, all-seen}
 use Rattle.tg_could.proofs.separation.is_alone.Goals as goal
 
 pub loop-subject-preserved : goal.loop-subject-preserved
@@ -19,3 +20,15 @@ returns-then-not-is_or_is_silent-clause-helped c same =
     let other = c.is_or_is_silent.ensures.other c.if-not-is_or_is_silent.true in
     let there : Contains seen v = (i, c.loop-subject-test.true, get_or_default seen i v 0 c.loop-subject-test.true) in
     inr (v, (subst (λ (l : List ℕ). Contains l v) c.subjects-subject-items.ensures there, other.0), other.1)
+
+pub returns-clause-alone : goal.returns-clause-alone
+returns-clause-alone c t =
+    let P : ℕ → Type 0 = λ v. ¬ (Contains c.args.silent.now v × (v < c.args.picture.now.made)) → v ≡ c.args.y in
+    all-seen P c.subjects-subject-items.result.now c.args.picture.now.subjects c.loop-subject.subject-index c.subjects-subject-items.ensures c.loop-subject-test.false
+    c.loop-subject.invariant
+
+pub returns-then-not-is_or_is_silent-clause-many : goal.returns-then-not-is_or_is_silent-clause-many
+returns-then-not-is_or_is_silent-clause-many c t = absurd (false≢true t)
+
+pub returns-then-not-is_or_is_silent-clause-alone : goal.returns-then-not-is_or_is_silent-clause-alone
+returns-then-not-is_or_is_silent-clause-alone c t = absurd (false≢true t)
