@@ -72,11 +72,12 @@ impl Links {
 
     /// Ties the links of each vertex, the last in front; notes whether memory was wanting for one of them.
     pub(crate) fn tie(&mut self, grown: &mut Result<(), AllocError>) {
+        let first = self.first.as_mut_slice();
         for (at, link) in self.links.iter_mut().enumerate() {
             let vertex = link.next as usize;
-            if vertex < self.first.len() {
-                link.next = self.first[vertex];
-                self.first[vertex] = place(at);
+            if vertex < first.len() {
+                link.next = first[vertex];
+                first[vertex] = place(at);
             }
         }
         note(grown, self.grown);

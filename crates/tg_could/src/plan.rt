@@ -15,12 +15,17 @@ fn both_and(right: Right) -> Label {
     Label::new(both.union(Rights::of(right))).unwrap()
 }
 
-/// The right that is asked for, and who holds it at first.
+/// The right that is asked for, over whom, and who holds it at first; and the labels of turns: take, grant, both of
+/// these, and both with the right.
 #[derive(Clone, Copy, Drop)]
 struct Goal {
-    right: Right,
+    asked: Label,
     over: u64,
     source: u64,
+    take: Label,
+    grant: Label,
+    both: Label,
+    all: Label,
 }
 
 /// Turns, how many vertices are made behind them, and the edges from each vertex as they were before.
@@ -115,7 +120,7 @@ impl<'a> Plan<'a> {
         }
         let name = self.trial.made;
         let deed = Deed::Spawn {
-            label: both_and(Right::T),
+            label: self.goal.both,
             law: Law::Cell,
             state: Numbers::one(0),
         };
@@ -135,25 +140,25 @@ impl<'a> Plan<'a> {
 
     // Makes the names that are asked about and aren't made yet: the maker of x makes it, another one all others.
     fn make_names(&mut self, x: u64, maker: u64, other: u64) {
-        let x_comes = comes_later(self.picture, x);
-        let mut last = if x_comes { x } else { 0 };
-        if comes_later(self.picture, self.goal.over) {
-            last = last.max(self.goal.over);
-        } else if !x_comes {
-            return;
+        let first = self.picture.made();
+        let mut end = first;
+        if comes_later(self.picture, x) {
+            end = x.saturating_add(1);
         }
-        for name in self.picture.made()..last.saturating_add(1) {
+        if comes_later(self.picture, self.goal.over) {
+            end = end.max(self.goal.over.saturating_add(1));
+        }
+        for name in first..end {
             let worker = if name == x { maker } else { other };
-            self.create(worker, both_and(self.goal.right));
+            self.create(worker, self.goal.all);
         }
     }
 
     // Takes the take right over the next vertex of a walk, which is over one before it.
     fn walk_on(&mut self, first: u64, via: u64, target: u64) {
         if via != first {
-            let rights = single(Right::T);
             let command = Command::Take {
-                rights,
+                rights: self.goal.take,
                 via,
                 target,
             };
@@ -176,19 +181,14 @@ impl<'a> Plan<'a> {
     // The first who acts, at the end of a stretch, takes the right, or else take over who has it, and puts it into a
     // new mailbox.
     fn begin(&mut self, stretch: &[Step], first: u64) -> u64 {
-        let Goal {
-            right,
-            over,
-            source,
-        } = self.goal;
+        let goal = self.goal;
         self.walk(first, stretch, true);
-        let mailbox = self.create(first, both_and(Right::T));
-        if first == over {
-            self.grant(first, mailbox, source, single(Right::T));
+        let mailbox = self.create(first, goal.both);
+        if first == goal.over {
+            self.grant(first, mailbox, goal.source, goal.take);
         } else {
-            let asked = single(right);
-            self.take(first, source, over, asked);
-            self.grant(first, mailbox, over, asked);
+            self.take(first, goal.source, goal.over, goal.asked);
+            self.grant(first, mailbox, goal.over, goal.asked);
         }
         mailbox
     }
@@ -196,9 +196,8 @@ impl<'a> Plan<'a> {
     // Hands take and grant over the mailbox on from the first of a stretch to the last.
     fn hand_on(&mut self, stretch: &[Step], first: u64, last: u64, mailbox: u64) {
         let between = self.mailbox(stretch, first, last);
-        let both = both_and(Right::T);
-        self.grant(first, between, mailbox, both);
-        self.take(last, between, mailbox, both);
+        self.grant(first, between, mailbox, self.goal.both);
+        self.take(last, between, mailbox, self.goal.both);
         if last != self.goal.over {
             self.fetch(last, mailbox);
         }
@@ -206,16 +205,11 @@ impl<'a> Plan<'a> {
 
     // Where the mailbox has no more than take over who holds the right, the right is fetched.
     fn fetch(&mut self, x: u64, mailbox: u64) {
-        let Goal {
-            right,
-            over,
-            source,
-        } = self.goal;
-        let asked = single(right);
-        if !self.has_all(mailbox, over, asked) {
-            self.take(x, mailbox, source, single(Right::T));
-            self.take(x, source, over, asked);
-            self.grant(x, mailbox, over, asked);
+        let goal = self.goal;
+        if !self.has_all(mailbox, goal.over, goal.asked) {
+            self.take(x, mailbox, goal.source, goal.take);
+            self.take(x, goal.source, goal.over, goal.asked);
+            self.grant(x, mailbox, goal.over, goal.asked);
         }
     }
 
@@ -240,11 +234,11 @@ impl<'a> Plan<'a> {
         let b = vertex_of(up.first(), q);
         self.walk(p, down, false);
         self.walk(q, up, true);
-        if a == p && self.has_all(b, p, single(Right::T)) {
+        if a == p && self.has_all(b, p, self.goal.take) {
             self.walk_on(q, b, p);
             return self.make_for(p, q);
         }
-        if self.has_all(a, b, single(Right::G)) {
+        if self.has_all(a, b, self.goal.grant) {
             self.meet(p, a, b, q)
         } else {
             self.meet(q, b, a, p)
@@ -253,7 +247,7 @@ impl<'a> Plan<'a> {
 
     // A new vertex that p makes, and q, who has take over p, takes.
     fn make_for(&mut self, p: u64, q: u64) -> u64 {
-        let both = both_and(Right::T);
+        let both = self.goal.both;
         let new = self.create(p, both);
         self.take(q, p, new, both);
         new
@@ -262,9 +256,9 @@ impl<'a> Plan<'a> {
     // p puts a new vertex where q can take it: a, to which p walks, has grant over b, to which q walks.
     fn meet(&mut self, p: u64, a: u64, b: u64, q: u64) -> u64 {
         if a != p {
-            self.take(p, a, b, single(Right::G));
+            self.take(p, a, b, self.goal.grant);
         }
-        let both = both_and(Right::T);
+        let both = self.goal.both;
         let new = self.create(p, both);
         self.grant(p, b, new, both);
         if b != q {
@@ -275,40 +269,38 @@ impl<'a> Plan<'a> {
 
     // The last who acts walks to one that has grant over x, and the right is granted to x.
     fn end(&mut self, walk: &[Step], last: u64, way: &Way, x: u64) {
-        let Goal { right, over, .. } = self.goal;
+        let goal = self.goal;
         self.walk(last, walk, false);
         let giver = vertex_of(walk.last(), last);
         if giver != last {
-            self.take(last, giver, x, single(Right::G));
+            self.take(last, giver, x, goal.grant);
         }
-        if last == over {
-            return self.end_behind(last, way, x);
+        if last == goal.over {
+            self.end_behind(last, way, x);
+        } else {
+            self.take(last, way.mailbox, goal.over, goal.asked);
+            self.grant(last, x, goal.over, goal.asked);
         }
-        let asked = single(right);
-        self.take(last, way.mailbox, over, asked);
-        self.grant(last, x, over, asked);
     }
 
     // The right is over the last who acts, who can't hold it: the one before it grants it to x, or one that it spawns.
     fn end_behind(&mut self, last: u64, way: &Way, x: u64) {
-        let Goal { right, over, .. } = self.goal;
+        let goal = self.goal;
         let mailbox = way.mailbox;
         let holder = match way.before {
             Some(before) => before,
             None => self.spawn_holder(last, mailbox),
         };
-        let grant = single(Right::G);
-        let asked = single(right);
-        self.grant(last, mailbox, x, grant);
-        self.take(holder, mailbox, x, grant);
-        self.take(holder, mailbox, over, asked);
-        self.grant(holder, x, over, asked);
+        self.grant(last, mailbox, x, goal.grant);
+        self.take(holder, mailbox, x, goal.grant);
+        self.take(holder, mailbox, goal.over, goal.asked);
+        self.grant(holder, x, goal.over, goal.asked);
     }
 
     // Spawns one who puts the right into the mailbox.
     fn spawn_holder(&mut self, last: u64, mailbox: u64) -> u64 {
         let spawned = self.spawn(last);
-        self.grant(last, spawned, mailbox, both_and(Right::T));
+        self.grant(last, spawned, mailbox, self.goal.both);
         self.fetch(spawned, mailbox);
         spawned
     }
@@ -323,8 +315,7 @@ impl<'a> Plan<'a> {
 
     // Leads the right to x along a path, unless x holds it.
     fn lead(&mut self, path: &[Step], x: u64) {
-        let Goal { right, over, .. } = self.goal;
-        if path.is_empty() || self.has_all(x, over, single(right)) {
+        if path.is_empty() || self.has_all(x, self.goal.over, self.goal.asked) {
             return;
         }
         let source = vertex_of(path.first(), x);
@@ -362,10 +353,9 @@ impl<'a> Plan<'a> {
 
     // The last who acts hands the right to x, or is x.
     fn arrive(&mut self, way: &Way, path: &[Step], x: u64) {
-        let Goal { right, over, .. } = self.goal;
         match way.last {
             Some(last) if last != x => self.end(part(path, way.place, path.len()), last, way, x),
-            _ => self.take(x, way.mailbox, over, single(right)),
+            _ => self.take(x, way.mailbox, self.goal.over, self.goal.asked),
         }
     }
 }
@@ -438,9 +428,13 @@ pub(crate) fn turns_to<'a>(
         picture,
         found,
         goal: Goal {
-            right,
+            asked: single(right),
             over: y,
             source: y,
+            take: single(Right::T),
+            grant: single(Right::G),
+            both: both_and(Right::T),
+            all: both_and(right),
         },
         trial,
         turns: Vec::new(alloc),

@@ -131,7 +131,9 @@ impl Found {
         if !self.go_back(&takers) {
             let ways = self.ways(alloc, edges);
             self.spread(&takers, &ways);
+            drop(ways);
         }
+        drop(takers);
     }
 
     // Puts the holder of an edge into the second set, where it has the right over the vertex; and links the target of

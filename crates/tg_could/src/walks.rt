@@ -29,6 +29,8 @@ pub(crate) fn walks(
     let mut walk = Walk::new(alloc, count, grown);
     walk.walk_all(names, &takes, actors, words.as_mut_slice());
     note(grown, walk.grown);
+    drop(walk);
+    drop(takes);
     words
 }
 
@@ -134,10 +136,11 @@ impl Walk {
         if let Some(last) = self.path.last_mut() {
             last.next = link.next;
         }
-        if self.number(link.end()) == 0 {
-            self.visit(takes, link.end());
+        let end = link.end();
+        if self.number(end) == 0 {
+            self.visit(takes, end);
         } else {
-            self.join(visit.vertex, link.end());
+            self.join(visit.vertex, end);
         }
     }
 

@@ -105,8 +105,9 @@ impl Listed {
             return;
         }
         let at = self.names.number(edge.to) as usize;
-        if at < self.rights.len() {
-            self.rights[at] = self.rights[at].union(edge.label.rights());
+        let rights = self.rights.as_mut_slice();
+        if at < rights.len() {
+            rights[at] = rights[at].union(edge.label.rights());
         }
     }
 
