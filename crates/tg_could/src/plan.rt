@@ -140,15 +140,14 @@ impl<'a> Plan<'a> {
 
     // Makes the names that are asked about and aren't made yet: the maker of x makes it, another one all others.
     fn make_names(&mut self, x: u64, maker: u64, other: u64) {
-        let first = self.picture.made();
-        let mut end = first;
-        if comes_later(self.picture, x) {
-            end = x.saturating_add(1);
-        }
+        let x_comes = comes_later(self.picture, x);
+        let mut last = if x_comes { x } else { 0 };
         if comes_later(self.picture, self.goal.over) {
-            end = end.max(self.goal.over.saturating_add(1));
+            last = last.max(self.goal.over);
+        } else if !x_comes {
+            return;
         }
-        for name in first..end {
+        for name in self.picture.made()..last.saturating_add(1) {
             let worker = if name == x { maker } else { other };
             self.create(worker, self.goal.all);
         }
