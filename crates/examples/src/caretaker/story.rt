@@ -140,7 +140,7 @@ fn make_document<P: Payload, R: Print + AllocGlobal>(
     document: P,
 ) -> Result<u64, StoryFault> {
     let name = make(rt.alloc(), store, label("rw")?, document)?;
-    println!(rt; "caretaker makes a document: ok, its name is {name}")?;
+    tell_reply(rt, "caretaker makes a document", &Reply::Name(name))?;
     Ok(name)
 }
 
@@ -161,12 +161,13 @@ fn tell<P: Payload, R: Print>(
     document: u64,
 ) -> Result<(), StoryFault> {
     for step in &STEPS {
-        take(rt, store, *step, document)?;
+        act(rt, store, *step, document)?;
     }
     Ok(())
 }
 
-fn take<P: Payload, R: Print>(
+// Has the one whose step it is ask for it, and prints the reply.
+fn act<P: Payload, R: Print>(
     rt: &R,
     store: &mut Store<P>,
     step: Step,
@@ -261,6 +262,7 @@ fn read(target: u64) -> Command {
     Command::Read { target }
 }
 
+// Writes 2.
 fn write(target: u64) -> Command {
     Command::Write { target, value: 2 }
 }

@@ -83,12 +83,12 @@ fn tell_story<P: Payload, R: Print + AllocGlobal>(
 // Takes the steps, one after the other, and prints the replies. A denial is a reply.
 fn tell<P: Payload, R: Print>(rt: &R, desk: &mut Desk<P>) -> Result<(), StoryFault> {
     for step in &STEPS {
-        take(rt, desk, *step)?;
+        act(rt, desk, *step)?;
     }
     Ok(())
 }
 
-fn take<P: Payload, R: Print>(rt: &R, desk: &mut Desk<P>, step: Step) -> Result<(), StoryFault> {
+fn act<P: Payload, R: Print>(rt: &R, desk: &mut Desk<P>, step: Step) -> Result<(), StoryFault> {
     let reply = answer(desk, step)?;
     Ok(tell_reply(rt, step.words(), &reply)?)
 }
