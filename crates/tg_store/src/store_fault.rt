@@ -17,22 +17,22 @@ pub enum StoreFault {
     #[error("out of memory")]
     OutOfMemory,
     /// The opening or the limits aren't as asked.
-    #[error(transparent)]
+    #[error("{0}")]
     Opening(OpeningFault),
     /// The store was not opened.
-    #[error(transparent)]
+    #[error("{0}")]
     Open(OpenFault),
     /// A vertex was not made.
-    #[error(transparent)]
+    #[error("{0}")]
     Create(CreateFault),
     /// A command was refused, which is no denial: a denial is a reply.
-    #[error(transparent)]
+    #[error("{0}")]
     Apply(ApplyFault),
     /// A collection was refused.
-    #[error(transparent)]
+    #[error("{0}")]
     Collect(RoomFault),
     /// The audit did not pass.
-    #[error(transparent)]
+    #[error("{0}")]
     Audit(StoreAuditFault),
 }
 
