@@ -96,8 +96,10 @@ def check(program):
     failed = 0
     for (shape, helpers), figure in known.items():
         now = of_a_vertex(program, shape, helpers)
-        failed += now > MOST_TIMES * figure
-        print(f"cells: {shape} by {helpers}: {now:.1f} instructions a vertex; {figure} is stored: {now / figure:.3f} times", flush=True)
+        is_more = now > MOST_TIMES * figure
+        failed += is_more
+        told = f"{now:.1f} instructions a vertex; {figure} is stored: {now / figure:.3f} times"
+        print(f"cells: {shape} by {helpers}: {told}{', FAILED' * is_more}", flush=True)
     return 1 if failed else 0
 
 

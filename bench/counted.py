@@ -8,7 +8,11 @@ import sys
 import tempfile
 
 HERE = os.path.dirname(os.path.abspath(__file__))
-BUILT = os.path.join(HERE, "..", "crates", "tgstore", "out", "tgstore")
+
+
+def built(name):
+    """Where the program of this name is built."""
+    return os.path.join(HERE, "..", "crates", name, "out", name)
 
 
 def can_count():
@@ -16,11 +20,11 @@ def can_count():
     return bool(shutil.which("valgrind"))
 
 
-def run(name, usage, check, options=None):
+def run(name, usage, check, options=None, program="tgstore"):
     """Reads the command line, and where valgrind is, answers the status of the check, which is handed what was asked. It has the
     program by the name of that, and these options with what argparse is told of each."""
     words = argparse.ArgumentParser(usage=usage)
-    words.add_argument("program", nargs="?", default=BUILT)
+    words.add_argument("program", nargs="?", default=built(program))
     for option, how in (options or {}).items():
         words.add_argument(option, **how)
     asked = words.parse_args()

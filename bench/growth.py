@@ -51,8 +51,10 @@ def is_bounded(program, name):
     """Whether much beside it makes it little dearer."""
     script, what, unit, (little, much) = CHECKS[name]
     few, many = (of_one(program, script, size) for size in (little, much))
-    print(f"{name}: {what} {little:,} {unit}: {few:.0f} instructions; {much:,}: {many:.0f}, {many / few:.2f} times as many", flush=True)
-    return many <= MOST_TIMES * few
+    failed = many > MOST_TIMES * few
+    told = f"{what} {little:,} {unit}: {few:.0f} instructions; {much:,}: {many:.0f}, {many / few:.2f} times as many"
+    print(f"growth: {name}: {told}{', FAILED' * failed}", flush=True)
+    return not failed
 
 
 def count(asked):

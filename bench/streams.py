@@ -11,6 +11,7 @@ Runs the program on streams that fail, and asserts what was written and how it e
 It prints how many runs there were of each, and stops at the first that is wrong. What is wanted is a run on files, whose replies rows/
 have. No call is slow here but by a stop, no descriptor is without waiting, and none is a terminal: these are left out. PROGRAM is
 crates/tgstore/out/tgstore unless it is given."""
+import argparse
 import itertools
 import os
 import re
@@ -223,7 +224,9 @@ def stopped_while_a_client_waits(script, way):
 
 
 def main():
-    program = sys.argv[1] if len(sys.argv) > 1 else BUILT
+    words = argparse.ArgumentParser(usage=__doc__)
+    words.add_argument("program", nargs="?", default=BUILT)
+    program = words.parse_args().program
     with tempfile.TemporaryDirectory() as room:
         creates = ["0 create rwtgaluv"] * 12_000
         long = Script(program, room, "long", [*creates, "0 list", "full", "0 list"], "c12000")

@@ -38,8 +38,10 @@ def of_one_take(program, size):
 
 def count(asked):
     short, long = (of_one_take(asked.program, size) for size in (SHORT_ROW, LONG_ROW))
-    print(f"a take from a row of {SHORT_ROW}: {short:.0f} instructions; of {LONG_ROW}: {long:.0f}, {long / short:.2f} times as many")
-    return 0 if long <= MOST_TIMES * short else 1
+    failed = long > MOST_TIMES * short
+    told = f"a take from a row of {SHORT_ROW}: {short:.0f} instructions; of {LONG_ROW}: {long:.0f}, {long / short:.2f} times as many"
+    print(f"takes: {told}{', FAILED' * failed}")
+    return 1 if failed else 0
 
 
 if __name__ == "__main__":

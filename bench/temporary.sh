@@ -1,5 +1,27 @@
 # temporary.sh: what the benchmarks in sh share. A script reads it in with `.`, once `here` names the script's own folder.
 #
+# look_at_words MOST WORD..: for --help it prints the comment at the script's head, and ends. It refuses any other option, and more
+# words than MOST. A script calls it before it starts any work.
+look_at_words() {
+    most=$1
+    shift
+    for word in "$@"; do
+        case $word in
+        -h | --help)
+            sed -n '2,/^[^#]/s/^# \{0,1\}//p' "$0"
+            exit 0
+            ;;
+        -*) refuse_word "$word" ;;
+        esac
+    done
+    test $# -le "$most" || refuse_word "$(eval "printf %s \"\${$((most + 1))}\"")"
+}
+
+refuse_word() {
+    echo "$0: unexpected argument '$1': --help shows what it takes" >&2
+    exit 2
+}
+
 # take_crates PROGRAM CRATE..: puts these crates and all that they stand on, and beside them the script's own program (`main.rt.in`,
 # a name that the gate passes over), into a temporary folder, which is gone when the script ends. The program may use each
 # of the crates that are named. From then on `build` names the folder, and `program` the folder of the program in it. What is

@@ -22,12 +22,12 @@ tg_status proved_tg_inspect(tg_store *store, uint64_t worker, uint64_t target, t
 tg_status proved_tg_names(tg_store *store, uint64_t *names, size_t room, uint64_t *count);
 tg_status proved_tg_subjects(tg_store *store, uint64_t *names, size_t room, uint64_t *count);
 tg_status proved_tg_who_holds(tg_store *store, uint64_t right, uint64_t name, uint64_t *names, size_t room, uint64_t *count);
-tg_status proved_tg_entry(tg_store *store, uint64_t at, tg_record *record, uint64_t *numbers, size_t number_room, tg_target *edges,
+tg_status proved_tg_entry(tg_store *store, uint64_t at, tg_record *out, uint64_t *numbers, size_t number_room, tg_target *edges,
                           size_t edge_room);
 
 tg_status proved_tg_could(tg_store *store, const uint64_t *silent, size_t silent_count, const tg_edge *as_if, size_t as_if_count,
                           uint64_t x, uint64_t right, uint64_t y, tg_answer *answer);
-tg_status proved_tg_answer_turn(tg_answer *answer, uint64_t at, tg_record *record, uint64_t *numbers, size_t room);
+tg_status proved_tg_answer_turn(tg_answer *answer, uint64_t at, tg_record *out, uint64_t *numbers, size_t room);
 tg_status proved_tg_view_open(tg_store *store, const uint64_t *silent, size_t silent_count, const tg_edge *as_if, size_t as_if_count,
                               tg_view *view);
 tg_status proved_tg_auditor_open(tg_auditor *auditor, const tg_value *workers, size_t worker_count, const tg_edge *edges,
@@ -119,7 +119,7 @@ tg_status tg_who_holds(tg_store *store, uint64_t right, uint64_t name, uint64_t 
     return proved_tg_who_holds(store, right, name, names, room, count);
 }
 
-tg_status tg_entry(tg_store *store, uint64_t at, tg_record *record, uint64_t *numbers, size_t number_room, tg_target *edges,
+tg_status tg_entry(tg_store *store, uint64_t at, tg_record *out, uint64_t *numbers, size_t number_room, tg_target *edges,
                    size_t edge_room) {
     uint64_t no_number;
     tg_target no_edge;
@@ -127,7 +127,7 @@ tg_status tg_entry(tg_store *store, uint64_t at, tg_record *record, uint64_t *nu
         numbers = &no_number;
     if (edges == NULL && edge_room == 0)
         edges = &no_edge;
-    return proved_tg_entry(store, at, record, numbers, number_room, edges, edge_room);
+    return proved_tg_entry(store, at, out, numbers, number_room, edges, edge_room);
 }
 
 tg_status tg_could(tg_store *store, const uint64_t *silent, size_t silent_count, const tg_edge *as_if, size_t as_if_count,
@@ -139,11 +139,11 @@ tg_status tg_could(tg_store *store, const uint64_t *silent, size_t silent_count,
     return proved_tg_could(store, silent, silent_count, as_if, as_if_count, x, right, y, answer);
 }
 
-tg_status tg_answer_turn(tg_answer *answer, uint64_t at, tg_record *record, uint64_t *numbers, size_t room) {
+tg_status tg_answer_turn(tg_answer *answer, uint64_t at, tg_record *out, uint64_t *numbers, size_t room) {
     uint64_t none;
     if (numbers == NULL && room == 0)
         numbers = &none;
-    return proved_tg_answer_turn(answer, at, record, numbers, room);
+    return proved_tg_answer_turn(answer, at, out, numbers, room);
 }
 
 tg_status tg_view_open(tg_store *store, const uint64_t *silent, size_t silent_count, const tg_edge *as_if, size_t as_if_count,
@@ -180,21 +180,34 @@ const char *tg_status_text(tg_status status) {
     case TG_NOT_OPEN: return "the store, the auditor, the answer or the view is not open";
     case TG_ALREADY_OPEN: return "the store, the auditor, the answer or the view is open already";
     case TG_OUT_OF_MEMORY: return "out of memory";
-    case TG_HEAP_FULL: return "the heap is full, by its limits";
-    case TG_VERTICES_FULL: return "as many vertices were made as may be";
-    case TG_WORKERS_FULL: return "as many workers are active as may be";
-    case TG_NO_SUCH_WORKER: return "no such worker";
-    case TG_BAD_RIGHTS: return "no right, a bit or a letter that is none, or letters out of order";
+    case TG_HEAP_FULL:
+        return "no cell or block is left, by max_blocks or max_space_blocks: a collection may free some; "
+               "an opening needs a block for each worker";
+    case TG_VERTICES_FULL: return "as many vertices were made as max_vertices allows";
+    case TG_WORKERS_FULL: return "64 workers are active, and no more may be";
+    case TG_NO_SUCH_WORKER:
+        return "no such worker: no active subject has the name, of the one who asks or of a silent one";
+    case TG_BAD_RIGHTS:
+        return "bad rights: none, a bit that is no right, several where one is asked about, or letters "
+               "that are not in the order rwtgaluv";
     case TG_BAD_LAW: return "no such law, or a log of 0 or of more than 64 numbers";
     case TG_BAD_KIND: return "no such kind of collection";
-    case TG_BAD_WORKERS: return "not from 1 to 64 workers";
-    case TG_BAD_LIMITS: return "a limit is out of its range";
-    case TG_BAD_EDGE: return "an edge from a worker to itself, or with an end that is no worker";
+    case TG_BAD_WORKERS: return "an opening has from 1 to 64 workers";
+    case TG_BAD_LIMITS:
+        return "a limit is out of its range: max_vertices is from the number of workers to 2^48, "
+               "max_blocks from 1 to 65536, max_space_blocks from 1 to 1048576";
+    case TG_BAD_EDGE:
+        return "an edge from a vertex to itself; an opening's edge with an end that is no worker; a "
+               "supposed edge with an end that no worker reaches";
     case TG_BAD_VALUES: return "values that no opening takes";
-    case TG_BAD_ENTRY: return "an entry of the journal is not legal";
-    case TG_BAD_PLACE: return "the journal holds no entry at the place";
-    case TG_NOT_WHOLE: return "entries of the journal were given up";
-    case TG_NOT_AUDITED: return "entries before the place are not audited";
+    case TG_BAD_ENTRY:
+        return "an entry of the journal is not legal after the auditor's opening: was the store opened by "
+               "the same workers, edges and limits?";
+    case TG_BAD_PLACE:
+        return "the journal holds no entry at the place, given up or not made yet, or the answer no such turn";
+    case TG_NOT_WHOLE:
+        return "entries of the journal were given up: only an auditor that was fed before can tell of them";
+    case TG_NOT_AUDITED: return "entries before the place are not audited: feed the auditor first";
     default: return "unknown status";
     }
 }

@@ -5,9 +5,11 @@
    retires. A worker asks for something, and is served exactly where the take-grant rules allow it. At most 64 are active at a time.
    A name is never used again.
 
-   Each call answers a status. What a status below 16 says, and which status comes when, is proved at the library's
-   exports (crates/tg_c/specs). Tested and not proved is what stands before them (kovshenul.c): NULL where it may stand,
-   the texts and tg_version. What this header asks of its caller is not checked by anything.
+   Each call returns a status. The library's exports have contracts, which are proved (crates/tg_c/specs). They say what a
+   status below 16 means, and when each other status comes, with two exceptions. TG_OUT_OF_MEMORY may come from any call
+   that needs memory. TG_HEAP_FULL comes only where the limits may leave no room; that it comes then is proved of tg_open alone.
+   What stands before the exports (kovshenul.c) is tested and not proved: NULL where it may stand, the texts and tg_version.
+   Nothing checks what this header asks of its caller.
 
    What C owes:
    - Each pointer is to memory of the stated type, which no other argument of the call overlaps, and which nobody else uses
@@ -88,7 +90,7 @@ enum {
 
     TG_NO_SUCH_WORKER = 48,   /* exactly where no worker of an open store has the name, and nothing asked for is TG_BAD_.. */
 
-    TG_BAD_RIGHTS = 64,       /* no right, or a bit that is none; tg_rights_read: letters that are no set of rights */
+    TG_BAD_RIGHTS = 64,       /* no right, or a bit that is none; several where one is asked about; tg_rights_read: other letters */
     TG_BAD_LAW = 65,          /* no such law, or a log of 0 or of more than 64 numbers */
     TG_BAD_KIND = 66,         /* tg_collect: no such kind */
 
@@ -287,7 +289,7 @@ tg_status tg_retire(tg_store *store, uint64_t worker);
 /* The worker leaves: it gives up each edge that it has, by rising name, and retires. How many edges these were goes to
    *count. Each remove and the retire is an entry, as if it had asked for it; what it alone reached goes with the next full
    collection. It is done whole or not at all: room for all entries is asked for first, which for a row of 100,000 edges is
-   10 MB. Only TG_NO_SUCH_WORKER and TG_OUT_OF_MEMORY refuse it. What it parked in an object is there still (tg_who_holds). */
+   10 MB. Only TG_NOT_OPEN, TG_NO_SUCH_WORKER and TG_OUT_OF_MEMORY refuse it. What it parked in an object is there still (tg_who_holds). */
 tg_status tg_leave(tg_store *store, uint64_t worker, uint64_t *count);
 
 /* Who holds a right, TG_READ or another one, over the vertex with a name: workers, objects and those who retired, of all
@@ -339,10 +341,10 @@ tg_status tg_entries(tg_store *store, uint64_t *count);
    that of the next one. */
 tg_status tg_first(tg_store *store, uint64_t *first);
 
-/* The journal's entry at this place, counted from 0: what it says goes to *record, the first `number_room` of its numbers to numbers, the
+/* The journal's entry at this place, counted from 0: what it says goes to *out, the first `number_room` of its numbers to numbers, the
    first `edge_room` of its edges to edges. No memory is taken, and no entry ever changes. It is TG_BAD_PLACE exactly where the store is
    open and its journal holds no entry at the place: behind the last, or before the first (tg_first). */
-tg_status tg_entry(tg_store *store, uint64_t at, tg_record *record, uint64_t *numbers, size_t number_room, tg_target *edges,
+tg_status tg_entry(tg_store *store, uint64_t at, tg_record *out, uint64_t *numbers, size_t number_room, tg_target *edges,
                    size_t edge_room);
 
 /* Gives up the entries before this place, which tg_entry reads no more; no reply, right or name changes by it. It is TG_BAD_PLACE
@@ -379,8 +381,9 @@ tg_status tg_auditor_at(tg_auditor *auditor, uint64_t *at);
    nothing is given up. */
 tg_status tg_auditor_forget(tg_auditor *auditor, tg_store *store, uint64_t upto);
 
-/* Gives back what the auditor keeps of vertices that no worker reaches any more. It does so by itself whenever it keeps a quarter as
-   many again as the last time left, and 65,536 at the least. Where there is no memory for it, nothing is given back. */
+/* Gives back what the auditor keeps of vertices that no worker reaches any more. An auditor looks by itself whether to sweep, each time
+   that it keeps a quarter as many vertices again as at its last look, and 65,536 at the least. It sweeps then if rights were given up
+   or a worker retired since its last sweep. Where there is no memory for a sweep, nothing is given back. */
 tg_status tg_auditor_sweep(tg_auditor *auditor);
 
 /* Gives back all memory of the auditor. *auditor is closed then, and may be opened again. */
@@ -405,12 +408,12 @@ typedef struct tg_answer {
 
 /* What an answer says. Numbers that aren't named are kept for later editions. */
 enum {
-    TG_NEVER = 0,             /* after no list of turns of those who act does x hold it: proved, and so whatever they do */
+    TG_NEVER = 0,             /* after no list of turns of those who act does x hold it: proved, until a silent worker acts */
     TG_NOW = 1,               /* x holds it */
     TG_COULD = 2,             /* x holds it after the answer's turns, each of which is allowed when it comes */
-    TG_WANTS_NAMES = 3,       /* so it is where tg_answer_names more vertices may be made; fewer than 64 names are left */
+    TG_WANTS_NAMES = 3,       /* so it is where tg_answer_names more may be made; y was made, fewer than 64 names are left besides x */
     TG_UNREACHED = 4,         /* no worker reaches x, which was made: it holds what it holds, for good */
-    TG_OPEN = 5,              /* nothing of a name far ahead (tg_could). Of others it isn't known to come: x could, by turns not told */
+    TG_OPEN = 5,              /* not decided, as for a name far ahead (tg_could): a policy has to treat it as TG_COULD */
     TG_PERHAPS = 6            /* of a view alone: it says nothing of the right. tg_could tells more */
 };
 
@@ -437,10 +440,10 @@ tg_status tg_answer_names(tg_answer *answer, uint64_t *names);
 /* How many turns the answer has goes to *count: 0 but for TG_COULD and TG_WANTS_NAMES. They needn't be the fewest. */
 tg_status tg_answer_turns(tg_answer *answer, uint64_t *count);
 
-/* The turn at this place, counted from 0: who asks and for what go to *record, in which all that is of a reply is 0, and
+/* The turn at this place, counted from 0: who asks and for what go to *out, in which all that is of a reply is 0, and
    the first `room` of the numbers that a vertex is to store at first to numbers. A create or a spawn makes the next name.
    Behind the last turn it is TG_BAD_PLACE. No memory is taken. */
-tg_status tg_answer_turn(tg_answer *answer, uint64_t at, tg_record *record, uint64_t *numbers, size_t room);
+tg_status tg_answer_turn(tg_answer *answer, uint64_t at, tg_record *out, uint64_t *numbers, size_t room);
 
 /* Gives back all memory of the answer. *answer is closed then, and may be used for another. */
 tg_status tg_answer_close(tg_answer *answer);

@@ -4,6 +4,7 @@
 What the audit at the end of a race costs: each script of bench/hostile is run plain and as a race, three times in turn, and the processor
 time of both is printed (the middle one of three). Exit status 1 where a race took over 4 times the plain run, and over 0.03 s more.
 PROGRAM is crates/tgstore/out/tgstore unless it is given; with --only those scripts alone whose name has the word."""
+import argparse
 import importlib.util
 import os
 import statistics
@@ -37,19 +38,21 @@ def measure(scripts, case, program, folder):
     return good
 
 
-def main(words):
-    only = words.pop(words.index("--only") + 1) if "--only" in words else ""
-    rest = [it for it in words if it != "--only"]
+def main():
+    words = argparse.ArgumentParser(usage=__doc__)
+    words.add_argument("program", nargs="?")
+    words.add_argument("--only", default="")
+    asked = words.parse_args()
     scripts = hostile()
-    program = os.path.abspath(rest[0] if rest else scripts.BUILT)
+    program = os.path.abspath(asked.program or scripts.BUILT)
     if not os.path.exists(program):
         sys.exit(f"{program} isn't there: build it by `rt run` in crates/tgstore, or name a program")
     print(f"{'script':34} {'lines':>8} {'plain s':>8} {'race s':>8} {'times':>6}")
     with tempfile.TemporaryDirectory() as folder:
-        good = [measure(scripts, case, program, folder) for case in scripts.CASES if only in case.__name__]
+        good = [measure(scripts, case, program, folder) for case in scripts.CASES if asked.only in case.__name__]
     print(f"{len(good)} scripts, {good.count(False)} over the limit")
     return 0 if all(good) else 1
 
 
 if __name__ == "__main__":
-    sys.exit(main(sys.argv[1:]))
+    sys.exit(main())

@@ -3,6 +3,8 @@
 # bindings/check has built. Three runs of each; the line with the ratio in the middle is printed. It wants a C compiler, sort and sed.
 set -eu
 here=$(cd "$(dirname "$0")" && pwd)
+. "$here/../temporary.sh"
+look_at_words 0 "$@"
 top=$(cd "$here/../.." && pwd)
 built=$(mktemp -d)
 trap 'rm -rf "$built"' EXIT

@@ -8,6 +8,7 @@ By itself it prints the processor time of the first nursery collection after a f
 vertices, at 10,000, 100,000 and 1,000,000 vertices: medians of nine runs, and their ratio. With --instructions it counts, under
 valgrind, what a full collection and one of the nurseries take for a vertex that was just made, at 100,000 and at 1,000,000, and
 prints how many times as much the second is. It wants a C compiler."""
+import argparse
 import os
 import re
 import subprocess
@@ -59,14 +60,15 @@ def clock(program):
 
 
 def main():
+    words = argparse.ArgumentParser(usage=__doc__)
+    words.add_argument("--instructions", action="store_true")
+    asked = words.parse_args()
     with tempfile.TemporaryDirectory() as folder:
         program = built(folder)
-        if sys.argv[1:] == ["--instructions"]:
+        if asked.instructions:
             count(program)
-        elif len(sys.argv) == 1:
-            clock(program)
         else:
-            sys.exit(__doc__)
+            clock(program)
 
 
 if __name__ == "__main__":

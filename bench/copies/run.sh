@@ -5,6 +5,7 @@
 set -eu
 here=$(cd "$(dirname "$0")" && pwd)
 . "$here/../temporary.sh"
+look_at_words 0 "$@"
 take_crates copies tg_rights tg_model tg_word tg_block tg_closed tg_space tg_remember tg_evac
 for proof in "$here"/*.antt.in; do
     it=$(basename "$proof" .antt.in)

@@ -1,12 +1,14 @@
 #!/usr/bin/env python3
 """Asks tgcould about random scripts, and holds its answers against a plain program: questions.py [SEED [SCRIPTS]]
 
-A script has 2 to 4 workers and up to 14 lines; of each graph that one leaves some fifteen questions are asked, with random silent
-subjects, and edges that are only supposed. The plain program makes objects and a subject for each who acts and does all takes and
-grants to the end, by the rules written out here. Whoever holds a right then could; whoever doesn't never does. Each witness is run
-behind its script by these rules, and by tgstore, which has to list the right where x is an active subject. The programs are those
-that 'rt run' built."""
+A script has 2 to 4 workers and up to 14 lines; of each graph that one leaves some twenty questions are asked, with random silent
+subjects, and edges that are only supposed. Up to 130 names are left, and some questions are about names that aren't made yet. The
+plain program makes objects and a subject for each who acts and does all takes and grants to the end, by the rules written out
+here. Whoever holds a right then could; whoever doesn't never does. Each witness is run behind its script by these rules, and by
+tgstore, which has to list the right where x is an active subject. Names more may be wanted only where names are short. The programs
+are those that 'rt run' built."""
 
+import argparse
 import random
 import subprocess
 import sys
@@ -74,13 +76,14 @@ class Graph:
         return True
 
     def closed(self, silent):
-        """The graph after all takes and grants of those who act, and one object of each; `made` is that of the first graph."""
+        """The graph after all takes and grants of those who act, one object of each, and another object of each; `made` is that of
+        the first graph."""
         graph = self.copy()
-        actors, objects = self.subjects - silent, []
+        actors, objects, others = self.subjects - silent, [], []
         moving = set(actors)
         for p in sorted(actors):
             objects.append(graph.make(p, LETTERS, False))
-            graph.make(p, LETTERS, False)
+            others.append(graph.make(p, LETTERS, False))
             graph.make(p, LETTERS, False)
             spawned = graph.make(p, LETTERS, True)
             moving.add(spawned)
@@ -92,7 +95,7 @@ class Graph:
                 rows[x][y] = set(rights)
         while move_all(rows, moving):
             pass
-        return rows, objects
+        return rows, objects, others
 
 
 def move_all(rows, moving):
@@ -110,12 +113,12 @@ def move_all(rows, moving):
 
 
 def could(graph, closed, x, right, y):
-    rows, objects = closed
+    rows, objects, others = closed
     if x == y or max(x, y) >= graph.limit:
         return False
-    if x >= graph.made and y >= graph.made:
-        return None
-    holders = objects if x >= graph.made else [x]
+    holders = [x]
+    if x >= graph.made:
+        holders = others if y >= graph.made else objects
     targets = objects if y >= graph.made else [y]
     return any(right in rows[v].get(z, ()) for v in holders for z in targets)
 
@@ -150,8 +153,20 @@ def random_questions(rnd, graph):
     names = [str(name) for name in range(graph.made)]
     asked = [f"{rnd.choice(names)} {rnd.choice('rtgw')} {rnd.choice(names)}" for _ in range(9)]
     asked += [f"new {rnd.choice('rtg')} {rnd.choice(names)}", f"{rnd.choice(names)} {rnd.choice('rv')} new", f"{rnd.choice(names)} r {graph.made}"]
-    asked += [f"* {rnd.choice('rt')} {rnd.choice(names)}", f"{rnd.choice(names)} * *", f"* r new"]
+    asked += [f"* {rnd.choice('rt')} {rnd.choice(names)}", f"{rnd.choice(names)} * *", "* r new", "new * *"]
+    next_names = graph.made + rnd.randrange(3)
+    asked += [f"* {rnd.choice('rtw')} {next_names}", f"{next_names} * *"]
+    later = [str(name) for name in range(graph.made, graph.limit + 1)]
+    asked += [f"{rnd.choice(later)} {rnd.choice('rtg')} {rnd.choice(names)}" for _ in range(3)]
+    asked += [f"{rnd.choice(names)} {rnd.choice('rtg')} {rnd.choice(later)}", f"{rnd.choice(later)} r {rnd.choice(later)}"]
+    asked += [f"{later[max(0, len(later) - 2)]} {rnd.choice('rtg')} {rnd.choice(names)}"]
     return asked
+
+
+def is_short(graph, x, y):
+    """Whether a question may be answered with names more: y was made, and fewer than 64 names are left, or 64 with x."""
+    left = graph.limit - graph.made
+    return y < graph.made and (left < 64 or graph.made <= x < graph.limit and left < 65)
 
 
 class Checker:
@@ -159,7 +174,7 @@ class Checker:
 
     def __init__(self, rnd):
         self.lines, self.workers, self.graph = random_script(rnd)
-        self.graph.limit = self.graph.made + rnd.choice([0, 1, 2, 70])
+        self.graph.limit = self.graph.made + rnd.choice([0, 1, 2, 3, 5, 9, 63, 64, 65, 66, 70, 130])
         self.silent = {x for x in range(self.graph.made) if rnd.random() < 0.15}
         self.supposed = []
         for _ in range(rnd.choice([0, 0, 0, 1, 2])):
@@ -211,19 +226,24 @@ class Checker:
             count["questions"] += 1
         assert told == len(self.asked), (told, self.asked)
 
+    def listed(self, asked):
+        """The names that a star may stand for, beside how each is written: those that were made, and as `new` one that is made later
+        and isn't asked about."""
+        made = self.graph.made
+        return [*((name, str(name)) for name in range(made)), (made + 1 if asked == made else made, "new")]
+
     def check_who(self, word, right, y):
-        names = [x for x in range(self.graph.made + 1) if self.holds(x, right, y)]
-        want = " ".join("new" if x == self.graph.made else str(x) for x in names) or "nobody"
-        assert word == want, (word, want, self.text([]))
+        want = " ".join(written for x, written in self.listed(y) if self.holds(x, right, y)) or "nobody"
+        assert word == want, (word, want, y, self.text([]), self.silent, self.supposed, self.graph.limit)
 
     def check_what(self, word, x):
         parts = []
-        for y in range(self.graph.made + 1):
+        for y, written in self.listed(x):
             rights = "".join(c for c in LETTERS if self.holds(x, c, y))
             if rights:
-                parts.append(f"{'new' if y == self.graph.made else y}:{rights}")
+                parts.append(f"{written}:{rights}")
         want = " ".join(parts) or "nothing"
-        assert word == want, (word, want, self.text([]), self.silent, self.supposed)
+        assert word == want, (word, want, x, self.text([]), self.silent, self.supposed, self.graph.limit)
 
     def check_one(self, text, word, lines, count):
         x, right, y = text.split(" ")
@@ -238,7 +258,7 @@ class Checker:
         names = 0
         if word.startswith("could, with "):
             names = int(word.split(" ")[2])
-            assert self.graph.limit - self.graph.made < 64, here
+            assert is_short(self.graph, x, y), here
         else:
             assert word == ("could" if lines else "now"), here
         count[word.split(" ")[0].strip(",")] += 1
@@ -262,13 +282,15 @@ class Checker:
 
 
 def main():
-    seed = int(sys.argv[1]) if len(sys.argv) > 1 else 1
-    scripts = int(sys.argv[2]) if len(sys.argv) > 2 else 3000
-    rnd = random.Random(seed)
+    words = argparse.ArgumentParser(usage=__doc__)
+    words.add_argument("seed", nargs="?", type=int, default=1)
+    words.add_argument("scripts", nargs="?", type=int, default=3000)
+    asked = words.parse_args()
+    rnd = random.Random(asked.seed)
     count = dict.fromkeys(("questions", "never", "now", "could", "names more", "listed by tgstore"), 0)
-    for _ in range(scripts):
+    for _ in range(asked.scripts):
         Checker(rnd).check(count)
-    print(f"{scripts} scripts: " + ", ".join(f"{number} {word}" for word, number in count.items()))
+    print(f"{asked.scripts} scripts: " + ", ".join(f"{number} {word}" for word, number in count.items()))
 
 
 if __name__ == "__main__":

@@ -8,6 +8,7 @@ here=$(cd "$(dirname "$0")" && pwd)
 seed=${1:-1}
 graphs=${2:-200000}
 . "$here/../temporary.sh"
+look_at_words 2 "$@"
 take_crates could anyhow tg_rights tg_model tg_could
 rustc -O -o "$build/closure" "$here/closure.rs"
 "$build/closure" "$seed" "$graphs" > "$build/questions"

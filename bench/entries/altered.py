@@ -2,9 +2,10 @@
 """Tries the built tgaudit on texts of histories, whole and altered: bench/entries/altered.py [SEED [TEXTS]]
 
 Of each random legal history the text is handed in as it is, which must pass, and then once for each kind of alteration: a reply, a worker, a name,
-two lines swapped, one lost, one twice, the end cut. plain.py has the rules once more and says of each what is wrong with it, which is what tgaudit
+two lines swapped, one lost, one twice, the end cut. plain.py says by the rules of the plain model what is wrong with each, which is what tgaudit
 has to say: the number of the first line at fault, and why. An alteration that leaves the text that of a legal history, as two reads that change
 places, has to pass. Counts how many were found."""
+import argparse
 import random
 import re
 import subprocess
@@ -101,8 +102,11 @@ def try_text(text, about):
 
 
 def main():
-    seed = int(sys.argv[1]) if len(sys.argv) > 1 else 1
-    texts = int(sys.argv[2]) if len(sys.argv) > 2 else 120
+    words = argparse.ArgumentParser(usage=__doc__)
+    words.add_argument("seed", nargs="?", type=int, default=1)
+    words.add_argument("texts", nargs="?", type=int, default=120)
+    asked = words.parse_args()
+    seed, texts = asked.seed, asked.texts
     found, passed = Counter(), Counter()
     for number in range(texts):
         draw = random.Random(f"{seed} {number}")

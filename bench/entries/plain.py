@@ -1,14 +1,18 @@
-"""plain.py: the rules once more, as plainly as can be, over the text of a history. A history is written of random deeds, and a text is judged:
-which of its lines is the first at fault, and why."""
+"""plain.py: the plain rules over the text of a history. A history is written of random deeds, and a text is judged: which of its lines is
+the first at fault, and why. The rules are those of the model in Python's package. They need no library for C."""
 import random
 import re
-from dataclasses import dataclass, field
-from typing import Dict, List, Optional, Tuple
+import sys
+from pathlib import Path
+from typing import List, Optional, Tuple
 
-LETTERS = "rwtgaluv"
+sys.path.append(str(Path(__file__).resolve().parents[2] / "bindings" / "python" / "kovshenul"))
+from _rules import LETTERS, Denial, Full, Graph, Stored  # noqa: E402
+
 MOST_SUBJECTS = 64
 MOST_VERTICES = 2**48
 MOST_BEFORE_REPLY = 256
+LAWS = {"c": "cell", "s": "sum", "m": "max", "l": "log"}
 VERSION = "kovshenul entries 1\n"
 NUMBER = r"(?:0|[1-9][0-9]*)"
 RIGHTS = "(?=[a-z])" + "".join(f"{letter}?" for letter in LETTERS)
@@ -39,111 +43,52 @@ def in_order(letters) -> str:
     return "".join(letter for letter in LETTERS if letter in letters)
 
 
+def letters_of(rights: int) -> str:
+    return "".join(letter for bit, letter in enumerate(LETTERS) if rights >> bit & 1)
+
+
+def rights_of(letters: str) -> int:
+    return sum(1 << LETTERS.index(letter) for letter in letters)
+
+
 def are_numbers(words) -> bool:
     return all(int(word) < 2**64 for word in words)
 
 
-@dataclass
-class Value:
-    law: str
-    most: int
-    state: List[int]
-
-    def text(self) -> str:
-        numbers = ",".join(map(str, self.state))
-        return f"l{self.most}" + (f":{numbers}" if numbers else "") if self.law == "l" else self.law + numbers
-
-    def fits(self) -> bool:
-        return 1 <= self.most <= 64 and len(self.state) <= self.most if self.law == "l" else len(self.state) == 1
-
-    def write(self, value: int) -> None:
-        if self.law == "l":
-            self.state = (self.state + [value])[-self.most :]
-        else:
-            self.state = [{"c": value, "s": (self.state[0] + value) % 2**64, "m": max(self.state[0], value)}[self.law]]
+def text_of(value: Stored) -> str:
+    numbers = ",".join(map(str, value.state))
+    return f"l{value.most}" + (f":{numbers}" if numbers else "") if value.law == "log" else value.law[0] + numbers
 
 
-def read_value(text: str) -> Optional[Value]:
+def read_value(text: str) -> Optional[Stored]:
     if not re.fullmatch(VALUE, text):
         return None
     most, _, logged = text[1:].partition(":")
     numbers = [int(it) for it in (logged.split(",") if logged else [])] if text[0] == "l" else [int(most)]
     most = int(most) if text[0] == "l" else 0
-    return Value(text[0], most, numbers) if are_numbers(numbers) and most < 2**32 else None
+    return Stored(LAWS[text[0]], tuple(numbers), most) if are_numbers(numbers) and most < 2**32 else None
 
 
-@dataclass
-class Graph:
-    limit: int
-    values: List[Value]
-    subjects: List[int] = field(default_factory=list)
-    rows: Dict[int, Dict[int, set]] = field(default_factory=dict)
+def denial_of(why: Denial) -> str:
+    if why.edge is None:
+        return f"denied {why.rule} {'law' if why.cause == 'not log' else 'distinct'}"
+    return f"denied {why.rule} {why.edge[0]}->{why.edge[1]} {letters_of(why.rights)}"
 
-    def held(self, x: int, y: int) -> set:
-        return self.rows.get(x, {}).get(y, set())
 
-    def add(self, x: int, y: int, rights) -> None:
-        self.rows.setdefault(x, {}).setdefault(y, set()).update(rights)
-
-    def lacks(self, rule: str, x: int, y: int, rights) -> Optional[str]:
-        missing = set(rights) - self.held(x, y)
-        return f"denied {rule} {x}->{y} {in_order(missing)}" if missing else None
-
-    def row(self, x: int) -> str:
-        return "ok" + "".join(f" {y}:{in_order(held)}" for y, held in sorted(self.rows.get(x, {}).items()) if held)
-
-    def make(self, x: int, rule: str, rights: str, value: Value) -> str:
-        if len(self.values) >= self.limit:
-            return "refused vertices"
-        if rule == "spawn" and len(self.subjects) >= MOST_SUBJECTS:
-            return "refused workers"
-        name = len(self.values)
-        self.values.append(value)
-        self.add(x, name, rights)
-        if rule == "spawn":
-            self.subjects.append(name)
-        return f"ok {name}"
-
-    def move(self, x: int, rule: str, y: int, z: int, rights: str) -> str:
-        if len({x, y, z}) < 3:
-            return f"denied {rule} distinct"
-        giver, taker = (y, x) if rule == "take" else (x, y)
-        denied = self.lacks(rule, x, y, rule[0]) or self.lacks(rule, giver, z, rights)
-        if not denied:
-            self.add(taker, z, rights)
-        return denied or "ok"
-
-    def touch(self, x: int, rule: str, y: int, words) -> str:
-        if x == y:
-            return f"denied {rule} distinct"
-        wanted = {"read": "r", "write": "w", "append": "a", "inspect": "l", "remove": words[0] if words else ""}[rule]
-        denied = self.lacks(rule, x, y, wanted)
-        if denied:
-            return denied
-        if rule == "append" and self.values[y].law != "l":
-            return "denied append law"
-        if rule == "remove":
-            self.rows[x][y] -= set(wanted)
-        elif rule in ("write", "append"):
-            self.values[y].write(int(words[0]))
-        elif rule == "read":
-            return " ".join(["ok", *map(str, self.values[y].state)])
-        elif rule == "inspect":
-            return self.row(y)
-        return "ok"
-
-    def answer(self, x: int, rule: str, words: List[str]) -> str:
-        """What the rules answer; the graph becomes the next one."""
-        if rule in ("create", "spawn"):
-            return self.make(x, rule, words[0], read_value(words[1]))
-        if rule in ("take", "grant"):
-            return self.move(x, rule, int(words[0]), int(words[1]), words[2])
-        if rule == "list":
-            return self.row(x)
-        if rule == "retire":
-            self.subjects.remove(x)
-            return "ok"
-        return self.touch(x, rule, int(words[0]), words[1:])
+def answer(graph: Graph, x: int, rule: str, words: List[str]) -> str:
+    """What the rules answer; the graph becomes the next one."""
+    asked = [int(it) if it.isdigit() else read_value(it) or rights_of(it) for it in words]
+    try:
+        answered = getattr(graph, rule)(x, *asked)
+    except Denial as why:
+        return denial_of(why)
+    except Full as full:
+        return f"refused {full.limit}"
+    if rule in ("list", "inspect"):
+        answered = [f"{y}:{letters_of(rights)}" for y, rights in answered]
+    elif answered is None or isinstance(answered, int):
+        answered = [] if answered is None else [answered]
+    return " ".join(["ok", *map(str, answered)])
 
 
 def read_deed(text: str) -> Optional[Tuple[int, str, List[str]]]:
@@ -162,7 +107,7 @@ class Audit:
 
     def __init__(self):
         self.number, self.count, self.workers, self.limit = 0, 0, None, 0
-        self.values: List[Value] = []
+        self.values: List[Stored] = []
         self.edges: List[Tuple[int, int, str]] = []
         self.graph: Optional[Graph] = None
         self.ended = False
@@ -206,9 +151,7 @@ class Audit:
     def open(self) -> None:
         if len(self.values) != self.workers:
             raise self.bad()
-        self.graph = Graph(self.limit, self.values, list(range(self.workers)))
-        for x, y, rights in self.edges:
-            self.graph.add(x, y, rights)
+        self.graph = Graph(self.values, [(x, y, rights_of(rights)) for x, y, rights in self.edges], self.limit)
 
     def entry(self, text: str) -> None:
         if self.graph is None:
@@ -223,7 +166,7 @@ class Audit:
         x, rule, words = deed
         if x not in self.graph.subjects or rule in ("create", "spawn") and not read_value(words[1]).fits():
             raise self.bad(f"bad entry {self.count}")
-        if self.graph.answer(x, rule, words) != reply:
+        if answer(self.graph, x, rule, words) != reply:
             raise self.bad(f"bad entry {self.count}")
         self.count += 1
 
@@ -250,18 +193,18 @@ def rights_at_random(draw: random.Random) -> str:
 
 
 def value_at_random(draw: random.Random) -> str:
-    law = draw.choice("csml")
+    law = LAWS[draw.choice("csml")]
     number = draw.choice([0, 1, 7, 2**64 - 1])
     most = draw.randint(1, 4)
-    return Value(law, most, [draw.randint(0, 9) for _ in range(draw.randint(0, most))] if law == "l" else [number]).text()
+    return text_of(Stored(law, tuple(draw.randint(0, 9) for _ in range(draw.randint(0, most))) if law == "log" else (number,), most))
 
 
 def deed_at_random(draw: random.Random, graph: Graph) -> Tuple[int, str, List[str]]:
     x = draw.choice(graph.subjects)
     near = [y for y, held in graph.rows.get(x, {}).items() if held] or [0]
-    y = draw.choice(near) if draw.random() < 0.8 else draw.randint(0, len(graph.values) + 1)
-    z = draw.choice(near) if draw.random() < 0.7 else draw.choice(list(graph.rows.get(y, {0: set()})) or [0])
-    rights = draw.choice([in_order(graph.held(x, y)) or "r", draw.choice(LETTERS), rights_at_random(draw)])
+    y = draw.choice(near) if draw.random() < 0.8 else draw.randint(0, graph.made + 1)
+    z = draw.choice(near) if draw.random() < 0.7 else draw.choice(list(graph.rows.get(y, {0: 0})) or [0])
+    rights = draw.choice([letters_of(graph.label(x, y)) or "r", draw.choice(LETTERS), rights_at_random(draw)])
     rule = draw.choice(["create", "create", "spawn", "take", "take", "grant", "grant", "remove", "read", "read", "write", "append", "inspect", "list"])
     if draw.random() < 0.02 and len(graph.subjects) > 1:
         rule = "retire"
@@ -283,11 +226,9 @@ def history_at_random(draw: random.Random, entries: int) -> str:
     limit = draw.choice([workers + draw.randint(0, entries), 1_000_000, MOST_VERTICES])
     values = [value_at_random(draw) for _ in range(workers)]
     edges = [(x, y, rights_at_random(draw)) for x in range(workers) for y in range(workers) if x != y and draw.random() < 0.5]
-    graph = Graph(limit, [read_value(it) for it in values], list(range(workers)))
+    graph = Graph([read_value(it) for it in values], [(x, y, rights_of(rights)) for x, y, rights in edges], limit)
     text = [VERSION, f"opening {workers} {limit}\n", *(f"worker {it}\n" for it in values), *(f"edge {x} {y} {rights}\n" for x, y, rights in edges)]
-    for x, y, rights in edges:
-        graph.add(x, y, rights)
     for _ in range(entries):
         x, rule, words = deed_at_random(draw, graph)
-        text.append(" ".join([str(x), rule, *words, "=", graph.answer(x, rule, words)]) + "\n")
+        text.append(" ".join([str(x), rule, *words, "=", answer(graph, x, rule, words)]) + "\n")
     return "".join([*text, f"entries {entries}\n"])

@@ -3,6 +3,7 @@
 
 Of each row of rows/scripts the text of its history is put together out of the lines, the replies that are stored, and the boxes of its stock; it
 must pass. A collection has no entry, and neither has a line that was refused, but for want of vertices or of room for a subject."""
+import argparse
 import re
 import subprocess
 import sys
@@ -53,6 +54,7 @@ def history_of(row):
 
 
 def main():
+    argparse.ArgumentParser(usage=__doc__).parse_args()
     rows, entries = 0, 0
     for row in sorted((ROOT / "rows" / "scripts").iterdir()):
         text, count = history_of(row)

@@ -285,6 +285,9 @@ def goals(crate):
 
 
 def main(words):
+    if "--help" in words or "-h" in words:
+        print(__doc__)
+        return 0
     if words[:1] == ["whole"] and len(words) <= 2:
         return whole(words[1] if len(words) == 2 else os.path.join(tempfile.mkdtemp(), "out.txt"))
     if words == ["everyday"]:

@@ -10,6 +10,7 @@
 set -eu
 here=$(cd "$(dirname "$0")" && pwd)
 . "$here/../temporary.sh"
+test "$*" = --instructions || look_at_words 0 "$@"
 take_crates helpers tg_rights tg_model tg_word tg_block tg_space tg_remember tg_evac tg_race tg_parallel
 for proof in "$here"/*.antt.in; do
     it=$(basename "$proof" .antt.in)

@@ -304,6 +304,9 @@ def measure(case, program, more, folder):
 
 def main():
     words = sys.argv[1:]
+    if "--help" in words or "-h" in words:
+        print(__doc__)
+        return
     only = ""
     more = []
     if "--" in words:
@@ -311,8 +314,11 @@ def main():
         words, more = words[:at], words[at + 1:]
     if "--only" in words:
         at = words.index("--only")
-        only = words[at + 1]
+        only = "".join(words[at + 1:at + 2])
         del words[at:at + 2]
+    if len(words) > 1 or any(it.startswith("-") for it in words) or not (only or "--only" not in sys.argv):
+        print(__doc__, file=sys.stderr)
+        sys.exit(2)
     program = os.path.abspath(words[0] if words else BUILT)
     if not os.path.exists(program):
         sys.exit(f"{program} isn't there: build it by `rt run` in crates/tgstore, or name a program")

@@ -4,6 +4,7 @@
 They are counted by callgrind over the whole interpreter, so other work on the machine doesn't matter. FOLDER has another module
 kovshenul, as an older one, whose numbers stand beside. It wants valgrind with its headers, and a C compiler.
 """
+import argparse
 import os
 import re
 import subprocess
@@ -37,13 +38,16 @@ def counted(module, marks, room):
 
 
 def main():
+    words = argparse.ArgumentParser(usage=__doc__)
+    words.add_argument("folder", nargs="?")
+    asked = words.parse_args()
     with tempfile.TemporaryDirectory() as name:
         marks = Path(name) / "marks.so"
-        words = [os.environ.get("CC", "cc"), "-O2", "-fPIC", "-shared", "-o", marks, HERE / "mark.c"]
-        subprocess.run(words, check=True)
+        command = [os.environ.get("CC", "cc"), "-O2", "-fPIC", "-shared", "-o", marks, HERE / "mark.c"]
+        subprocess.run(command, check=True)
         rows = {"Python": counted(BINDINGS / "python", marks, Path(name) / "this")}
-        if len(sys.argv) > 1:
-            rows["Python, other"] = counted(sys.argv[1], marks, Path(name) / "other")
+        if asked.folder:
+            rows["Python, other"] = counted(asked.folder, marks, Path(name) / "other")
     kinds = list(rows["Python"])
     print(f"| | {' | '.join(kinds)} |\n|{'---|' * (len(kinds) + 1)}")
     for language, counts in rows.items():

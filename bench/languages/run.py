@@ -4,6 +4,7 @@
 Five runs of each in turn; the medians are printed as a table, in millions a second. FOLDER has another module kovshenul for Python, as
 an older one, whose speed is then beside that of this one. It wants a C compiler, and leaves out Rust where there is no cargo.
 """
+import argparse
 import os
 import shutil
 import subprocess
@@ -61,17 +62,20 @@ def run(language, command, module):
 
 
 def main():
+    words = argparse.ArgumentParser(usage=__doc__)
+    words.add_argument("folder", nargs="?")
+    asked = words.parse_args()
     with tempfile.TemporaryDirectory() as name:
         commands = {"C": build_c(Path(name))}
         if shutil.which("cargo"):
             commands["Rust"] = build_rust(Path(name))
         commands["Python"] = [sys.executable, HERE / "speed.py"]
-        if len(sys.argv) > 1:
+        if asked.folder:
             commands["Python, other"] = commands["Python"]
         runs = {language: [] for language in commands}
         for _ in range(ROUNDS):
             for language, command in commands.items():
-                module = sys.argv[1] if language == "Python, other" else BINDINGS / "python"
+                module = asked.folder if language == "Python, other" else BINDINGS / "python"
                 runs[language].append(run(language, command, module))
     kinds = list(runs["C"][0])
     print(f"| | {' | '.join(kinds)} |\n|{'---|' * (len(kinds) + 1)}")

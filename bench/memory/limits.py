@@ -5,8 +5,8 @@ Runs the program under limits of its address space from 3 to 64 MB, on three scr
 knows. It must not be ended by a signal; it ends in status 1 with one line on standard error and no reply, or it answers each
 line, some of them `refused memory`, and the others as if these were not in the script. It prints how many runs there were of
 each kind, and stops at the first that is neither. PROGRAM is crates/tgstore/out/tgstore unless it is given."""
+import argparse
 import resource
-import sys
 
 from runs import PROGRAM, Run, WAYS, knows, listings, logs, refused_lines, rows, stop, what_is_wrong
 
@@ -38,7 +38,9 @@ def try_limits(script, way, program):
 
 
 def main():
-    program = sys.argv[1] if len(sys.argv) > 1 else PROGRAM
+    words = argparse.ArgumentParser(usage=__doc__)
+    words.add_argument("program", nargs="?", default=PROGRAM)
+    program = words.parse_args().program
     for way in WAYS:
         if not knows(way, program):
             print(f"the program doesn't know {' '.join(way)}")

@@ -5,6 +5,7 @@
 set -eu
 here=$(cd "$(dirname "$0")" && pwd)
 . "$here/../temporary.sh"
+look_at_words 1 "$@"
 take_tests memory_tests tg_rights tg_model tg_payload tg_journal tg_store tg_helpers tg_shared tg_text tg_script tg_threads
 (cd "$program" && rt test)
 if test $# -gt 0; then

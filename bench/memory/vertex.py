@@ -5,6 +5,7 @@ Prints how many bytes of malloc, with headers, a vertex takes with its payload, 
 and in both plain programs: what a script of twice as many creates holds at its end more, over how many these are. Vectors and tables
 that double are full or half empty by how many that is: so there are two numbers. It wants cc and rustc, and asserts nothing.
 PROGRAM is crates/tgstore/out/tgstore unless it is given."""
+import argparse
 import os
 import re
 import subprocess
@@ -27,7 +28,9 @@ def held(command, count, library):
 
 
 def main():
-    program = os.path.abspath(sys.argv[1] if len(sys.argv) > 1 else BUILT)
+    words = argparse.ArgumentParser(usage=__doc__)
+    words.add_argument("program", nargs="?", default=BUILT)
+    program = os.path.abspath(words.parse_args().program)
     with tempfile.TemporaryDirectory() as folder:
         library = os.path.join(folder, "vertex.so")
         subprocess.run(["cc", "-O2", "-fPIC", "-shared", "-o", library, os.path.join(HERE, "vertex.c"), "-ldl"], check=True)

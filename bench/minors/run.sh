@@ -5,6 +5,7 @@
 set -eu
 here=$(cd "$(dirname "$0")" && pwd)
 . "$here/../temporary.sh"
+look_at_words 0 "$@"
 take_crates minors tg_rights tg_model tg_word tg_block tg_closed tg_space tg_remember tg_nursery tg_payload tg_index tg_rows tg_graph tg_rules tg_evac tg_journal tg_store
 (cd "$program" && rt run) > "$build/built" 2>&1 || { cat "$build/built"; exit 1; }
 for round in 1 2 3 4 5; do

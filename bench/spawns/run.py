@@ -4,6 +4,7 @@
 It builds the program beside it (`main.rt.in`), unproved, with the crates that it needs, and prints what it has behind the seventh round, some
 10,000 subjects, and behind the last: the bytes that it holds, as the counter of rows/held tells them, and what is resident, with glibc's
 malloc as it is, and as docs/LASTING.md advises, with one arena and both thresholds at 64 KiB. It wants Linux and a C compiler."""
+import argparse
 import os
 import re
 import shutil
@@ -80,7 +81,9 @@ def tell(name, first, last, unit, rounds):
 
 
 def main():
-    rounds = int(sys.argv[1]) if len(sys.argv) > 1 else 625
+    words = argparse.ArgumentParser(usage=__doc__)
+    words.add_argument("rounds", nargs="?", type=int, default=625)
+    rounds = words.parse_args().rounds
     with tempfile.TemporaryDirectory() as folder:
         program = built(Path(folder))
         tell("held", *(counted(program, number, Path(folder)) for number in (FIRST, rounds)), "bytes", rounds)

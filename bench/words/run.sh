@@ -4,6 +4,7 @@
 set -eu
 here=$(cd "$(dirname "$0")" && pwd)
 . "$here/../temporary.sh"
+look_at_words 0 "$@"
 take_crates words tg_rights tg_model tg_word tg_block tg_closed tg_space
 cd "$program"
 rt run

@@ -25,6 +25,18 @@ misused() {
     exit 2
 }
 
+# Prints what stands at the head of the script that reads this, and ends, where one of its words asks for that.
+helps() {
+    for word in "$@"; do
+        case $word in
+        -h | --help)
+            sed -n '2,/^[^#]/s/^# \{0,1\}//p' "$here/$(basename "$0")"
+            exit 0
+            ;;
+        esac
+    done
+}
+
 has() {
     command -v "$1" >/dev/null 2>&1 || {
         say "$1 isn't here: $2 left out"
@@ -99,9 +111,10 @@ sum_of_c() {
     cat "$here/kovshenul.c" "$here/kovshenul.h" "$top/VERSION" | sum
 }
 
-# A sum over the library as it lies in 'out', or none where a part of it isn't there.
+# A sum over the library as it lies in 'out', or none where a part of it isn't there. An earlier version left a link there, which 'rt
+# ci' refuses.
 sum_of_library() {
-    if test -e "$out/libkovshenul.a" && test -e "$out/$shared" && test -e "$out/libkovshenul.so"; then
+    if test -e "$out/libkovshenul.a" && test -e "$out/$shared" && test -e "$out/libkovshenul.so" && ! test -L "$out/libkovshenul.so"; then
         cat "$out/libkovshenul.a" "$out/$shared" | sum
     else
         echo none

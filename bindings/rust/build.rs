@@ -26,7 +26,8 @@ fn main() {
         Some(folder) => println!("cargo:rustc-link-search=native={}", folder.display()),
         None => println!(
             "cargo:warning=no {ARCHIVE}: KOVSHENUL_LIB_DIR is not set, {} has no lib/{ARCHIVE}, and pkg-config knows \
-             no kovshenul. 'cargo check' and 'cargo doc' do without; a build needs it",
+             no kovshenul. 'cargo check' and 'cargo doc' do without, but what links will fail. bindings/build makes it in \
+             bindings/out: set KOVSHENUL_LIB_DIR to that folder",
             own.display()
         ),
     }

@@ -49,7 +49,7 @@ SIZES = {
     "made": {"Graph", "Picture", "Trial"},
     "cells": {"Spaces", "Spot"},
     "workers": {"Opening"},
-    "number": {"Helpers", "Kept"},
+    "number": {"Helpers", "Kept", "Mirror", "Mirrored"},
 }
 
 

@@ -39,7 +39,7 @@ PLACES = {
     ),
     ("tg_text/src/stream.rt", "take_byte"): (["reader.fill_buf"], "the reader failed"),
     ("tg_shared/src/shared.rt", "new"): (
-        ["match Locked::open Ok((locked, sessions)) Err(store)"],
+        ["match Locked::open Ok((locked, sessions, keeper)) Err(store)"],
         "there was no memory for the sessions: the store comes back alone",
     ),
     ("tg_program/src/program.rt", "words_of"): (
@@ -54,7 +54,10 @@ PLACES = {
         "the error of the command line says so",
     ),
     ("tg_plain/src/text.rt", "print"): (["if self.is_short"] * 2, "a growth was refused before, and noted"),
-    ("tg_plain/src/script.rt", "read"): (["if self.is_short"] * 2, "a growth was refused before, and noted"),
+    ("tg_plain/src/program.rt", "words_of"): (
+        ["match env::args Ok(words) Err(error)if error.kind()==io::ErrorKind::InvalidData Err(_)"] * 2,
+        "the words of the command line, for which the system's error says so",
+    ),
     ("tgcould/src/answers.rt", "print"): (["if self.notes.is_short"] * 2, "a growth was refused before, and noted"),
     **{
         ("tg_entries/src/part.rt", name): (
@@ -85,7 +88,8 @@ NOTED = {"is_short"}
 NOTED_OTHERWISE = {
     ("tg_plain/src/text.rt", "write_reply(self, answer).is_err()"),
     ("tgdot/src/drawing.rt", "run.is_short()"),
-    ("tgdot/src/steps.rt", "shot.run.is_short()||frame.is_short()"),
+    ("tgdot/src/shot.rt", "write_line(&mut self.heading, line.line).is_err()"),
+    ("tgdot/src/steps.rt", "shot.is_short()||frame.is_short()"),
 }
 
 # What is asked for and isn't of the forms of amounts.py: the file and the function, the words, and why they may stand.
@@ -104,15 +108,14 @@ NAMED = {
     ("tg_plain/src/text.rt", "pad", "first.saturating_add(width)"): "the longest text of a kind that is drawn",
     ("tg_could/src/plan.rt", "make_names", "last.saturating_add(1)"):
         "a turn for each name up to the one that is asked about, which is 65,536 ahead at most",
+    ("tg_could/src/plan.rt", "make_up_to_late", "late.name.saturating_add(1)"): "the same",
     # Loops that end where there is no more.
     ("tg_could/src/search.rt", "go_back", "NONE"): "a step that was found each",
-    ("tg_shared/src/session.rt", "audit_all", "audit_all"):
-        "nothing grows there: a function that asks for memory has the name of one that is called",
     ("tg_could/src/search.rt", "spread", "NONE"): "a step that was found each",
     ("tg_could/src/search.rt", "spread_along", "NONE"): "an edge of the vertex each",
     ("tg_could/src/walks.rt", "begin", "u64::MAX"): "an edge along a path each",
     ("tg_entries/src/stream.rt", "audit_lines", "u64::MAX"): "a line of the reader each",
-    ("tg_plain/src/script.rt", "read", "u64::MAX"): "a line of the input each",
+    ("tg_plain/src/script.rt", "add_lines", "while let Some(line)=reading.next(source,&mut sink)?"): "a line of the reader each",
     ("tg_evac/src/copies.rt", "scan", "while next<claimer.len()"): "a cell that was won each",
     ("tg_evac/src/walk.rt", "each", "loop"): "a root each",
     ("tg_rows/src/followed.rt", "follow_rows", "while i<rows.len()"): "an indexed row each",

@@ -85,7 +85,7 @@ CHANGED = [
     ),
     ("tg_index/src/bits.rt", "const MOST_WORDS: usize = 1 << 26", "const MOST_WORDS: usize = 1 << 20"),
     ("tg_race/src/record.rt", "self.chunks.len() < LIMIT", "self.chunks.len() < LIMIT / 2"),
-    ("tg_plain/src/script.rt", "is_short: false", "is_short: text.len() > 1 << 40"),
+    ("tg_plain/src/text.rt", "is_short: false", "is_short: text.len() > 1 << 40"),
     (
         "tg_text/src/memory.rt",
         "        self.finished = false;\n        match",
@@ -98,9 +98,9 @@ CHANGED = [
     ),
     ("tg_payload/src/table.rt", "if self.payloads.reserve(1).is_err()", "if self.payloads.len() > 1 << 40"),
     (
-        "tg_plain/src/script.rt",
-        "self.is_short |= self.lines.push(line).is_err()",
-        "self.is_short |= self.lines.len() > 1 << 40",
+        "tg_plain/src/text.rt",
+        "self.is_short |= self.bytes.extend_from_slice(text).is_err()",
+        "self.is_short |= self.bytes.len() > 1 << 40",
     ),
 ]
 

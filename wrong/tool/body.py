@@ -220,10 +220,16 @@ def broken_in(text: str) -> tuple[Answers, ...] | None:
     return listed if all(answers.goals for answers in listed) else None
 
 
+# The scripts of bench/ that count instructions, and fail where something costs more than it may.
+COUNTERS = ("growth", "takes", "cells")
+
+
 def finder_in(text: str) -> tuple[str, ...] | None:
     """What has to find a body in a run."""
     match words := tuple(text.split()):
-        case ("test", _, _) | ("held", _) | ("row", _, _):
+        case ("test", _, _) | ("held", _) | ("row", _, _) | ("wants",):
+            return words
+        case ("counted", script, *names) if script in COUNTERS and len(names) <= 1:
             return words
     return None
 
@@ -237,7 +243,7 @@ FIELDS = {
     "public": ("public", public_in, "'FUNCTION of CRATE: CLAUSE, CLAUSE.FIELD'"),
     "aside": ("aside", answers_in, "'FILE: GOAL, GOAL; FILE'"),
     "breaks": ("breaks", broken_in, "'FILE: GOAL, GOAL; FILE: GOAL'"),
-    "found": ("found", finder_in, "'test CRATE NAME', 'held NAME' and 'row PROGRAM GROUP/NAME'"),
+    "found": ("found", finder_in, "'test CRATE NAME', 'held NAME', 'row PROGRAM GROUP/NAME', 'counted SCRIPT NAME' and 'wants'"),
     "wanted": ("wanted", str, "WORD"),
 }
 

@@ -1,4 +1,4 @@
-"""What a test, a script of rows/held or a row has to find, since no contract can refuse it."""
+"""What a test, a stored script, a count of instructions or wrong/wants has to find, since no contract can refuse it."""
 import re
 import shutil
 import subprocess
@@ -12,6 +12,8 @@ from .kit import QUIETLY, Kit, on_one_line
 from .tree import Tree, write_text
 from .verdict import Outcome, Verdict
 
+# A line that tells of a failure.
+FAILURE = r"^(?:held|rows|growth|takes|cells): (\S+ .*FAILED.*)|^wants: (.* [1-9][0-9]* faults)"
 # The programs for which a row asks.
 PROGRAMS = ("tgstore", "tgcould")
 
@@ -37,6 +39,13 @@ def try_by_run(kit: Kit, body: Body) -> Verdict:
             case ("row", program, row):
                 command = [f"{kit.tree.top}/rows/run", "--only", row, str(room)]
                 outcome, said = try_by_script(kit, made, program, command)
+            case ("counted", script, *names):
+                only = [word for name in names for word in ("--only", name)]
+                command = [f"{kit.tree.top}/bench/{script}.py", *only, f"{room}/tgstore"]
+                outcome, said = try_by_script(kit, made, "tgstore", command)
+            case ("wants",):
+                shutil.copytree(kit.tree.top / "wrong", room / "wrong")
+                outcome, said = told_by([f"{room}/wrong/wants"])
     print(f"wrong: {body.name}: {outcome.value} by {' '.join(body.found)}: {said}", flush=True)
     return Verdict(body, outcome, said)
 
@@ -61,9 +70,14 @@ def try_by_script(kit: Kit, tree: Tree, program: str, command: list[str]) -> tup
     for other in PROGRAMS:
         if other != program:
             (tree.top / other).symlink_to("/bin/false")
+    return told_by(command)
+
+
+def told_by(command: list[str]) -> tuple[Outcome, str]:
+    """What a run that ends in a failure where it finds something found."""
     ran = subprocess.run(command, capture_output=True, **QUIETLY)
     said = ran.stdout + ran.stderr
-    failed = re.search(r"^(?:held|rows): (\S+ .*FAILED.*)", said, re.M)
-    if failed:
-        return Outcome.FOUND, failed[1]
+    failed = re.search(FAILURE, said, re.M)
+    if failed and ran.returncode != 0:
+        return Outcome.FOUND, failed[1] or failed[2]
     return Outcome.NOT_FOUND if ran.returncode == 0 else Outcome.NOT_JUDGED, on_one_line(said, 200)

@@ -77,10 +77,20 @@ def kinds_of(bodies: Iterable[Body]) -> list[str]:
     return [*lines, *(f"| {kind} | {name} of `{crate}` | {finder} |" for kind, crate, name, finder in kinds), ""]
 
 
+# What each kind of run is called.
+FINDERS = {
+    "test": "the test ",
+    "held": "rows/held/run: ",
+    "row": "rows/run: ",
+    "counted": "counted instructions: ",
+    "wants": "wrong/wants",
+}
+
+
 def finder_of(body: Body) -> str:
     """What finds the body: a test, a script, or clauses of a function."""
     if body.is_found_by_run:
         kind, *name = body.found
-        return {"test": "the test ", "held": "rows/held/run: ", "row": "rows/run: "}[kind] + " ".join(name)
+        return (FINDERS[kind] + " ".join(name)).rstrip(": ")
     clauses = (NO_NAME if clause == UNNAMED else clause for clause in body.refused.clauses)
     return f"`{body.refused.function}`: {', '.join(clauses)}"

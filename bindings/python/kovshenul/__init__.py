@@ -11,9 +11,11 @@ TypeError: nothing happened then.
 
 A store's journal is read by `entry` and `journal`, and given up by `forget`. An Auditor replays it before that, part after part.
 The types of what an entry says are those of `kovshenul.journal`, and those of what could come about, which `could` answers,
-those of `kovshenul.outlook`. A View, which `view` opens, tells of all questions at once.
+those of `kovshenul.outlook`. A View, which `view` opens, tells of all questions at once. The module `kovshenul.plain` is a model of the
+store in plain Python, to test a host against.
 
-Any thread may call a store: a lock in it makes the calls come one after the other. The library is the one that the
+Any thread may call, a finalizer and a signal's handler too. The module has one lock, which makes all calls come one after the
+other, those on different stores too. The library is the one that the
 variable KOVSHENUL_LIBRARY names, else the one beside this module, else the one that the system finds.
 """
 from . import journal, outlook

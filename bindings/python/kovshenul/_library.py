@@ -4,6 +4,7 @@ import os
 import platform
 from operator import index
 from pathlib import Path
+from reprlib import repr as short_of
 from typing import Type
 
 ABI = 4
@@ -22,10 +23,14 @@ BITS = 64
 
 def number_in(bits: int, it: int) -> int:
     """The same number, which must be from 0 on and have at most so many bits."""
-    it = index(it)
-    if it >> bits:
-        raise OverflowError(f"a number is from 0 to 2^{bits} - 1")
-    return it
+    try:
+        number = index(it)
+    except TypeError as error:
+        raise TypeError(f"{short_of(it)} is no number. Rights are given as READ | WRITE, or by letters as Rights.of('rw')") from error
+    if number >> bits:
+        shown = f"{number}" if number.bit_length() <= 2 * bits else f"a number of {number.bit_length()} bits"
+        raise OverflowError(f"a number is from 0 to 2^{bits} - 1, and not {shown}")
+    return number
 
 
 class Value(ctypes.Structure):
@@ -110,7 +115,7 @@ def _loaded(kind: Type[ctypes.CDLL]) -> ctypes.CDLL:
         library = kind(path)
     except OSError as error:
         raise ImportError(
-            f"no library of Kovshenul. KOVSHENUL_LIBRARY is {named or 'not set'}, "
+            f"no library of Kovshenul: bindings/build makes it, as bindings/out/{NAME}. KOVSHENUL_LIBRARY is {named or 'not set'}, "
             f"{beside} {'is there' if beside.exists() else 'is not there'}, "
             f"and the system looks for {NAME}. It is code for Linux on x86-64 with glibc, and this is {platform.system()} "
             f"on {platform.machine()}. {path} did not load: {error}"

@@ -1,6 +1,7 @@
 """What a call raises that wasn't served."""
 from __future__ import annotations
 
+from operator import index
 from typing import Optional, Tuple
 
 from ._library import Denial, text_of
@@ -54,17 +55,21 @@ class Denied(Error, PermissionError):
 
 
 class Refused(Error):
-    """A call was refused. The store is as it was, but that VerticesFull and WorkersFull have an entry in the journal."""
+    """A call was refused. The store is as it was, but that VerticesFull and WorkersFull have an entry in the journal.
+
+    `status` is the library's number for it, and `text` says what was wrong.
+    """
 
     status: int = 0
 
-    def __init__(self, status: Optional[int] = None) -> None:
+    def __init__(self, status: Optional[int] = None, text: str = "") -> None:
         if status is not None:
             self.status = status
-        super().__init__(self.status)
+        self.text = text or text_of(self.status)
+        super().__init__(self.status, text)
 
     def __str__(self) -> str:
-        return text_of(self.status)
+        return self.text
 
 
 class NotOpen(Refused, ValueError):
@@ -86,7 +91,7 @@ class OutOfMemory(Refused, MemoryError):
 
 
 class HeapFull(Refused):
-    """No cell or block is left, by the limits. After a collection there may be."""
+    """No cell or block is left, by the limits. After a collection there may be. An opening needs a block for each worker."""
 
     status = 33
 
@@ -104,13 +109,13 @@ class WorkersFull(Refused):
 
 
 class NoSuchWorker(Refused, LookupError):
-    """No worker has the name."""
+    """No active worker has the name: it was never spawned, it is an object, or it retired."""
 
     status = 48
 
 
 class BadRights(Refused, ValueError):
-    """No right, or a bit that is none."""
+    """No right, or a bit that is none; several rights, where one is asked about."""
 
     status = 64
 
@@ -134,13 +139,14 @@ class BadWorkers(Refused, ValueError):
 
 
 class BadLimits(Refused, ValueError):
-    """A limit is out of its range."""
+    """A limit is out of its range, which `Limits` has."""
 
     status = 81
 
 
 class BadEdge(Refused, ValueError):
-    """An edge from a worker to itself, or with an end that is no worker."""
+    """An edge from a vertex to itself. An edge of an opening with an end that is no worker. A supposed edge with an end that no worker
+    reaches."""
 
     status = 82
 
@@ -152,7 +158,8 @@ class BadValues(Refused, ValueError):
 
 
 class BadEntry(Refused):
-    """An entry isn't one of a legal history of the auditor's opening. An audit of the store's own journal never answers it."""
+    """An entry isn't one of a legal history of the auditor's opening. The usual cause is that the store was opened by other workers,
+    edges or limits. An audit of the store's own journal never answers it."""
 
     status = 96
 
@@ -178,7 +185,16 @@ class NotAudited(Refused):
 BY_STATUS = {kind.status: kind for kind in Refused.__subclasses__()}
 
 
-def refusal(status: int) -> Refused:
-    """The refusal with this status."""
-    kind = BY_STATUS.get(status)
-    return Refused(status) if kind is None else kind()
+# What may be asked about: one right, as a number.
+SINGLE = [int(right) for right in Rights]
+
+
+def refusal(status: int, worker: Optional[int] = None, right: Optional[int] = None) -> Refused:
+    """The refusal with this status, of what this worker asked for, or of a question about this right."""
+    kind = BY_STATUS.get(status, Refused)
+    if kind is NoSuchWorker and worker is not None:
+        return kind(status, f"no such worker: no active subject has the name {index(worker)}")
+    if kind is BadRights and right is not None and index(right) not in SINGLE:
+        letters = RIGHTS[index(right) % len(RIGHTS)].letters
+        return kind(status, f"one right is asked about, and not {index(right)} ('{letters}')")
+    return kind(status)

@@ -5,7 +5,7 @@ from ctypes import byref, c_size_t
 from typing import TYPE_CHECKING, Iterable, Tuple
 
 from . import _library
-from ._held import Held
+from ._held import LOCK, Held, place_of
 from ._library import BITS, library, number_in, short
 from ._refusals import refusal
 from .outlook import OUTLOOKS, Chance
@@ -29,7 +29,9 @@ class View(Held):
         with store.view(silent=[host]) as view:
             for plugin in plugins:
                 if view.could(plugin, WRITE, document) == outlook.Never():
-                    print(f"{plugin} never writes")
+                    print(f"{plugin} never holds w over {document}")
+
+    A plugin that never holds w may still append by `a`, or have another one write for it.
     """
 
     __slots__ = ()
@@ -37,9 +39,9 @@ class View(Held):
     _give_back = staticmethod(library.tg_view_close)
 
     def __init__(self, store: Store, silent: Iterable[int] = (), as_if: Iterable[Tuple[int, int, int]] = ()) -> None:
-        scene = scene_in(silent, as_if)
-        with self._lock, store._lock:
-            status = library.tg_view_open(store._at, *scene, self._at)
+        scene, store_at = scene_in(silent, as_if), place_of("store", store)
+        with LOCK:
+            status = library.tg_view_open(store_at, *scene, self._at)
         if status:
             raise refusal(status)
 
@@ -48,8 +50,8 @@ class View(Held):
         who act do; that no worker reached x; or Perhaps, which says nothing. BadRights where it isn't one right."""
         asked = [_library.Number(number_in(BITS, it)) for it in (x, right, y)]
         kind = _library.Number()
-        with self._lock:
+        with LOCK:
             status = short.tg_view_could(self._at, *asked, byref(kind))
         if status:
-            raise refusal(status)
+            raise refusal(status, right=right)
         return OUTLOOKS[kind.value]()

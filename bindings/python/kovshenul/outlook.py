@@ -2,9 +2,11 @@
 
     match store.could(plugin, WRITE, document, silent=[host]):
         case outlook.Never():
-            print("it never writes")
+            print("it never holds w over the document")
         case outlook.Could(turns):
-            print(f"it could, by {turns}")
+            print(f"it could hold w, after {turns}")
+
+An answer speaks of rights alone. A plugin that never holds w may still append by `a`, or have another one write for it.
 
 They are values: they compare, print and can be kept, also when the store is closed.
 """
@@ -31,7 +33,8 @@ class Turn:
 
 @dataclass(frozen=True)
 class Never:
-    """After no list of turns of those who act does x hold it. It stays so whatever they do."""
+    """x doesn't hold it now, and comes to hold it by no list of turns of those who act. This stays so until a silent worker acts, as a
+    host that is silent does by each grant."""
 
 
 @dataclass(frozen=True)
@@ -48,7 +51,8 @@ class Could:
 
 @dataclass(frozen=True)
 class WantsNames:
-    """So it is where so many more vertices may be made. It comes only where fewer than 64 names are left."""
+    """So it is where so many more vertices may be made. It comes only if y was made and fewer than 64 names are left besides
+    x."""
 
     turns: Tuple[Turn, ...]
     names: int
@@ -61,8 +65,11 @@ class Unreached:
 
 @dataclass(frozen=True)
 class Open:
-    """Nothing of a name that isn't made yet and over 65,536 others come before: turns would have to make all of them. Ask
-    about the next name in its place. Of others it isn't known to come: then x could, by turns that aren't told."""
+    """It is not decided whether x could hold it. A policy has to treat this as `Could`.
+
+    It comes of a name that isn't made yet, if more than 65,536 other names come before it, because the turns would have to make all
+    of these. Ask about the next name in its place. Of other names it isn't known to come. If it does, x could hold the right, and the
+    turns aren't known."""
 
 
 @dataclass(frozen=True)

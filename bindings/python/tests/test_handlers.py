@@ -1,12 +1,25 @@
 """Calls between which a signal's handler, a finalizer or another thread calls the same store."""
 import gc
+import os
 import signal
+import sys
 import threading
 import time
 import unittest
-from contextlib import contextmanager
+from contextlib import ExitStack, contextmanager
+from itertools import count
+from pathlib import Path
+from unittest import mock
 
-from kovshenul import GRANT, INSPECT, READ, WRITE, Cell, Denied, Limits, Store, journal
+import kovshenul
+from kovshenul import GRANT, INSPECT, READ, WRITE, Auditor, Cell, Denied, Limits, NotOpen, Store, Target, journal
+from kovshenul import _auditor, _store, _view
+
+# Where the module's own functions are.
+FOLDER = str(Path(kovshenul.__file__).parent)
+
+# How long a thread waits for another one to come to the middle of its call, and how long until the two are said to hang.
+MEETING, HANGING = 0.005, 10
 
 # How long each of them runs, and how long after its last call a handler calls again.
 SECONDS, PAUSE = 0.6, 5e-5
@@ -34,6 +47,48 @@ def interrupted(call):
         is_on = False
         signal.setitimer(signal.ITIMER_REAL, 0)
         signal.signal(signal.SIGALRM, before)
+
+
+class Meeting:
+    """A library. A thread that has something to do in the middle of a call does it when it looks for the library's function."""
+
+    def __init__(self, library, deeds):
+        self.library, self.deeds = library, deeds
+
+    def __getattr__(self, name):
+        deed = self.deeds.pop(threading.get_ident(), None)
+        if deed is not None:
+            deed()
+        return getattr(self.library, name)
+
+
+def interrupted_at(step, call, act):
+    """Makes the call, and in the middle of it acts once, as a handler or a finalizer could: after so many steps of the module's own
+    functions. Returns whether the call had so many steps, and what it returned."""
+    left = step
+
+    def trace(frame, event, _):
+        nonlocal left
+        if not frame.f_code.co_filename.startswith(FOLDER):
+            return None
+        if event == "call":
+            # Python 3.13 traces opcodes only of a frame that has its function already.
+            frame.f_trace, frame.f_trace_opcodes, frame.f_trace_lines = trace, True, False
+        if event == "opcode":
+            left -= 1
+            if left == 0:
+                act()
+        return trace
+
+    before = sys.gettrace()
+    # Python 3.12 traces opcodes only if a frame asks for it before.
+    sys._getframe().f_trace_opcodes = True
+    sys.settrace(trace)
+    try:
+        answer = call()
+    finally:
+        sys.settrace(before)
+    return left <= 0, answer
 
 
 def rounds():
@@ -154,6 +209,137 @@ class Handlers(unittest.TestCase):
                 ended.set()
                 thread.join()
             self.assertEqual(lists_in(store), 12)
+
+    # How many edges the row has that is shown at each step.
+    LONG = 70
+
+    def at_each_step(self, inspects, prepare):
+        """A list or an inspect of a long row, with an act in the middle of it, once for each of its steps. What `prepare` is given is the
+        store, and it returns the act. Gives the store, the row that was there before, and the row that was shown."""
+        for step in count(1):
+            store = Store([Cell(0)] * 2, [(1, 0, INSPECT)], LIMITS)
+            before = [Target(store.create(0, READ, Cell(0)), READ) for _ in range(self.LONG)]
+            act = prepare(store)
+            show = (lambda: store.inspect(1, 0)) if inspects else (lambda: store.list(0))
+            try:
+                was_reached, row = interrupted_at(step, show, act)
+            except NotOpen:
+                continue
+            if not was_reached:
+                self.assertGreater(step, 100)
+                return
+            yield store, before, row
+
+    def test_a_row_whose_entry_is_given_up(self):
+        def forgetting(store):
+            return lambda: store.forget(store.entries())
+
+        def auditing(store):
+            auditor = Auditor([Cell(0)] * 2, [(1, 0, INSPECT)], LIMITS)
+            return lambda: auditor.forget(store, auditor.feed(store))
+
+        for prepare in (forgetting, auditing, lambda store: store.close):
+            for inspects in (False, True):
+                for _, before, row in self.at_each_step(inspects, prepare):
+                    self.assertEqual(row, before)
+
+    def test_a_row_of_a_call_in_between(self):
+        """The act makes a row of the same length whose first 64 edges are the same, and lists it."""
+        rows = []
+
+        def changing(store):
+            last = store.list(0)[-1].to
+
+            def change():
+                store.remove(0, last, READ)
+                store.create(0, READ, Cell(0))
+                rows.append(store.list(0))
+
+            return change
+
+        for inspects in (False, True):
+            for store, before, row in self.at_each_step(inspects, changing):
+                after = [*before[:-1], Target(before[-1].to + 1, READ)]
+                self.assertEqual(rows.pop(), after)
+                deeds = [type(entry.deed) for entry in list(store.journal())[-4:]]
+                is_shown_first = deeds[0] is (journal.Inspect if inspects else journal.List)
+                self.assertEqual(row, before if is_shown_first else after)
+
+    def test_two_threads_are_interrupted_at_once(self):
+        """Each is in the middle of a call, and makes the other's call there. With a lock for each object both would wait for ever."""
+        edges, workers = [(1, 0, INSPECT)], [Cell(0)] * 2
+        store, other, auditor = Store(workers, edges, LIMITS), Store(workers, edges, LIMITS), Auditor(workers, edges, LIMITS)
+        view = store.view()
+
+        def feed():
+            return auditor.feed(store)
+
+        def forget():
+            auditor.forget(store, 0)
+
+        def could():
+            return view.could(0, READ, 1)
+
+        def lists(it):
+            return lambda: it.list(0)
+
+        calls = [(feed, lists(store)), (forget, lists(store)), (lambda: auditor.at, feed), (auditor.sweep, forget)]
+        calls += [(could, lists(store)), (lists(store), lists(other))]
+        deeds = {}
+        with ExitStack() as stack:
+            for part, name in ((_store, "library"), (_store, "short"), (_auditor, "library"), (_auditor, "short"), (_view, "short")):
+                stack.enter_context(mock.patch.object(part, name, Meeting(getattr(part, name), deeds)))
+            for one, two in calls:
+                for _ in range(5):
+                    self.assert_both_end(deeds, one, two)
+
+    def assert_both_end(self, deeds, one, two):
+        barrier = threading.Barrier(2)
+
+        def make(call, others):
+            def meet():
+                try:
+                    barrier.wait(MEETING)
+                except threading.BrokenBarrierError:
+                    pass
+                others()
+
+            deeds[threading.get_ident()] = meet
+            call()
+
+        threads = [threading.Thread(target=make, args=calls, daemon=True) for calls in ((one, two), (two, one))]
+        for thread in threads:
+            thread.start()
+        for thread in threads:
+            thread.join(HANGING)
+            self.assertFalse(thread.is_alive(), "two threads wait for each other")
+
+    def test_a_child_calls(self):
+        """A child process can call though another thread of its parent was in a call when the child was made."""
+        with Store([Cell(0)] * 2, [], LIMITS) as store:
+            for _ in range(2000):
+                store.create(0, READ, Cell(0))
+            ended = threading.Event()
+
+            def call():
+                while not ended.is_set():
+                    store.audit()
+
+            thread = threading.Thread(target=call)
+            thread.start()
+            try:
+                for _ in range(10):
+                    self.assertEqual(self.status_of_child(store), 0)
+            finally:
+                ended.set()
+                thread.join()
+
+    def status_of_child(self, store):
+        child = os.fork()
+        if child == 0:
+            signal.alarm(HANGING)
+            os._exit(len(store.list(0)) - 2000)
+        return os.waitpid(child, 0)[1]
 
 
 if __name__ == "__main__":

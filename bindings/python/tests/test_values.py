@@ -13,6 +13,7 @@ import tracemalloc
 import typing
 import unittest
 from pathlib import Path
+from unittest import mock
 
 import kovshenul
 from kovshenul import (
@@ -24,6 +25,7 @@ from kovshenul import (
     READ,
     TAKE,
     WRITE,
+    Auditor,
     Cell,
     Counts,
     Denied,
@@ -41,8 +43,11 @@ from kovshenul import (
     Store,
     Sum,
     Target,
+    View,
     _library,
+    _store,
 )
+from kovshenul._held import LOCK
 
 LIMITS = Limits(10, 8, 4)
 
@@ -147,6 +152,31 @@ class Refusals(unittest.TestCase):
         self.assertEqual((str(again), again.vertices), ("write: w is missing on 1->0", (1, 0)))
         self.assertEqual(str(copy.copy(caught.exception)), str(again))
         self.assertEqual(str(Denied("write", "missing", (1, 0), WRITE)), str(again))
+
+    def assert_says(self, text, kind, call, *arguments):
+        with self.assertRaisesRegex(kind, text):
+            call(*arguments)
+
+    def test_they_say_what_was_wrong(self):
+        with opened() as store, Auditor([Cell(0)] * 2, [(0, 1, READ)], LIMITS) as auditor, store.view() as view:
+            self.assert_says("not 3 \\('rw'\\)", kovshenul.BadRights, store.could, 0, READ | WRITE, 1)
+            self.assert_says("not 3 \\('rw'\\)", kovshenul.BadRights, view.could, 0, READ | WRITE, 1)
+            self.assert_says("not 0 \\(''\\)", kovshenul.BadRights, store.who_holds, 0, 1)
+            self.assert_says("no worker reaches", kovshenul.BadEdge, store.could, 0, READ, 1, [], [(1, 7, READ)])
+            calls = [(store.read, 0), (store.write, 0, 1), (store.take, 0, 1, READ), (store.create, READ, Cell(0)), (store.list,)]
+            for call, *rest in [*calls, (store.inspect, 0), (store.leave,), (store.retire,), (store.label, 0)]:
+                self.assert_says("has the name 99$", NoSuchWorker, call, 99, *rest)
+            for call, *rest in [(store.write, 1, "rw"), (store.take, 1, 0, "rw"), (store.create, "rw", Cell(0)), (store.list, "rw")]:
+                self.assert_says("'rw' is no number.*Rights.of", TypeError, call, 0, *rest)
+            self.assert_says("and not -1$", OverflowError, store.write, 0, 1, -1)
+            self.assert_says("a number of 9001 bits", OverflowError, store.write, 0, 1, 2**9000)
+            for call, *rest in [(View,), (auditor.feed,), (auditor.forget, 0)]:
+                self.assert_says("a store is wanted, and not None", TypeError, call, None, *rest)
+            store.write(0, store.create(0, WRITE, Cell(0)), 1)
+            store.grant(0, 1, 2, WRITE)
+            self.assert_says("opened by the same workers", kovshenul.BadEntry, auditor.feed, store)
+        self.assert_says("a block for each worker", HeapFull, Store, [Cell(0)] * 2, [], Limits(10, 1, 1))
+        self.assert_says("max_vertices is from", kovshenul.BadLimits, Store, [Cell(0)], [], Limits(0))
 
     def test_all_are_errors(self):
         for kind in (Denied, Refused, *Refused.__subclasses__()):
@@ -325,6 +355,22 @@ class Stores(unittest.TestCase):
             self.assertEqual(store.collect(), 4)
             self.assertEqual(store.audit(), store.entries())
 
+    def test_who_holds_is_asked_once_of_a_few(self):
+        asked = []
+
+        def counted(*words):
+            asked.append(words)
+            return _library.library.tg_who_holds(*words)
+
+        with Store([Cell(0)], [], Limits(200, 64, 64)) as store:
+            document = store.create(0, READ, Cell(0))
+            for made in range(1, 71):
+                with mock.patch.object(_store, "library", mock.Mock(wraps=_store.library, tg_who_holds=counted)):
+                    self.assertEqual(len(store.who_holds(READ, document)), made)
+                folder = store.create(0, GRANT, Cell(0))
+                store.grant(0, folder, document, READ)
+            self.assertEqual(len(asked), 64 + 2 * 6)
+
     def test_three_who_know_each_other_leave_empty_rows(self):
         with opened() as store:
             clients = [store.spawn(0, GRANT | TAKE, Cell(0)) for _ in range(3)]
@@ -426,7 +472,7 @@ class Stores(unittest.TestCase):
                 def __del__(self):
                     store.write(0, cell, 1)
 
-            with store._lock:
+            with LOCK:
                 del [Counted()][:]
                 # The number of it is asked for before the store is, and it goes when the call has ended.
                 self.assertEqual(store.read(0, Counted()), [2])

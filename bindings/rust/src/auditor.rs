@@ -40,7 +40,7 @@ unsafe impl Send for Auditor {}
 impl RefUnwindSafe for Auditor {}
 
 impl Auditor {
-    /// Opens an auditor by the words by which the store was opened. It stands at the first entry.
+    /// Opens an auditor with the workers, edges and limits with which the store was opened. It begins at the first entry.
     pub fn open(workers: &[Value], edges: &[Edge], limits: &Limits) -> Result<Auditor, Error> {
         let abi = unsafe { raw::tg_abi() };
         assert_eq!(abi, raw::ABI, "the library has another interface");
@@ -91,7 +91,9 @@ impl Auditor {
         served(unsafe { raw::tg_auditor_forget(self.place.get(), store.at(), upto) })
     }
 
-    /// Gives back what it keeps of vertices that no worker reaches any more. It does so by itself as they double.
+    /// Gives back what it keeps of vertices that no worker reaches any more. An auditor looks by itself whether to sweep, each
+    /// time that it keeps a quarter as many vertices again as at its last look, and 65,536 at the least. It sweeps then if
+    /// rights were given up or a worker retired since its last sweep.
     pub fn sweep(&mut self) -> Result<(), Error> {
         served(unsafe { raw::tg_auditor_sweep(self.place.get()) })
     }

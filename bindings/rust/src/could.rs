@@ -18,13 +18,15 @@ pub struct Turn {
 #[derive(Clone, PartialEq, Eq, Hash, Debug)]
 #[non_exhaustive]
 pub enum Could {
-    /// After no list of turns of those who act does x hold it. It stays so whatever they do.
+    /// x doesn't hold it now, and comes to hold it by no list of turns of those who act. This stays so until a silent worker
+    /// acts, as a host that is silent does by each grant.
     Never,
     /// x holds it.
     Now,
     /// x holds it after these turns, each of which is allowed when it comes. They needn't be the fewest.
     After(Vec<Turn>),
-    /// So it is where so many more vertices may be made. It comes only where fewer than 64 names are left.
+    /// So it is where so many more vertices may be made. It comes only if y was made and fewer than 64 names are left
+    /// besides x.
     WantsNames {
         /// The turns.
         turns: Vec<Turn>,
@@ -33,8 +35,11 @@ pub enum Could {
     },
     /// No worker reaches x, which was made: it holds what it holds, for good.
     Unreached,
-    /// Nothing of a name that isn't made yet and over 65,536 others come before: turns would have to make all of them.
-    /// Ask about the next name in its place. Of others it isn't known to come: then x could, after turns not told.
+    /// It is not decided whether x could hold it. A policy has to treat this as [`After`](Could::After).
+    ///
+    /// It comes of a name that isn't made yet, if more than 65,536 other names come before it, because the turns would have
+    /// to make all of these. Ask about the next name in its place. Of other names it isn't known to come. If it does, x could
+    /// hold the right, and the turns aren't known.
     Open,
 }
 

@@ -135,9 +135,9 @@ pub enum Error {
     VerticesFull,
     /// As many workers are active as may be, which is 64.
     WorkersFull,
-    /// No worker has the name.
+    /// No active worker has the name: it was never spawned, it is an object, or it retired.
     NoSuchWorker,
-    /// No right.
+    /// No right; several rights, where one is asked about.
     BadRights,
     /// A log of 0 or of more than 64 numbers.
     BadLaw,
@@ -147,7 +147,8 @@ pub enum Error {
     BadLimits,
     /// An edge from a worker to itself, or with an end that is no worker; one that is supposed, and no worker reaches an end.
     BadEdge,
-    /// An entry isn't one of a legal history of the auditor's opening.
+    /// An entry isn't one of a legal history of the auditor's opening. The usual cause is that the store was opened by other
+    /// workers, edges or limits.
     BadEntry,
     /// The journal holds no entry at the place: it wasn't made yet, or it was given up.
     BadPlace,

@@ -206,7 +206,7 @@ extern "C" {
     pub fn tg_entry(
         store: *mut RawStore,
         at: u64,
-        record: &mut RawRecord,
+        out: &mut RawRecord,
         numbers: *mut u64,
         number_room: usize,
         edges: *mut RawTarget,
@@ -231,7 +231,7 @@ extern "C" {
     pub fn tg_answer_turn(
         answer: &mut RawAnswer,
         at: u64,
-        record: &mut RawRecord,
+        out: &mut RawRecord,
         numbers: *mut u64,
         room: usize,
     ) -> u32;

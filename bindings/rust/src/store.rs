@@ -196,14 +196,14 @@ impl Store {
     /// Who holds the right over the vertex with a name, by rising name: workers, objects and those who retired, of all
     /// that a worker reaches. The journal gets no entry of it. `BadRights` where it isn't one right.
     pub fn who_holds(&self, right: Rights, name: u64) -> Result<Vec<u64>, Error> {
-        let (mut names, mut count) = (Vec::new(), 0);
+        let (mut names, mut count) = (vec![0; SHORT_ROW], 0);
         loop {
             let room = names.len();
             served(unsafe { raw::tg_who_holds(self.at(), right.bits(), name, names.as_mut_ptr(), room, &mut count) })?;
-            if count as usize == room {
+            names.resize(count as usize, 0);
+            if names.len() <= room {
                 return Ok(names);
             }
-            names = vec![0; count as usize];
         }
     }
 

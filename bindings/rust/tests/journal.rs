@@ -182,7 +182,7 @@ fn past_the_end_is_refused() {
     for at in [1, u64::from(u32::MAX), u64::MAX] {
         let error = store.entry(at).unwrap_err();
         assert_eq!((error, error.status()), (Error::BadPlace, 97));
-        assert_eq!(error.to_string(), "the journal holds no entry at the place");
+        assert!(error.to_string().starts_with("the journal holds no entry at the place"));
     }
     assert_eq!(store.entries(), Ok(1));
 }

@@ -63,10 +63,10 @@ fn each_byte_is_a_set_of_rights() {
 #[test]
 fn errors_are_sentences() {
     let mut store = opened(1);
-    assert_eq!(store.read(7, 0).unwrap_err().to_string(), "no such worker");
+    assert!(store.read(7, 0).unwrap_err().to_string().starts_with("no such worker: "));
     let error = store.create(0, Rights::NONE, Value::Cell(0)).unwrap_err();
     assert_eq!((error, error.status()), (Error::BadRights, 64));
-    assert_eq!(error.to_string(), "no right, a bit or a letter that is none, or letters out of order");
+    assert!(error.to_string().starts_with("bad rights: none, "));
     let name = store.create(0, Rights::READ, Value::Cell(0)).unwrap();
     let missing = Denial::Missing {
         rule: Rule::Write,
@@ -203,7 +203,7 @@ fn a_worker_too_many_is_refused() {
     let mut store = opened(64);
     let error = store.spawn(0, Rights::GRANT, Value::Cell(0)).unwrap_err();
     assert_eq!((error, error.status()), (Error::WorkersFull, 35));
-    assert_eq!(error.to_string(), "as many workers are active as may be");
+    assert_eq!(error.to_string(), "64 workers are active, and no more may be");
     assert_eq!((store.entries(), store.subjects().unwrap().len()), (Ok(1), 64));
     assert_eq!((store.retire(63), store.spawn(0, Rights::GRANT, Value::Cell(0))), (Ok(()), Ok(64)));
     assert_eq!(store.audit(), Ok(3));

@@ -6,6 +6,7 @@ ghost use Rattle.tg_word.specs.Word.{IsPlace};
 
 mod helpers;
 mod sound;
+mod straight;
 
 use sound::are_sound;
 use std::alloc::{AllocError, Global};
@@ -29,6 +30,9 @@ enum Content {
     // by fours an object that links to a chunk, an object, a chunk that links to the next, and that one; all but the
     // last refer to objects, several to each
     Linked,
+    // of a nursery's objects the first refers to the second, and so on to the fourth; the first one in Old refers to
+    // the second and the third
+    Chain,
 }
 
 // The place of the cell with a number.
@@ -50,6 +54,16 @@ fn word_to(number: u64, rights: Rights) -> u64 {
     })
 }
 
+// The references that the cell with a number has in a chain, and 0 where it has none.
+fn words_behind(number: u64) -> [u64; 2] {
+    let word = |at: u64| -> u64 { word_to(at, Rights::of(Right::W)) };
+    match number {
+        0 => [word(129), word(130)],
+        128..=130 => [word(number + 1), 0],
+        _ => [0, 0],
+    }
+}
+
 // The words of the cell with a number.
 fn words_at(content: Content, number: u64) -> [u64; WORDS]
     requires { number < 192 }
@@ -58,6 +72,10 @@ fn words_at(content: Content, number: u64) -> [u64; WORDS]
     let link = |at: u64| -> u64 { word_to(at, Rights::empty()) };
     match content {
         Content::Alone => [OBJECT_TAG, number, number, 0, 0, 0, 0, 0],
+        Content::Chain => {
+            let [first, second] = words_behind(number);
+            [OBJECT_TAG, number, number, 0, first, second, 0, 0]
+        }
         Content::Linked => match number % 4 {
             0 => [
                 OBJECT_TAG,

@@ -8,4 +8,6 @@
 #[cfg(test)]
 mod opened;
 #[cfg(test)]
+mod shares;
+#[cfg(test)]
 mod story;

@@ -1,4 +1,6 @@
 //! A store of two workers, and what its sessions do.
+ghost use Rattle.std.specs.Prelude.{◌≡◌, ◌+◌, ◌≤◌, IfSome};
+ghost use Rattle.tg_store.specs.Store.{graph_of_store};
 
 use std::alloc::Global;
 use std::sync::Wait;
@@ -8,8 +10,8 @@ use tg_rights::Label;
 use tg_shared::{Round, Session, SharedStore};
 use tg_store::{Limits, Store};
 
-// A draft of a cell with 0.
-fn draft(alloc: Global) -> Option<Draft<CellPayload>> {
+/// A draft of a cell with 0.
+pub(crate) fn draft(alloc: Global) -> Option<Draft<CellPayload>> {
     Draft::new(alloc, CellPayload::new(0)).ok()
 }
 
@@ -23,13 +25,17 @@ fn two_drafts(alloc: Global) -> Option<Vec<Draft<CellPayload>>> {
 }
 
 // An opening of two workers with these drafts. Five vertices may be made.
-fn opening_of(alloc: Global, drafts: &[Draft<CellPayload>]) -> Option<Opening> {
+fn opening_of(alloc: Global, drafts: &[Draft<CellPayload>]) -> Option<Opening>
+    ensures { IfSome result (λ opening. (opening.workers ≡ 2) × (opening.limit ≡ 5)) }
+{
     let values = values_of(alloc, drafts).ok()?;
     Opening::new(2, Vec::new(alloc), values, 5).ok()
 }
 
-/// A store of two workers, who store cells with 0.
-pub(crate) fn open_store(alloc: Global) -> Option<Store<CellPayload>> {
+/// A store of two workers, who store cells with 0. Three more vertices may be made.
+pub(crate) fn open_store(alloc: Global) -> Option<Store<CellPayload>>
+    ensures { IfSome result (λ store. (graph_of_store store).made + 3 ≤ store.opening.limit) }
+{
     let limits = Limits::new(64, 16).ok()?;
     let drafts = two_drafts(alloc)?;
     let opening = opening_of(alloc, &drafts)?;

@@ -7,10 +7,11 @@ use crate::opened::{is_answered, makes, open_store, spawned_by};
 use std::alloc::Global;
 use std::marker::Brand;
 use std::sync::Wait;
-use std::sync::ledger::Blank;
 use tg_model::Command;
 use tg_payload::CellPayload;
-use tg_shared::{Keeper, Receipt, Round, Session, Shared, SharedStore, receipts_match};
+use tg_shared::{
+    Blanks, Keeper, Receipt, Round, Session, Shared, SharedStore, close_with, receipts_match,
+};
 use tg_store::{ApplyFault, Store};
 
 // A part of a journal: the place of its first entry, the one behind its last, and whether receipts match it.
@@ -27,6 +28,8 @@ struct Told {
     taken_over: [bool; 2],
     // how many edges a worker gives up who is ended, and why its session's next line is refused
     ended: (Option<u64>, Option<ApplyFault>),
+    // why a name that is no worker's can't be ended, and whether the first session is answered after that
+    nobody: (Option<ApplyFault>, bool),
 }
 
 const NOTHING: Told = Told {
@@ -34,6 +37,7 @@ const NOTHING: Told = Told {
     parts: [(0, 0, false), (0, 0, false)],
     taken_over: [false, false],
     ended: (None, None),
+    nobody: (None, false),
 };
 
 // The bits of what the session's worker holds over vertex 2; 0 where it holds nothing.
@@ -62,7 +66,9 @@ fn take_part<L: Round, R: Wait>(
 }
 
 // Whether the session takes over the spawned one with its receipts, and without.
-fn take_over_twice<L: Round>(session: &mut Session<L>, spawned: Session<L>) -> [bool; 2] {
+fn take_over_twice<L: Round>(session: &mut Session<L>, spawned: Session<L>) -> [bool; 2]
+    requires in_parts { L.start.in_parts ≡ true }
+{
     match session.take_over(spawned) {
         Ok(()) => [true, false],
         Err(mut spawned) => {
@@ -78,7 +84,9 @@ fn spawn_and_take_over<L: Round, R: Wait>(
     alloc: Global,
     store: &SharedStore<L, CellPayload>,
     session: &mut Session<L>,
-) -> [bool; 2] {
+) -> [bool; 2]
+    requires in_parts { L.start.in_parts ≡ true }
+{
     match spawned_by(rt, alloc, store, session) {
         Some(mut spawned) => {
             let _retired = is_answered(rt, store, &mut spawned, Command::Retire);
@@ -119,8 +127,21 @@ fn end<L: Round, R: Wait>(
     (given_up, session.call(rt, store, Command::List).err())
 }
 
+// Ends a name that is no worker's, and asks the session for a line.
+fn end_nobody<L: Round, R: Wait>(
+    rt: &R,
+    store: &SharedStore<L, CellPayload>,
+    keeper: &mut Keeper<L>,
+    session: &mut Session<L>,
+) -> (Option<ApplyFault>, bool)
+    requires may_end { L.start.may_end ≡ true }
+{
+    let why = keeper.end(rt, store, 4).err();
+    (why, is_answered(rt, store, session, Command::List))
+}
+
 // Lets the first session make a vertex, and asks both what they hold over it. Takes two parts of the journal. Then the
-// second makes one, and its worker is ended.
+// second makes one, and its worker is ended; and so is a name that is no worker's.
 fn tell_of_two<L: Round, R: Wait>(
     rt: &R,
     alloc: Global,
@@ -137,12 +158,14 @@ fn tell_of_two<L: Round, R: Wait>(
     let (parts, taken_over) = take_parts(rt, alloc, store, keeper, first);
     let _made = makes(rt, alloc, store, second);
     let ended = end(rt, store, keeper, second);
+    let nobody = end_nobody(rt, store, keeper, first);
     drop(first.take_receipts());
     Told {
         labels,
         parts,
         taken_over,
         ended,
+        nobody,
     }
 }
 
@@ -163,14 +186,23 @@ fn tell<L: Round, R: Wait>(
     }
 }
 
-// What is seen, and of the store that is had back with both sessions: how many entries its keeper made, how many there
-// are, and from which place on it holds them.
-type Seen = (Told, Option<[u64; 3]>);
+// What is seen, and of the store that is had back with both sessions: how many entries its keeper made, and at which
+// place its last part ended; how many entries there are, and from which place on the store holds them.
+type Seen = (Told, Option<[u64; 4]>);
 
 // The numbers of the entries, where the store was had back.
-fn entries_of(entered: u64, closed: Option<Store<CellPayload>>) -> Option<[u64; 3]> {
+fn entries_of<L: Round>(
+    keeper: &Keeper<L>,
+    closed: Option<Store<CellPayload>>,
+) -> Option<[u64; 4]> {
     let store = closed?;
-    let entries = [entered, store.journal().len(), store.journal().start()];
+    let journal = store.journal();
+    let entries = [
+        keeper.entered(),
+        keeper.next(),
+        journal.len(),
+        journal.start(),
+    ];
     store.let_go();
     Some(entries)
 }
@@ -185,22 +217,21 @@ fn seen_of_shared<L: Round, R: Wait>(rt: &R, alloc: Global, shared: Shared<L, Ce
         mut keeper,
     } = shared;
     let told = tell(rt, alloc, &store, &mut keeper, &mut sessions);
-    let locked = store.into_locked();
-    let entered = locked.entered();
-    (told, entries_of(entered, locked.close(sessions).ok()))
+    let closed = close_with(store, sessions, &mut keeper).ok();
+    (told, entries_of(&keeper, closed))
 }
 
 fn seen_of_store<L: Round, R: Wait>(
     rt: &R,
     alloc: Global,
-    blank: Blank,
+    blanks: Blanks,
     store: Store<CellPayload>,
 ) -> Seen
-    requires shareable { MayShare L.name L.parts L.start blank store }
+    requires shareable { MayShare L.name L.parts L.keeper L.start blanks store }
     requires in_parts { L.start.in_parts ≡ true }
     requires may_end { L.start.may_end ≡ true }
 {
-    match SharedStore::<L, CellPayload>::new(alloc, blank, store) {
+    match SharedStore::<L, CellPayload>::new(alloc, blanks, store) {
         Ok(shared) => seen_of_shared(rt, alloc, shared),
         Err(refused) => {
             refused.store.let_go();
@@ -211,8 +242,8 @@ fn seen_of_store<L: Round, R: Wait>(
 
 // Shares the store, so that its keeper may take parts and end workers.
 fn share<R: Wait>(rt: &R, alloc: Global, store: Store<CellPayload>) -> Seen {
-    let blank = Blank::new(store.opening().max_vertices() + 1);
-    seen_of_store::<Brand, R>(rt, alloc, blank, store)
+    let blanks = Blanks::new(store.opening().max_vertices() + 1);
+    seen_of_store::<Brand, R>(rt, alloc, blanks, store)
 }
 
 fn story<R: Wait>(rt: &R, alloc: Global) -> Seen {
@@ -255,9 +286,18 @@ fn a_worker_is_ended(rt: HostRuntime) {
     assert_eq!(rt; while_shared(&rt, rt.alloc()).ended, wanted);
 }
 
+// A name that is no worker's is ended of nobody: the first session acts on.
+#[test]
+fn nobody_else_is_ended(rt: HostRuntime) {
+    assert_eq!(rt;
+        while_shared(&rt, rt.alloc()).nobody,
+        (Some(ApplyFault::NoSuchWorker), true)
+    );
+}
+
 // The store is closed without the session that was taken over, and with that of the worker that was ended; it holds
-// the entries that are in no part.
+// the entries that are in no part, from where the keeper's last one ended.
 #[test]
 fn a_shared_store_is_cut_and_closes(rt: HostRuntime) {
-    assert_eq!(rt; story(&rt, rt.alloc()).1, Some([2, 7, 4]));
+    assert_eq!(rt; story(&rt, rt.alloc()).1, Some([2, 4, 8, 4]));
 }

@@ -1,11 +1,15 @@
-//! Tests of the store, of scripts and races in memory, and of the payloads that these name. Those of sessions stand in
-//! `session_tests`.
+//! Tests of the store, of scripts and races in memory, of the payloads that these name, and of answers of `tg_could`
+//! that no clause asks for. Those of sessions stand in `session_tests`.
 //!
 //! They stand here and not beside what they test, since a crate with tests is proved twice. A test is named for what it
 //! shows; each file has one topic. Nothing here is called by any crate. What a whole script is answered is no test
 //! here: such scripts are rows of `rows/`, which the program is run on.
 #![tactic(auto)]
 
+#[cfg(test)]
+mod could;
+#[cfg(test)]
+mod helpers;
 #[cfg(test)]
 mod meet;
 #[cfg(test)]

@@ -1,7 +1,7 @@
 //! Scripts in memory: replies of any length, and a race whose workers have threads of their own.
 ghost use Rattle.tg_script.specs.Inner.Counting.{MayCountInMemory};
 
-use crate::meet::Meet;
+use crate::meet::{MANY_TURNS, Meet};
 use std::alloc::{AllocError, Global};
 use std::marker::Brand;
 use std::sync::Wait;
@@ -13,9 +13,6 @@ use tg_script::{
     Bytes, Count, Helpers, Limits, OneThread, ScriptFault, Settings, Written, run_in_memory,
 };
 use tg_threads::{RaceFault, Turnstile, run_race};
-
-// How many turns a worker waits for another one that is to come.
-const MANY_TURNS: u64 = 100_000_000;
 
 // The settings of a run of two workers, who make no vertex.
 fn settings() -> Option<Settings> {

@@ -1,9 +1,12 @@
 //! Replies, denials and labels, shown as scripts write them, and faults that no program meets.
 use std::alloc::{AllocError, Global};
 use std::fmt::Display;
+use tg_helpers::HelpersFault;
 use tg_journal::AuditFault;
-use tg_model::{Cause, Denial, EdgeList, Reply, Rule};
+use tg_model::{Cause, Denial, Edge, EdgeList, Graph, ModelFault, Opening, Reply, Rule};
+use tg_payload::{CellPayload, Draft, values_of};
 use tg_rights::{Label, Right, Rights};
+use tg_store::RoomFault;
 use tg_text::AsText;
 use tg_threads::RaceFault;
 
@@ -78,4 +81,51 @@ fn are_faults_shown(alloc: Global) -> [bool; 3] {
 #[test]
 fn faults_that_no_row_meets(rt: HostRuntime) {
     assert_eq!(rt; are_faults_shown(rt.alloc()), [true; 3]);
+}
+
+// Why a heap has no room, why helpers are refused, and why a plain graph serves nobody.
+fn are_refusals_shown(alloc: Global) -> [bool; 7] {
+    [
+        is_shown(alloc, RoomFault::OutOfMemory, "out of memory"),
+        is_shown(alloc, RoomFault::HeapFull, "heap full"),
+        is_shown(alloc, HelpersFault::OutOfMemory, "out of memory"),
+        is_shown(alloc, HelpersFault::HeapFull, "heap full"),
+        is_shown(alloc, HelpersFault::NoThread, "no thread"),
+        is_shown(alloc, ModelFault::OutOfMemory, "out of memory"),
+        is_shown(alloc, ModelFault::NoSuchWorker, "no such worker"),
+    ]
+}
+
+#[test]
+fn refusals_that_no_program_shows(rt: HostRuntime) {
+    assert_eq!(rt; are_refusals_shown(rt.alloc()), [true; 7]);
+}
+
+// The plain graph of two workers with cells, of whom one may read the other.
+fn graph_of_one_edge(alloc: Global, label: Label) -> Option<Graph> {
+    let (mut edges, mut cells) = (Vec::new(alloc), Vec::new(alloc));
+    for to in 0..2u64 {
+        let cell = Draft::new(alloc, CellPayload::new(0)).ok()?;
+        cells.push(cell).ok()?;
+        if to > 0 {
+            edges.push(Edge { from: 0, to, label }).ok()?;
+        }
+    }
+    let values = values_of(alloc, &cells).ok()?;
+    let opening = Opening::new(2, edges, values, 2).ok()?;
+    Graph::open(alloc, &opening).ok()
+}
+
+// How many edges a picture of that graph has, and how many with one more that is supposed.
+fn edges_shown(alloc: Global) -> Option<[usize; 2]> {
+    let label = Label::read_text(b"r")?;
+    let picture = graph_of_one_edge(alloc, label)?.picture(alloc).ok()?;
+    let before = picture.edges().len();
+    let supposed = picture.with(1, 0, label).ok()?;
+    Some([before, supposed.edges().len()])
+}
+
+#[test]
+fn each_edge_of_a_picture_stands_once(rt: HostRuntime) {
+    assert_eq!(rt; edges_shown(rt.alloc()), Some([1, 2]));
 }

@@ -144,8 +144,8 @@ module _ (g : ProtectionGraph) (sound : IsSound g) (es : List Edge) (all : JoinR
             enough = λ any long.
                 let could = said.enough seen_sound long in
                 record { turns = could.turns; lead_there = lead_on silent supposed seen (Known g) agrees x is r y could.turns could.lead_there };
-            with_more = λ any x_made y_made names room.
-                let could = said.with_more seen_sound x_made y_made names room in
+            with_more = λ any names long.
+                let could = said.with_more seen_sound names long in
                 let many : Agree (Known g) (with_names supposed names) seen = record { subjects = agrees.subjects; later = agrees.later; closed = agrees.closed; labels = agrees.labels } in
                 record { turns = could.turns; lead_there = lead_on silent (with_names supposed names) seen (Known g) many x is r y could.turns could.lead_there };
           }

@@ -77,40 +77,40 @@ pub extern "C" fn tg_answer_turns(alloc: Global, answer: &mut AnswerPlace, count
     DONE
 }
 
-/// Reads the turn at this place of an answer, counted from 0: what it says goes to `record`, which has no reply, and of
+/// Reads the turn at this place of an answer, counted from 0: what it says goes to `out`, which has no reply, and of
 /// the numbers that a vertex is to store as many as there is room for to `numbers`. Takes no memory.
 #[unsafe(no_mangle)]
 pub extern "C" fn tg_answer_turn(
     alloc: Global,
     answer: &mut AnswerPlace,
     at: u64,
-    record: &mut RecordOut,
+    out: &mut RecordOut,
     numbers: &mut [u64],
 ) -> u32
     ensures { Consults (turn_at at) answer.old answer.new (TellsTurn result
-        (record { record_out = record.old; numbers = numbers.old })
-        (record { record_out = record.new; numbers = numbers.new })) }
+        (record { record_out = out.old; numbers = numbers.old })
+        (record { record_out = out.new; numbers = numbers.new })) }
 {
     let Some(opened) = answer.take(alloc) else {
         return CallRefusal::NotOpen.status();
     };
-    let status = tell_turn(&opened, at, record, numbers);
+    let status = tell_turn(&opened, at, out, numbers);
     answer.put(opened);
     status
 }
 
 // The same of an open answer.
-fn tell_turn(outlook: &Outlook, at: u64, record: &mut RecordOut, numbers: &mut [u64]) -> u32
+fn tell_turn(outlook: &Outlook, at: u64, out: &mut RecordOut, numbers: &mut [u64]) -> u32
     ensures { TellsTurn result
-        (record { record_out = record.old; numbers = numbers.old })
-        (record { record_out = record.new; numbers = numbers.new }) (turn_at at outlook.now.told) }
+        (record { record_out = out.old; numbers = numbers.old })
+        (record { record_out = out.new; numbers = numbers.new }) (turn_at at outlook.now.told) }
 {
     let turns = outlook.turns();
     if turns.len() as u64 <= at {
         return CallRefusal::BadPlace.status();
     }
     let turn = &turns[at as usize];
-    *record = turn_out(turn);
+    *out = turn_out(turn);
     put_numbers(numbers_of_turn(turn), numbers);
     DONE
 }

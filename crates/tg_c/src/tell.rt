@@ -160,18 +160,18 @@ pub fn tell_only(answer: Result<(), CallRefusal>) -> u32
 pub fn tell_entry(
     journal: &Journal,
     at: u64,
-    record: &mut RecordOut,
+    out: &mut RecordOut,
     numbers: &mut [u64],
     edges: &mut [EdgeOut],
 ) -> u32
-    ensures { TellsEntry result (record { record_out = record.old; numbers = numbers.old; edges = edges.old })
-        (record { record_out = record.new; numbers = numbers.new; edges = edges.new }) (entry_at journal.now.start journal.now.entries at) }
+    ensures { TellsEntry result (record { record_out = out.old; numbers = numbers.old; edges = edges.old })
+        (record { record_out = out.new; numbers = numbers.new; edges = edges.new }) (entry_at journal.now.start journal.now.entries at) }
 {
     if at < journal.start() || journal.len() <= at {
         return CallRefusal::BadPlace.status();
     }
     let entry = journal.entry(at);
-    *record = record_out(entry);
+    *out = record_out(entry);
     put_numbers(numbers_of(entry), numbers);
     put_edges(edges_of(entry), edges);
     DONE

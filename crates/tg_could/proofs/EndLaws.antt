@@ -86,6 +86,33 @@ module _ (silent : ℕ → Type 0) where
         leads_on silent h 0 0 0 (omega arith) (fetches h fit p acts not_y box taker full)
         (λ k more used got. grants silent k more.fit p (Grows-acts silent h k more p acts) x y right differ (more.labels p G x granter) got)
 
+    -- y spawns one over whom it has grant
+    spawns : {Q : ProtectionGraph → Type 0} (h : ProtectionGraph) → IsFit h → Acts silent h y → h.made < h.limit → length h.subjects < MAX_WORKERS → ¬ silent h.made → ((k : ProtectionGraph) → IsFit k → ((a : ℕ) (q : Right) (b : ℕ) → Holds h.label a q b → Holds k.label a q b) → Acts silent k y → Acts silent k h.made → Holds k.label y G h.made → Ends k Q) → Ends h Q
+    spawns h fit acts room few speaks go =
+        let deed : Deed = Spawn (only G) Cell [] in
+        let is = step-spawned h y (only G) Cell [] room few in
+        let still : (a : ℕ) (q : Right) (b : ℕ) → Holds h.label a q b → Holds (step h y deed).label a q b =
+        λ a q b there. subst (λ (k : ProtectionGraph). Holds k.label a q b) (sym is) (Holds-still h.label y h.made (only G) a q b there) in
+        let over_new : Holds (step h y deed).label y G h.made =
+        subst (λ (k : ProtectionGraph). Holds k.label y G h.made) (sym is) (Holds-added h.label y h.made (only G) G refl) in
+        let acts_still : Acts silent (step h y deed) y =
+        (subst (λ (k : ProtectionGraph). Contains k.subjects y) (sym is) (Contains-append_left h.subjects (h.made ∷ []) y acts.0), acts.1) in
+        let new_acts : Acts silent (step h y deed) h.made =
+        (subst (λ (k : ProtectionGraph). Contains k.subjects h.made) (sym is) (Contains-push h.subjects h.made), speaks) in
+        ends_after h y acts deed (step h y deed) refl (go (step h y deed) (IsFit-step h fit y acts.0 deed) still acts_still new_acts over_new)
+
+    -- where as many act as may be, another one retires first
+    with_place : {Q : ProtectionGraph → Type 0} (h : ProtectionGraph) → IsFit h → Acts silent h y → length h.subjects ≤ MAX_WORKERS → HasHelp silent h y → ((k : ProtectionGraph) → IsFit k → Acts silent k y → length k.subjects < MAX_WORKERS → ((a : ℕ) (q : Right) (b : ℕ) → Holds h.label a q b → Holds k.label a q b) → k.made ≡ h.made → k.limit ≡ h.limit → Ends k Q) → Ends h Q
+    with_place h fit acts most help go =
+        ⊎_elim (λ few. go h fit acts few (λ a q b there. there) refl refl)
+        (λ (p, p_acts, other).
+        let is = step-allowed h p Retire tt in
+        ends_after h p p_acts (Plain Retire) _ is
+        (go _ (subst IsFit is (IsFit-step h fit p p_acts.0 (Plain Retire)))
+        ((is_without h.subjects p y).1 (acts.0, λ same. other (sym same)), acts.1) (omega (arith, shorter h.subjects p p_acts.0, most))
+        (λ a q b there. there) refl refl))
+        help
+
     module _ (x : ℕ) (differ : x ≢ y) (box : ℕ) where
       -- who was spawned gets what y has, and gives the right to x
       by_new : (k : ProtectionGraph) → IsFit k → Acts silent k y → (w : ℕ) → Acts silent k w → w ≢ y → w ≢ box → w ≢ x → Holds k.label y G w → Holds k.label y T box → IsFull right y k box → Holds k.label y G x → Ends k (λ l. Holds l.label x right y)
@@ -106,43 +133,46 @@ module _ (silent : ℕ → Type 0) where
           let y_made = fit.made.subjects y acts.0 in
           let box_made = (fit.made.ends y box T taker).1 in
           let x_made = (fit.made.ends y x G granter).1 in
-          let deed : Deed = Spawn (only G) Cell [] in
-          let is = step-spawned h y (only G) Cell [] room few in
-          let still : (a : ℕ) (q : Right) (b : ℕ) → Holds h.label a q b → Holds (step h y deed).label a q b =
-          λ a q b there. subst (λ (k : ProtectionGraph). Holds k.label a q b) (sym is) (Holds-still h.label y h.made (only G) a q b there) in
-          let over_new : Holds (step h y deed).label y G h.made =
-          subst (λ (k : ProtectionGraph). Holds k.label y G h.made) (sym is) (Holds-added h.label y h.made (only G) G refl) in
-          let acts_still : Acts silent (step h y deed) y =
-          (subst (λ (k : ProtectionGraph). Contains k.subjects y) (sym is) (Contains-append_left h.subjects (h.made ∷ []) y acts.0), acts.1) in
-          let new_acts : Acts silent (step h y deed) h.made =
-          (subst (λ (k : ProtectionGraph). Contains k.subjects h.made) (sym is) (Contains-push h.subjects h.made), speaks) in
-          ends_after h y acts deed (step h y deed) refl
-          (by_new (step h y deed) (IsFit-step h fit y acts.0 deed) acts_still h.made new_acts
+          spawns h fit acts room few speaks
+          (λ k k_fit still y_acts new_acts over_new.
+          by_new k k_fit y_acts h.made new_acts
           (λ same. omega (arith, same, y_made)) (λ same. omega (arith, same, box_made)) (λ same. omega (arith, same, x_made))
-          over_new (still y T box taker) (IsFull-on right y h (step h y deed) still box full) (still y G x granter))
+          over_new (still y T box taker) (IsFull-on right y h k still box full) (still y G x granter))
 
-      -- where as many act as may be, another one retires first
       pub by_help : (h : ProtectionGraph) → IsFit h → Acts silent h y → h.made < h.limit → length h.subjects ≤ MAX_WORKERS → HasHelp silent h y → ¬ silent h.made → Holds h.label y T box → IsFull right y h box → Holds h.label y G x → Ends h (λ k. Holds k.label x right y)
       by_help h fit acts room most help speaks taker full granter =
-          ⊎_elim (λ few. by_spawned h fit acts room few speaks taker full granter)
-          (λ (p, p_acts, other).
-          let is = step-allowed h p Retire tt in
-          ends_after h p p_acts (Plain Retire) _ is
-          (by_spawned _ (subst IsFit is (IsFit-step h fit p p_acts.0 (Plain Retire)))
-          ((is_without h.subjects p y).1 (acts.0, λ same. other (sym same)), acts.1) room (omega (arith, shorter h.subjects p p_acts.0, most)) speaks taker
-          (record { either = full.either }) granter))
-          help
+          with_place h fit acts most help
+          (λ k k_fit y_acts few still made limit.
+          by_spawned k k_fit y_acts (omega (arith, room, made, limit)) few (subst (λ (v : ℕ). ¬ silent v) (sym made) speaks)
+          (still y T box taker) (IsFull-on right y h k still box full) (still y G x granter))
+
+    -- or x isn't made yet and the next name, so that y spawns it
+    pub by_spawning : (h : ProtectionGraph) → IsFit h → Acts silent h y → h.made < h.limit → length h.subjects ≤ MAX_WORKERS → HasHelp silent h y → ¬ silent h.made → (box : ℕ) → Holds h.label y T box → IsFull right y h box → Ends h (λ k. Holds k.label h.made right y)
+    by_spawning h fit acts room most help speaks box taker full =
+        let y_made = fit.made.subjects y acts.0 in
+        let box_made = (fit.made.ends y box T taker).1 in
+        with_place h fit acts most help
+        (λ k k_fit y_acts few still made limit.
+        subst (λ (v : ℕ). Ends k (λ l. Holds l.label v right y)) made
+        (spawns k k_fit y_acts (omega (arith, room, made, limit)) few (subst (λ (v : ℕ). ¬ silent v) (sym made) speaks)
+        (λ l l_fit still_l acts_l new_acts over_new.
+        ends_on l 0
+        (grants silent l l_fit y acts_l k.made box T (λ same. omega (arith, same, made, box_made)) over_new (still_l y T box (still y T box taker)))
+        (λ m more used took.
+        ends_by m 0
+        (fetches m more.fit k.made (Grows-acts silent l m more k.made new_acts) (λ same. omega (arith, same, made, y_made)) box took
+        (IsFull-on right y l m more.labels box (IsFull-on right y k l still_l box (IsFull-on right y h k still box full))))))))
 
     -- or the one hands it to x from whom y has its object
-    pub by_companion : (g : ProtectionGraph) (x : ℕ) → x ≢ y → x < g.made → (h : ProtectionGraph) → IsFit h → Acts silent h y → (has : HasCompanion silent g right y h y) → Acts silent h has.other → Holds h.label y G x → Ends h (λ k. Holds k.label x right y)
-    by_companion g x differ x_made h fit acts has other_acts granter =
+    pub by_companion : (g : ProtectionGraph) (x : ℕ) → x ≢ y → (h : ProtectionGraph) → IsFit h → Acts silent h y → (has : HasCompanion silent g x right y h y) → Acts silent h has.other → Holds h.label y G x → Ends h (λ k. Holds k.label x right y)
+    by_companion g x differ h fit acts has other_acts granter =
         let not_y : has.other ≢ y = λ same. has.differ (sym same) in
         ⊎_elim
         (λ same.
         ends_on h 0 (fetches h fit has.other other_acts not_y has.box.box has.box.both.0 has.box.full)
         (λ k more used there. ends_now k (subst (λ (v : ℕ). Holds k.label v right y) same there)))
         (λ not_x.
-        ends_on h 0 (grants silent h fit y acts has.link x G (λ same. omega (arith, same, has.later, x_made)) has.linked.0.1 granter)
+        ends_on h 0 (grants silent h fit y acts has.link x G has.apart has.linked.0.1 granter)
         (λ k more used there.
         ends_on k 0
         (takes silent k more.fit has.other (Grows-acts silent h k more has.other other_acts) has.link x G not_x (more.labels has.other T has.link has.linked.1.0) there)

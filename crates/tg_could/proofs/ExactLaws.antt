@@ -15,9 +15,10 @@ use Rattle.tg_could.specs.Separation.{Sides, MayAdd, Parts, Separates}
 use Rattle.tg_could.specs.Led.{Way, back, forward, Led, source, maker, take_back, take_on, grant_on, grant_back, turns_forward, turns_back, IsBrought, is_held, is_got, is_given, is_made, HasHelp}
 use Rattle.tg_could.proofs.SeparationLaws.{Parts-by, parted-never}
 use Rattle.tg_could.proofs.StillLaws.{IsAlone, same-never, alone-never}
-use Rattle.tg_could.proofs.EndLaws.{Ends, ends_on}
-use Rattle.tg_could.proofs.LedLaws.{contains_or, IsFit-sound, few_on, help_on, brought_ends}
-use Rattle.tg_could.proofs.LaterLaws.{may_come_or, HasRoom, make_both}
+use Rattle.tg_could.proofs.MoveLaws.{IsFit}
+use Rattle.tg_could.proofs.EndLaws.{Ends}
+use Rattle.tg_could.proofs.LedLaws.{contains_or, IsFit-sound, brought_ends}
+use Rattle.tg_could.proofs.LaterLaws.{may_come_or, over_made, new_ends, late_ends}
 
 -- ---- tests
 
@@ -331,31 +332,45 @@ acts_or silent g p =
 
 -- ---- each question
 
-module _ (silent : ℕ → Type 0) (g : ProtectionGraph) (x : ℕ) (right : Right) (y : ℕ) where
-  -- names that aren't short leave room
-  has_room : ¬ IsShort g x y → HasRoom silent right y x g
-  has_room long = record {
-    here = ⊎_elim (λ less. absurd (long (inl less))) (λ wide. omega (arith, wide)) (cases_lt g.limit (g.made + 64));
-    behind_x = λ comes.
-        ⊎_elim (λ less. absurd (long (inr (inl (comes, less))))) (λ wide. omega (arith, wide)) (cases_lt g.limit (x + 65));
-    behind_y = λ comes.
-        ⊎_elim (λ less. absurd (long (inr (inr (comes, less))))) (λ wide. omega (arith, wide)) (cases_lt g.limit (y + 65));
-  }
+module _ (silent : ℕ → Type 0) (g : ProtectionGraph) (sound : IsSound g) (was_made : (p : ℕ) → silent p → p < g.made) (x : ℕ) (right : Right) (y : ℕ) (long : ¬ IsShort g x y) (differ : x ≢ y) (help : HasHelp silent g y) where
+  abbrev fit : IsFit g
+  fit = IsFit-sound g sound
+
+  -- as many names are left as are enough for two that were made
+  room : y < g.made → g.made + MAX_WORKERS ≤ g.limit
+  room y_made = ⊎_elim (λ less. absurd (long (y_made, inl less))) (λ wide. omega (arith, wide)) (cases_lt g.limit (g.made + 64))
+
+  -- and one more for x
+  room_for_x : y < g.made → MayCome g x → g.made + MAX_WORKERS + 1 ≤ g.limit
+  room_for_x y_made comes =
+      ⊎_elim (λ less. absurd (long (y_made, inr (comes, less)))) (λ wide. omega (arith, wide)) (cases_lt g.limit (g.made + 65))
+
+  -- x was made, and y too
+  among_made : ¬ MayCome g y → x < g.made → y < g.made → IsBrought silent right y g x → Ends silent g (λ k. Holds k.label x right y)
+  among_made past x_made y_made brought =
+      brought_ends silent g fit sound.few_subjects (room y_made) was_made x x_made right y differ past help brought
+
+  made_ends : ¬ MayCome g y → IsBrought silent right y g x → Ends silent g (λ k. Holds k.label x right y)
+  made_ends past (is_held held) =
+      let ends = fit.made.ends x y right held in
+      among_made past ends.0 ends.1 (is_held held)
+  made_ends past (is_got acts led) =
+      among_made past (fit.made.subjects x acts.0) (over_made silent right y g fit past back x led) (is_got acts led)
+  made_ends past (is_given {a = a} granter led) =
+      among_made past (fit.made.ends a x G granter).1 (over_made silent right y g fit past forward a led) (is_given granter led)
+  made_ends past (is_made {p = p} comes acts led) =
+      late_ends silent g fit sound.few_subjects was_made x right y differ comes
+      (room_for_x (over_made silent right y g fit past back p led) comes) past help p acts led
 
   -- what is brought to x ends there
-  pub brought_comes : IsSound g → ((p : ℕ) → silent p → p < g.made) → ¬ IsShort g x y → x ≢ y → HasHelp silent g y → IsBrought silent right y g x → Ends silent g (λ k. Holds k.label x right y)
-  brought_comes sound was_made long differ help brought =
-      ends_on silent g (x + 1 + (y + 1))
-      (make_both silent right y x differ g (IsFit-sound g sound) (has_room long) brought)
-      (λ k more used both.
-      brought_ends silent k more.fit (few_on g k more sound.few_subjects) both.room.here
-      (λ p is. omega (arith, was_made p is, more.made)) x right y differ both.not_x both.not_y
-      (help_on silent y g k more help) both.brought)
+  pub brought_comes : IsBrought silent right y g x → Ends silent g (λ k. Holds k.label x right y)
+  brought_comes brought =
+      ⊎_elim (λ comes. new_ends silent g fit x right y differ comes brought) (λ past. made_ends past brought) (may_come_or g y)
 
 module _ (silent : List ℕ) (g : ProtectionGraph) (x : ℕ) (right : Right) (y : ℕ) where
   pub brought_could : IsSound g → ¬ IsShort g x y → x ≢ y → HasHelp (IsSilent silent g) g y → IsBrought (IsSilent silent g) right y g x → CouldHold silent g x right y
   brought_could sound long differ help brought =
-      let ends = brought_comes (IsSilent silent g) g x right y sound (λ p is. is.1) long differ help brought in
+      let ends = brought_comes (IsSilent silent g) g sound (λ p is. is.1) x right y long differ help brought in
       record { turns = ends.turns; lead_there = (ends.are, ends.there) }
 
   -- where x comes to hold no more than it holds

@@ -1,15 +1,20 @@
 -- Names that aren't made yet: who may make them does, and then all is made that a question is about.
-use Rattle.std.proofs.Common.{◌≡◌, ◌≢◌, ◌⊎◌, inl, inr, ⊎_elim, ℕ, zero, suc, ◌+◌, ◌-◌, ◌<◌, ◌≤◌, refl, ◌∙◌, subst, arith}
-use Rattle.std.proofs.lemmas.Bool.{cases_lt}
+use Rattle.std.proofs.Common.{◌≡◌, ◌≢◌, ◌⊎◌, inl, inr, ⊎_elim, ℕ, zero, suc, ◌+◌, ◌-◌, ◌<◌, ◌≤◌, length, refl, ◌∙◌, subst, arith}
+use Rattle.std.proofs.lemmas.Bool.{cases_eq, cases_lt}
 use Rattle.tg_rights.specs.RightSet.{only}
 use Rattle.tg_rights.specs.declared.Right.{Right}
 use Rattle.tg_rights.specs.declared.Right.TheVariants.{T, G}
 use Rattle.tg_model.specs.declared.opening.TheConstants.{MAX_WORKERS}
 use Rattle.tg_model.specs.Graph.{ProtectionGraph}
 use Rattle.tg_model.specs.Picture.{Holds}
+use Rattle.tg_model.specs.Walks.{begins, goes}
 use Rattle.tg_could.specs.Turns.{Acts, MayCome}
-use Rattle.tg_could.specs.Led.{Way, back, forward, Led, source, maker, take_back, take_on, grant_on, grant_back, turns_forward, turns_back, IsBrought, is_held, is_got, is_given, is_made}
-use Rattle.tg_could.proofs.MoveLaws.{IsFit, Grows, Grows-acts, Leads, stays, leads_on, has_itself, makes_one}
+use Rattle.tg_could.specs.Led.{Way, back, forward, Led, source, maker, take_back, take_on, grant_on, grant_back, turns_forward, turns_back, IsBrought, is_held, is_got, is_given, is_made, HasHelp}
+use Rattle.tg_could.proofs.MoveLaws.{IsFit, Grows, Grows-self, Grows-on, Grows-acts, Leads, stays, leads_on, grants, has_itself, makes_one}
+use Rattle.tg_could.proofs.SpareLaws.{others_below, others_above, HasNames}
+use Rattle.tg_could.proofs.ShareLaws.{IsFull-on, HasBox, HasBox-on, HasCompanion, HasCompanion-on, TakeWalk, Once, InTime, Shares, gets}
+use Rattle.tg_could.proofs.EndLaws.{Ends, ends_now, ends_on, ends_by, gives, by_spawning, by_companion}
+use Rattle.tg_could.proofs.LedLaws.{few_on, help_on, shares_in_room, brought_ends}
 
 -- a name may yet be made, or it may not
 pub may_come_or : (h : ProtectionGraph) (v : ℕ) → MayCome h v ⊎ (MayCome h v → ⊥)
@@ -77,114 +82,184 @@ module _ (silent : ℕ → Type 0) where
         (⊎_elim (λ held. source (grows.labels f.first right y held))
         (λ (comes, acts). maker (still comes) (Grows-acts silent h k grows f.first acts)) f.starts)
 
-    -- ---- making what a question is about
+    -- whom walks lead to shows that y was made, where it may not yet be
+    pub over_made : (h : ProtectionGraph) → IsFit h → ¬ MayCome h y → (way : Way) (v : ℕ) → Led silent right y h way v → y < h.made
+    over_made h fit past way v led =
+        let f = is_from h way v led in
+        ⊎_elim (λ held. (fit.made.ends f.first y right held).1) (λ (comes, acts). absurd (past comes)) f.starts
 
-    module _ (x : ℕ) where
-      -- enough names are left behind those that were made and those that are asked about
-      pub record HasRoom (h : ProtectionGraph) : Type 0 where
-        pub here : h.made + MAX_WORKERS ≤ h.limit
-        pub behind_x : MayCome h x → x + 1 + MAX_WORKERS ≤ h.limit
-        pub behind_y : MayCome h y → y + 1 + MAX_WORKERS ≤ h.limit
+  -- ---- making a name that may come
 
-      -- one name more was made, up to v, which is x or y
-      room_on : (h k : ProtectionGraph) → HasRoom h → Grows h k → (v : ℕ) → h.made ≤ v → v + 1 + MAX_WORKERS ≤ h.limit → k.made ≡ v + 1 → k.limit ≡ h.limit → HasRoom k
-      room_on h k room grows v low wide made same =
-          record {
-            here = omega (arith, wide, made, same);
-            behind_x = λ comes. omega (arith, same, room.behind_x (omega (arith, comes.0, made, low), omega (arith, comes.1, same)));
-            behind_y = λ comes. omega (arith, same, room.behind_y (omega (arith, comes.0, made, low), omega (arith, comes.1, same)));
-          }
+  -- who acts makes all names up to one that may come
+  makes_name : (h : ProtectionGraph) → IsFit h → (p : ℕ) → Acts silent h p → (q : Right) (v : ℕ) → MayCome h v → Leads silent h (v + 1) (HasMadeUpTo h.limit p q v)
+  makes_name h fit p acts q v comes =
+      let n : ℕ = v - h.made in
+      let at : h.made + n ≡ v = omega (arith, comes.0) in
+      leads_on silent h (n + 1) 0 (v + 1) (omega (arith, at)) (makes_up_to n h fit p acts q v at comes.1)
+      (λ k more used has. stays silent k more.fit has)
 
-      -- the right is brought to x on a graph that has room and on which one name may not come any more
-      record IsReady (h : ProtectionGraph) (v : ℕ) (k : ProtectionGraph) : Type 0 where
-        room : HasRoom k
-        brought : IsBrought silent right y k x
-        past : ¬ MayCome k v
-        same : k.limit ≡ h.limit
+  -- and all names before it
+  record IsNext (limit v : ℕ) (k : ProtectionGraph) : Type 0 where
+    made : k.made ≡ v
+    same : k.limit ≡ limit
 
-      as_it_is : (h : ProtectionGraph) → IsFit h → HasRoom h → IsBrought silent right y h x → (v n : ℕ) → ¬ MayCome h v → Leads silent h n (IsReady h v)
-      as_it_is h fit room brought v n past =
-          let none : IsReady h v h = record { room = room; brought = brought; past = past; same = refl } in
-          leads_on silent h 0 0 n (omega arith) (stays silent h fit none) (λ k more used there. stays silent k more.fit there)
+  makes_below : (h : ProtectionGraph) → IsFit h → (p : ℕ) → Acts silent h p → (v : ℕ) → MayCome h v → Leads silent h (v + 1) (IsNext h.limit v)
+  makes_below h fit p acts v comes =
+      ⊎_elim
+      (λ (next : h.made ≡ v).
+      leads_on silent h 0 0 (v + 1) (omega arith) (stays silent h fit (record { made = next; same = refl }))
+      (λ k more used there. stays silent k more.fit there))
+      (λ other.
+      let low : MayCome h (v - 1) = (omega (arith, comes.0, other), omega (arith, comes.1)) in
+      leads_on silent h (v - 1 + 1) 0 (v + 1) (omega arith) (makes_name h fit p acts G (v - 1) low)
+      (λ k more used has. stays silent k more.fit (record { made = omega (arith, has.made, comes.0, other); same = has.same })))
+      (cases_eq h.made v)
 
-      -- up to v, which is x or y, by one who acts
-      made_up_to : (h : ProtectionGraph) → IsFit h → HasRoom h → (p : ℕ) → Acts silent h p → (q : Right) (v : ℕ) → MayCome h v → v + 1 + MAX_WORKERS ≤ h.limit → ((k : ProtectionGraph) → Grows h k → HasMadeUpTo h.limit p q v k → IsBrought silent right y k x) → Leads silent h (v + 1) (IsReady h v)
-      made_up_to h fit room p acts q v comes wide brings =
-          let n : ℕ = v - h.made in
-          let at : h.made + n ≡ v = omega (arith, comes.0) in
-          leads_on silent h (n + 1) 0 (v + 1) (omega (arith, at)) (makes_up_to n h fit p acts q v at comes.1)
-          (λ k more used has.
-          stays silent k more.fit (record {
-            room = room_on h k room more v comes.0 wide has.made has.same;
-            brought = brings k more has;
-            past = λ later. omega (arith, later.0, has.made);
-            same = has.same;
-          }))
+-- ---- y isn't made yet: whoever makes it holds the right
 
-      -- x is made, where y is or comes later
-      make_x : (h : ProtectionGraph) → IsFit h → HasRoom h → (MayCome h y → x < y) → IsBrought silent right y h x → Leads silent h (x + 1) (IsReady h x)
-      make_x h fit room order (is_held held) =
-          as_it_is h fit room (is_held held) x (x + 1) (λ comes. omega (arith, comes.0, (fit.made.ends x y right held).0))
-      make_x h fit room order (is_got acts led) =
-          as_it_is h fit room (is_got acts led) x (x + 1) (λ comes. omega (arith, comes.0, fit.made.subjects x acts.0))
-      make_x h fit room order (is_given {a = a} granter led) =
-          as_it_is h fit room (is_given granter led) x (x + 1) (λ comes. omega (arith, comes.0, (fit.made.ends a x G granter).1))
-      make_x h fit room order (is_made {p = p} comes acts led) =
-          made_up_to h fit room p acts G x comes (room.behind_x comes)
-          (λ k more has.
-          let still : MayCome h y → MayCome k y = λ later. (omega (arith, has.made, order later), omega (arith, later.1, has.same)) in
-          is_given has.held (turns_forward (Grows-acts silent h k more p acts) (led_on h k more still back p led)))
+module _ (silent : ℕ → Type 0) (g : ProtectionGraph) (fit : IsFit g) (x : ℕ) (right : Right) (y : ℕ) (differ : x ≢ y) where
+  abbrev EndsSo : ProtectionGraph → Type 0
+  EndsSo h = Ends silent h (λ k. Holds k.label x right y)
 
-      -- y is made by the one with whom the walks begin
-      from_first : (h : ProtectionGraph) → IsFit h → HasRoom h → MayCome h y → (way : Way) (v : ℕ) → Led silent right y h way v → ((k : ProtectionGraph) → Grows h k → k.made ≡ y + 1 → k.limit ≡ h.limit → Led silent right y k way v → IsBrought silent right y k x) → Leads silent h (y + 1) (IsReady h y)
-      from_first h fit room comes way v led brings =
-          let f = is_from h way v led in
-          ⊎_elim (λ held. absurd (omega (arith, comes.0, (fit.made.ends f.first y right held).1)))
-          (λ (may, acts).
-          made_up_to h fit room f.first acts right y comes (room.behind_y comes)
-          (λ k more has. brings k more has.made has.same (f.carries k more (source has.held))))
-          f.starts
+  -- one who acts leads to the vertex by take edges
+  record IsWalkedTo (v : ℕ) : Type 0 where
+    p : ℕ
+    acts : Acts silent g p
+    walk : TakeWalk silent g p v
 
-      make_y_of : (h : ProtectionGraph) → IsFit h → HasRoom h → MayCome h y → (MayCome h x → y < x) → IsBrought silent right y h x → Leads silent h (y + 1) (IsReady h y)
-      make_y_of h fit room comes order (is_held held) = absurd (omega (arith, comes.0, (fit.made.ends x y right held).1))
-      make_y_of h fit room comes order (is_got acts led) =
-          from_first h fit room comes back x led (λ k more made same on. is_got (Grows-acts silent h k more x acts) on)
-      make_y_of h fit room comes order (is_given {a = a} granter led) =
-          from_first h fit room comes forward a led (λ k more made same on. is_given (more.labels a G x granter) on)
-      make_y_of h fit room comes order (is_made {p = p} later acts led) =
-          from_first h fit room comes back p led
-          (λ k more made same on.
-          is_made (omega (arith, made, order later), omega (arith, later.1, same)) (Grows-acts silent h k more p acts) on)
+  abbrev Walked : Way → ℕ → Type 0
+  Walked back v = Unit {0}
+  Walked forward v = IsWalkedTo v
 
-      make_y : (h : ProtectionGraph) → IsFit h → HasRoom h → (MayCome h x → y < x) → IsBrought silent right y h x → Leads silent h (y + 1) (IsReady h y)
-      make_y h fit room order brought =
-          ⊎_elim (λ comes. make_y_of h fit room comes order brought) (λ none. as_it_is h fit room brought y (y + 1) none) (may_come_or h y)
+  walked : (way : Way) (v : ℕ) → Led silent right y g way v → Walked way v
+  walked way v (source held) = tt
+  walked way v (maker may acts) = tt
+  walked way v (take_back edge led) = tt
+  walked way v (take_on {a = a} edge led) =
+      let w = walked forward a led in
+      record { p = w.p; acts = w.acts; walk = goes w.walk edge }
+  walked way v (grant_on edge led) = tt
+  walked way v (grant_back edge led) = tt
+  walked way v (turns_forward acts led) = record { p = v; acts = acts; walk = begins refl }
+  walked way v (turns_back acts led) = tt
 
-      -- a name that may not come any more may not come later either
-      past_on : (h k : ProtectionGraph) → Grows h k → k.limit ≡ h.limit → (v : ℕ) → ¬ MayCome h v → ¬ MayCome k v
-      past_on h k grows same v past comes = past (omega (arith, comes.0, grows.made), omega (arith, comes.1, same))
+  -- x acts, and makes y itself
+  makes_itself : MayCome g y → Acts silent g x → EndsSo g
+  makes_itself comes acts =
+      ends_on silent g (y + 1) (makes_name silent g fit x acts right y comes) (λ k more used has. ends_now silent k has.held)
 
-      -- neither of the two may come any more, and the right is brought to x
-      pub record AreMade (h : ProtectionGraph) : Type 0 where
-        pub room : HasRoom h
-        pub brought : IsBrought silent right y h x
-        pub not_x : ¬ MayCome h x
-        pub not_y : ¬ MayCome h y
+  -- one who acts and has grant over x makes y
+  makes_and_grants : (h : ProtectionGraph) → IsFit h → MayCome h y → (p : ℕ) → Acts silent h p → Holds h.label p G x → EndsSo h
+  makes_and_grants h fit_h comes p acts granter =
+      ends_on silent h (y + 1) (makes_name silent h fit_h p acts right y comes)
+      (λ k more used has.
+      ends_by silent k 0 (grants silent k more.fit p (Grows-acts silent h k more p acts) x y right differ (more.labels p G x granter) has.held))
 
-      pub make_both : x ≢ y → (h : ProtectionGraph) → IsFit h → HasRoom h → IsBrought silent right y h x → Leads silent h (x + 1 + (y + 1)) AreMade
-      make_both differ h fit room brought =
-          ⊎_elim
-          (λ less.
-          leads_on silent h (x + 1) (y + 1) (x + 1 + (y + 1)) (omega arith) (make_x h fit room (λ _. less) brought)
-          (λ k more used there.
-          leads_on silent k (y + 1) 0 (y + 1) (omega arith) (make_y k more.fit there.room (λ comes. absurd (there.past comes)) there.brought)
-          (λ l more_l used_l then.
-          stays silent l more_l.fit (record { room = then.room; brought = then.brought; not_x = past_on k l more_l then.same x there.past; not_y = then.past }))))
-          (λ more_or_same.
-          let less : y < x = omega (arith, more_or_same, differ) in
-          leads_on silent h (y + 1) (x + 1) (x + 1 + (y + 1)) (omega arith) (make_y h fit room (λ _. less) brought)
-          (λ k more used there.
-          leads_on silent k (x + 1) 0 (x + 1) (omega arith) (make_x k more.fit there.room (λ comes. absurd (there.past comes)) there.brought)
-          (λ l more_l used_l then.
-          stays silent l more_l.fit (record { room = then.room; brought = then.brought; not_x = then.past; not_y = past_on k l more_l then.same y there.past }))))
-          (cases_lt x y)
+  -- one who acts makes both
+  makes_both : MayCome g y → MayCome g x → (p : ℕ) → Acts silent g p → EndsSo g
+  makes_both comes comes_x p acts =
+      ⊎_elim
+      (λ less.
+      ends_on silent g (x + 1) (makes_name silent g fit p acts G x comes_x)
+      (λ k more used has.
+      makes_and_grants k more.fit (omega (arith, has.made, less), omega (arith, comes.1, has.same)) p (Grows-acts silent g k more p acts) has.held))
+      (λ more_or_same.
+      let less : y < x = omega (arith, more_or_same, differ) in
+      ends_on silent g (y + 1) (makes_name silent g fit p acts right y comes)
+      (λ k more used has.
+      let k_acts = Grows-acts silent g k more p acts in
+      ends_on silent k (x + 1) (makes_name silent k more.fit p k_acts G x (omega (arith, has.made, less), omega (arith, comes_x.1, has.same)))
+      (λ l more_l used_l has_l.
+      ends_by silent l 0 (grants silent l more_l.fit p (Grows-acts silent k l more_l p k_acts) x y right differ has_l.held (more_l.labels p right y has.held)))))
+      (cases_lt x y)
+
+  pub new_ends : MayCome g y → IsBrought silent right y g x → EndsSo g
+  new_ends comes (is_held held) = ends_now silent g held
+  new_ends comes (is_got acts led) = makes_itself comes acts
+  new_ends comes (is_given {a = a} granter led) =
+      let w = walked forward a led in
+      ⊎_elim (λ same. makes_itself comes (subst (Acts silent g) same w.acts))
+      (λ other.
+      ends_on silent g 0 (gets silent g g (Grows-self g fit) w.p w.acts a w.walk G x granter other)
+      (λ k more used holds.
+      makes_and_grants k more.fit (omega (arith, used, comes.0), omega (arith, comes.1, more.limit)) w.p (Grows-acts silent g k more w.p w.acts) holds))
+      (cases_eq w.p x)
+  new_ends comes (is_made {p = p} comes_x acts led) = makes_both comes comes_x p acts
+
+-- ---- x isn't made yet: one who shares the right makes it when it is the next name, or at the end
+
+module _ (silent : ℕ → Type 0) (g : ProtectionGraph) (fit : IsFit g) (few : length g.subjects ≤ MAX_WORKERS) (was_made : (p : ℕ) → silent p → p < g.made) (x : ℕ) (right : Right) (y : ℕ) (differ : x ≢ y) (comes : MayCome g x) (room : g.made + MAX_WORKERS + 1 ≤ g.limit) (past : ¬ MayCome g y) (help : HasHelp silent g y) (p : ℕ) (acts : Acts silent g p) (led : Led silent right y g back p) where
+  abbrev GoesSo : ProtectionGraph → Type 0
+  GoesSo h = Ends silent h (λ k. Holds k.label x right y)
+
+  -- x is the next name
+  is_next : g.made ≡ x → GoesSo g
+  is_next next =
+      ends_on silent g (x + 1) (makes_name silent g fit p acts G x comes)
+      (λ k more used has.
+      let still : MayCome g y → MayCome k y = λ may. absurd (past may) in
+      let brought = is_given has.held (turns_forward (Grows-acts silent g k more p acts) (led_on silent right y g k more still back p led)) in
+      brought_ends silent k more.fit (few_on g k more few) (omega (arith, has.made, has.same, next, room))
+      (λ q is. omega (arith, was_made q is, more.made)) x (omega (arith, has.made)) right y differ
+      (λ may. past (omega (arith, over_made silent right y g fit past back p led, may.0, more.made), omega (arith, may.1, has.same)))
+      (help_on silent y g k more help) brought)
+
+  left : g.made ≤ x → Acts silent g p
+  left low = acts
+
+  abbrev SharesIt : ℕ → Type 0
+  SharesIt q = Shares silent g x p left right y MAX_WORKERS q
+
+  -- what comes about in time ends with x made by p
+  with_x : {P : ProtectionGraph → Type 0} → ((k l : ProtectionGraph) → Grows k l → P k → P l) → InTime silent g x p left MAX_WORKERS P → ((l : ProtectionGraph) → Grows g l → P l → Holds l.label p G x → GoesSo l) → GoesSo g
+  with_x on leads go =
+      let names : HasNames silent g x p g MAX_WORKERS = omega (arith, room, comes.0, comes.1, others_below x g.made comes.0, others_above x g.limit comes.1) in
+      ends_on silent g (MAX_WORKERS + 1) (leads g (Grows-self g fit) (λ low made. absurd (omega (arith, low, made))) names)
+      (λ k more used within.
+      ⊎_elim (λ made. go k more within.there (within.kept comes.0 made))
+      (λ not_yet.
+      ends_on silent k (x + 1) (makes_name silent k more.fit p (Grows-acts silent g k more p acts) G x (not_yet, omega (arith, comes.1, more.limit)))
+      (λ l more_l used_l has. go l (Grows-on g k l more more_l) (on k l more_l within.there) has.held))
+      (cases_lt x k.made))
+
+  other_than_y : p ≢ y → SharesIt p → GoesSo g
+  other_than_y not_y shares =
+      with_x (λ k l more. HasBox-on right y g.made k l more p) shares.share
+      (λ l grown box holds.
+      ends_by silent l 0
+      (gives silent right y x differ l grown.fit p (Grows-acts silent g l grown p acts) not_y box.box box.both.0 box.full holds))
+
+  from_other : p ≡ y → InTime silent g x p left MAX_WORKERS (λ k. HasCompanion silent g x right y k y) → GoesSo g
+  from_other same leads =
+      with_x (λ k l more. HasCompanion-on silent g x right y k l more y) leads
+      (λ l grown has holds.
+      by_companion silent right y g x differ l grown.fit
+      (subst (Acts silent l) same (Grows-acts silent g l grown p acts)) has (Grows-acts silent g l grown has.other has.acts)
+      (subst (λ (v : ℕ). Holds l.label v G x) same holds))
+
+  -- y spawns x
+  by_itself : g.made ≢ x → p ≡ y → Once silent g (λ k. HasBox right y g.made k y) → GoesSo g
+  by_itself ahead same once =
+      ends_on silent g 1 (once g (Grows-self g fit) (omega (arith, room)))
+      (λ k more used box.
+      let y_acts : Acts silent k y = subst (Acts silent k) same (Grows-acts silent g k more p acts) in
+      ends_on silent k (x + 1) (makes_below silent k more.fit y y_acts x (omega (arith, used, comes.0, ahead), omega (arith, comes.1, more.limit)))
+      (λ l more_l used_l next.
+      let grown = Grows-on g k l more more_l in
+      subst (λ (v : ℕ). Ends silent l (λ m. Holds m.label v right y)) next.made
+      (by_spawning silent right y l grown.fit (Grows-acts silent k l more_l y y_acts) (omega (arith, next.made, comes.1, grown.limit))
+      (few_on g l grown few) (help_on silent y g l grown help) (λ is. omega (arith, was_made l.made is, grown.made))
+      box.box (more_l.labels y T box.box box.both.0) (IsFull-on right y k l more_l.labels box.box box.full))))
+
+  is_later : g.made ≢ x → GoesSo g
+  is_later ahead =
+      let shares : SharesIt p = shares_in_room silent g fit x p left right y few past p acts led in
+      ⊎_elim
+      (λ same.
+      let of_y : SharesIt y = subst SharesIt same shares in
+      ⊎_elim (by_itself ahead same) (from_other same) of_y.from)
+      (λ not_y. other_than_y not_y shares)
+      (cases_eq p y)
+
+  pub late_ends : GoesSo g
+  late_ends = ⊎_elim is_next is_later (cases_eq g.made x)

@@ -15,7 +15,8 @@ use Rattle.tg_could.specs.Turns.{Acts, MayCome}
 use Rattle.tg_could.specs.Led.{Way, back, forward, Led, source, maker, take_back, take_on, grant_on, grant_back, turns_forward, turns_back, IsBrought, is_held, is_got, is_given, is_made, HasHelp}
 use Rattle.tg_could.proofs.MoveLaws.{IsFit, Leads, Grows, Grows-self, Grows-on, Grows-acts, stays, leads_on}
 use Rattle.tg_could.proofs.TurnLaws.{no_right, right_edge}
-use Rattle.tg_could.proofs.ShareLaws.{HasBox, HasBox-on, HasCompanion, HasCompanion-on, TakeWalk, InTime, Shares, Shares-more, gets, Link, link_by_walk, link_over, shares_on, shares_first}
+use Rattle.tg_could.proofs.SpareLaws.{others_above, comes_to_be}
+use Rattle.tg_could.proofs.ShareLaws.{HasBox, HasBox-on, HasCompanion, HasCompanion-on, TakeWalk, Once, InTime, Shares, Shares-more, gets, Link, link_by_walk, link_over, shares_on, shares_first}
 use Rattle.tg_could.proofs.EndLaws.{shorter, Ends, ends_now, ends_on, ends_by, fetches, gives, by_help, by_companion}
 
 -- ---- lists of names
@@ -39,9 +40,9 @@ contains_or (first ∷ xs) x =
 
 -- ---- what a walk leads to
 
-module _ (silent : ℕ → Type 0) (g : ProtectionGraph) (fit : IsFit g) (right : Right) (y : ℕ) where
-  abbrev Sharing : ℕ → ℕ → Type 0
-  Sharing = Shares silent g right y
+module _ (silent : ℕ → Type 0) (g : ProtectionGraph) (fit : IsFit g) (name owner : ℕ) (may : g.made ≤ name → Acts silent g owner) (right : Right) (y : ℕ) where
+  abbrev pub Sharing : ℕ → ℕ → Type 0
+  Sharing = Shares silent g name owner may right y
 
   -- those who come to share the right one after the other, each with one name more than the one before it
   abbrev Chain : List ℕ → Type 0
@@ -59,11 +60,11 @@ module _ (silent : ℕ → Type 0) (g : ProtectionGraph) (fit : IsFit g) (right 
       (λ same.
       subst (IsSharer (first ∷ sharers)) same (record {
         acts = chain.1;
-        shares = Shares-more silent g right y first (length sharers + 1) (length (first ∷ sharers)) (omega arith) chain.3;
+        shares = Shares-more silent g name owner may right y first (length sharers + 1) (length (first ∷ sharers)) (omega arith) chain.3;
       }))
       (λ rest.
       let s = sharer sharers chain.0 p rest in
-      record { acts = s.acts; shares = Shares-more silent g right y p (length sharers) (length (first ∷ sharers)) (omega arith) s.shares })
+      record { acts = s.acts; shares = Shares-more silent g name owner may right y p (length sharers) (length (first ∷ sharers)) (omega arith) s.shares })
       (first_or_rest first sharers p is)
 
   -- they are no more than the subjects
@@ -115,9 +116,9 @@ module _ (silent : ℕ → Type 0) (g : ProtectionGraph) (fit : IsFit g) (right 
   module _ (n p q : ℕ) (p_acts : Acts silent g p) (q_acts : Acts silent g q) (shares : Sharing n p) where
     shared : ((differ : p ≢ q) → Link silent g p q p_acts q_acts differ) → Sharing (n + 1) q
     shared link =
-        ⊎_elim (λ same. Shares-more silent g right y q n (n + 1) (omega arith) (subst (Sharing n) same shares))
+        ⊎_elim (λ same. Shares-more silent g name owner may right y q n (n + 1) (omega arith) (subst (Sharing n) same shares))
         (λ differ.
-        shares_on silent g right y p q p_acts q_acts n shares differ (link differ) (fit.made.subjects q q_acts.0))
+        shares_on silent g name owner may right y p q p_acts q_acts differ (link differ) n shares (fit.made.subjects q q_acts.0))
         (cases_eq p q)
 
     -- q leads to p
@@ -139,7 +140,7 @@ module _ (silent : ℕ → Type 0) (g : ProtectionGraph) (fit : IsFit g) (right 
 
   comes : ¬ MayCome g y → (way : Way) (v : ℕ) → Led silent right y g way v → DoesCome way v
   comes not_y way v (source held) =
-      record { sharers = []; chain = tt; comes = λ p acts walk. shares_first silent g right y p v acts held walk }
+      record { sharers = []; chain = tt; comes = λ p acts walk. shares_first silent g name owner may right y p v acts held walk }
   comes not_y way v (maker may acts) = absurd (not_y may)
   comes not_y way v (take_back {b = b} edge led) =
       with_them back b (comes not_y back b led) back v (λ l chain c p acts walk. c p acts (goes walk edge))
@@ -192,19 +193,43 @@ help_on silent y h k grows help =
     ⊎_elim (λ less. inl (subst (λ (s : List ℕ). length s < MAX_WORKERS) (sym grows.subjects) less))
     (λ (other, acts, differ). inr (other, Grows-acts silent h k grows other acts, differ)) help
 
-module _ (silent : ℕ → Type 0) (g : ProtectionGraph) (fit : IsFit g) (few : length g.subjects ≤ MAX_WORKERS) (room : g.made + MAX_WORKERS ≤ g.limit) (was_made : (p : ℕ) → silent p → p < g.made) (x : ℕ) (right : Right) (y : ℕ) (differ : x ≢ y) where
+-- one of those who share the right does with no more names than may be made
+pub in_room : (silent : ℕ → Type 0) (g : ProtectionGraph) (fit : IsFit g) (name owner : ℕ) (may : g.made ≤ name → Acts silent g owner) (right : Right) (y : ℕ) → length g.subjects ≤ MAX_WORKERS → (sharers : List ℕ) → Chain silent g fit name owner may right y sharers → (p : ℕ) → Contains sharers p → Shares silent g name owner may right y MAX_WORKERS p
+in_room silent g fit name owner may right y few sharers chain p is =
+    let fewer = few_sharers silent g fit name owner may right y sharers chain g.subjects
+    (λ q there. (sharer silent g fit name owner may right y sharers chain q there).acts.0) in
+    Shares-more silent g name owner may right y p (length sharers) MAX_WORKERS (omega (arith, fewer, few))
+    (sharer silent g fit name owner may right y sharers chain p is).shares
+
+-- who acts and is led to shares the right
+pub shares_in_room : (silent : ℕ → Type 0) (g : ProtectionGraph) (fit : IsFit g) (name owner : ℕ) (may : g.made ≤ name → Acts silent g owner) (right : Right) (y : ℕ) → length g.subjects ≤ MAX_WORKERS → ¬ MayCome g y → (p : ℕ) → Acts silent g p → Led silent right y g back p → Shares silent g name owner may right y MAX_WORKERS p
+shares_in_room silent g fit name owner may right y few not_y p acts led =
+    let c = comes silent g fit name owner may right y not_y back p led in
+    let w = with_one silent g fit name owner may right y c.sharers c.chain p acts (c.comes p acts (begins refl)) in
+    in_room silent g fit name owner may right y few w.sharers w.chain p w.has
+
+-- ---- x was made
+
+module _ (silent : ℕ → Type 0) (g : ProtectionGraph) (fit : IsFit g) (few : length g.subjects ≤ MAX_WORKERS) (room : g.made + MAX_WORKERS ≤ g.limit) (was_made : (p : ℕ) → silent p → p < g.made) (x : ℕ) (x_made : x < g.made) (right : Right) (y : ℕ) (differ : x ≢ y) where
   abbrev EndsSo : ProtectionGraph → Type 0
   EndsSo h = Ends silent h (λ k. Holds k.label x right y)
 
-  -- one of those who share the right does with no more names than may be made
-  in_room : (sharers : List ℕ) → Chain silent g fit right y sharers → (p : ℕ) → Contains sharers p → Shares silent g right y MAX_WORKERS p
-  in_room sharers chain p is =
-      let fewer = few_sharers silent g fit right y sharers chain g.subjects (λ q there. (sharer silent g fit right y sharers chain q there).acts.0) in
-      Shares-more silent g right y p (length sharers) MAX_WORKERS (omega (arith, fewer, few)) (sharer silent g fit right y sharers chain p is).shares
+  -- no name is left to anybody: this one was made
+  not_left : g.made ≤ x → Acts silent g x
+  not_left low = absurd (omega (arith, low, x_made))
 
-  x_fetches : Acts silent g x → Shares silent g right y MAX_WORKERS x → EndsSo g
+  abbrev SharesIt : ℕ → Type 0
+  SharesIt p = Shares silent g x x not_left right y MAX_WORKERS p
+
+  in_time : {P : ProtectionGraph → Type 0} → InTime silent g x x not_left MAX_WORKERS P → Leads silent g (MAX_WORKERS + 1) P
+  in_time leads =
+      comes_to_be silent g x x g MAX_WORKERS
+      (leads g (Grows-self g fit) (λ low made. absurd (omega (arith, low, x_made)))
+      (omega (arith, room, others_above x g.made x_made, others_above x g.limit (omega (arith, room, x_made)))))
+
+  x_fetches : Acts silent g x → SharesIt x → EndsSo g
   x_fetches acts shares =
-      ends_on silent g MAX_WORKERS (shares.share g (Grows-self g fit) room)
+      ends_on silent g (MAX_WORKERS + 1) (in_time shares.share)
       (λ k more used box.
       ends_by silent k 0
       (fetches silent right y k more.fit x (Grows-acts silent g k more x acts) differ box.box box.both.0 box.full))
@@ -214,24 +239,24 @@ module _ (silent : ℕ → Type 0) (g : ProtectionGraph) (fit : IsFit g) (few : 
     abbrev gets_grant : (h : ProtectionGraph) → Grows g h → Leads silent h 0 (λ k. Holds k.label p G x)
     gets_grant h grows = gets silent g h grows p acts a walk G x granter not_x
 
-    -- what comes in time comes with the grant
-    with_grant : {P : ProtectionGraph → Type 0} (n : ℕ) → n ≤ MAX_WORKERS → ((k l : ProtectionGraph) → Grows k l → P k → P l) → InTime silent g n P → ((l : ProtectionGraph) → Grows g l → l.made ≤ g.made + n → P l → Holds l.label p G x → EndsSo l) → EndsSo g
-    with_grant n less on leads go =
-        ends_on silent g n (leads g (Grows-self g fit) (omega (arith, room, less)))
+    -- what comes about comes with the grant
+    with_grant : {P : ProtectionGraph → Type 0} (n : ℕ) → ((k l : ProtectionGraph) → Grows k l → P k → P l) → Leads silent g n P → ((l : ProtectionGraph) → Grows g l → l.made ≤ g.made + n → P l → Holds l.label p G x → EndsSo l) → EndsSo g
+    with_grant n on leads go =
+        ends_on silent g n leads
         (λ k more used there.
         ends_on silent k 0 (gets_grant k more)
         (λ l more_l used_l holds. go l (Grows-on g k l more more_l) (omega (arith, used, used_l)) (on k l more_l there) holds))
 
-    other_than_y : p ≢ y → Shares silent g right y MAX_WORKERS p → EndsSo g
+    other_than_y : p ≢ y → SharesIt p → EndsSo g
     other_than_y not_y shares =
-        with_grant MAX_WORKERS (omega arith) (λ k l more. HasBox-on right y g.made k l more p) shares.share
+        with_grant (MAX_WORKERS + 1) (λ k l more. HasBox-on right y g.made k l more p) (in_time shares.share)
         (λ l grown used box holds.
         ends_by silent l 0
         (gives silent right y x differ l grown.fit p (Grows-acts silent g l grown p acts) not_y box.box box.both.0 box.full holds))
 
-    by_itself : p ≡ y → HasHelp silent g y → InTime silent g 1 (λ k. HasBox right y g.made k y) → EndsSo g
+    by_itself : p ≡ y → HasHelp silent g y → Once silent g (λ k. HasBox right y g.made k y) → EndsSo g
     by_itself same help once =
-        with_grant 1 (omega arith) (λ k l more. HasBox-on right y g.made k l more y) once
+        with_grant 1 (λ k l more. HasBox-on right y g.made k l more y) (once g (Grows-self g fit) (omega (arith, room)))
         (λ l grown used box holds.
         by_help silent right y x differ box.box l grown.fit
         (subst (Acts silent l) same (Grows-acts silent g l grown p acts)) (omega (arith, room, used, grown.limit))
@@ -239,36 +264,32 @@ module _ (silent : ℕ → Type 0) (g : ProtectionGraph) (fit : IsFit g) (few : 
         (λ is. omega (arith, was_made l.made is, grown.made))
         box.both.0 box.full (subst (λ (v : ℕ). Holds l.label v G x) same holds))
 
-    from_other : p ≡ y → InTime silent g MAX_WORKERS (λ k. HasCompanion silent g right y k y) → EndsSo g
+    from_other : p ≡ y → InTime silent g x x not_left MAX_WORKERS (λ k. HasCompanion silent g x right y k y) → EndsSo g
     from_other same leads =
-        let x_made = (fit.made.ends a x G granter).1 in
-        with_grant MAX_WORKERS (omega arith) (λ k l more. HasCompanion-on silent g right y k l more y) leads
+        with_grant (MAX_WORKERS + 1) (λ k l more. HasCompanion-on silent g x right y k l more y) (in_time leads)
         (λ l grown used has holds.
-        by_companion silent right y g x differ x_made l grown.fit
+        by_companion silent right y g x differ l grown.fit
         (subst (Acts silent l) same (Grows-acts silent g l grown p acts)) has (Grows-acts silent g l grown has.other has.acts)
         (subst (λ (v : ℕ). Holds l.label v G x) same holds))
 
-    is_granted : HasHelp silent g y → Shares silent g right y MAX_WORKERS p → EndsSo g
+    is_granted : HasHelp silent g y → SharesIt p → EndsSo g
     is_granted help shares =
         ⊎_elim
         (λ same.
-        let of_y : Shares silent g right y MAX_WORKERS y = subst (Shares silent g right y MAX_WORKERS) same shares in
+        let of_y : SharesIt y = subst SharesIt same shares in
         ⊎_elim (by_itself same help) (from_other same) of_y.from)
         (λ not_y. other_than_y not_y shares)
         (cases_eq p y)
 
-  pub brought_ends : ¬ MayCome g x → ¬ MayCome g y → HasHelp silent g y → IsBrought silent right y g x → EndsSo g
-  brought_ends not_x not_y help (is_held held) = ends_now silent g held
-  brought_ends not_x not_y help (is_got acts led) =
-      let c = comes silent g fit right y not_y back x led in
-      let w = with_one silent g fit right y c.sharers c.chain x acts (c.comes x acts (begins refl)) in
-      x_fetches acts (in_room w.sharers w.chain x w.has)
-  brought_ends not_x not_y help (is_given {a = a} granter led) =
-      let c = comes silent g fit right y not_y forward a led in
+  pub brought_ends : ¬ MayCome g y → HasHelp silent g y → IsBrought silent right y g x → EndsSo g
+  brought_ends not_y help (is_held held) = ends_now silent g held
+  brought_ends not_y help (is_got acts led) = x_fetches acts (shares_in_room silent g fit x x not_left right y few not_y x acts led)
+  brought_ends not_y help (is_given {a = a} granter led) =
+      let c = comes silent g fit x x not_left right y not_y forward a led in
       let f = c.comes in
-      let acts = (sharer silent g fit right y c.sharers c.chain f.p f.has).acts in
-      let shares = in_room c.sharers c.chain f.p f.has in
-      ⊎_elim (λ same. x_fetches (subst (Acts silent g) same acts) (subst (Shares silent g right y MAX_WORKERS) same shares))
+      let acts = (sharer silent g fit x x not_left right y c.sharers c.chain f.p f.has).acts in
+      let shares = in_room silent g fit x x not_left right y few c.sharers c.chain f.p f.has in
+      ⊎_elim (λ same. x_fetches (subst (Acts silent g) same acts) (subst SharesIt same shares))
       (λ other. is_granted a f.p granter acts f.walk other help shares)
       (cases_eq f.p x)
-  brought_ends not_x not_y help (is_made may acts led) = absurd (not_x may)
+  brought_ends not_y help (is_made may acts led) = absurd (omega (arith, may.0, x_made))

@@ -8,6 +8,7 @@ pub mod ListedLaws
 pub mod WordLaws
 pub mod ViewLaws
 pub mod MoveLaws
+pub mod SpareLaws
 pub mod ShareLaws
 pub mod EndLaws
 pub mod LedLaws

@@ -13,7 +13,7 @@ use Rattle.tg_could.specs.Turns.{Acts, IsSilent, NeverHolds, MayCome}
 use Rattle.tg_could.specs.Separation.{Sides, Keeps, Walks, MayAdd, Parts, ComesLater, IsEven, IsIdle, AreApart, Suits, place_in}
 use Rattle.tg_could.proofs.SeparationLaws.{added, Parts-by, Parts-fewer, parted-never}
 use Rattle.tg_could.proofs.StillLaws.{same-never, alone-never}
-use Rattle.tg_could.proofs.TurnLaws.{given_by}
+use Rattle.tg_could.proofs.TurnLaws.{Holds-member, given_by}
 use Rattle.tg_model.specs.declared.opening.TheConstants.{MAX_WORKERS}
 
 -- an edge isn't one from x to y that has the right
@@ -80,6 +80,23 @@ module _ (s : Sides) (x : ℕ) (r : Right) (y : ℕ) where
       (λ a b q h.
       let given = given_by edges a q b h in
       added s x r y given.edge.from given.edge.to given.edge.label (All-contains Fits edges given.edge all given.there) a q b (sym given.from) (sym given.to) given.holds)
+
+-- both ends of an edge of a picture that has a right were made
+pub pictured-made : (p : Shown) (g : ProtectionGraph) → IsPictureOf p g → (k : ℕ) (d : Edge) → k < length p.edges → (q : Right) → has (slice_index_or p.edges k d).label q ≡ true →
+    ((slice_index_or p.edges k d).from < p.made) × ((slice_index_or p.edges k d).to < p.made)
+pictured-made p g picture k d inside q h =
+    let e = slice_index_or p.edges k d in
+    let there : Holds (label_in p.edges) e.from q e.to = Holds-member p.edges k e inside (get_or_default p.edges k d e inside) q h in
+    let ends = picture.is_made.ends e.from e.to q (ap (λ m. has m q) (picture.labels e.from e.to) ∙ there) in
+    (omega (arith, ends.0, picture.made), omega (arith, ends.1, picture.made))
+
+-- so was each of its subjects
+pub pictured-subject : (p : Shown) (g : ProtectionGraph) → IsPictureOf p g → (k d : ℕ) → k < length p.subjects → slice_index_or p.subjects k d < p.made
+pictured-subject p g picture k d inside =
+    let v = slice_index_or p.subjects k d in
+    let there : Contains p.subjects v = (k, inside, get_or_default p.subjects k v d inside) in
+    let below = picture.is_made.subjects v (subst (λ (l : List ℕ). Contains l v) (sym picture.subjects) there) in
+    omega (arith, below, picture.made)
 
 -- what holds of a subject, unless it is silent
 abbrev pub OfActor : List ℕ → Shown → (ℕ → Type 0) → ℕ → Type 0

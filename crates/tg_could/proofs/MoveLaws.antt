@@ -115,6 +115,18 @@ module _ (silent : ℕ → Type 0) where
         there = second.there;
       }
 
+  -- the same turns, where no more names than so many were made
+  pub leads_within : {P : ProtectionGraph → Type 0} (h : ProtectionGraph) (n m : ℕ) → Leads h n P → ((k : ProtectionGraph) → P k → k.made ≤ h.made + m) → Leads h m P
+  leads_within h n m leads most = record {
+    turns = leads.turns;
+    are = leads.are;
+    to = leads.to;
+    reached = leads.reached;
+    grows = leads.grows;
+    used = most leads.to leads.there;
+    there = leads.there;
+  }
+
   module _ (h : ProtectionGraph) (fit : IsFit h) (p : ℕ) (acts : Acts silent h p) where
     -- one turn leads to a graph that has what this one has
     one_turn : {P : ProtectionGraph → Type 0} (deed : Deed) (k : ProtectionGraph) → step h p deed ≡ k → ((a : ℕ) (q : Right) (b : ℕ) → Holds h.label a q b → Holds k.label a q b) → k.subjects ≡ h.subjects → h.made ≤ k.made → h.limit ≤ k.limit → (n : ℕ) → k.made ≤ h.made + n → P k → Leads h n P

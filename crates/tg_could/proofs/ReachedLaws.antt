@@ -291,8 +291,8 @@ answer_on silent p g sound picture x is r y Open answered = λ near_x near_y.
       enough = λ any long.
           let could = said.enough shown_sound long in
           record { turns = could.turns; lead_there = lead_on silent g (label_in p.edges) (Known g) agree x is r y could.turns could.lead_there };
-      with_more = λ any x_made y_made names room.
-          let could = said.with_more shown_sound x_made y_made names room in
+      with_more = λ any names long.
+          let could = said.with_more shown_sound names long in
           let more : Agree (Known g) (with_names g names) (label_in p.edges) = record { subjects = agree.subjects; later = agree.later; closed = agree.closed; labels = agree.labels } in
           record { turns = could.turns; lead_there = lead_on silent (with_names g names) (label_in p.edges) (Known g) more x is r y could.turns could.lead_there };
     }

@@ -13,7 +13,7 @@ use Rattle.tg_model.specs.Graph.{ProtectionGraph, IsSound}
 use Rattle.tg_model.specs.Opened.{label_in}
 use Rattle.tg_model.specs.Picture.{Holds, Shown, IsPictureOf, AreAmong}
 use Rattle.tg_could.specs.declared.led.LedNames.{LedNames}
-use Rattle.tg_could.specs.Turns.{Acts, IsSilent, NeverHolds, with_names}
+use Rattle.tg_could.specs.Turns.{Acts, MayCome, IsSilent, NeverHolds, with_names}
 use Rattle.tg_could.specs.Separation.{Sides, Keeps, ComesLater}
 use Rattle.tg_could.specs.Answered.{HasTurns, IsDecided}
 use Rattle.tg_could.specs.Led.{Way, back, forward, Led, source, maker, take_back, take_on, grant_on, grant_back, turns_forward, turns_back, IsBrought, is_held, is_got, is_given, is_made, HasHelp}
@@ -145,7 +145,7 @@ none_given f x edges all a h inside =
 
 -- ---- more names
 
-module _ (silent : List ℕ) (g : ProtectionGraph) (r : Right) (y : ℕ) (y_made : y < g.made) (names : ℕ) where
+module _ (silent : List ℕ) (g : ProtectionGraph) (r : Right) (y : ℕ) (names : ℕ) where
   abbrev wide : ProtectionGraph
   wide = with_names g names
 
@@ -159,34 +159,35 @@ module _ (silent : List ℕ) (g : ProtectionGraph) (r : Right) (y : ℕ) (y_made
     values = sound.values;
   }
 
+  -- a name that may come may come there too
+  comes_wide : (v : ℕ) → MayCome g v → MayCome wide v
+  comes_wide v comes = (comes.0, omega (arith, comes.1))
+
   led_wide : IsSound g → (way : Way) (v : ℕ) → Led (IsSilent silent g) r y g way v → Led (IsSilent silent wide) r y wide way v
   led_wide sound =
       led_on (IsSilent silent g) r y g wide
       (record { labels = λ a q b h. h; subjects = refl; made = omega arith; limit = omega arith; fit = IsFit-sound wide (sound_wide sound) })
-      (λ comes. absurd (omega (arith, comes.0, y_made)))
+      (comes_wide y)
 
-  brought_wide : IsSound g → (x : ℕ) → x < g.made → IsBrought (IsSilent silent g) r y g x → IsBrought (IsSilent silent wide) r y wide x
-  brought_wide sound x x_made (is_held h) = is_held h
-  brought_wide sound x x_made (is_got acts led) = is_got acts (led_wide sound back x led)
-  brought_wide sound x x_made (is_given {a = a} h led) = is_given h (led_wide sound forward a led)
-  brought_wide sound x x_made (is_made comes acts led) = absurd (omega (arith, comes.0, x_made))
+  brought_wide : IsSound g → (x : ℕ) → IsBrought (IsSilent silent g) r y g x → IsBrought (IsSilent silent wide) r y wide x
+  brought_wide sound x (is_held h) = is_held h
+  brought_wide sound x (is_got acts led) = is_got acts (led_wide sound back x led)
+  brought_wide sound x (is_given {a = a} h led) = is_given h (led_wide sound forward a led)
+  brought_wide sound x (is_made {p = p} comes acts led) = is_made (comes_wide x comes) acts (led_wide sound back p led)
 
 -- what is brought has turns
 brought_turns : (silent : List ℕ) (g : ProtectionGraph) (x : ℕ) (r : Right) (y : ℕ) → x ≢ y → HasHelp (IsSilent silent g) g y → IsBrought (IsSilent silent g) r y g x → HasTurns silent g x r y
 brought_turns silent g x r y differ help brought = record {
   enough = λ sound long. brought_could silent g x r y sound long differ help brought;
-  with_more = λ sound x_made y_made names room.
-      brought_could silent (with_names g names) x r y (sound_wide silent g r y y_made names sound)
-      (λ short. ⊎_elim (λ few. absurd (omega (arith, few, room)))
-      (λ behind. ⊎_elim (λ at_x. absurd (omega (arith, at_x.0.0, x_made))) (λ at_y. absurd (omega (arith, at_y.0.0, y_made))) behind) short)
-      differ help (brought_wide silent g r y y_made names sound x x_made brought);
+  with_more = λ sound names long.
+      brought_could silent (with_names g names) x r y (sound_wide silent g r y names sound) long differ help (brought_wide silent g r y names sound x brought);
 }
 
 -- and so has what is held already
 pub held_turns : (silent : List ℕ) (g : ProtectionGraph) (x : ℕ) (r : Right) (y : ℕ) → Holds g.label x r y → HasTurns silent g x r y
 held_turns silent g x r y h = record {
   enough = λ sound long. record { turns = []; lead_there = (tt, h) };
-  with_more = λ sound x_made y_made names room. record { turns = []; lead_there = (tt, h) };
+  with_more = λ sound names long. record { turns = []; lead_there = (tt, h) };
 }
 
 -- ---- what is decided

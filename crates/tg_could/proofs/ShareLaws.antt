@@ -8,6 +8,7 @@ use Rattle.tg_model.specs.Picture.{Holds}
 use Rattle.tg_model.specs.Walks.{Walk, begins, goes}
 use Rattle.tg_could.specs.Turns.{Acts}
 use Rattle.tg_could.proofs.MoveLaws.{Grows, Grows-on, Grows-acts, Leads, stays, leads_on, takes, grants, makes}
+use Rattle.tg_could.proofs.SpareLaws.{Kept, HasNames, Spares, spares_on, spares_by, spares_none, spares_one, others_most}
 
 -- p holds take and grant over z
 abbrev pub HasBoth : ℕ → ℕ → ProtectionGraph → Type 0
@@ -50,46 +51,30 @@ module _ (silent : ℕ → Type 0) (g : ProtectionGraph) where
   abbrev pub TakeWalk : ℕ → ℕ → Type 0
   TakeWalk p = Walk (λ c. c ≡ p) (λ a b. Holds g.label a T b)
 
-  -- from each graph that has grown from the first one this comes about, where so many names are left
-  abbrev pub InTime : ℕ → (ProtectionGraph → Type 0) → Type 0
-  InTime names P = (h : ProtectionGraph) → Grows g h → h.made + names ≤ h.limit → Leads silent h names P
-
-  -- another one who acts has such an object, and is linked to p by one that was made later
-  pub record HasCompanion (right : Right) (y : ℕ) (h : ProtectionGraph) (p : ℕ) : Type 0 where
+  -- another one who acts has such an object, and is linked to p by one that was made later and isn't the one with this name
+  pub record HasCompanion (name : ℕ) (right : Right) (y : ℕ) (h : ProtectionGraph) (p : ℕ) : Type 0 where
     pub other : ℕ
     pub acts : Acts silent g other
     pub differ : p ≢ other
     pub box : HasBox right y g.made h other
     pub link : ℕ
-    pub later : g.made ≤ link
+    pub apart : link ≢ name
     pub linked : AreLinked link h p other
 
-  pub HasCompanion-on : (right : Right) (y : ℕ) (h k : ProtectionGraph) → Grows h k → (p : ℕ) → HasCompanion right y h p → HasCompanion right y k p
-  HasCompanion-on right y h k grows p has = record {
+  pub HasCompanion-on : (name : ℕ) (right : Right) (y : ℕ) (h k : ProtectionGraph) → Grows h k → (p : ℕ) → HasCompanion name right y h p → HasCompanion name right y k p
+  HasCompanion-on name right y h k grows p has = record {
     other = has.other;
     acts = has.acts;
     differ = has.differ;
     box = HasBox-on right y g.made h k grows has.other has.box;
     link = has.link;
-    later = has.later;
+    apart = has.apart;
     linked = (both_on h k grows p has.link has.linked.0, both_on h k grows has.other has.link has.linked.1);
   }
 
-  -- p comes to have such an object with so many names: with one alone, or from another one
-  pub record Shares (right : Right) (y : ℕ) (names : ℕ) (p : ℕ) : Type 0 where
-    pub share : InTime names (λ k. HasBox right y g.made k p)
-    pub from : InTime 1 (λ k. HasBox right y g.made k p) ⊎ InTime names (λ k. HasCompanion right y k p)
-
-  InTime-more : {P : ProtectionGraph → Type 0} (n m : ℕ) → n ≤ m → InTime n P → InTime m P
-  InTime-more n m more leads h grows room =
-      leads_on silent h n 0 m (omega (arith, more)) (leads h grows (omega (arith, room, more)))
-      (λ k grown used there. stays silent k grown.fit there)
-
-  pub Shares-more : (right : Right) (y p n m : ℕ) → n ≤ m → Shares right y n p → Shares right y m p
-  Shares-more right y p n m more shares = record {
-    share = InTime-more n m more shares.share;
-    from = ⊎_elim (λ once. inl once) (λ from. inr (InTime-more n m more from)) shares.from;
-  }
+  -- from each graph that has grown from the first one and on which a name is left this comes about, and takes that one
+  abbrev pub Once : (ProtectionGraph → Type 0) → Type 0
+  Once P = (h : ProtectionGraph) → Grows g h → h.made < h.limit → Leads silent h 1 P
 
   module _ (h : ProtectionGraph) (grows : Grows g h) where
     acts_on : (p : ℕ) → Acts silent g p → Acts silent h p
@@ -212,31 +197,6 @@ module _ (silent : ℕ → Type 0) (g : ProtectionGraph) where
           full = IsFull-on right y l m more_m.labels has.box (IsFull-on right y k l more_l.labels has.box (IsFull-on right y h k more.labels has.box has.full));
         })))
 
-    -- behind the object of p a link, and what comes of both
-    through : (n : ℕ) → Shares right y n p → ((h : ProtectionGraph) → Grows g h → h.made < h.limit → Leads silent h 1 (λ k. AreLinked h.made k p q)) → {P : ProtectionGraph → Type 0} → ((k : ProtectionGraph) → Grows g k → HasBox right y g.made k p → (l : ProtectionGraph) → Grows k l → AreLinked k.made l p q → Leads silent l 0 P) → InTime (n + 1) P
-    through n shares link go h grows room =
-        leads_on silent h n 1 (n + 1) (omega arith) (shares.share h grows (omega (arith, room)))
-        (λ k more used has.
-        let from = Grows-on g h k grows more in
-        leads_on silent k 1 0 1 (omega arith) (link k from (omega (arith, room, used, more.limit)))
-        (λ l more_l used_l linked. go k from has l more_l linked))
-
-    pub shares_on : (n : ℕ) → Shares right y n p → (p ≢ q) → ((h : ProtectionGraph) → Grows g h → h.made < h.limit → Leads silent h 1 (λ k. AreLinked h.made k p q)) → q < g.made → Shares right y (n + 1) q
-    shares_on n shares differ link q_made = record {
-      share = through n shares link (λ k from has l more linked. hands_on k from has q_made l more linked);
-      from = inr
-          (through n shares link (λ k from has l more linked.
-          stays silent l more.fit (record {
-            other = p;
-            acts = p_acts;
-            differ = λ same. differ (sym same);
-            box = HasBox-on right y g.made k l more p has;
-            link = k.made;
-            later = from.made;
-            linked = (linked.1, linked.0);
-          })));
-    }
-
   -- ---- where it begins
 
   module _ (right : Right) (y : ℕ) (p s : ℕ) (acts : Acts silent g p) (source : Holds g.label s right y) where
@@ -256,11 +216,11 @@ module _ (silent : ℕ → Type 0) (g : ProtectionGraph) where
           full = fills l (Grows-on h k l more more_l) h.made there;
         })))
 
-    first : TakeWalk p s → InTime 1 (λ k. HasBox right y g.made k p)
+    pub first : TakeWalk p s → Once (λ k. HasBox right y g.made k p)
     first walk h grows room =
         ⊎_elim
         (λ same.
-        puts h grows (omega (arith, room)) right y (subst (λ (v : ℕ). Holds h.label v right y) (sym same) (grows.labels s right y source))
+        puts h grows room right y (subst (λ (v : ℕ). Holds h.label v right y) (sym same) (grows.labels s right y source))
         (λ k more box there. record { either = inl there }))
         (λ other.
         leads_on silent h 0 1 1 (omega arith) (comes_to h grows p acts s walk other)
@@ -270,5 +230,63 @@ module _ (silent : ℕ → Type 0) (g : ProtectionGraph) where
         (λ l more_l box there. record { either = inr (s, there, more_l.labels s right y (from.labels s right y source)) })))
         (cases_eq p s)
 
-    pub shares_first : TakeWalk p s → Shares right y 1 p
-    shares_first walk = record { share = first walk; from = inl (first walk) }
+  -- ---- with a name that is left to its owner
+
+  module _ (name owner : ℕ) (may : g.made ≤ name → Acts silent g owner) where
+    -- from each graph that has grown from the first one this comes about, where so many other names are left
+    abbrev pub InTime : ℕ → (ProtectionGraph → Type 0) → Type 0
+    InTime names P = (h : ProtectionGraph) → Grows g h → Kept silent g name owner h → HasNames silent g name owner h names → Spares silent g name owner h names P
+
+    -- p comes to have such an object with so many names: with one alone, or from another one
+    pub record Shares (right : Right) (y : ℕ) (names : ℕ) (p : ℕ) : Type 0 where
+      pub share : InTime names (λ k. HasBox right y g.made k p)
+      pub from : Once (λ k. HasBox right y g.made k p) ⊎ InTime names (λ k. HasCompanion name right y k p)
+
+    InTime-more : {P : ProtectionGraph → Type 0} (n m : ℕ) → n ≤ m → InTime n P → InTime m P
+    InTime-more n m more leads h grows kept room =
+        spares_by silent g name owner h n m more (leads h grows kept (omega (arith, room, more))) (λ k grown there. there)
+
+    pub Shares-more : (right : Right) (y p n m : ℕ) → n ≤ m → Shares right y n p → Shares right y m p
+    Shares-more right y p n m more shares = record {
+      share = InTime-more n m more shares.share;
+      from = ⊎_elim (λ once. inl once) (λ from. inr (InTime-more n m more from)) shares.from;
+    }
+
+    pub shares_first : (right : Right) (y p s : ℕ) → Acts silent g p → Holds g.label s right y → TakeWalk p s → Shares right y 1 p
+    shares_first right y p s acts source walk =
+        let once = first right y p s acts source walk in
+        record {
+          share = λ h grows kept room.
+              spares_by silent g name owner h 1 1 (omega arith) (spares_one silent g name owner may {P = λ k l. HasBox right y g.made l p} once h grows kept room)
+              (λ k more one. one.there);
+          from = inl once;
+        }
+
+    module _ (right : Right) (y : ℕ) (p q : ℕ) (p_acts : Acts silent g p) (q_acts : Acts silent g q) (differ : p ≢ q) (link : Link p q p_acts q_acts differ) where
+      -- behind the object of p a link, and what comes of both
+      through : (n : ℕ) → Shares right y n p → {P : ProtectionGraph → Type 0} → ((k : ProtectionGraph) → Grows g k → k.made ≢ name → HasBox right y g.made k p → (l : ProtectionGraph) → Grows k l → AreLinked k.made l p q → Leads silent l 0 P) → InTime (n + 1) P
+      through n shares go h grows kept room =
+          spares_on silent g name owner h n 1 (n + 1) (omega arith) (shares.share h grows kept (omega (arith, room)))
+          (λ k more kept_k used has.
+          let from = Grows-on g h k grows more in
+          let left : HasNames silent g name owner k 1 = omega (arith, room, used, others_most name h.limit k.limit 0 (omega (arith, more.limit))) in
+          spares_on silent g name owner k 1 0 1 (omega arith) (spares_one silent g name owner may {P = λ s l. AreLinked s.made l p q} link k from kept_k left)
+          (λ l more_l kept_l used_l one.
+          spares_none silent g name owner l kept_l
+          (go one.start (Grows-on g k one.start from one.more) one.apart (HasBox-on right y g.made k one.start one.more p has) l one.grown one.there)))
+
+      pub shares_on : (n : ℕ) → Shares right y n p → q < g.made → Shares right y (n + 1) q
+      shares_on n shares q_made = record {
+        share = through n shares (λ k from apart has l more linked. hands_on right y p q p_acts q_acts k from has q_made l more linked);
+        from = inr
+            (through n shares (λ k from apart has l more linked.
+            stays silent l more.fit (record {
+              other = p;
+              acts = p_acts;
+              differ = λ same. differ (sym same);
+              box = HasBox-on right y g.made k l more p has;
+              link = k.made;
+              apart = apart;
+              linked = (linked.1, linked.0);
+            })));
+      }

@@ -3,6 +3,7 @@ pub mod Names
 pub mod Separation
 pub mod Answered
 pub mod Reached
+pub mod Later
 pub mod Told
 pub mod Listed
 pub mod View

@@ -1,10 +1,12 @@
 -- What is told at once of everybody, or of everything.
-use Rattle.std.specs.Prelude.{◌≡◌, ◌≢◌, ℕ, ◌<◌, ◌≤◌, Bool, true}
+use Rattle.std.specs.Prelude.{◌≡◌, ◌≢◌, ℕ, ◌<◌, ◌≤◌, Bool, true, List}
 use Rattle.tg_rights.specs.RightSet.{has}
 use Rattle.tg_rights.specs.declared.Right.{Right}
 use Rattle.tg_rights.specs.declared.Right.TheVariants.{G}
 use Rattle.tg_model.specs.declared.edge.Edge.{Edge}
-use Rattle.tg_model.specs.Picture.{Shown}
+use Rattle.tg_model.specs.Graph.{ProtectionGraph}
+use Rattle.tg_model.specs.Picture.{Shown, IsPictureOf}
+use Rattle.tg_could.specs.Turns.{NeverHolds}
 use Rattle.tg_could.specs.Separation.{Sides, Walks, ComesLater, sides_of}
 use Rattle.tg_could.specs.declared.who.Who.{Who}
 use Rattle.tg_could.specs.declared.who.Told.{Told}
@@ -16,15 +18,20 @@ is_told told x = (sides_of told.marks).back x
 abbrev pub IsTold : Told → ℕ → Type 0
 IsTold told x = is_told told x ≡ true
 
--- x isn't told, nor are names that aren't made yet, where x is one and isn't y
+-- x was made and isn't told; or it may yet be made and isn't y, and such names aren't told
 pub record IsUntold (told : Told) (y made limit x : ℕ) : Type 0 where
-  pub unmarked : ¬ IsTold told x
+  pub unmarked : x < made → ¬ IsTold told x
   pub not_later : made ≤ x → x < limit → x ≢ y → ¬ (told.later ≡ true)
 
 -- x isn't told, and whoever isn't was shown never to hold the right
 pub record IsLeftOut (who : Who) (x : ℕ) : Type 0 where
   pub shown : who.is_shown ≡ true
   pub untold : IsUntold who.told who.over who.made who.limit x
+
+-- What is told of a picture: of names from those that were made on all is told alike, and whoever is left out never holds the right.
+pub record TellsWho (silent : List ℕ) (p : Shown) (right : Right) (y : ℕ) (who : Who) : Type 0 where
+  pub made : who.made ≡ p.made
+  pub never : (g : ProtectionGraph) → IsPictureOf p g → (x : ℕ) → IsLeftOut who x → NeverHolds silent g x right y
 
 -- ---- what is checked
 

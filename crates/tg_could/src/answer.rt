@@ -28,7 +28,8 @@ pub enum Answer {
     /// x holds it after these turns, each of one who acts by then.
     Could(Vec<(u64, Deed)>),
     /// x holds it after these turns where so many more vertices may be made than are left. This doesn't say whether
-    /// others lead there with those that are left. It never comes where 64 names are left behind those asked about.
+    /// others lead there with those that are left. It comes only if y was made and fewer than 64 names are left besides
+    /// x.
     WantsNames {
         /// The turns, each of one who acts by then.
         turns: Vec<(u64, Deed)>,
@@ -36,8 +37,8 @@ pub enum Answer {
         names: u64,
     },
     /// Of a name that isn't made yet and over 65,536 others come before this says nothing, since turns would have to
-    /// make all of them: ask about the next name in its place. Of all others it never came; it would say that x could
-    /// where 64 names are left behind those asked about, after turns that aren't told.
+    /// make all of them: ask about the next name in its place. No other name is known to get this answer. It would say
+    /// that x could, after turns that aren't told, where 64 names are left besides x or y isn't made yet.
     Open,
 }
 
@@ -141,11 +142,10 @@ fn is_far(picture: &Picture, name: u64) -> bool
     comes_later(picture, name) && name - picture.made() > MOST_MADE
 }
 
-// Whether fewer than 64 names are left, or fewer behind x or y where one of these may yet be made.
+// Whether names are few for the right over a y that was made: fewer than 64 are left, or 64 and x is one of them.
 fn is_short(picture: &Picture, x: u64, y: u64) -> bool
     ensures { IsTrue result → (g : ProtectionGraph) → IsPictureOf picture.now g → IsShort g x y }
 {
-    picture.limit().saturating_sub(picture.made()) < 64
-        || comes_later(picture, x) && picture.limit() - x <= 64
-        || comes_later(picture, y) && picture.limit() - y <= 64
+    let left = picture.limit().saturating_sub(picture.made());
+    y < picture.made() && (left < 64 || comes_later(picture, x) && left < 65)
 }

@@ -39,6 +39,7 @@ mod entries;
 mod growth;
 mod incoming;
 mod islands;
+mod later;
 pub mod laws;
 mod led;
 mod links;

@@ -36,6 +36,13 @@ pub(crate) struct Planned {
     pub(crate) rows: Chains,
 }
 
+// A name that isn't made yet, and who makes it when it is the next one.
+#[derive(Clone, Copy, Drop)]
+struct Late {
+    name: u64,
+    maker: u64,
+}
+
 // How far a way was gone: the place of the last who acts on it, who acted before, and the mailbox that is handed on.
 #[derive(Drop)]
 struct Way {
@@ -52,12 +59,57 @@ struct Plan<'a> {
     picture: &'a Picture,
     found: &'a Found,
     goal: Goal,
+    late: Option<Late>,
     trial: Trial,
     turns: Vec<(u64, Deed)>,
     taken: Result<(), AllocError>,
 }
 
 impl<'a> Plan<'a> {
+    // A plan without turns.
+    fn new(
+        alloc: Global,
+        picture: &'a Picture,
+        found: &'a Found,
+        rows: Chains,
+        right: Right,
+        y: u64,
+    ) -> Plan<'a> {
+        let mut trial = Trial::new(alloc, picture, rows);
+        trial.limit = u64::MAX;
+        let taken = trial.rows.grown;
+        Plan {
+            picture,
+            found,
+            goal: Goal {
+                asked: single(right),
+                over: y,
+                source: y,
+                take: single(Right::T),
+                grant: single(Right::G),
+                both: both_and(Right::T),
+                all: both_and(right),
+            },
+            late: None,
+            trial,
+            turns: Vec::new(alloc),
+            taken,
+        }
+    }
+
+    // What was planned.
+    fn planned(self) -> Planned {
+        let mut plan = self;
+        plan.trial.forget_added();
+        let taken = plan.taken;
+        note(&mut plan.trial.rows.grown, taken);
+        Planned {
+            turns: plan.turns,
+            made: plan.trial.made,
+            rows: plan.trial.rows,
+        }
+    }
+
     // Takes a turn, whatever comes of it.
     fn turn(&mut self, worker: u64, deed: Deed) {
         let turn = (worker, deed);
@@ -100,8 +152,33 @@ impl<'a> Plan<'a> {
         }
     }
 
-    // Makes an object over which x has these rights.
+    // Makes an object over which x has these rights. If the next name is the one that is left to its maker, that one
+    // is made first.
     fn create(&mut self, x: u64, label: Label) -> u64 {
+        self.make_late();
+        self.make(x, label)
+    }
+
+    // The name that is left to its maker is made, if it is the next one.
+    fn make_late(&mut self) {
+        if let Some(late) = self.late
+            && late.name == self.trial.made
+        {
+            self.make(late.maker, self.goal.all);
+        }
+    }
+
+    // All names up to the one that is left to its maker are made by that one.
+    fn make_up_to_late(&mut self) {
+        if let Some(late) = self.late {
+            for _ in self.trial.made..late.name.saturating_add(1) {
+                self.make(late.maker, self.goal.all);
+            }
+        }
+    }
+
+    // Makes an object with the next name.
+    fn make(&mut self, x: u64, label: Label) -> u64 {
         let name = self.trial.made;
         let deed = Deed::Create {
             label,
@@ -118,6 +195,7 @@ impl<'a> Plan<'a> {
         if self.trial.subjects.len() as u64 >= MAX_WORKERS {
             self.make_room(x);
         }
+        self.make_late();
         let name = self.trial.made;
         let deed = Deed::Spawn {
             label: self.goal.both,
@@ -149,7 +227,7 @@ impl<'a> Plan<'a> {
         }
         for name in self.picture.made()..last.saturating_add(1) {
             let worker = if name == x { maker } else { other };
-            self.create(worker, self.goal.all);
+            self.make(worker, self.goal.all);
         }
     }
 
@@ -277,6 +355,7 @@ impl<'a> Plan<'a> {
         if last == goal.over {
             self.end_behind(last, way, x);
         } else {
+            self.make_up_to_late();
             self.take(last, way.mailbox, goal.over, goal.asked);
             self.grant(last, x, goal.over, goal.asked);
         }
@@ -290,6 +369,7 @@ impl<'a> Plan<'a> {
             Some(before) => before,
             None => self.spawn_holder(last, mailbox),
         };
+        self.make_up_to_late();
         self.grant(last, mailbox, x, goal.grant);
         self.take(holder, mailbox, x, goal.grant);
         self.take(holder, mailbox, goal.over, goal.asked);
@@ -304,32 +384,75 @@ impl<'a> Plan<'a> {
         spawned
     }
 
-    // Leads the right to x, where the search did.
-    fn try_lead(&mut self, alloc: Global, x: u64) {
-        if let Some(end) = end_of(self.picture, self.found, x) {
-            let path = self.found.path(alloc, end, &mut self.taken);
-            self.lead(path.as_slice(), x);
+    // The path that the search found to x, unless x holds the right; the one with whom it begins is the source.
+    fn path(&mut self, alloc: Global, x: u64) -> Vec<Step> {
+        let mut path = Vec::new(alloc);
+        if let Some(end) = end_of(self.picture, self.found, x)
+            && !self.has_all(x, self.goal.over, self.goal.asked)
+        {
+            path = self.found.path(alloc, end, &mut self.taken);
         }
+        self.goal.source = vertex_of(path.first(), x);
+        path
     }
 
-    // Leads the right to x along a path, unless x holds it.
+    // Leads the right to x along a path. The names that are asked about are made first.
     fn lead(&mut self, path: &[Step], x: u64) {
-        if path.is_empty() || self.has_all(x, self.goal.over, self.goal.asked) {
+        if path.is_empty() {
             return;
         }
-        let source = vertex_of(path.first(), x);
-        self.goal.source = source;
-        self.make_names(x, vertex_of(path.last(), x), source);
-        let mut way = Way {
-            place: 0,
-            before: None,
-            last: None,
-            mailbox: 0,
+        let maker = vertex_of(path.last(), x);
+        let source = self.goal.source;
+        let other = if self.found.acts(source) {
+            source
+        } else {
+            maker
         };
+        self.make_names(x, maker, other);
+        let way = self.go_along(path);
+        self.arrive(&way, path, x);
+    }
+
+    // Leads the right to x along a path with as few names as will do. Whoever makes y has the right over it, so the
+    // last who acts makes it. Else x is made only when it is the next name, or at the end.
+    fn lead_sparingly(&mut self, path: &[Step], x: u64) {
+        if path.is_empty() {
+            return;
+        }
+        let maker = vertex_of(path.last(), x);
+        let way = if comes_later(self.picture, self.goal.over) {
+            let way = self.last_way(path);
+            let last = way.last.unwrap_or(maker);
+            self.make_names(x, last, last);
+            way
+        } else {
+            if comes_later(self.picture, x) {
+                self.late = Some(Late { name: x, maker });
+            }
+            self.go_along(path)
+        };
+        self.arrive(&way, path, x);
+    }
+
+    // Goes along a path, from one who acts to the next.
+    fn go_along(&mut self, path: &[Step]) -> Way {
+        let mut way = Way::none();
         for (at, step) in path.iter().enumerate() {
             self.go(&mut way, path, at, step.vertex);
         }
-        self.arrive(&way, path, x);
+        way
+    }
+
+    // The way from the last who acts on a path.
+    fn last_way(&self, path: &[Step]) -> Way {
+        let mut way = Way::none();
+        for (at, step) in path.iter().enumerate() {
+            if self.found.acts(step.vertex) {
+                way.last = Some(step.vertex);
+                way.place = at;
+            }
+        }
+        way
     }
 
     // Goes one step, from one who acts to the next, with one mailbox that is handed on.
@@ -355,6 +478,18 @@ impl<'a> Plan<'a> {
         match way.last {
             Some(last) if last != x => self.end(part(path, way.place, path.len()), last, way, x),
             _ => self.take(x, way.mailbox, self.goal.over, self.goal.asked),
+        }
+    }
+}
+
+impl Way {
+    // Nobody acted on it yet.
+    fn none() -> Way {
+        Way {
+            place: 0,
+            before: None,
+            last: None,
+            mailbox: 0,
         }
     }
 }
@@ -410,7 +545,8 @@ fn giver_to(picture: &Picture, found: &Found, x: u64) -> Option<Step> {
 }
 
 /// Turns after which x is to hold the right over y, by what the search has found; `rows` are the edges from x and from
-/// whom it found, and note whether memory was wanting.
+/// whom it found, and note whether memory was wanting. The turns make the names that are asked about first. If not
+/// enough names are left for that, these are turns that do with 64 other names.
 pub(crate) fn turns_to<'a>(
     alloc: Global,
     picture: &'a Picture,
@@ -420,32 +556,30 @@ pub(crate) fn turns_to<'a>(
     right: Right,
     y: u64,
 ) -> Planned {
-    let mut trial = Trial::new(alloc, picture, rows);
-    trial.limit = u64::MAX;
-    let taken = trial.rows.grown;
-    let mut plan = Plan {
-        picture,
-        found,
-        goal: Goal {
-            asked: single(right),
-            over: y,
-            source: y,
-            take: single(Right::T),
-            grant: single(Right::G),
-            both: both_and(Right::T),
-            all: both_and(right),
-        },
-        trial,
-        turns: Vec::new(alloc),
-        taken,
-    };
-    plan.try_lead(alloc, x);
-    plan.trial.forget_added();
-    let taken = plan.taken;
-    note(&mut plan.trial.rows.grown, taken);
-    Planned {
-        turns: plan.turns,
-        made: plan.trial.made,
-        rows: plan.trial.rows,
+    let planned = turns_by(alloc, picture, found, rows, x, right, y, false);
+    if planned.made <= picture.limit() {
+        return planned;
     }
+    turns_by(alloc, picture, found, planned.rows, x, right, y, true)
+}
+
+// The turns of one plan, which spares names or makes those that are asked about first.
+fn turns_by<'a>(
+    alloc: Global,
+    picture: &'a Picture,
+    found: &'a Found,
+    rows: Chains,
+    x: u64,
+    right: Right,
+    y: u64,
+    is_sparing: bool,
+) -> Planned {
+    let mut plan = Plan::new(alloc, picture, found, rows, right, y);
+    let path = plan.path(alloc, x);
+    if is_sparing {
+        plan.lead_sparingly(path.as_slice(), x);
+    } else {
+        plan.lead(path.as_slice(), x);
+    }
+    plan.planned()
 }

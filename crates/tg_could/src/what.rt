@@ -1,5 +1,5 @@
 //! What someone could ever come to hold.
-ghost use Rattle.std.specs.Prelude.{◌≡◌, ◌↔◌, ◌<◌, ℕ, IfOk, IsTrue};
+ghost use Rattle.std.specs.Prelude.{◌≡◌, ◌⊎◌, ◌↔◌, ◌<◌, ◌≤◌, ℕ, true, IfOk, IfSome, IsTrue};
 ghost use Rattle.std.specs.List.{All, Contains};
 ghost use Rattle.tg_rights.specs.RightSet.{has as has_right};
 ghost use Rattle.tg_rights.specs.declared.Right.{Right as TheRight};
@@ -8,13 +8,16 @@ ghost use Rattle.tg_model.specs.Picture.{IsPictureOf};
 ghost use Rattle.tg_could.specs.declared.chance.Chance.TheVariants.{Never};
 ghost use Rattle.tg_could.specs.Turns.{NeverHolds};
 ghost use Rattle.tg_could.specs.Separation.{sides_against};
-ghost use Rattle.tg_could.specs.Listed.{IsUnlisted, IsLeftOut, ListsEdge, ListsActor, rights_over};
+ghost use Rattle.tg_could.specs.Listed.{IsUnlisted, IsLeftOut, IsOnlyActor, ListsEdge, ListsActor, TellsWhat, rights_over};
 
 use crate::chance::Chance;
 use crate::growth::table;
+use crate::later::first_later;
 use crate::names::Names;
 use crate::search::{Found, search};
-use crate::separation::{Separation, are_not_all, comes_later, has, is_silent, leads, stays};
+use crate::separation::{
+    Separation, are_not_all, comes_later, has, is_alone, is_silent, leads, stays,
+};
 use std::alloc::{AllocError, Global};
 use tg_model::{Edge, Picture};
 use tg_rights::{Right, Rights};
@@ -29,12 +32,14 @@ pub struct What {
     limit: u64,
 }
 
-/// The rights over each vertex that are told, and whether all are over those that aren't made yet.
+/// The rights over each vertex that are told, whether all are over those that aren't made yet, and the only one who
+/// acts where as many subjects as may be are active: nobody comes to hold a right over that one.
 #[derive(Drop)]
 struct Listed {
     names: Names,
     rights: Vec<Rights>,
     later: bool,
+    alone: Option<u64>,
 }
 
 impl What {
@@ -43,13 +48,36 @@ impl What {
     pub fn of(&self, right: Right, name: u64) -> Chance
         ensures { (result ≡ Never) ↔ IsLeftOut self.now right name }
     {
-        if !self.is_shown || self.listed.has(right, name) {
-            return Chance::Perhaps;
+        if self.over(name).contains(Rights::of(right)) {
+            Chance::Perhaps
+        } else {
+            Chance::Never
         }
-        if self.listed.later && self.made <= name && name < self.limit && name != self.holder {
-            return Chance::Perhaps;
+    }
+
+    /// The rights over a name of which `Perhaps` is told.
+    pub fn over(&self, name: u64) -> Rights
+        ensures { (right : TheRight) → (¬ (has_right result right ≡ true)) ↔ IsLeftOut self.now right name }
+    {
+        if !self.is_shown {
+            return all_rights();
         }
-        Chance::Never
+        if name < self.made {
+            return self.listed.over(name);
+        }
+        if self.listed.later && name < self.limit && name != self.holder {
+            return all_rights();
+        }
+        Rights::empty()
+    }
+
+    /// The rights over names that aren't made yet of which `Perhaps` is told: a right that isn't among them is left out
+    /// over each of these names.
+    pub fn over_later(&self) -> Rights
+        ensures { (right : TheRight) →
+            (¬ (has_right result right ≡ true)) ↔ ((name : ℕ) → self.now.made ≤ name → IsLeftOut self.now right name) }
+    {
+        self.over(first_later(self.made, self.holder, self.limit))
     }
 }
 
@@ -62,11 +90,11 @@ pub fn what_could(
     silent: &[u64],
     x: u64,
 ) -> Result<What, AllocError>
-    ensures { IfOk result (λ what. (g : ProtectionGraph) → IsPictureOf picture.now g → (right : TheRight) (y : ℕ) → IsLeftOut what right y → NeverHolds silent.now g x right y) }
+    ensures { IfOk result (TellsWhat silent.now picture.now x) }
 {
     let found = search(alloc, picture, silent, Right::G, x, true);
     let mut grown = found.grown;
-    let listed = Listed::of(alloc, picture, &found, x, &mut grown);
+    let listed = Listed::of(alloc, picture, silent, &found, x, &mut grown);
     grown?;
     let is_shown = listed.leaves_out(&found.sides, picture, silent, x);
     Ok(What {
@@ -78,11 +106,43 @@ pub fn what_could(
     })
 }
 
+// All rights.
+fn all_rights() -> Rights
+    ensures { (right : TheRight) → has_right result right ≡ true }
+{
+    Rights::from_bits(u8::MAX)
+}
+
+// The only one who acts, where as many subjects as may be are active.
+fn only_actor(picture: &Picture, silent: &[u64]) -> Option<u64> {
+    for subject in picture.subjects() {
+        if !is_silent(silent, picture.made(), *subject) {
+            return if is_alone(picture, silent, *subject) {
+                Some(*subject)
+            } else {
+                None
+            };
+        }
+    }
+    None
+}
+
+// Whether a name is that one.
+fn is_that(one: Option<u64>, name: u64) -> bool
+    ensures { IsTrue result → one ≡ Some name }
+{
+    match one {
+        Some(other) => other == name,
+        None => false,
+    }
+}
+
 impl Listed {
     // What x holds, and what is held by those whose rights it may get. Notes whether memory was wanting.
     fn of(
         alloc: Global,
         picture: &Picture,
+        silent: &[u64],
         found: &Found,
         x: u64,
         grown: &mut Result<(), AllocError>,
@@ -92,6 +152,7 @@ impl Listed {
             rights: table(alloc, Rights::empty(), names.len(), grown),
             names,
             later: found.first_actor(picture, true).is_some(),
+            alone: only_actor(picture, silent),
         };
         for edge in picture.edges() {
             listed.add(found, edge, x);
@@ -101,7 +162,7 @@ impl Listed {
 
     // Lists the rights of an edge, where it is one from x, or from somebody else whose rights x may get.
     fn add(&mut self, found: &Found, edge: &Edge, x: u64) {
-        if edge.from != x && (edge.to == x || !found.sides.is_forward(edge.from)) {
+        if edge.from != x && (self.is_kept(edge.to, x) || !found.sides.is_forward(edge.from)) {
             return;
         }
         let at = self.names.number(edge.to) as usize;
@@ -109,6 +170,13 @@ impl Listed {
         if at < rights.len() {
             rights[at] = rights[at].union(edge.label.rights());
         }
+    }
+
+    // Whether x comes to hold no right over a vertex that it doesn't hold already.
+    fn is_kept(&self, name: u64, x: u64) -> bool
+        ensures { IsTrue result → (name ≡ x) ⊎ (self.now.alone ≡ Some name) }
+    {
+        name == x || is_that(self.alone, name)
     }
 
     // The rights over a name that are told.
@@ -121,22 +189,28 @@ impl Listed {
         }
     }
 
-    // Whether a right over a name is told.
-    fn has(&self, right: Right, name: u64) -> bool
-        ensures { result ≡ has_right (rights_over self.now name) right }
-    {
-        self.over(name).contains(Rights::of(right))
-    }
-
     // Whether x never holds what isn't told, as far as the two sets show it.
     fn leaves_out(&self, sides: &Separation, picture: &Picture, silent: &[u64], x: u64) -> bool
         ensures { IsTrue result → (g : ProtectionGraph) → IsPictureOf picture.now g → (right : TheRight) (y : ℕ) →
             IsUnlisted self.now x picture.now.made picture.now.limit right y → NeverHolds silent.now g x right y }
     {
+        if !self.has_alone(picture, silent) {
+            return false;
+        }
         if !self.has_actors(sides, picture, silent, x) {
             return false;
         }
         self.has_edges(sides, picture.edges(), x)
+    }
+
+    // Whether the one who is told as the only one who acts is.
+    fn has_alone(&self, picture: &Picture, silent: &[u64]) -> bool
+        ensures { IsTrue result → IfSome self.now.alone (IsOnlyActor silent.now picture.now) }
+    {
+        match self.alone {
+            Some(name) => is_alone(picture, silent, name),
+            None => true,
+        }
     }
 
     // Whether no edge leads out of the two sets, and what x may get of each is told.
@@ -163,7 +237,7 @@ impl Listed {
         if !leads(edge.from == x, true, told) {
             return false;
         }
-        if !leads(edge.to != x, !from.back, told) {
+        if !leads(!self.is_kept(edge.to, x), !from.back, told) {
             return false;
         }
         are_not_all(edge.to == x, has(edge.label, Right::G), from.forward)

@@ -1,14 +1,15 @@
 //! Who could ever come to hold a right over a vertex.
-ghost use Rattle.std.specs.Prelude.{◌≡◌, ◌↔◌, ◌<◌, ℕ, IfOk, IsTrue};
+ghost use Rattle.std.specs.Prelude.{◌≡◌, ◌↔◌, ◌<◌, ◌≤◌, ℕ, IfOk, IsTrue};
 ghost use Rattle.std.specs.List.{All, Contains};
 ghost use Rattle.tg_model.specs.Graph.{ProtectionGraph};
 ghost use Rattle.tg_model.specs.Picture.{IsPictureOf};
 ghost use Rattle.tg_could.specs.declared.chance.Chance.TheVariants.{Never};
 ghost use Rattle.tg_could.specs.Turns.{NeverHolds};
 ghost use Rattle.tg_could.specs.Separation.{sides_of};
-ghost use Rattle.tg_could.specs.Told.{IsLeftOut, IsUntold, TellsHolder, TellsOf, TellsActor, is_told};
+ghost use Rattle.tg_could.specs.Told.{IsLeftOut, IsTold, IsUntold, TellsHolder, TellsOf, TellsActor, TellsWho, is_told};
 
 use crate::chance::Chance;
+use crate::later::first_later;
 use crate::search::{Found, search};
 use crate::separation::{Separation, comes_later, has, is_alone, is_silent, leads, stays};
 use std::alloc::{AllocError, Global};
@@ -38,13 +39,34 @@ impl Who {
     pub fn of(&self, name: u64) -> Chance
         ensures { (result ≡ Never) ↔ IsLeftOut self.now name }
     {
-        if !self.is_shown || self.told.has(name) {
+        if !self.is_shown {
             return Chance::Perhaps;
         }
-        if self.told.later && self.made <= name && name < self.limit && name != self.over {
+        if name < self.made {
+            return self.of_made(name);
+        }
+        if self.told.later && name < self.limit && name != self.over {
             return Chance::Perhaps;
         }
         Chance::Never
+    }
+
+    /// What is told of all names that aren't made yet, at once: `Never` where each of them is left out.
+    pub fn of_later(&self) -> Chance
+        ensures { (result ≡ Never) ↔ ((name : ℕ) → self.now.made ≤ name → IsLeftOut self.now name) }
+    {
+        self.of(first_later(self.made, self.over, self.limit))
+    }
+
+    // What is told of a name that was made.
+    fn of_made(&self, name: u64) -> Chance
+        ensures { (result ≡ Never) ↔ ¬ IsTold self.now.told name }
+    {
+        if self.told.has(name) {
+            Chance::Perhaps
+        } else {
+            Chance::Never
+        }
     }
 }
 
@@ -58,7 +80,7 @@ pub fn who_could(
     right: Right,
     y: u64,
 ) -> Result<Who, AllocError>
-    ensures { IfOk result (λ who. (g : ProtectionGraph) → IsPictureOf picture.now g → (x : ℕ) → IsLeftOut who x → NeverHolds silent.now g x right y) }
+    ensures { IfOk result (TellsWho silent.now picture.now right y) }
 {
     let found = search(alloc, picture, silent, right, y, false);
     let mut grown = found.grown;

@@ -14,7 +14,7 @@ ghost use Rattle.tg_rows.specs.Content.{IsContent, IsNamed};
 ghost use Rattle.tg_graph.specs.Heap.{AddsEdgeFor, AddsSubject, IsActive, IsObject, IsUnchangedHeap, IsWellFormed, KeepsIndexes, KeepsPlaces, MakesVertexFor, MayAddEdge, MayMake, TellsPlace, content_of, name_of, nursery_of, subject_names};
 ghost use Rattle.tg_rows.specs.Graph.{rights_found};
 ghost use Rattle.tg_rows.specs.Rows.{IsVertexAt};
-ghost use Rattle.tg_rows.specs.Spots.{IsMadeInRow, IsPutInRow, LacksCellsFor};
+ghost use Rattle.tg_rows.specs.Spots.{IsMadeInRow, IsPutInRow, IsTakenFromRow, LacksCellsFor};
 
 use std::alloc::AllocError;
 use std::marker::Model;
@@ -252,6 +252,7 @@ impl<P: Payload> Heap<P> {
         requires { IsObject self.old from }
         ensures dropped { IsContent (content_of self.new) (IsNamed (content_of self.old))
             (without_rights (content_of self.old).label (name_of self.old from) name label) (content_of self.old).value }
+        ensures placed { IsTakenFromRow self.old.table self.new.table from name label }
         ensures kept { KeepsPlaces self.old self.new }
         ensures used { self.new.table.used ≡ self.old.table.used }
         ensures blocks { (space : ℕ) → length (space_of self.new.table.spaces space) ≡ length (space_of self.old.table.spaces space) }

@@ -11,3 +11,4 @@ pub mod Seating
 pub mod Reached
 pub mod Working
 pub mod Handing
+pub mod Faults

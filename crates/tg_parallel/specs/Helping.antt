@@ -1,5 +1,5 @@
 -- What a helper says at the end, or several that became one.
-use Rattle.std.specs.Prelude.{◌≡◌, ◌≢◌, ℕ, ◌<◌, ◌++◌, List, IfOk, IfErr, Result, Ok, Err, All, length}
+use Rattle.std.specs.Prelude.{◌≡◌, ◌≢◌, ◌⊎◌, ℕ, ◌<◌, ◌++◌, List, [], ◌∷◌, IfOk, IfErr, Result, Ok, Err, All, length, map}
 use Rattle.tg_space.specs.SpaceTable.{SpaceTable}
 use Rattle.tg_space.specs.declared.kind.Kind.{Kind}
 use Rattle.tg_space.specs.declared.root.Root.{Root}
@@ -36,6 +36,16 @@ IsOfBoth (Ok a) (Err why) (Ok c) = ⊥
 IsOfBoth (Ok a) (Err why) (Err fault) = fault ≡ why
 IsOfBoth (Err why) b (Ok c) = ⊥
 IsOfBoth (Err why) b (Err fault) = fault ≡ why
+
+-- The fault is that of the first of these parts that has one, or else want of memory in putting the parts together.
+abbrev pub IsFaultOfLeast : List (Result Part RoomFault) → RoomFault → Type 0
+IsFaultOfLeast [] fault = fault ≢ HeapFull
+IsFaultOfLeast (Ok part ∷ parts) fault = IsFaultOfLeast parts fault
+IsFaultOfLeast (Err why ∷ parts) fault = (fault ≡ why) ⊎ (fault ≢ HeapFull)
+
+-- what the helper on the calling thread and the others have made, in the order of the helpers' numbers
+abbrev pub parts_of : Helped → List Helped → List (Result Part RoomFault)
+parts_of mine theirs = mine.part ∷ map (λ r. r.part) theirs
 
 -- a helper at the table that has done nothing yet
 pub record IsNew (board : Board) (s : Seated) : Type 0 where

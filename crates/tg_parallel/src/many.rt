@@ -1,5 +1,5 @@
 //! Collections by a helper at a table, and by several on threads.
-ghost use Rattle.std.specs.Prelude.{◌≡◌, ◌≢◌, ℕ, ◌+◌, ◌-◌, ◌≤◌, ◌^◌, ◌↔◌, ◌⊎◌, All, Contains, IfErr, IfOk, List, OnOk, length};
+ghost use Rattle.std.specs.Prelude.{◌≡◌, ◌≢◌, ℕ, ◌+◌, ◌-◌, ◌≤◌, ◌^◌, ◌↔◌, ◌⊎◌, All, Contains, Err, IfErr, IfOk, List, OnOk, length};
 ghost use Rattle.tg_word.specs.declared.TheConstants.{MOST_SPACE_BLOCKS};
 ghost use Rattle.tg_word.specs.declared.Place.{Place as PlaceOf};
 ghost use Rattle.tg_space.specs.Generations.{NamesYoung};
@@ -16,7 +16,7 @@ ghost use Rattle.tg_evac.specs.Copies.{IsPlaceIn, moved_cell, new_cell};
 ghost use Rattle.tg_parallel.specs.declared.many.TheConstants.{MOST_HELPERS};
 ghost use Rattle.tg_parallel.specs.Faults.{IsNotStarted};
 ghost use Rattle.tg_parallel.specs.Inner.Tasks.{MayCollectBy, MayStartAll, StandsFor};
-ghost use Rattle.tg_parallel.specs.Helping.{AllHelped, IsHelped, IsNew};
+ghost use Rattle.tg_parallel.specs.Helping.{AllHelped, IsFaultOfLeast, IsHelped, IsNew, parts_of};
 ghost use Rattle.tg_parallel.specs.Jobs.{AllDone, IsCollected, IsDone, IsOpen, MayCollect, MayHelp};
 ghost use Rattle.tg_parallel.specs.Merged.{AreMerged};
 ghost use Rattle.tg_parallel.specs.Parts.{AreCountsOf, IsOpenedFor};
@@ -103,7 +103,8 @@ fn collect_alone<G: Gate>(
 /// than its copies need as there are helpers. `HeapFull` is answered only where the cells that the roots reach may not
 /// fit into the blocks that a space may have, if each helper leaves one open; cells that they don't reach take no room.
 /// `NoThread` is answered where a thread couldn't be started, and never of one helper alone. Those that were started
-/// end before the answer. Each helper has a like share of the spare blocks, but no more than it may fill, and fills
+/// end before the answer. Where several helpers fail, the fault is that of the least number; the one here has number 0.
+/// Each helper has a like share of the spare blocks, but no more than it may fill, and fills
 /// them first; the one here has the rest too. The table is laid out in the spare room first, where the list of won
 /// cells of the helper on the calling thread stands then.
 pub fn collect_many<R: Threads + Wait + Sync, G: Gate>(
@@ -390,11 +391,15 @@ fn split_all(
     Ok(others)
 }
 
-// What all helpers have done, as if one had.
+// What all helpers have done, as if one had. Where several have a fault, that of the least number is told. The room is
+// that of the helper on the calling thread.
 fn all_joined(table: &RaceTable, mine: Helped, theirs: Vec<Helped>) -> Helped
     requires own { mine.helper.table ≡ table.now.table }
     requires others { All (λ r. r.helper.table ≡ table.now.table) theirs.items }
-    ensures { (kind : KindOf) (t : SpaceTable) (roots : List RootOf) (a : ℕ) → IsHelped kind t roots table.now a mine → All (IsHelped kind t roots table.now 1) theirs.items → IsHelped kind t roots table.now (a + length theirs.items) result }
+    ensures own { IfErr mine.part (λ fault. result.part ≡ Err fault) }
+    ensures least { IfErr result.part (IsFaultOfLeast (parts_of mine theirs.items)) }
+    ensures room { result.room ≡ mine.room }
+    ensures helped { (kind : KindOf) (t : SpaceTable) (roots : List RootOf) (a : ℕ) → IsHelped kind t roots table.now a mine → All (IsHelped kind t roots table.now 1) theirs.items → IsHelped kind t roots table.now (a + length theirs.items) result }
 {
     let mut all = mine;
     for other in theirs {

@@ -1,3 +1,4 @@
 pub mod Boxes
 pub mod Grown
+pub mod Inner
 pub mod Lines

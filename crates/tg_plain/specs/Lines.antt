@@ -1,5 +1,5 @@
 -- The graph that the lines of a script leave, with no collection, and how many boxes of its stock they take.
-use Rattle.std.specs.Prelude.{◌≡◌, ◌⊎◌, ℕ, ◌+◌, ◌<◌, ◌≤◌, ◌-◌, List, [], ◌∷◌, length, slice_index_or, map, replicate, nat_lt, if◌then◌else◌}
+use Rattle.std.specs.Prelude.{◌≡◌, ◌⊎◌, ℕ, ◌+◌, ◌<◌, ◌≤◌, ◌-◌, List, [], ◌∷◌, ◌++◌, None, length, slice_index_or, map, replicate, nat_lt, if◌then◌else◌}
 use Rattle.tg_model.specs.declared.command.Deed.{Deed}
 use Rattle.tg_model.specs.declared.command.Deed.TheVariants as deed
 use Rattle.tg_model.specs.declared.value.Value.{Value}
@@ -19,6 +19,7 @@ use Rattle.tg_text.specs.declared.line.Line.{Line}
 use Rattle.tg_text.specs.declared.line.Line.TheVariants as line
 use Rattle.tg_text.specs.declared.stock.StockItem.{StockItem}
 use Rattle.tg_text.specs.declared.stock.StockItem.TheVariants.{Cell}
+use Rattle.tg_text.specs.Reading.{ReadsScript}
 use Rattle.tg_text.specs.Stock.{IsStockText}
 
 -- a graph, and how many boxes of the stock were taken
@@ -57,11 +58,17 @@ Runs stock s (l ∷ lines) t = (m : Stage) × Leads stock s l m × Runs stock m 
 
 -- ---- the run of a script
 
--- it has no line, and runs on what the options say
+-- it has no line and no fault, and runs on what the options say
 abbrev pub IsEmptyScript : PlainOptions → Script → Type 0
 IsEmptyScript options s =
     (s.workers ≡ options.workers) × (s.max_vertices ≡ options.max_vertices) × IsStockText options.stock.now s.stock.items
-    × (s.edges.items ≡ []) × (s.lines.items ≡ [])
+    × (s.edges.items ≡ []) × (s.lines.items ≡ []) × (s.fault ≡ None)
+
+-- it runs on what the options say
+pub record RunsOn (options : PlainOptions) (s : Script) : Type 0 where
+  pub workers : s.workers ≡ options.workers
+  pub max_vertices : s.max_vertices ≡ options.max_vertices
+  pub stock : IsStockText options.stock.now s.stock.items
 
 -- the graph of a run, and how many boxes it took
 abbrev pub stage_of : PlainRun → Stage
@@ -78,6 +85,14 @@ start_of_script s = record {
 abbrev pub lines_of : Script → List Line
 lines_of s = map (λ l. l.line) s.lines.items
 
+-- all of its lines: the edge lines, and then the others
+abbrev pub all_lines : Script → List Line
+all_lines s = map line.Edge s.edges.items ++ lines_of s
+
+-- the bytes are its lines, and then its fault, or the end
+abbrev pub IsReadOf : List ℕ → Script → Type 0
+IsReadOf bytes s = (left : List ℕ) × ReadsScript s.workers bytes (all_lines s) s.fault left
+
 -- the run is that of all of the script's lines
 abbrev pub RunsScript : Script → PlainRun → Type 0
 RunsScript s run = Runs s.stock.items (start_of_script s) (lines_of s) (stage_of run)
@@ -86,3 +101,11 @@ RunsScript s run = Runs s.stock.items (start_of_script s) (lines_of s) (stage_of
 abbrev pub IsOutcome : Script → Outcome → Type 0
 IsOutcome s outcome =
     (run : PlainRun) × RunsScript s run × IsPictureOf outcome.picture (graph_of run.graph) × (outcome.boxes ≡ length s.stock.items - run.taken)
+
+-- the bytes are a script's to their end, and it leaves this, run with these options
+pub record IsOutcomeOf (options : PlainOptions) (bytes : List ℕ) (outcome : Outcome) : Type 0 where
+  pub script : Script
+  pub options_are : RunsOn options script
+  pub bytes_are : IsReadOf bytes script
+  pub whole : script.fault ≡ None
+  pub outcome_is : IsOutcome script outcome

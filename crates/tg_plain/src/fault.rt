@@ -24,6 +24,12 @@ pub enum PlainFault {
     /// The line is none of the grammar, or an edge where it may not stand, or has no end.
     #[error("line {number}: bad line: {reason}")]
     BadLine { number: u64, reason: &'static str },
+    /// The line has more bytes than a line may have.
+    #[error("line {number}: bad line: over 256 bytes")]
+    LineTooLong { number: u64 },
+    /// This line has the first byte that is more than a script may have.
+    #[error("line {number}: over 1048576 bytes: a script has at most 1048576, line feeds included")]
+    TooLong { number: u64 },
     /// The first line that is asked for stands behind the last.
     #[error("--from {from} is behind --to {to}")]
     BadRange { from: u64, to: u64 },

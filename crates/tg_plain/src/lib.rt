@@ -1,19 +1,21 @@
 //! Runs the lines of a script on the plain graph of `tg_model`: no heap, no journal, and no collection.
 //!
-//! A [`Script`] is what standard input has, up to its first bad line, and what it runs on: workers, a limit of vertices
-//! and a stock. [`PlainRun::open`] is the graph with which it begins, [`PlainRun::take`] runs a line, and
-//! [`PlainRun::of`] runs all; an [`Outcome`] is what all of them leave. [`obey`] has a program do what the words of its
-//! command line ask for; [`read_options`] is what they say that a script runs on, which each program over one has
-//! beside its own options. What it prints is a [`PlainText`] first.
+//! A [`Script`] is what a reader has, up to the first fault in its bytes, and what it runs on: workers, a limit of
+//! vertices and a stock. It is read as `tgstore` reads it, and in bounded memory. [`PlainRun::open`] is the graph with
+//! which it begins, [`PlainRun::take`] runs a line, and [`PlainRun::of`] runs all; an [`Outcome`] is what all of them
+//! leave. [`obey`] has a program do what the words of its command line ask for; [`read_options`] is what they say that
+//! a script runs on, which each program over one has beside its own options. What it prints is a [`PlainText`] first.
 //!
-//! What a reader has to believe stands in `specs/Lines`: which graph a line leaves, and how many boxes were taken.
-//! Nothing is proved of how standard input comes to lines but that each is what `tg_text` reads in its bytes.
+//! What has to be believed stands in `specs/Lines`: which lines some bytes are (by `ReadsScript` of `tg_text`), which
+//! graph a line leaves, and how many boxes were taken. What stands in `Inner` are inside matters of this crate.
 #![tactic(auto)]
 
 mod fault;
+mod heard;
 mod options;
 mod outcome;
 mod program;
+mod reading;
 mod run;
 mod script;
 mod text;

@@ -1,13 +1,13 @@
 //! What a script leaves.
-ghost use Rattle.std.specs.Prelude.{IfOk};
-ghost use Rattle.tg_plain.specs.Lines.{IsOutcome};
+ghost use Rattle.std.specs.Prelude.{◌≡◌, ℕ, List, Some, None, IfOk, OnOk};
+ghost use Rattle.tg_plain.specs.Lines.{IsOutcome, IsOutcomeOf};
 
 use crate::fault::PlainFault;
 use crate::options::PlainOptions;
 use crate::run::PlainRun;
 use crate::script::Script;
 use std::alloc::Global;
-use std::io::Input;
+use std::io::Read;
 use tg_model::Picture;
 
 /// What the lines of a script leave: the picture of their graph, and how many boxes of the stock they didn't take.
@@ -20,20 +20,23 @@ pub struct Outcome {
 }
 
 impl Outcome {
-    /// What the script on standard input leaves, run with these options. Fails where it isn't run as far as its end.
-    pub fn read<R: Input>(
-        rt: &R,
+    /// What the script leaves that the reader has, run with these options. Fails as [`Script::read`] and
+    /// [`Outcome::of`] do.
+    pub fn read<R: Read + Drop>(
         alloc: Global,
         options: PlainOptions,
-    ) -> Result<Outcome, PlainFault> {
-        let mut script = Script::new(alloc, options)?;
-        script.read(rt)?;
+        reader: R,
+    ) -> Result<Outcome, PlainFault>
+        ensures { (bytes : List ℕ) → R.remaining reader ≡ Some bytes → IfOk result (IsOutcomeOf options.entry bytes) }
+    {
+        let script = Script::read(alloc, options, reader)?;
         Outcome::of(&script)
     }
 
-    /// What a script leaves, which has no bad line. Fails as [`PlainRun::of`] does, and at a bad line.
+    /// What a script leaves, which has no fault. Fails as [`PlainRun::of`] does, and at a fault.
     pub fn of(script: &Script) -> Result<Outcome, PlainFault>
-        ensures { IfOk result (IsOutcome script.now) }
+        ensures left { IfOk result (IsOutcome script.now) }
+        ensures whole { OnOk result (script.now.fault ≡ None) }
     {
         script.whole()?;
         let run = PlainRun::of(script)?;

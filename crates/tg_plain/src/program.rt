@@ -2,7 +2,9 @@
 
 use crate::fault::PlainFault;
 use crate::options::{CommandLine, read_words};
+use clap::error::ErrorKind;
 use clap::{ArgMatches, Error};
+use std::alloc::AllocError;
 use std::rt::Env;
 use std::{env, io};
 
@@ -37,15 +39,19 @@ where
     let words = words_of(rt)?;
     match read_words(rt.alloc(), line, words.as_slice()) {
         Ok(matches) => program.run(rt, &matches),
+        Err(error) if error.kind() == ErrorKind::OutOfMemory => {
+            Err(PlainFault::OutOfMemory(AllocError))
+        }
         Err(error) => Ok(print_error(rt, &error)?),
     }
 }
 
-// The words of the command line.
+// The words of the command line. `BadWords` where one is no text; else it fails only when out of memory.
 fn words_of<R: AllocGlobal + Env>(rt: &R) -> Result<Vec<String>, PlainFault> {
     match env::args(rt) {
         Ok(words) => Ok(words.collect(rt.alloc())?),
-        Err(_) => Err(PlainFault::BadWords),
+        Err(error) if error.kind() == io::ErrorKind::InvalidData => Err(PlainFault::BadWords),
+        Err(_) => Err(PlainFault::OutOfMemory(AllocError)),
     }
 }
 

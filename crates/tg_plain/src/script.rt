@@ -1,14 +1,22 @@
 //! The lines of a script.
-ghost use Rattle.std.specs.Prelude.{IfOk};
-ghost use Rattle.tg_plain.specs.Lines.{IsEmptyScript};
+ghost use Rattle.std.specs.Prelude.{◌≡◌, ℕ, List, Some, None, IfOk, OnErr, OnOk};
+ghost use Rattle.tg_plain.specs.Lines.{IsEmptyScript, IsReadOf, RunsOn, all_lines};
+ghost use Rattle.tg_plain.specs.Inner.Reading.{AddsLine, HasNoLine, IsFresh, IsReadAs, KeepsOptions, MayCount};
 
 use crate::fault::PlainFault;
+use crate::heard::Heard;
 use crate::options::PlainOptions;
+use crate::reading::Reading;
+use crate::text::PlainText;
 use std::alloc::{AllocError, Global};
-use std::io::{self, ErrorKind, Input};
+use std::io::{self, BufRead, BufReader, ErrorKind, Read};
+use std::marker::Brand;
+use std::sync::ledger::{Blank, Ledger};
 use tg_model::Edge;
-use tg_reason::{NO_TEXT, reason_of};
-use tg_text::{Line, StockItem, read_stock, standing_line};
+use tg_text::{Count, Line, OfRead, ScriptFault, Source, StockItem, read_stock};
+
+// How many bytes are read at once.
+const BLOCK: usize = 65536;
 
 /// A line of a script.
 #[derive(Clone, Copy)]
@@ -17,19 +25,10 @@ pub struct ScriptLine {
     pub number: u64,
     /// What its text says.
     pub line: Line,
-    // Where its text begins, and where its line feed stands.
-    first: usize,
-    end: usize,
 }
 
-// A bad line of a script: its number, and why it is one.
-#[derive(Clone, Copy)]
-struct BadLine {
-    number: u64,
-    reason: &'static str,
-}
-
-/// A script as far as its first bad line, and what it runs on.
+/// A script as far as the first fault in its bytes, and what it runs on. It has at most 1,048,576 bytes, and each line
+/// at most 256, as `tgstore` has it: so it takes bounded memory, whatever is read.
 #[derive(Drop)]
 pub struct Script {
     /// Where memory comes from.
@@ -42,19 +41,25 @@ pub struct Script {
     pub stock: Vec<StockItem>,
     /// The edges of the edge lines, which stand before all other lines.
     pub edges: Vec<Edge>,
-    /// The other lines before the bad one, or all of them.
+    /// The other lines before the first fault, or all of them.
     pub lines: Vec<ScriptLine>,
-    text: String,
-    bad_line: Option<BadLine>,
-    // Why standard input failed.
-    failure: Option<io::Error>,
-    // Whether memory was wanting for a line.
-    is_short: bool,
+    /// The first fault in the bytes, or `None` where all of them are lines.
+    pub fault: Option<ScriptFault>,
+    // Why the line is bad that is at fault.
+    reason: &'static str,
+}
+
+// What came of adding the lines of a reader, and why the last line is bad, where it is.
+#[derive(Drop)]
+struct Filled<B: Drop> {
+    reader: B,
+    outcome: Result<(), ScriptFault>,
+    reason: &'static str,
 }
 
 impl Script {
-    /// A script with no line. `Stock` where the text of the stock is none, or memory is wanting for its boxes.
-    pub fn new(alloc: Global, options: PlainOptions) -> Result<Script, PlainFault>
+    // A script with no line. `Stock` where the text of the stock is none, or memory is wanting for its boxes.
+    fn new(alloc: Global, options: PlainOptions) -> Result<Script, PlainFault>
         ensures { IfOk result (IsEmptyScript options.entry) }
     {
         Ok(Script {
@@ -64,117 +69,135 @@ impl Script {
             stock: read_stock(alloc, options.stock.as_bytes())?,
             edges: Vec::new(alloc),
             lines: Vec::new(alloc),
-            text: String::new(alloc),
-            bad_line: None,
-            failure: None,
-            is_short: false,
+            fault: None,
+            reason: "",
         })
     }
 
-    /// The text of one of the lines, without its line feed.
-    pub fn text_of(&self, line: &ScriptLine) -> &[u8] {
-        match self.text.as_bytes().get(line.first..line.end) {
-            Some(text) => text,
-            None => b"",
-        }
-    }
-
-    /// An error where there is a bad line.
-    pub fn whole(&self) -> Result<(), PlainFault> {
-        match self.bad_line {
-            Some(BadLine { number, reason }) => Err(PlainFault::BadLine { number, reason }),
-            None => Ok(()),
-        }
-    }
-
-    /// Adds the lines of standard input up to the first bad one. An edge stands before all other lines, and between
-    /// workers.
-    pub fn read<R: Input>(&mut self, rt: &R) -> Result<(), PlainFault> {
-        for number in 1..u64::MAX {
-            if !self.read_next(rt, number) {
-                break;
+    /// The script that the reader has, as far as its first fault, to be run with these options. Its lines are those of
+    /// the bytes that are left in the reader. `Stock` where the text of the stock is none, and then nothing is read;
+    /// `Stream` where the reader failed. Else it fails only when out of memory.
+    pub fn read<R: Read + Drop>(
+        alloc: Global,
+        options: PlainOptions,
+        reader: R,
+    ) -> Result<Script, PlainFault>
+        ensures options { IfOk result (RunsOn options.entry) }
+        ensures lines { (bytes : List ℕ) → R.remaining reader ≡ Some bytes → IfOk result (IsReadOf bytes) }
+    {
+        let mut script = Script::new(alloc, options)?;
+        let Ok(reader) = BufReader::with_capacity(alloc, BLOCK, Heard::new(reader)) else {
+            return Err(PlainFault::OutOfMemory(AllocError));
+        };
+        let filled = script.fill::<Brand, Brand, BufReader<Heard<R>>>(
+            Blank::new(1),
+            Blank::new(1),
+            reader,
+        );
+        match filled.outcome {
+            Ok(()) => Ok(script),
+            Err(ScriptFault::OutOfMemory) => Err(PlainFault::OutOfMemory(AllocError)),
+            Err(ScriptFault::ReadFailed) => {
+                Err(PlainFault::Stream(failure_of(filled.reader.get_ref())))
+            }
+            Err(fault) => {
+                script.fault = Some(fault);
+                script.reason = filled.reason;
+                Ok(script)
             }
         }
-        if self.is_short {
-            return Err(PlainFault::OutOfMemory(AllocError));
+    }
+
+    // Adds the lines of the reader. These ledgers name how often it is asked, and how often it fails.
+    fn fill<A: Ledger, F: Ledger, B: BufRead + Drop>(
+        &mut self,
+        asked: Blank,
+        failures: Blank,
+        reader: B,
+    ) -> Filled<B>
+        requires countable { MayCount A.name A.parts F.name F.parts asked failures }
+        requires empty { HasNoLine self.old }
+        ensures kept { KeepsOptions self.old self.new }
+        ensures lines { (bytes : List ℕ) → B.remaining reader ≡ Some bytes → IsReadAs bytes result.outcome self.new }
+    {
+        let (asked, failures) = (Count::<A>::new(asked), Count::<F>::new(failures));
+        let mut source = OfRead::new(reader, asked, failures);
+        let mut reading = Reading::new(self.workers);
+        let outcome = self.add_lines(&mut source, &mut reading);
+        let OfRead { reader, .. } = source;
+        Filled {
+            reader,
+            outcome,
+            reason: reading.reason(),
         }
-        match self.failure {
-            Some(error) => Err(PlainFault::Stream(error)),
+    }
+
+    // Adds the lines of the source, up to its end or its first fault.
+    fn add_lines<S: Source>(
+        &mut self,
+        source: &mut S,
+        reading: &mut Reading,
+    ) -> Result<(), ScriptFault>
+        requires fresh { IsFresh reading.old self.old.workers }
+        requires empty { HasNoLine self.old }
+        ensures kept { KeepsOptions self.old self.new }
+        ensures lines { (bytes : List ℕ) → S.left source.old ≡ Some bytes → IsReadAs bytes result self.new }
+    {
+        // Nothing is written while lines are read.
+        let mut sink = PlainText::new(self.alloc);
+        'lines: while let Some(line) = reading.next(source, &mut sink)? {
+            if self.add(reading.count, line).is_err() {
+                return Err(ScriptFault::OutOfMemory);
+            }
+        }
+        Ok(())
+    }
+
+    // Adds a line. Fails only when out of memory, and nothing changes then.
+    fn add(&mut self, number: u64, line: Line) -> Result<(), AllocError>
+        ensures kept { KeepsOptions self.old self.new }
+        ensures line { OnOk result (AddsLine self.old line self.new) }
+        ensures err { OnErr result (all_lines self.new ≡ all_lines self.old) }
+    {
+        match line {
+            Line::Edge(edge) => self.edges.push(edge)?,
+            Line::Create { .. }
+            | Line::Spawn { .. }
+            | Line::Plain { .. }
+            | Line::Full
+            | Line::Minor => self.lines.push(ScriptLine { number, line })?,
+        }
+        Ok(())
+    }
+
+    /// An error where there is a fault.
+    pub fn whole(&self) -> Result<(), PlainFault>
+        ensures { OnOk result (self.now.fault ≡ None) }
+    {
+        let next = self.count().saturating_add(1);
+        match self.fault {
             None => Ok(()),
+            Some(ScriptFault::LineTooLong { line }) => Err(PlainFault::LineTooLong {
+                number: line,
+            }),
+            Some(ScriptFault::InputTooLong) => Err(PlainFault::TooLong { number: next }),
+            Some(_) => Err(PlainFault::BadLine {
+                number: next,
+                reason: self.reason,
+            }),
         }
     }
 
-    // Adds the next line. False at the end, and at a bad line.
-    fn read_next<R: Input>(&mut self, rt: &R, number: u64) -> bool {
-        let first = self.text.len();
-        match rt.read_line(&mut self.text) {
-            Ok(0) => false,
-            Ok(_) => self.add(number, first),
-            Err(error) => self.fail(number, error),
-        }
+    /// How many lines there are, edge lines among them.
+    pub fn count(&self) -> u64 {
+        (self.edges.len() as u64).saturating_add(self.lines.len() as u64)
     }
+}
 
-    // Notes why the next line can't be read. Bytes that are no text are a bad line.
-    fn fail(&mut self, number: u64, error: io::Error) -> bool {
-        if matches!(error.kind(), ErrorKind::InvalidData) {
-            self.refuse(number, NO_TEXT)
-        } else {
-            self.failure = Some(error);
-            false
-        }
-    }
-
-    // Notes a bad line.
-    fn refuse(&mut self, number: u64, reason: &'static str) -> bool {
-        self.bad_line = Some(BadLine { number, reason });
-        false
-    }
-
-    // Adds the line whose text begins here. False if it is a bad one.
-    fn add(&mut self, number: u64, first: usize) -> bool {
-        match self.line_at(first) {
-            Some(Line::Edge(edge)) => self.add_edge(edge),
-            Some(line) => self.add_line(number, line, first),
-            None => self.refuse(number, self.reason_at(first)),
-        }
-    }
-
-    // The text from here on.
-    fn text_from(&self, first: usize) -> &[u8] {
-        self.text.as_bytes().get(first..).unwrap_or(b"")
-    }
-
-    // The line whose text begins here, if it may stand behind the lines before it.
-    fn line_at(&self, first: usize) -> Option<Line> {
-        let text = self.text_from(first).strip_suffix(b"\n")?;
-        standing_line(text, self.workers, self.lines.is_empty())
-    }
-
-    // Why the text that begins here is a bad line.
-    fn reason_at(&self, first: usize) -> &'static str {
-        let text = self.text_from(first);
-        match text.strip_suffix(b"\n") {
-            Some(line) => reason_of(line, true, self.workers),
-            None => reason_of(text, false, self.workers),
-        }
-    }
-
-    // Adds a line that is no edge line.
-    fn add_line(&mut self, number: u64, line: Line, first: usize) -> bool {
-        let end = self.text.len().saturating_sub(1);
-        let line = ScriptLine {
-            number,
-            line,
-            first,
-            end,
-        };
-        self.is_short |= self.lines.push(line).is_err();
-        !self.is_short
-    }
-
-    // Adds an edge.
-    fn add_edge(&mut self, edge: Edge) -> bool {
-        self.is_short |= self.edges.push(edge).is_err();
-        !self.is_short
+// Why the reader failed.
+fn failure_of<R: Read + Drop>(reader: &Heard<R>) -> io::Error {
+    match reader.failure {
+        Some(error) => error,
+        None => io::Error::from(ErrorKind::Other),
     }
 }

@@ -14,7 +14,7 @@ use Rattle.tg_race.proofs.Standing.{same_place_self}
 use Rattle.tg_race.proofs.Sums.{any_weighs, count_below, one_below, weigh_two, weigh-add, weigh-le, weigh_ones}
 
 -- where the items with one key are at most one, the keys differ
-differ : {A B : Type 0} (key : A → B) (test : B → B → Bool) → ((b : B) → test b b ≡ true)
+pub differ : {A B : Type 0} (key : A → B) (test : B → B → Bool) → ((b : B) → test b b ≡ true)
     → (xs : List A) → ((b : B) → weigh (λ x. if test (key x) b then 1 else 0) xs ≤ 1) → AllPairs (λ x y. key x ≢ key y) xs
 differ {A} {B} key test self xs most = λ i j d lt low same.
     let first : B = key (get_or xs i d) in
@@ -36,7 +36,7 @@ cell_none c i (w ∷ ws) past =
     let other : i ≢ c = λ e. absurd (omega arith) in
     omega (arith, weightless (eqb w 0) (if eqb i c then 1 else 0), cond-false {A = ℕ} (eqb i c) 1 0 (ne_eqb i c other), cell_none c (suc i) ws (omega arith))
 
-cell_once : (c i : ℕ) (ws : List ℕ) → weigh_words (λ q. if q.0 == c then 1 else 0) i ws ≤ 1
+pub cell_once : (c i : ℕ) (ws : List ℕ) → weigh_words (λ q. if q.0 == c then 1 else 0) i ws ≤ 1
 cell_once c i [] = omega arith
 cell_once c i (w ∷ ws) = ⊎_elim
     (λ (e : i ≡ c). omega (arith, weightless (eqb w 0) (if eqb i c then 1 else 0), cond-true {A = ℕ} (eqb i c) 1 0 (eq-eqb i c e), cell_none c (suc i) ws (omega arith)))

@@ -10,3 +10,4 @@ pub mod Drawn
 pub mod Standing
 pub mod Allowed
 pub mod Closed
+pub mod Plain

@@ -19,7 +19,7 @@ use Rattle.tg_race.proofs.Steps.{same_place_is, aged_few, blocks_filled, in_spac
 use Rattle.tg_race.proofs.Drawn.{drawn_above}
 
 -- the weight under which a list of pairs weighs as often as it has the pair
-abbrev pair_at : ℕ → Place → ℕ × Place → ℕ
+abbrev pub pair_at : ℕ → Place → ℕ × Place → ℕ
 pair_at c p q = if same_pair c p q then 1 else 0
 
 pub same_place_self : (p : Place) → same_place p p ≡ true
@@ -27,7 +27,7 @@ same_place_self p =
     λ i. eq-eqb p.space p.space refl i && (eq-eqb p.block p.block refl i && eq-eqb p.cell p.cell refl i)
 
 -- a cell whose word is not 0 and whose pair passes the test; i is the cell of the first word
-record Passes (f : ℕ × Place → Bool) (i : ℕ) (ws : List ℕ) : Type 0 where
+pub record Passes (f : ℕ × Place → Bool) (i : ℕ) (ws : List ℕ) : Type 0 where
   pub at : ℕ
   pub cell : ℕ
   pub is : cell ≡ i + at
@@ -46,7 +46,7 @@ passes_later f i w ws p = record {
 }
 
 -- where the pairs of the words that pass a test weigh anything, there is one
-weighed_passes : (f : ℕ × Place → Bool) (i : ℕ) (ws : List ℕ) → 0 < weigh_words (λ q. if f q then 1 else 0) i ws → Passes f i ws
+pub weighed_passes : (f : ℕ × Place → Bool) (i : ℕ) (ws : List ℕ) → 0 < weigh_words (λ q. if f q then 1 else 0) i ws → Passes f i ws
 weighed_passes f i [] some_ = absurd (omega arith)
 weighed_passes f i (w ∷ ws) some_ = go (w == 0) refl (f (i, place_of w)) refl some_ (weighed_passes f (suc i) ws)
   where
@@ -58,7 +58,7 @@ weighed_passes f i (w ∷ ws) some_ = go (w == 0) refl (f (i, place_of w)) refl 
     go other z d e h more = passes_later f i w ws (more (omega arith))
 
 -- a place in the table weighs
-taken_pair : (n i c : ℕ) (p : Place) (ws : List ℕ) → n ≡ i + c → get_or ws c 0 ≡ word_of p → IsPlace p → 0 < weigh_words (pair_at n p) i ws
+pub taken_pair : (n i c : ℕ) (p : Place) (ws : List ℕ) → n ≡ i + c → get_or ws c 0 ≡ word_of p → IsPlace p → 0 < weigh_words (pair_at n p) i ws
 taken_pair n i c p [] is here inside = absurd (word_of-some p (sym here))
 taken_pair n i zero p (w ∷ ws) is here inside =
     let some_ : w ≢ 0 = λ none. word_of-some p (sym here ∙ none) in

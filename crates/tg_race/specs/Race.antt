@@ -1,6 +1,6 @@
 -- What the helpers of one collection share, what each has done, and the rule between the two.
 use Rattle.std.specs.Prelude.{◌≡◌, ◌≢◌, ◌↔◌, ◌<◌, ℕ, ◌+◌, ◌-◌, ◌/◌, ◌*◌, ◌≤◌, ◌==◌, Bool, true, false, List, [], ◌∷◌, ◌++◌, length, take, drop, if◌then◌else◌, nat_lt, All, IsTrue, ◌⊎◌}
-use Rattle.std.specs.List.{list_any, AllPairs, Contains}
+use Rattle.std.specs.List.{list_any, AllPairs, Contains, flat_map}
 use mathlib.Core.Option.{some}
 use lib.ListN.{get_elem?}
 use Rattle.tg_race.specs.declared.record.Counts.{Counts}
@@ -8,6 +8,7 @@ use Rattle.tg_race.specs.declared.record.Record.{Record}
 use Rattle.tg_word.specs.declared.TheConstants.{CELLS}
 use Rattle.tg_word.specs.declared.Place.{Place}
 use Rattle.tg_race.specs.Weights.{weigh, weigh_below}
+use Rattle.tg_word.specs.Word.{IsPlace}
 use Rattle.tg_race.specs.Words.{weigh_words, AreForward, IsPair, has_pair, place_at, lies_in, OLD, AGED}
 
 -- the counter of chunks of roots, those of the blocks of Aged and of Old, a word for each cell, and the record of each helper
@@ -63,7 +64,8 @@ owns v p =
     else if p.space == OLD then has_number p.block v.old_blocks
     else false
 
--- the numbers that the records have drawn are those from `start` on and below the counter, each once
+-- The numbers that the records have drawn are those from `start` on and below the counter, each once. It is said by weights, since
+-- these add up over events. The law `weights_say_each_once` proves that it means `AreDrawnOnce` of all numbers drawn.
 abbrev pub IsDrawn : ℕ → ℕ → (Record → List ℕ) → List Record → Type 0
 IsDrawn start counter of records =
     (h : ℕ → ℕ) → weigh_below h start + weigh (λ v. weigh h (of v)) records ≡ weigh_below h counter
@@ -73,11 +75,27 @@ pub record AreConsecutive (start : ℕ) (numbers : List ℕ) : Type 0 where
   pub differ : AllPairs (λ m n. m ≢ n) numbers
   pub exactly : (n : ℕ) → Contains numbers n ↔ ((start ≤ n) × (n < start + length numbers))
 
+-- the numbers differ, and are those from `start` on and below the counter
+pub record AreDrawnOnce (start counter : ℕ) (numbers : List ℕ) : Type 0 where
+  pub consecutive : AreConsecutive start numbers
+  pub reach : start + length numbers ≡ counter
+
+-- all that the records have drawn, or won, record after record
+abbrev pub all_of : {A : Type 0} → (Record → List A) → List Record → List A
+all_of of records = flat_map of records
+
 -- each record has the property
 abbrev pub EachRecord : (Record → Type 0) → List Record → Type 0
 EachRecord P records = (id : ℕ) (v : Record) → get_elem? records id ≡ some v → P v
 
--- the cells that have a place are those that were won, each by one record and once, with the place that was won
+-- The pairs are those of the cells that have a place, and no two of them are of one cell.
+pub record AreWinsOf (words : List ℕ) (won : List (ℕ × Place)) : Type 0 where
+  pub forward : AreForward words
+  pub differ : AllPairs (λ q s. q.0 ≢ s.0) won
+  pub exactly : (q : ℕ × Place) → Contains won q ↔ (IsPlace q.1 × IsPair words q)
+
+-- The cells that have a place are those that were won, each by one record and once, with the place that was won. It is said by
+-- weights, as `IsDrawn` is. The law `weights_say_each_once` proves that it means `AreWinsOf` of all that was won.
 pub record AreWonOnce (r : Race) : Type 0 where
   pub forward : AreForward r.words
   pub won : (h : ℕ × Place → ℕ) → weigh (λ v. weigh h v.won) r.records ≡ weigh_words h 0 r.words

@@ -11,7 +11,7 @@ ghost use Rattle.tg_word.specs.Word.{IsPlace};
 ghost use Rattle.tg_race.specs.Words.{AGED, OLD, word_of, has_pair};
 ghost use Rattle.tg_race.specs.Board.{IsClosedTable};
 ghost use Rattle.tg_race.specs.Weights.{weigh, one_at};
-ghost use Rattle.tg_race.specs.Race.{Race, Rule, EachRecord, IsDrawn, AreConsecutive, both, has_number};
+ghost use Rattle.tg_race.specs.Race.{Race, Rule, EachRecord, IsDrawn, AreConsecutive, AreDrawnOnce, AreWinsOf, AreWonOnce, all_of, both, has_number};
 ghost use Rattle.tg_race.specs.Course.{Net, Course, counts_of, KeepsRule, HasEarnedWins, IsCompleteRecord, IsReachedCell, forwarding_word, can_happen, happens, course_after, starting};
 
 /// After every list of events of any number of helpers the rule holds.
@@ -99,4 +99,12 @@ pub fn numbers_are_drawn_once()
     ensures drawn { (start counter : ℕ) (of : Record → List ℕ) (records : List Record) → IsDrawn start counter of records → (n : ℕ) → start ≤ n → n < counter → weigh (λ v. weigh (one_at n) (of v)) records ≡ 1 }
     ensures below { (start counter : ℕ) (of : Record → List ℕ) (records : List Record) → IsDrawn start counter of records → (n : ℕ) → n < start → weigh (λ v. weigh (one_at n) (of v)) records ≡ 0 }
     ensures above { (start counter : ℕ) (of : Record → List ℕ) (records : List Record) → IsDrawn start counter of records → (n : ℕ) → counter ≤ n → weigh (λ v. weigh (one_at n) (of v)) records ≡ 0 }
+{}
+
+/// What the rule says by weights is what these words say: the numbers that the records have drawn differ, and are those
+/// from the start on and below the counter. The pairs that the records have won are those of the cells that have a
+/// place, and no two of them are of one cell.
+pub fn weights_say_each_once()
+    ensures drawn { (start counter : ℕ) (of : Record → List ℕ) (records : List Record) → IsDrawn start counter of records ↔ AreDrawnOnce start counter (all_of of records) }
+    ensures won { (r : Race) → AreWonOnce r ↔ AreWinsOf r.words (all_of (λ v. v.won) r.records) }
 {}

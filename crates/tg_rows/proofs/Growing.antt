@@ -26,7 +26,7 @@ use Rattle.tg_rows.specs.Content.{IsNamed}
 use Rattle.tg_rows.specs.Graph.{IsGraph, content_in}
 use Rattle.tg_rows.specs.Rows.{IsVertexAt, key_at, name_at, name_in, references_of, row_words, words_of}
 use Rattle.tg_space.specs.Rows.{chunks_from, link_at, row_of}
-use Rattle.tg_rows.specs.Spots.{CanPut, IsSpotIn, cells_for, is_empty, last_of, note_for, refers_to, table_put, word_in_cell, word_of_cell, word_where, IsSpotFor, IsMadeInRow, vertex_put, with_note, chunk_words, widened}
+use Rattle.tg_rows.specs.Spots.{CanPut, IsSpotIn, cells_for, is_empty, last_of, note_for, refers_to, table_put, word_in_cell, word_of_cell, word_where, IsSpotFor, IsMadeInRow, vertex_put, with_note, chunk_words, widened, table_taken}
 use Rattle.tg_rows.specs.Steps.{ChangesTo, KeepsRows, vertex_words, TakesOneCell}
 use Rattle.tg_rows.specs.declared.rows.Spot.{Spot}
 use Rattle.tg_rows.specs.declared.rows.Spot.TheVariants.{Reference, Empty, Full}
@@ -420,6 +420,12 @@ module _ (t : SpaceTable) (payloads : Payloads) (table : IsSpaceTable t) (graph 
       changes t t payloads (IsNamed content) label content.value
       (relabel t.spaces t.spaces payloads (IsNamed content) content.label label content.value (nothing_taken content.label from name rights nothing) (becomes_self t.spaces payloads graph))
       refl refl
+
+-- where there is no reference, no rights are taken
+pub untouched : (t : SpaceTable) (spot : Spot) (rights : RightSet) → ((q : Place) (i : ℕ) → spot ≡ Reference q i → ⊥) → t ≡ table_taken t spot rights
+untouched t (Reference q i) rights never = absurd (never q i refl)
+untouched t (Empty q i) rights never = refl
+untouched t (Full q) rights never = refl
 
 -- ---- where a new vertex and the reference to it are
 

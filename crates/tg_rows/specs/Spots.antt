@@ -149,6 +149,20 @@ pub record IsMadeInRow (old new : SpaceTable) (places later : List Place) (space
   pub put : new ≡ table_put (vertex_put (room_made_for old space (1 + cells_for spot)) space name key) space spot rights (place_in_space space (used_of old space))
   pub noted : later ≡ with_note places (note_for spot true)
 
+-- The table once rights were taken where they stand: the reference has the others, or is the empty word where none is left. Where
+-- there is no reference nothing is written.
+abbrev pub table_taken : SpaceTable → Spot → RightSet → SpaceTable
+table_taken t (Reference cell index) rights = word_put t cell index (narrowed (slice_index (cell_at t.spaces cell) index) rights)
+table_taken t (Empty cell index) rights = t
+table_taken t (Full last) rights = t
+
+-- Rights over the vertex with a name were taken where they stand in the row of the object at a place, and nothing else was written:
+-- a reference that has none left leaves an empty place, and each chunk stays where it was linked.
+pub record IsTakenFromRow (old new : SpaceTable) (from : Place) (name : ℕ) (rights : RightSet) : Type 0 where
+  pub spot : Spot
+  pub found : IsSpotFor old.spaces name from spot
+  pub taken : new ≡ table_taken old spot rights
+
 -- ---- where cells lack
 
 -- Rights of the holder over the vertex with a name go where, with so many others, more cells are needed than the nursery

@@ -36,6 +36,7 @@ mod deeds;
 mod followed;
 mod indexed_row;
 mod indexes;
+pub mod laws;
 mod references;
 mod row_cells;
 mod rows;

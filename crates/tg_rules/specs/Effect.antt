@@ -1,12 +1,14 @@
 -- What a command does that is served, and how a refused growth is told.
-use Rattle.std.specs.Prelude.{◌≡◌, ◌↔◌, ℕ, ◌<◌, Result, IfOk, OnErr, OnOk}
+use Rattle.std.specs.Prelude.{◌≡◌, ◌↔◌, ℕ, ◌<◌, List, Option, Result, IfOk, OnErr, OnOk}
+use Rattle.tg_rights.specs.RightSet.{RightSet}
+use Rattle.tg_model.specs.declared.value.Value.{Value}
 use Rattle.std.specs.List.{All, Contains}
 use Rattle.tg_model.specs.declared.command.Command.{Command}
-use Rattle.tg_model.specs.declared.command.Command.TheVariants.{Take, Grant}
+use Rattle.tg_model.specs.declared.command.Command.TheVariants.{Take, Grant, Read, Inspect, List as Listing}
 use Rattle.tg_model.specs.declared.reply.Reply.{Reply}
 use Rattle.tg_model.specs.declared.reply.Reply.TheVariants.{Done, Values, Edges}
 use Rattle.tg_model.specs.Near.{reply_on_none}
-use Rattle.tg_model.specs.Rules.{labels_after, values_after, reply_of}
+use Rattle.tg_model.specs.Rules.{labels_after, subjects_after, values_after, reply_of}
 use Rattle.tg_word.specs.Word.{nursery_space}
 use Rattle.tg_space.specs.SpaceTable.{SpaceTable}
 use Rattle.tg_rows.specs.Content.{Content, IsNamed, IsContent}
@@ -36,8 +38,22 @@ ShowsSomething (Edges edges) = Unit {0}
 ShowsSomething reply = ⊥
 
 -- The command changes nothing where it is served: it is one whose reply shows something, on whatever graph, so on one without edges.
+-- The law `looks_are_reads_inspects_and_lists` proves that it means `IsLook`.
 abbrev pub OnlyLooks : Command → Type 0
 OnlyLooks command = ShowsSomething (reply_on_none command)
+
+-- the command is a read, an inspect or a list
+abbrev pub IsLook : Command → Type 0
+IsLook (Read y) = Unit {0}
+IsLook (Inspect y) = Unit {0}
+IsLook Listing = Unit {0}
+IsLook command = ⊥
+
+-- where the command of x is served, every label, every value and the subjects are as they were
+pub record ChangesNothing (command : Command) : Type 0 where
+  pub labels : (label : ℕ → ℕ → RightSet) (x : ℕ) → labels_after label x command ≡ label
+  pub values : (value : ℕ → Option Value) → values_after value command ≡ value
+  pub subjects : (subjects : List ℕ) (x : ℕ) → subjects_after subjects x command ≡ subjects
 
 -- What a command that is to be served leaves as it was: where it is served the vertices stay, one that only looks changes nothing, and
 -- nor does one that is refused.

@@ -4,7 +4,7 @@
 //! So who decides on a heap by its content, and changes the content as the rules say, answers what the graph that was
 //! never collected answers, and goes on as it does. The proofs of the crates above cite the lemmas behind the laws,
 //! which stand in `proofs/StandingLaws.antt` of `tg_graph`.
-ghost use Rattle.std.specs.Prelude.{◌≡◌, ◌<◌, ◌≤◌, ◌⊎◌, ℕ, List, None, Some, length};
+ghost use Rattle.std.specs.Prelude.{◌≡◌, ◌↔◌, ◌<◌, ◌≤◌, ◌⊎◌, ℕ, List, None, Some, length};
 ghost use Rattle.tg_rights.specs.RightSet.{RightSet};
 ghost use Rattle.tg_model.specs.Graph.{ProtectionGraph, IsSubject, IsSound, with_rights};
 ghost use Rattle.tg_model.specs.Rules.{denial_of, denied_or, reply_of, with_value, step, answer_of};
@@ -17,7 +17,7 @@ ghost use Rattle.tg_model.specs.declared.reply.Reply.{Reply};
 ghost use Rattle.tg_model.specs.declared.reply.Reply.TheVariants.{Denied};
 ghost use Rattle.tg_rows.specs.Content.{Content, IsNamed, IsContent, IsSameContent, OnlyNamedHold};
 ghost use Rattle.tg_graph.specs.Standing.{IsContentOf};
-ghost use Rattle.tg_rules.specs.Effect.{IsReplyOn, IsContentAfter};
+ghost use Rattle.tg_rules.specs.Effect.{ChangesNothing, IsLook, IsReplyOn, IsContentAfter, OnlyLooks};
 
 /// The denial of a subject's command is the same on a content as on the graph that it stands for. And the graph's
 /// answer is that denial or else the reply, computed on the content with the graph's number of vertices ever made.
@@ -60,4 +60,10 @@ pub fn steps_on_a_content_are_its_graphs()
     ensures full { (c new : Content) (g : ProtectionGraph) (x : ℕ) (label : RightSet) (law : Law) (state : List ℕ) →
         IsContentOf c g → g.limit ≤ g.made → IsSameContent c new → IsContentOf new (step g x (Create label law state)) }
     ensures new_name { (c : Content) (g : ProtectionGraph) → IsContentOf c g → ¬ IsNamed c g.made }
+{}
+
+/// A command that only looks is a read, an inspect or a list. It changes no label, no value and no subject.
+pub fn looks_are_reads_inspects_and_lists()
+    ensures which { (command : Command) → OnlyLooks command ↔ IsLook command }
+    ensures nothing { (command : Command) → OnlyLooks command → ChangesNothing command }
 {}

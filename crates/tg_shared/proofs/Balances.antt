@@ -23,7 +23,7 @@ use Rattle.tg_store.specs.Collecting.{IsSwept, KeepsHistory}
 use Rattle.tg_store.specs.Store.{StoreState, Enters, HasFewBlocks, IsFaithful, graph_of_store}
 use Rattle.tg_store.proofs.StandLaws.{graph-entered}
 use Rattle.tg_shared.specs.Serving.{Collects}
-use Rattle.tg_shared.specs.Sessions.{GoesOn, IsBalanced, LockedState, SharedStart, is_spawn, made_subject, sessions_made, shared_as, spawned, subjects_at}
+use Rattle.tg_shared.specs.Sessions.{GoesOn, IsBalanced, KeeperState, LockedState, SharedStart, is_spawn, made_subject, sessions_made, shared_as, spawned, subjects_at}
 
 -- ---- how many sessions were made
 
@@ -111,21 +111,28 @@ module _ (old new : StoreState) (more : List Entry) (entries : new.entries ≡ o
         omega (arith, all, same, was, none),
       )
 
--- the same of no entry
-pub locked_same : {P Q : Type 0} (start : SharedStart) (old new : StoreState) (first sessions total rest parts : ℕ) → IsBalanced old first sessions total rest parts × P × Q × GoesOn start old × (sessions ≡ sessions_made start old.entries)
-    → new.entries ≡ old.entries → new.opening ≡ old.opening → new.heap.table.limits ≡ old.heap.table.limits → (start.in_parts ≡ false → new.handed ≡ old.handed)
-    → IsBalanced new first sessions total rest parts × P × Q × GoesOn start new × (sessions ≡ sessions_made start new.entries)
+-- the same of no entry; what was handed out is told by its caller
+pub locked_taken : {P Q R : Type 0} (start : SharedStart) (old new : StoreState) (first sessions total rest parts : ℕ) → IsBalanced old first sessions total rest parts × P × Q × GoesOn start old × (sessions ≡ sessions_made start old.entries)
+    → new.entries ≡ old.entries → new.opening ≡ old.opening → new.heap.table.limits ≡ old.heap.table.limits → (start.in_parts ≡ false → new.handed ≡ old.handed) → R
+    → IsBalanced new first sessions total rest parts × P × R × GoesOn start new × (sessions ≡ sessions_made start new.entries)
+locked_taken start old new first sessions total rest parts held entries opening limits handed told =
+    locked_more old new [] (entries ∙ sym (append-nil old.entries)) opening start first sessions total total rest parts held refl limits handed (omega arith) told
+
+-- and where nothing was
+pub locked_same : {P Q : Type 0} {out : ℕ} (start : SharedStart) (old new : StoreState) (first sessions total rest parts : ℕ) → IsBalanced old first sessions total rest parts × P × (Q × (out ≡ old.handed)) × GoesOn start old × (sessions ≡ sessions_made start old.entries)
+    → new.entries ≡ old.entries → new.opening ≡ old.opening → new.heap.table.limits ≡ old.heap.table.limits → new.handed ≡ old.handed
+    → IsBalanced new first sessions total rest parts × P × (Q × (out ≡ new.handed)) × GoesOn start new × (sessions ≡ sessions_made start new.entries)
 locked_same start old new first sessions total rest parts held entries opening limits handed =
-    locked_more old new [] (entries ∙ sym (append-nil old.entries)) opening start first sessions total total rest parts held refl limits handed (omega arith) held.2
+    locked_taken start old new first sessions total rest parts held entries opening limits (λ _. handed) (held.2.0, held.2.1 ∙ sym handed)
 
 -- and of one
-pub locked_entered : {P Q : Type 0} (start : SharedStart) (old new : StoreState) (first sessions total next rest parts worker : ℕ) (deed : Deed) (reply : Reply) → made_subject deed reply ≡ false
-    → IsBalanced old first sessions total rest parts × P × Q × GoesOn start old × (sessions ≡ sessions_made start old.entries)
+pub locked_entered : {P Q : Type 0} {out : ℕ} (start : SharedStart) (old new : StoreState) (first sessions total next rest parts worker : ℕ) (deed : Deed) (reply : Reply) → made_subject deed reply ≡ false
+    → IsBalanced old first sessions total rest parts × P × (Q × (out ≡ old.handed)) × GoesOn start old × (sessions ≡ sessions_made start old.entries)
     → Enters old new worker deed reply → new.opening ≡ old.opening → new.heap.table.limits ≡ old.heap.table.limits → new.handed ≡ old.handed → next ≡ total + 1
-    → IsBalanced new first sessions next rest parts × P × Q × GoesOn start new × (sessions ≡ sessions_made start new.entries)
+    → IsBalanced new first sessions next rest parts × P × (Q × (out ≡ new.handed)) × GoesOn start new × (sessions ≡ sessions_made start new.entries)
 locked_entered start old new first sessions total next rest parts worker deed reply object held entry opening limits handed counts =
     let e : Entry = record { worker = worker; deed = deed; reply = reply } in
-    locked_more old new (e ∷ []) entry opening start first sessions total next rest parts held (spawned_one e ∙ ap one object) limits (λ _. handed) counts held.2
+    locked_more old new (e ∷ []) entry opening start first sessions total next rest parts held (spawned_one e ∙ ap one object) limits (λ _. handed) counts (held.2.0, held.2.1 ∙ sym handed)
 
 -- ---- parts
 
@@ -181,6 +188,9 @@ goes_on_start start s is within =
 
 abbrev pub locked_as : StoreState → ℕ → ℕ → LockedState
 locked_as store sessions entered = record { store = store; sessions = sessions; entered = entered }
+
+abbrev pub keeper_as : ℕ → ℕ → KeeperState
+keeper_as next entered = record { next = next; entered = entered }
 
 pub collected : {E : Type 0} (kind : Kind) (more : ℕ) (old new : StoreState) (sessions entered : ℕ) (before : LockedState) (result : Result ℕ E) → locked_as old sessions entered ≡ before → IfOk result (IsSwept kind old new)
     → OnOk result (HasFewBlocks kind more old.heap.table new.heap.table) → KeepsHistory old new result → Collects kind more before (locked_as new sessions entered) result

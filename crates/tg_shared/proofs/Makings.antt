@@ -74,15 +74,15 @@ made_noted deed label value old new before after (Ok name) noted made = record {
 made_noted deed label value old new before after (Err refused) noted made = tt
 
 -- What is so behind the lock stays so where what was entered of a make is noted, and it made no subject.
-pub locked_noted : {P Q : Type 0} (start : SharedStart) (old new : StoreState) (before after : SessionState) (first sessions total next rest parts : ℕ) (deed : Deed) (noted : Option Reply)
+pub locked_noted : {P Q : Type 0} {out : ℕ} (start : SharedStart) (old new : StoreState) (before after : SessionState) (first sessions total next rest parts : ℕ) (deed : Deed) (noted : Option Reply)
     → ((reply : Reply) → noted ≡ Some reply → Records old new before after deed reply × (next ≡ total + 1)) → (noted ≡ None → RecordsNothing old new before after × (next ≡ total))
     → ((reply : Reply) → noted ≡ Some reply → made_subject deed reply ≡ false) → new.opening ≡ old.opening → new.heap.table.limits ≡ old.heap.table.limits → new.handed ≡ old.handed
-    → IsBalanced old first sessions total rest parts × P × Q × GoesOn start old × (sessions ≡ sessions_made start old.entries)
-    → IsBalanced new first sessions next rest parts × P × Q × GoesOn start new × (sessions ≡ sessions_made start new.entries)
+    → IsBalanced old first sessions total rest parts × P × (Q × (out ≡ old.handed)) × GoesOn start old × (sessions ≡ sessions_made start old.entries)
+    → IsBalanced new first sessions next rest parts × P × (Q × (out ≡ new.handed)) × GoesOn start new × (sessions ≡ sessions_made start new.entries)
 locked_noted start old new before after first sessions total next rest parts deed (Some reply) some none object opening limits handed held =
     let told = some reply refl in
     locked_entered start old new first sessions total next rest parts before.worker deed reply (object reply refl) held told.0.entry opening limits handed told.1
 locked_noted start old new before after first sessions total next rest parts deed None some none object opening limits handed held =
     let told = none refl in
-    let same = locked_same start old new first sessions total rest parts held told.0.0.entries opening limits (λ _. handed) in
+    let same = locked_same start old new first sessions total rest parts held told.0.0.entries opening limits handed in
     (subst (λ (n : ℕ). IsBalanced new first sessions n rest parts) (sym told.1) same.0, same.1, same.2, same.3, same.4)

@@ -1,6 +1,5 @@
 -- What contracts see of a session and of the value behind the lock, and what a call does to them.
 use Rattle.std.specs.Prelude.{◌≡◌, ◌≢◌, ℕ, ◌+◌, ◌<◌, ◌≤◌, ◌==◌, max, Bool, true, false, Option, Some, None, List, [], ◌∷◌, ◌++◌, Result, Ok, Err, IfErr, OnOk, length, map, take, drop}
-use Rattle.std.specs.declared.sync.ledger.Blank.{Blank}
 use Rattle.std.specs.List.{All, AllPairs, count_by, filter, sum_by}
 use Rattle.tg_model.specs.declared.command.Deed.{Deed}
 use Rattle.tg_model.specs.declared.command.Command.TheVariants.{Retire}
@@ -26,6 +25,7 @@ use Rattle.tg_store.specs.declared.fault.CreateFault.TheVariants as fault
 use Rattle.tg_store.specs.declared.fault.CreateRefused.{CreateRefused}
 use Rattle.tg_store.specs.Store.{StoreState, Enters, IsFaithful, IsUnchanged, graph_of_store}
 use Rattle.tg_shared.specs.declared.receipt.Receipt.{Receipt}
+use Rattle.tg_shared.specs.declared.round.Blanks.{Blanks}
 use Rattle.tg_shared.specs.Receipts.{MatchParts, ReceiptsMatch, all_receipts, receipt_of, receipts_from}
 
 -- A session: the name of its subject, its receipts in order, how many before them were handed out, for how many sessions it stands
@@ -49,6 +49,12 @@ pub record MayNote (session : SessionState) (state : List ℕ) : Type 0 where
 pub record LockedState : Type 0 where
   pub store : StoreState
   pub sessions : ℕ
+  pub entered : ℕ
+
+-- A keeper: the place at which the last part of the journal ended that it took, and how many entries it made for workers that it
+-- ended.
+pub record KeeperState : Type 0 where
+  pub next : ℕ
   pub entered : ℕ
 
 -- What a store was when it was shared: its opening, the entries that its journal had, how many of them were handed out, and its
@@ -78,11 +84,23 @@ start_with_ends s = shared_as false true s
 abbrev pub start_in_parts_with_ends : StoreState → SharedStart
 start_in_parts_with_ends s = shared_as true true s
 
--- A store may be shared with a blank by the round that has this name, so many parts and this start: the blank is the round's, it has
--- one part more than vertices may be made, and the round starts from the store.
-pub record MayShare (ledger whole : ℕ) (first : SharedStart) (blank : Blank) (store : StoreState) : Type 0 where
-  pub name : blank.name ≡ ledger
-  pub parts : (blank.parts ≡ whole) × (blank.parts ≡ store.opening.limit + 1)
+-- the names of a keeper's two ledgers, and those of the blanks that a round is opened with
+pub record KeeperNames : Type 0 where
+  pub handed : ℕ
+  pub entered : ℕ
+
+abbrev pub names_of : Blanks → KeeperNames
+names_of blanks = record { handed = blanks.handed.name; entered = blanks.entered.name }
+
+-- A store may be shared with blanks by the round whose ledger has this name and so many parts, whose keeper's ledgers have these
+-- names, and which has this start: the blanks are the round's, that of the sessions has one part more than vertices may be made, those
+-- of the keeper two each, and the round starts from the store.
+pub record MayShare (ledger whole : ℕ) (keeper : KeeperNames) (first : SharedStart) (blanks : Blanks) (store : StoreState) : Type 0 where
+  pub name : blanks.sessions.name ≡ ledger
+  pub parts : (blanks.sessions.parts ≡ whole) × (blanks.sessions.parts ≡ store.opening.limit + 1)
+  pub handed_name : blanks.handed.name ≡ keeper.handed
+  pub entered_name : blanks.entered.name ≡ keeper.entered
+  pub keeper_parts : (blanks.handed.parts ≡ 2) × (blanks.entered.parts ≡ 2)
   pub start : shared_as first.in_parts first.may_end store ≡ first
 
 -- ---- how many sessions were made

@@ -39,7 +39,7 @@ impl<L: Round> Session<L> {
         store: &SharedStore<L, P>,
         command: Command,
     ) -> Result<&Reply, ApplyFault>
-        ensures* receipt { sem 𝓛 (follows_so (the_row L.row (record { start = L.start }) L.Ledger) (the_row L.row (record { start = L.start }) L.Ledger) self.entry.ghost_name none (λ _ _. ⊤)
+        ensures* receipt { sem 𝓛 (follows_so (the_row L.row (record { start = L.start; keeper = L.keeper }) L.Ledger) (the_row L.row (record { start = L.start; keeper = L.keeper }) L.Ledger) self.entry.ghost_name none (λ _ _. ⊤)
             (λ after. MatchResult result (λ reply. IsAnswered L.start self.old after (Plain command) reply.now) (λ _. KeepsReceipts self.old after))) }
         ensures no_such_worker { IfErr result (λ why. why ≡ ApplyFault.NoSuchWorker → AtSome L.start (λ s. ¬ IsSubject (graph_of_store s) self.old.worker)) }
         ensures full { IfErr result (λ why. why ≡ ApplyFault.HeapFull → AtSome L.start (λ s.
@@ -123,9 +123,12 @@ impl<L: Round> Session<L> {
         spawned
     }
 
-    // Makes room for the receipt of a vertex that is to store this, which is refused behind a retire of its own, and
-    // where memory is. The receipts stay.
-    fn make_ready(&mut self, state: &[u64]) -> Result<(), CreateFault>
+    /// Makes room for the receipt of a vertex that is to store this state, as [`create`](Session::create) and
+    /// [`spawn`](Session::spawn) do before they take the lock. The receipts stay.
+    ///
+    /// A session that entered its own retire is refused with `NoSuchWorker`, and otherwise the only refusal is
+    /// `OutOfMemory`.
+    pub fn make_ready(&mut self, state: &[u64]) -> Result<(), CreateFault>
         ensures notable { OnOk result (MayNote self.new state.now) }
         ensures receipts { KeepsReceipts self.old self.new }
         ensures retired { self.old.retired ≡ true → result ≡ Err CreateFault.NoSuchWorker }

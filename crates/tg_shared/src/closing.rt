@@ -1,12 +1,13 @@
 //! The end of a round.
-ghost use Rattle.std.specs.Prelude.{◌≡◌, ◌≢◌, ◌↔◌, ◌<◌, ◌≤◌, ◌+◌, IsTrue, IfErr, IsErr, IsErrAnd, OnErr, OnOk, length, drop};
+ghost use Rattle.std.specs.Prelude.{◌≡◌, ◌≢◌, ◌↔◌, ◌<◌, ◌≤◌, ◌+◌, ◌-◌, false, IsTrue, IfErr, IsErr, IsErrAnd, OnErr, OnOk, length, drop};
 ghost use Rattle.std.specs.List.{All, AllPairs};
-ghost use Rattle.tg_shared.specs.Sessions.{MatchesSince, MayClose};
+ghost use Rattle.std.specs.List.Sorted.{IsNonDecreasingBy};
+ghost use Rattle.tg_shared.specs.Sessions.{MatchesSince, MayClose, count_of};
 
 use crate::locked::Locked;
 use crate::receipt::{Receipt, receipts_match};
 use crate::round::Round;
-use crate::session::{Session, audit_all, still_owed};
+use crate::session::{Session, have_at_most, sort_by_worker, still_owed};
 use tg_journal::Journal;
 use tg_payload::Payload;
 use tg_store::Store;
@@ -41,8 +42,12 @@ impl<L: Round, P: Payload> Locked<L, P> {
     /// keeper entered for workers that he ended is counted beside the receipts, and shared out to nobody.
     ///
     /// `SessionsMissing` is answered exactly where the sessions stand for fewer than were made, and looked for first;
-    /// `ReceiptMismatch` exactly where they stand for as many, and may not close. What was handed in then comes back.
-    /// Takes no memory.
+    /// `ReceiptMismatch` exactly where they stand for as many, and may not close. What was handed in then comes back,
+    /// and the sessions may be in another order. Takes no memory, and for n sessions time as n log n.
+    ///
+    /// Of a store that was shared whole (`whole`) no session has handed out a receipt: where the keeper ended no
+    /// worker, each entry made since stands in exactly one receipt, and the receipts of each session are all its
+    /// entries.
     pub fn close(self, sessions: Vec<Session<L>>) -> Result<Store<P>, LockedRefused<L, P>>
         ensures ends { EndsRound L.start self sessions.items result }
         ensures all { OnOk result (parts_of sessions.items ≡ self.sessions) }
@@ -50,6 +55,7 @@ impl<L: Round, P: Payload> Locked<L, P> {
         ensures shared_out { self.entered ≡ 0 → OnOk result (length L.start.entries + handed_of sessions.items ≡ held_from L.start self.store →
             AreSharedOut (drop (held_from L.start self.store) self.store.entries) sessions.items) }
         ensures none_handed { self.entered ≡ 0 → OnOk result (handed_of sessions.items ≡ 0 → held_from L.start self.store ≡ length L.start.entries) }
+        ensures whole { L.start.in_parts ≡ false → self.entered ≡ 0 → OnOk result (AreSharedOut (drop (length L.start.entries) self.store.entries) sessions.items) }
         ensures missing { IsErrAnd result (λ refused. refused.why ≡ CloseFault.SessionsMissing) ↔ (parts_of sessions.items < self.sessions) }
         ensures mismatch { IsErrAnd result (λ refused. refused.why ≡ CloseFault.ReceiptMismatch) ↔
             ((self.sessions ≤ parts_of sessions.items) × (¬ MayClose self.store.entries (held_from L.start self.store) sessions.items)) }
@@ -70,21 +76,26 @@ impl<L: Round, P: Payload> Locked<L, P> {
     /// that he ended; if none is missing, all that [`close`](Locked::close) says is so.
     ///
     /// `ReceiptMismatch` is answered exactly where the sessions that are there may not close, and nothing else. What
-    /// was handed in then comes back. Takes no memory.
+    /// was handed in then comes back, with the sessions in the order of their workers' names. Takes no memory, and for
+    /// n sessions time as n log n.
     pub fn reclaim(mut self, mut sessions: Vec<Session<L>>) -> Result<Store<P>, LockedRefused<L, P>>
         ensures ends { EndsRound L.start self sessions.items result }
         ensures adds_up { OnOk result (AddsUp (length L.start.entries) (length self.store.entries) self.sessions self.entered sessions.items) }
         ensures shared_out { self.entered ≡ 0 → OnOk result (parts_of sessions.items ≡ self.sessions → length L.start.entries + handed_of sessions.items ≡ held_from L.start self.store →
             AreSharedOut (drop (held_from L.start self.store) self.store.entries) sessions.items) }
         ensures none_handed { self.entered ≡ 0 → OnOk result (parts_of sessions.items ≡ self.sessions → handed_of sessions.items ≡ 0 → held_from L.start self.store ≡ length L.start.entries) }
+        ensures whole { L.start.in_parts ≡ false → self.entered ≡ 0 → OnOk result (parts_of sessions.items ≡ self.sessions → AreSharedOut (drop (length L.start.entries) self.store.entries) sessions.items) }
         ensures mismatch { IsErr result ↔ (¬ MayClose self.store.entries (held_from L.start self.store) sessions.items) }
         ensures only { IfErr result (λ refused. refused.why ≡ CloseFault.ReceiptMismatch) }
         ensures counted { OnErr result (length L.start.entries + self.entered + count_of sessions.items ≤ length self.store.entries) }
     {
-        let since = self.start.max(self.store.journal().start());
-        if !may_close(self.store.journal(), since, sessions.as_slice()) {
-            // It tells that each of their receipts was counted.
-            audit_all(&mut self.book, &mut self.rest, sessions.as_mut_slice());
+        sort_by_worker(&mut sessions);
+        // It tells that what the keeper entered was counted.
+        self.book.audit(&mut self.rest);
+        let journal = self.store.journal();
+        let since = self.start.max(journal.start());
+        let entries = entries_since(journal, self.start, self.entered.number());
+        if are_refused(journal, since, entries, sessions.as_slice()) {
             return Err(LockedRefused {
                 locked: self,
                 sessions,
@@ -96,6 +107,7 @@ impl<L: Round, P: Payload> Locked<L, P> {
             start: _,
             sessions: _,
             entered: _,
+            handed: _,
             mut book,
             rest: mut whole,
         } = self;
@@ -107,9 +119,35 @@ impl<L: Round, P: Payload> Locked<L, P> {
     }
 }
 
-// Whether the sessions may close.
+// How many entries were made from a place on, but for so many.
+fn entries_since(journal: &Journal, start: u64, but: u64) -> u64
+    requires { start + but ≤ length journal.now.entries }
+    ensures { result ≡ length journal.now.entries - start - but }
+{
+    journal.len() - start - but
+}
+
+// Whether the sessions, in the order of their workers' names, may not close. There are never more receipts than entries
+// that were made since the start, which the ledger tells once their parts are together: so what these would be refused
+// for isn't looked at.
+fn are_refused<L: Round>(
+    journal: &Journal,
+    start: u64,
+    entries: u64,
+    sessions: &[Session<L>],
+) -> bool
+    requires held { journal.now.start ≤ start }
+    requires rising { IsNonDecreasingBy (λ s. s.worker) sessions.now }
+    ensures refused { IsTrue result → (¬ MayClose journal.now.entries start sessions.now) × (count_of sessions.now ≤ entries) }
+    ensures closes { result ≡ false → count_of sessions.now ≤ entries → MayClose journal.now.entries start sessions.now }
+{
+    !may_close(journal, start, sessions) && have_at_most(entries, sessions)
+}
+
+// Whether the sessions, in the order of their workers' names, may close.
 fn may_close<L: Round>(journal: &Journal, start: u64, sessions: &[Session<L>]) -> bool
-    requires { journal.now.start ≤ start }
+    requires held { journal.now.start ≤ start }
+    requires rising { IsNonDecreasingBy (λ s. s.worker) sessions.now }
     ensures { IsTrue result ↔ MayClose journal.now.entries start sessions.now }
 {
     all_match(journal, start, sessions) && are_apart(sessions)
@@ -140,20 +178,15 @@ fn are_since(start: u64, receipts: &[Receipt]) -> bool
     receipts.iter().all(|receipt| start <= receipt.at)
 }
 
-// Whether no two sessions are of one worker.
+// Whether no two sessions are of one worker. They stand in the order of the names, so two of one worker are neighbours.
 fn are_apart<L: Round>(sessions: &[Session<L>]) -> bool
+    requires rising { IsNonDecreasingBy (λ s. s.worker) sessions.now }
     ensures { IsTrue result ↔ AllPairs (λ s t. s.worker ≢ t.worker) sessions.now }
 {
-    for i in 0..sessions.len() {
-        if !none_of(sessions[i].worker(), &sessions[i + 1..]) {
+    for i in 1..sessions.len() {
+        if sessions[i - 1].worker() == sessions[i].worker() {
             return false;
         }
     }
     true
-}
-
-fn none_of<L: Round>(worker: u64, sessions: &[Session<L>]) -> bool
-    ensures { IsTrue result ↔ All (λ s. worker ≢ s.worker) sessions.now }
-{
-    sessions.iter().all(|session| worker != session.worker())
 }

@@ -55,6 +55,16 @@ pub fn a_whole_journal_is_held()
     ensures { (start : SharedStart) (s : StoreState) → GoesOn start s → start.in_parts ≡ false → held_from start s ≡ length start.entries }
 {}
 
+/// What a close says of the receipts of a store that was shared whole: where they may close, and there are as many as
+/// entries were made since, each of these entries stands in exactly one of them, and the receipts of each session are
+/// all its entries, in their order. No session of such a store can hand out a receipt. So
+/// [`Locked::close`](crate::Locked::close) and [`close_with`](crate::close_with) have all of this wherever the keeper
+/// ended no worker, whatever the sessions' holders did.
+pub fn a_whole_round_is_shared_out()
+    ensures { (start : SharedStart) (s : StoreState) (sessions : List SessionState) → GoesOn start s → start.in_parts ≡ false →
+        MayClose s.entries (held_from start s) sessions → length s.entries ≡ length start.entries + count_of sessions → AreSharedOut (drop (length start.entries) s.entries) sessions }
+{}
+
 /// Sessions that took no other over stand for as many as they are.
 pub fn each_stands_for_itself()
     ensures { (sessions : List SessionState) → All (λ s. s.parts ≡ 1) sessions → parts_of sessions ≡ length sessions }

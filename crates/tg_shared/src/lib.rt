@@ -27,12 +27,14 @@
 //! A service that goes on for years takes the journal and the receipts in parts: who shares the store so has its
 //! [`Keeper`], who takes the entries while the sessions go on, and each session hands its receipts out
 //! ([`Session::take_receipts`]), to be looked at with the part that has their entries ([`receipts_match`]; [`laws`]
-//! join the parts). One that is done goes into another ([`Session::take_over`]). Of a store that is shared whole
-//! nothing is handed out before it is closed.
+//! join the parts). Each part begins where the keeper's last one ended ([`Keeper::next`]). One that is done goes into
+//! another ([`Session::take_over`]). Of a store that is shared whole nothing is handed out before it is closed, neither
+//! entries nor receipts.
 //!
 //! A client may hang, and its session with it. The keeper ends its worker by its name, where the store was shared so
-//! ([`Keeper::end`]): what was entered for it counts behind the lock. And a store is had back though a session is lost
-//! ([`reclaim`]): then the receipts that came are no more than the entries.
+//! ([`Keeper::end`]): what was entered for it counts behind the lock and with the keeper, so who has the keeper is told
+//! of each entry at the close ([`close_with`]). And a store is had back though a session is lost ([`reclaim`]): then
+//! the receipts that came are no more than the entries.
 //!
 //! The book is that of a ledger ([`std::sync::ledger`]). That there are as many receipts as entries, where a close
 //! succeeds, is told by 'Why the count is known at the close' in docs/ARCHITECTURE.md.
@@ -49,6 +51,7 @@ mod keeper;
 pub mod laws;
 mod locked;
 mod making;
+mod mirror;
 mod receipt;
 mod round;
 mod session;
@@ -58,7 +61,7 @@ pub use closing::{CloseFault, LockedRefused};
 pub use keeper::Keeper;
 pub use locked::Locked;
 pub use receipt::{Receipt, receipts_match};
-pub use round::Round;
+pub use round::{Blanks, Round};
 pub use session::Session;
-pub use shared::{CloseRefused, Shared, SharedRefused, SharedStore, close, reclaim};
+pub use shared::{CloseRefused, Shared, SharedRefused, SharedStore, close, close_with, reclaim};
 pub use tg_helpers::{Gate, HelpersFault, NoGate};

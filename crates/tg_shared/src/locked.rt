@@ -3,12 +3,14 @@ ghost use Rattle.std.specs.Prelude.{◌≡◌, ◌≢◌, ◌⊎◌, ◌<◌, �
 ghost use Rattle.tg_subjects.specs.Subjects.{names_of};
 ghost use Rattle.tg_shared.specs.Sessions.{AreFresh};
 
+use crate::keeper::Keeper;
 use crate::making::make;
-use crate::round::Round;
+use crate::mirror::Mirrored;
+use crate::round::{Blanks, Entered, HandedOut, Round};
 use crate::session::Session;
 use std::alloc::{AllocError, Global};
 use std::marker::Model;
-use std::sync::ledger::{Blank, Book, Share};
+use std::sync::ledger::{Book, Share};
 use tg_journal::{Entry, Journal};
 use tg_model::{Command, Deed, Making, Picture};
 use tg_payload::{Draft, Payload};
@@ -27,8 +29,11 @@ pub struct Locked<L: Round, P: Payload> {
     pub(crate) store: Store<P>,
     pub(crate) start: u64,
     pub(crate) sessions: u64,
-    // Of these entries no session has a receipt: the rest of the ledger has them as its amount.
-    pub(crate) entered: u64,
+    // Of these entries no session has a receipt: the rest of the ledger has them as its amount. The keeper knows their
+    // number.
+    pub(crate) entered: Mirrored<Entered<L>>,
+    // How many entries the store has handed out, which the keeper knows.
+    pub(crate) handed: Mirrored<HandedOut<L>>,
     pub(crate) book: Book<L>,
     pub(crate) rest: Share<L>,
 }
@@ -41,7 +46,7 @@ impl<L: Round, P: Payload> Model for Locked<L, P> {
 
     ghost view = { λ a. record { store = a.store; sessions = a.sessions; entered = a.entered } };
 
-    ghost invariant = { λ a. IsBalanced a.store (length L.start.entries) a.sessions a.book.total a.rest.parts L.parts × (a.start ≡ length L.start.entries) × ((a.rest.amount ≡ a.entered) × (L.start.may_end ≡ false → a.entered ≡ 0)) × GoesOn L.start a.store × (a.sessions ≡ sessions_made L.start a.store.entries) };
+    ghost invariant = { λ a. IsBalanced a.store (length L.start.entries) a.sessions a.book.total a.rest.parts L.parts × (a.start ≡ length L.start.entries) × (((a.rest.amount ≡ a.entered) × (L.start.may_end ≡ false → a.entered ≡ 0)) × (a.handed ≡ a.store.handed)) × GoesOn L.start a.store × (a.sessions ≡ sessions_made L.start a.store.entries) };
 }
 
 impl<L: Round, P: Payload> Locked<L, P> {
@@ -85,26 +90,46 @@ impl<L: Round, P: Payload> Locked<L, P> {
     pub fn entered(&self) -> u64
         ensures { result ≡ self.now.entered }
     {
-        self.entered
+        self.entered.number()
     }
 
-    /// Shares a store: the value to be locked, and a session for each subject of the graph that the store stands for.
-    /// The blank is spent, and has to have one part more than vertices may be made. Fails only when out of memory, and
-    /// hands the store back.
+    /// Changes nothing, and tells that the keeper's numbers are those behind the lock: how many entries it made, and
+    /// from which place on the store holds its entries.
+    pub fn tell(&mut self, keeper: &mut Keeper<L>)
+        ensures entered { keeper.old.entered ≡ self.old.entered }
+        ensures next { keeper.old.next ≡ self.old.store.handed }
+        ensures same { self.new ≡ self.old }
+        ensures same_keeper { keeper.new ≡ keeper.old }
+    {
+        self.entered.tell(&mut keeper.entered);
+        self.handed.tell(&mut keeper.next);
+    }
+
+    /// Shares a store: the value to be locked, a session for each subject of the graph that the store stands for, and
+    /// its one keeper. The blanks are spent, and that of the sessions has to have one part more than vertices may be
+    /// made. Fails only when out of memory, and hands the store back.
     pub fn open(
         alloc: Global,
-        blank: Blank,
+        blanks: Blanks,
         store: Store<P>,
-    ) -> Result<(Locked<L, P>, Vec<Session<L>>), Store<P>>
-        requires shareable { MayShare L.name L.parts L.start blank store }
+    ) -> Result<(Locked<L, P>, Vec<Session<L>>, Keeper<L>), Store<P>>
+        requires shareable { MayShare L.name L.parts L.keeper L.start blanks store }
         ensures store { IfOk result (λ opened. opened.0.store ≡ store) }
         ensures sessions { (g : ProtectionGraph) → StandsFor store g → IfOk result (λ opened. AreFresh g.subjects opened.1.items) }
         ensures number { IfOk result (λ opened. opened.0.sessions ≡ length opened.1.items) }
         ensures none_ended { IfOk result (λ opened. opened.0.entered ≡ 0) }
+        ensures keeper { IfOk result (λ opened. (opened.2.next ≡ store.handed) × (opened.2.entered ≡ 0)) }
         ensures handed_back { IfErr result (λ refused. refused ≡ store) }
     {
+        let Blanks {
+            sessions: blank,
+            handed,
+            entered,
+        } = blanks;
         let (book, mut rest) = blank.open::<L>();
         let start = store.journal().len();
+        let (handed, next) = Mirrored::new(handed, store.journal().start());
+        let (entered, ended) = Mirrored::new(entered, 0);
         let Ok(sessions) = sessions_of(alloc, &mut rest, store.subjects()) else {
             return Err(store);
         };
@@ -112,11 +137,12 @@ impl<L: Round, P: Payload> Locked<L, P> {
             store,
             start,
             sessions: sessions.len() as u64,
-            entered: 0,
+            entered,
+            handed,
             book,
             rest,
         };
-        Ok((locked, sessions))
+        Ok((locked, sessions, Keeper::new(next, ended)))
     }
 
     /// Takes a command of the session's subject, by one call of the store. A call that makes an entry adds a receipt
@@ -230,17 +256,20 @@ impl<L: Round, P: Payload> Locked<L, P> {
     }
 
     /// Ends a worker, whose session may be anywhere, by one call of the store: it gives up each edge that it has, by
-    /// rising name, and retires. Answers how many edges these were. Each of these entries is counted here, and no
-    /// session has a receipt of it; the worker's own is answered that there is no such worker from then on.
+    /// rising name, and retires. Answers how many edges these were. Each of these entries is counted here and by the
+    /// keeper, and no session has a receipt of it; the worker's own is answered that there is no such worker from then
+    /// on.
     ///
     /// Room for all entries is made first: 80 bytes for each edge, and 16 for its listing. `NoSuchWorker` is answered
     /// exactly where no worker has the name; else `OutOfMemory` alone. What is behind the lock is then as it was, and
     /// nothing is refused on the way.
-    pub fn end(&mut self, worker: u64) -> Result<u64, ApplyFault>
+    pub fn end(&mut self, keeper: &mut Keeper<L>, worker: u64) -> Result<u64, ApplyFault>
         requires may_end { L.start.may_end ≡ true }
         ensures ended { EndsWorker worker self.old.store self.new.store result }
         ensures entered { IfOk result (λ count. self.new.entered ≡ self.old.entered + (count + 1)) }
         ensures none_entered { OnErr result (self.new.entered ≡ self.old.entered) }
+        ensures counted { IfOk result (λ count. keeper.new ≡ record keeper.old { entered = keeper.old.entered + (count + 1) }) }
+        ensures none_counted { OnErr result (keeper.new ≡ keeper.old) }
         ensures sessions { self.new.sessions ≡ self.old.sessions }
     {
         let count = self.store.leave(worker)?;
@@ -250,7 +279,7 @@ impl<L: Round, P: Payload> Locked<L, P> {
         self.book.add(&mut self.rest, entries);
         // It tells that so many entries were made, so their number is one.
         self.book.audit(&mut self.rest);
-        self.entered += entries;
+        self.entered.raise(&mut keeper.entered, entries);
         Ok(count)
     }
 
@@ -272,14 +301,20 @@ impl<L: Round, P: Payload> Locked<L, P> {
     }
 
     /// Hands out the entries that the store holds, by one call of the store, where it was shared so as to be handed out
-    /// in parts. No session is touched: its receipts are of the entries that they were of, wherever these are.
-    pub fn take_journal(&mut self) -> Journal
+    /// in parts. They begin where the part before ended that the keeper took. No session is touched: its receipts are
+    /// of the entries that they were of, wherever these are.
+    pub fn take_journal(&mut self, keeper: &mut Keeper<L>) -> Journal
         requires in_parts { L.start.in_parts ≡ true }
+        ensures joined { result.start ≡ keeper.old.next }
+        ensures next { keeper.new ≡ record keeper.old { next = length result.entries } }
         ensures entries { result.entries ≡ self.old.store.entries }
         ensures start { result.start ≡ self.old.store.handed }
         ensures handed_out { self.new ≡ record self.old { store = record self.old.store { handed = length self.old.store.entries } } }
     {
-        self.store.take_journal()
+        let journal = self.store.take_journal();
+        let entries = journal.len() - journal.start();
+        self.handed.raise(&mut keeper.next, entries);
+        journal
     }
 
     /// Collects the heap, by one call of the store. The journal stays as it is, and no session is touched.

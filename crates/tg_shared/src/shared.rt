@@ -1,5 +1,6 @@
 //! The store behind its lock, from sharing it to closing it.
 ghost use Rattle.std.specs.Prelude.{◌≡◌, ◌<◌, ◌≤◌, ◌+◌, false, IfOk, IfErr, IsErrAnd, drop, length};
+ghost use Rattle.std.specs.List.Sorted.{IsPermutation};
 ghost use Rattle.tg_store.specs.Store.{IsFaithful};
 ghost use Rattle.tg_shared.specs.Closing.{IsGivenBack};
 ghost use Rattle.tg_shared.specs.Sessions.{AreFresh, AreSharedOut, AtSome, GoesOn, MayClose, count_of, handed_of, held_from, parts_of, sessions_made, subjects_at};
@@ -7,11 +8,10 @@ ghost use Rattle.tg_shared.specs.Sessions.{AreFresh, AreSharedOut, AtSome, GoesO
 use crate::closing::{CloseFault, LockedRefused};
 use crate::keeper::Keeper;
 use crate::locked::Locked;
-use crate::round::Round;
+use crate::round::{Blanks, Round};
 use crate::session::Session;
 use std::alloc::Global;
 use std::sync::Mutex;
-use std::sync::ledger::Blank;
 use tg_payload::Payload;
 use tg_store::Store;
 
@@ -49,27 +49,30 @@ impl<L: Round, P: Payload> SharedStore<L, P> {
     ghost use Rattle.tg_shared.specs.Sessions.{MayShare};
 
     /// Shares a store: puts it behind a lock, and makes a session for each active subject of the graph that it stands
-    /// for. The blank is spent, and has to have one part more than vertices may be made. Fails only when out of memory.
+    /// for. The blanks are spent, and that of the sessions has to have one part more than vertices may be made. Fails
+    /// only when out of memory.
     ///
     /// The round's start says whether the journal stays whole (`start_of_store`), or may be handed out in parts while
     /// it is shared (`start_in_parts`); and whether the keeper may end workers (`start_with_ends`,
-    /// `start_in_parts_with_ends`).
+    /// `start_in_parts_with_ends`). The keeper's first part of the journal begins where the store's begins, and it has
+    /// ended nobody.
     pub fn new(
         alloc: Global,
-        blank: Blank,
+        blanks: Blanks,
         store: Store<P>,
     ) -> Result<Shared<L, P>, SharedRefused<P>>
-        requires shareable { MayShare L.name L.parts L.start blank store }
+        requires shareable { MayShare L.name L.parts L.keeper L.start blanks store }
         ensures sessions { (g : ProtectionGraph) → StandsFor store g → IfOk result (λ shared. AreFresh g.subjects shared.sessions.items) }
+        ensures keeper { IfOk result (λ shared. (shared.keeper.next ≡ store.handed) × (shared.keeper.entered ≡ 0)) }
         ensures handed_back { IfErr result (λ refused. refused.store ≡ store) }
     {
-        match Locked::open(alloc, blank, store) {
-            Ok((locked, sessions)) => Ok(Shared {
+        match Locked::open(alloc, blanks, store) {
+            Ok((locked, sessions, keeper)) => Ok(Shared {
                 store: SharedStore {
                     locked: Mutex::new(locked),
                 },
                 sessions,
-                keeper: Keeper::new(),
+                keeper,
             }),
             Err(store) => Err(SharedRefused { store }),
         }
@@ -90,6 +93,23 @@ impl<L: Round, P: Payload> SharedStore<L, P> {
         let _ = locked.store();
         locked
     }
+
+    /// What was behind the lock, as [`into_locked`](SharedStore::into_locked) hands it out, for who still has the
+    /// keeper: the entries that were made for workers that were ended are exactly those that the keeper made, and the
+    /// store holds its entries from that place on at which the keeper's last part ended. The keeper stays as it was.
+    pub fn into_locked_with(self, keeper: &mut Keeper<L>) -> Locked<L, P>
+        ensures faithful { IsFaithful result.store }
+        ensures gone_on { GoesOn L.start result.store }
+        ensures sessions { result.sessions ≡ sessions_made L.start result.store.entries }
+        ensures started { length (subjects_at L.start) ≤ result.sessions }
+        ensures entered { result.entered ≡ keeper.old.entered }
+        ensures held_from { result.store.handed ≡ keeper.old.next }
+        ensures same { keeper.new ≡ keeper.old }
+    {
+        let mut locked = self.into_locked();
+        locked.tell(keeper);
+        locked
+    }
 }
 
 /// Ends a round: hands out the store, where all sessions are given back and their receipts are right. The store's
@@ -103,11 +123,14 @@ impl<L: Round, P: Payload> SharedStore<L, P> {
 /// refused so; and where a round ends, they stand for exactly as many as its journal says: one for each subject of
 /// then, and one for each that was made since. `ReceiptMismatch` is answered only where the sessions may not close with
 /// some journal that may have been behind the lock, and that has grown by as many entries at least as they have
-/// receipts. A caller who wants to know of the very journal takes the two calls. Store and sessions then come back.
-/// Takes no memory, and no lock is waited for.
+/// receipts. A caller who wants to know of the very journal takes the two calls. Store and sessions then come back, and
+/// the sessions may be in another order. Takes no memory, for n sessions time as n log n, and no lock is waited for.
 ///
-/// Where the keeper may end workers, the journal may have grown by more than there are receipts: by what he entered for
-/// them, which is told by the two calls.
+/// Of a store that was shared whole no session can hand out a receipt. So that each entry made since stands in exactly
+/// one receipt (`whole`) has no other condition there than that the keeper may end no worker.
+///
+/// Where the keeper may end workers, the journal may have grown by more than there are receipts: by what the keeper
+/// entered for them. [`close_with`] tells how much that is.
 pub fn close<L: Round, P: Payload>(
     store: SharedStore<L, P>,
     sessions: Vec<Session<L>>,
@@ -117,14 +140,50 @@ pub fn close<L: Round, P: Payload>(
     ensures shared_out { L.start.may_end ≡ false → IfOk result (λ store. length L.start.entries + handed_of sessions.items ≡ held_from L.start store →
         AreSharedOut (drop (held_from L.start store) store.entries) sessions.items) }
     ensures none_handed { L.start.may_end ≡ false → IfOk result (λ store. handed_of sessions.items ≡ 0 → held_from L.start store ≡ length L.start.entries) }
+    ensures whole { L.start.in_parts ≡ false → L.start.may_end ≡ false → IfOk result (λ store. AreSharedOut (drop (length L.start.entries) store.entries) sessions.items) }
     ensures all { IfOk result (λ store. parts_of sessions.items ≡ sessions_made L.start store.entries) }
     ensures missing { IfErr result (λ refused. refused.why ≡ CloseFault.SessionsMissing → AtSome L.start (λ s. parts_of sessions.items < sessions_made L.start s.entries)) }
     ensures too_few { parts_of sessions.items < length (subjects_at L.start) → IsErrAnd result (λ refused. refused.why ≡ CloseFault.SessionsMissing) }
     ensures mismatch { IfErr result (λ refused. refused.why ≡ CloseFault.ReceiptMismatch → AtSome L.start (λ s.
         (length L.start.entries + count_of sessions.items ≤ length s.entries) × (¬ MayClose s.entries (held_from L.start s) sessions.items))) }
-    ensures handed_back { IfErr result (λ refused. refused.sessions.items ≡ sessions.items) }
+    ensures handed_back { IfErr result (λ refused. IsPermutation sessions.items refused.sessions.items) }
 {
     let locked = store.into_locked();
+    match locked.close(sessions) {
+        Ok(store) => {
+            // It tells that the store is faithful.
+            let _ = store.journal();
+            Ok(store)
+        }
+        Err(refused) => Err(back_behind_its_lock(refused)),
+    }
+}
+
+/// Ends a round as [`close`] does, for who still has the keeper: then how many entries each made is told exactly,
+/// though workers were ended. It is [`SharedStore::into_locked_with`] and [`Locked::close`] in a row.
+///
+/// The journal has grown by as many entries as the keeper made for workers that it ended, and as there are receipts. Of
+/// a store that was shared whole, where the keeper ended nobody, each entry made since stands in exactly one receipt,
+/// and the receipts of each session are all its entries (`whole`). The store holds its entries from that place on at
+/// which the keeper's last part ended. The keeper stays as it was, and what is refused is refused as by [`close`].
+pub fn close_with<L: Round, P: Payload>(
+    store: SharedStore<L, P>,
+    sessions: Vec<Session<L>>,
+    keeper: &mut Keeper<L>,
+) -> Result<Store<P>, CloseRefused<L, P>>
+    ensures back { IfOk result (IsGivenBack L.start sessions.items) }
+    ensures count { IfOk result (λ store. length store.entries ≡ length L.start.entries + keeper.old.entered + handed_of sessions.items + count_of sessions.items) }
+    ensures whole { L.start.in_parts ≡ false → keeper.old.entered ≡ 0 → IfOk result (λ store. AreSharedOut (drop (length L.start.entries) store.entries) sessions.items) }
+    ensures held_from { IfOk result (λ store. store.handed ≡ keeper.old.next) }
+    ensures all { IfOk result (λ store. parts_of sessions.items ≡ sessions_made L.start store.entries) }
+    ensures missing { IfErr result (λ refused. refused.why ≡ CloseFault.SessionsMissing → AtSome L.start (λ s. parts_of sessions.items < sessions_made L.start s.entries)) }
+    ensures too_few { parts_of sessions.items < length (subjects_at L.start) → IsErrAnd result (λ refused. refused.why ≡ CloseFault.SessionsMissing) }
+    ensures mismatch { IfErr result (λ refused. refused.why ≡ CloseFault.ReceiptMismatch → AtSome L.start (λ s.
+        (length L.start.entries + keeper.old.entered + count_of sessions.items ≤ length s.entries) × (¬ MayClose s.entries (held_from L.start s) sessions.items))) }
+    ensures handed_back { IfErr result (λ refused. IsPermutation sessions.items refused.sessions.items) }
+    ensures same { keeper.new ≡ keeper.old }
+{
+    let locked = store.into_locked_with(keeper);
     match locked.close(sessions) {
         Ok(store) => {
             // It tells that the store is faithful.
@@ -141,8 +200,9 @@ pub fn close<L: Round, P: Payload>(
 /// [`SharedStore::into_locked`] and [`Locked::reclaim`] in a row, and the store that was shared, gone on.
 ///
 /// `ReceiptMismatch` is answered only where the sessions may not close with some journal that may have been behind the
-/// lock, as [`close`] does, and nothing else. Store and sessions then come back. A lost session can't act any more: it
-/// wants the shared store, which is gone. Takes no memory, and no lock is waited for.
+/// lock, as [`close`] does, and nothing else. Store and sessions then come back, and the sessions may be in another
+/// order. A lost session can't act any more: it wants the shared store, which is gone. Takes no memory, and no lock is
+/// waited for.
 pub fn reclaim<L: Round, P: Payload>(
     store: SharedStore<L, P>,
     sessions: Vec<Session<L>>,
@@ -153,7 +213,7 @@ pub fn reclaim<L: Round, P: Payload>(
         length store.entries ≡ length L.start.entries + handed_of sessions.items + count_of sessions.items) }
     ensures mismatch { IfErr result (λ refused. (refused.why ≡ CloseFault.ReceiptMismatch) × AtSome L.start (λ s.
         (length L.start.entries + count_of sessions.items ≤ length s.entries) × (¬ MayClose s.entries (held_from L.start s) sessions.items))) }
-    ensures handed_back { IfErr result (λ refused. refused.sessions.items ≡ sessions.items) }
+    ensures handed_back { IfErr result (λ refused. IsPermutation sessions.items refused.sessions.items) }
 {
     let locked = store.into_locked();
     match locked.reclaim(sessions) {

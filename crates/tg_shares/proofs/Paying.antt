@@ -1,5 +1,5 @@
 -- What a call makes of the vertices that are paid for, and that there is a name for who can pay.
-use Rattle.std.specs.Prelude.{OnErr, OnOk}
+use Rattle.std.specs.Prelude.{IfErr, OnErr, OnOk}
 use Rattle.std.proofs.Common.{◌≡◌, ℕ, ◌+◌, ◌<◌, ◌≤◌, Result, Ok, Err, ap, arith}
 use Rattle.tg_model.specs.declared.command.Command.{Command}
 use Rattle.tg_model.specs.declared.command.Deed.{Deed}
@@ -14,6 +14,9 @@ use Rattle.tg_journal.proofs.HistoryLaws.{graph_after-limit}
 use Rattle.tg_store.specs.Store.{StoreState, Enters, graph_of_store}
 use Rattle.tg_store.proofs.StandLaws.{graph-entered}
 use Rattle.tg_shared.specs.Sessions.{Records, RecordsNothing, SessionState}
+use Rattle.tg_shares.specs.declared.fault.LeaveFault.{LeaveFault}
+use Rattle.tg_shares.specs.declared.fault.LeaveFault.TheVariants.{Share}
+use Rattle.tg_shares.specs.declared.fault.ShareFault.{ShareFault}
 use Rattle.tg_shares.specs.Shares.{IsCovered}
 
 one_at_most : (g : ProtectionGraph) (x : ℕ) (deed : Deed) → (step g x deed).made ≤ g.made + 1
@@ -65,3 +68,8 @@ pub name_left : (left vertices : ℕ) (s : StoreState) → IsCovered left s → 
 name_left left vertices s held some within full =
     let limit : (graph_of_store s).limit ≡ s.opening.limit = graph_after-limit (start_of s.opening) s.entries in
     omega (arith, limit, held, some, within, full)
+
+-- what is said of the share's fault that is there
+pub share_told : {T : Type 0} (r : Result T LeaveFault) (Q : ShareFault → Type 0) → ((fault : ShareFault) → r ≡ Err (Share fault) → Q fault) → IfErr r (λ why. (fault : ShareFault) → why ≡ Share fault → Q fault)
+share_told (Ok t) Q told = tt
+share_told (Err why) Q told = λ fault is. told fault (ap Err is)

@@ -1,4 +1,5 @@
-//! Why a purse refuses.
+//! Why a purse refuses, and why a worker doesn't leave.
+use tg_store::ApplyFault;
 use thiserror::Error;
 
 /// Of what a purse has too few.
@@ -18,4 +19,15 @@ pub enum Lack {
 pub struct ShareFault {
     pub worker: u64,
     pub lacks: Lack,
+}
+
+/// Why a worker does not leave. Nothing is changed by it.
+#[derive(Clone, Copy, PartialEq, Eq, Debug, Error)]
+pub enum LeaveFault {
+    /// Its purse has fewer entries than its edges and one more. The keeper can still end it.
+    #[error("{0}")]
+    Share(ShareFault),
+    /// The store refuses: there is no such worker, or memory ran out.
+    #[error("{0}")]
+    Store(ApplyFault),
 }

@@ -1,68 +1,76 @@
 //! What is behind the lock, and what each call does to it.
-ghost use Rattle.std.specs.Prelude.{◌≡◌, ◌≢◌, ◌<◌, Err, IfOk, IfErr, OnOk, OnErr};
+ghost use Rattle.std.specs.Prelude.{◌≡◌, ◌≢◌, ◌<◌, ◌≤◌, ◌+◌, Err, IfOk, IfErr, OnErr, false, length, true};
 ghost use Rattle.tg_shares.specs.Shares.{IsCovered};
 
+use crate::client::Client;
+use crate::fault::{Lack, LeaveFault, ShareFault};
 use crate::purse::{Portion, Purse, Till};
 use std::alloc::Global;
 use std::sync::ledger::{Blank, Ledger};
-use tg_model::{Command, Deed, Reply};
+use tg_journal::Journal;
+use tg_model::Command;
 use tg_payload::{Draft, Payload};
 use tg_rights::Label;
-use tg_shared::{Locked, Round, Session};
+use tg_shared::{Blanks, Keeper, Locked, Round, Session};
 use tg_store::{ApplyFault, CreateFault, CreateRefused, Kind, RoomFault, Store};
 
 /// What is behind the lock of a store with shares: the locked store, and the till, into which the purses pay. All
 /// vertices that are left in purses may still be made. Each call is one call of [`Locked`], with its contract, and is
-/// paid for.
+/// paid for. It never leaves this crate, so nobody reaches the locked store by another call.
 #[derive(Drop)]
-pub struct Metered<L: Round, V: Ledger, P: Payload> {
-    pub locked: Locked<L, P>,
-    pub till: Till<V>,
+pub(crate) struct Metered<L: Round, V: Ledger, P: Payload> {
+    pub(crate) locked: Locked<L, P>,
+    pub(crate) till: Till<V>,
     ghost covered: { IsCovered till locked.store },
 }
 
-/// What is to be put behind a lock, a session for each active subject, by rising name, and the purse that has all
-/// shares.
+/// What is to be put behind a lock, a session for each active subject, by rising name, its one keeper, and the purse
+/// that has all shares.
 #[derive(Drop)]
-pub struct Opened<L: Round, V: Ledger, P: Payload> {
-    pub metered: Metered<L, V, P>,
-    pub sessions: Vec<Session<L>>,
-    pub purse: Purse<V>,
+pub(crate) struct Opened<L: Round, V: Ledger, P: Payload> {
+    pub(crate) metered: Metered<L, V, P>,
+    pub(crate) sessions: Vec<Session<L>>,
+    pub(crate) keeper: Keeper<L>,
+    pub(crate) purse: Purse<V>,
 }
 
 impl<L: Round, V: Ledger, P: Payload> Metered<L, V, P> {
+    ghost use Rattle.tg_model.specs.declared.command.Deed.TheVariants.{Create, Spawn};
+    ghost use Rattle.tg_model.specs.declared.reply.Reply.TheVariants.{WorkersFull};
     ghost use Rattle.tg_model.specs.Graph.{ProtectionGraph};
+    ghost use Rattle.tg_store.specs.Held.{IsHeldOver};
     ghost use Rattle.tg_store.specs.Made.{MayRefuse};
     ghost use Rattle.tg_store.specs.Room.{LacksRoomToCollect};
-    ghost use Rattle.tg_store.specs.Store.{StandsFor};
-    ghost use Rattle.tg_shared.specs.Serving.{Collects, EndsWorker, IsMadeAndNoted, NotesLeaving, ServesCommand};
-    ghost use Rattle.tg_shared.specs.Sessions.{AreFresh, IsFresh, MayNote, MayShare, Records, RecordsNothing};
-    ghost use Rattle.tg_shares.specs.Shares.{MayShareOut, Pays, PaysFor, one_entry, one_vertex};
+    ghost use Rattle.tg_store.specs.Store.{IsFaithful, StandsFor};
+    ghost use Rattle.tg_shared.specs.Serving.{Collects, EndsWorker, IsMadeAndNoted, KeepsNumbers, KeepsRound, ServesCommand};
+    ghost use Rattle.tg_shared.specs.Sessions.{AreFresh, GoesOn, IsFresh, MayNote, MayShare, Records, RecordsNothing, sessions_made, subjects_at};
+    ghost use Rattle.tg_shares.specs.Shares.{CanPayForVertex, LeavesPaying, MayShareOut, PaysFor, PaysForSpawn, one_entry, one_vertex};
 
     /// Shares a store as [`Locked::open`] does, and hands out a purse with so many vertices and entries, which all are
-    /// made out of from then on. The first blank is that of the sessions; the second has as many parts as the purse has
-    /// vertices, and these are no more than may still be made. Both are spent. Fails only when out of memory, and hands
-    /// the store back.
-    pub fn open(
+    /// made out of from then on. The first blanks are those of the round; the other one has as many parts as the purse
+    /// has vertices, and these are no more than may still be made. All are spent. Fails only when out of memory, and
+    /// hands the store back.
+    pub(crate) fn open(
         alloc: Global,
-        blank: Blank,
+        blanks: Blanks,
         vertices: Blank,
         whole: Portion,
         store: Store<P>,
     ) -> Result<Opened<L, V, P>, Store<P>>
-        requires shareable { MayShare L.name L.parts L.start blank store }
+        requires shareable { MayShare L.name L.parts L.keeper L.start blanks store }
         requires shares { MayShareOut V.name V.parts vertices whole.vertices store }
         ensures store { IfOk result (λ opened. opened.metered.locked.store ≡ store) }
         ensures sessions { (g : ProtectionGraph) → StandsFor store g → IfOk result (λ opened. AreFresh g.subjects opened.sessions.items) }
         ensures purse { IfOk result (λ opened. opened.purse ≡ whole) }
         ensures handed_back { IfErr result (λ refused. refused ≡ store) }
     {
-        match Locked::open(alloc, blank, store) {
-            Ok((locked, sessions)) => {
+        match Locked::open(alloc, blanks, store) {
+            Ok((locked, sessions, keeper)) => {
                 let (till, purse) = Till::open(vertices, whole);
                 Ok(Opened {
                     metered: Metered { locked, till },
                     sessions,
+                    keeper,
                     purse,
                 })
             }
@@ -70,22 +78,46 @@ impl<L: Round, V: Ledger, P: Payload> Metered<L, V, P> {
         }
     }
 
+    /// The locked store, without the shares, for who ends the round. Takes no memory.
+    pub(crate) fn into_locked(self) -> Locked<L, P>
+        ensures same { result ≡ self.locked }
+        ensures faithful { IsFaithful result.store }
+        ensures gone_on { GoesOn L.start result.store }
+        ensures sessions { result.sessions ≡ sessions_made L.start result.store.entries }
+        ensures started { length (subjects_at L.start) ≤ result.sessions }
+        ensures none_ended { L.start.may_end ≡ false → result.entered ≡ 0 }
+    {
+        let Metered { locked, till: _ } = self;
+        // It tells what holds of all that is behind a lock.
+        let _ = locked.store();
+        locked
+    }
+
+    /// The store: what holds whenever the lock is free is told here.
+    pub(crate) fn store(&self) -> &Store<P>
+        ensures same { result.now ≡ self.now.locked.store }
+        ensures faithful { IsFaithful self.now.locked.store }
+        ensures gone_on { GoesOn L.start self.now.locked.store }
+    {
+        self.locked.store()
+    }
+
     /// Takes a command of the session's subject, by one call of [`Locked::apply`]. An entry is paid for, and nothing
     /// where it is refused.
-    pub fn apply(
+    pub(crate) fn apply(
         &mut self,
-        session: &mut Session<L>,
-        purse: &mut Purse<V>,
+        client: &mut Client<L, V>,
         command: Command,
     ) -> Result<(), ApplyFault>
-        requires room { 0 < session.old.spare }
-        requires share { 0 < purse.old.entries }
-        ensures served { ServesCommand command self.old.locked.store self.new.locked.store session.old session.new result }
-        ensures paid { PaysFor one_entry purse.old purse.new result }
+        requires room { 0 < client.old.session.spare }
+        requires share { 0 < client.old.purse.entries }
+        ensures served { ServesCommand command self.old.locked.store self.new.locked.store client.old.session client.new.session result }
+        ensures paid { PaysFor one_entry client.old.purse client.new.purse result }
+        ensures kept { KeepsRound self.old.locked self.new.locked }
     {
-        match self.locked.apply(session, command) {
+        match self.locked.apply(&mut client.session, command) {
             Ok(()) => {
-                purse.pay_entry();
+                client.purse.pay_entries(1);
                 Ok(())
             }
             Err(why) => Err(why),
@@ -95,27 +127,27 @@ impl<L: Round, V: Ledger, P: Payload> Metered<L, V, P> {
     /// Makes a vertex of the session's subject, by one call of [`Locked::create`]. It is never answered that no more
     /// vertices may be made, whatever was done before, by whomever. A vertex is paid for, and nothing where it is
     /// refused.
-    pub fn create(
+    pub(crate) fn create(
         &mut self,
-        session: &mut Session<L>,
-        purse: &mut Purse<V>,
+        client: &mut Client<L, V>,
         label: Label,
         draft: Draft<P>,
     ) -> Result<u64, CreateRefused<P>>
-        requires notable { MayNote session.old draft.state }
-        requires share { (0 < purse.old.vertices) × (0 < purse.old.entries) }
-        ensures served { IfOk result (IsMadeAndNoted (Deed.Create label draft.law draft.state) label draft self.old.locked.store self.new.locked.store session.old session.new) }
-        ensures refusals { MayRefuse (Deed.Create label draft.law draft.state) session.old.worker draft self.old.locked.store self.new.locked.store result }
+        requires notable { MayNote client.old.session draft.state }
+        requires share { CanPayForVertex client.old.purse }
+        ensures served { IfOk result (IsMadeAndNoted (Create label draft.law draft.state) label draft self.old.locked.store self.new.locked.store client.old.session client.new.session) }
+        ensures refusals { MayRefuse (Create label draft.law draft.state) client.old.session.worker draft self.old.locked.store self.new.locked.store result }
         ensures never_full { IfErr result (λ refused. refused.why ≢ CreateFault.VerticesFull) }
         ensures no_workers_full { IfErr result (λ refused. refused.why ≢ CreateFault.WorkersFull) }
-        ensures refused { OnErr result (RecordsNothing self.old.locked.store self.new.locked.store session.old session.new) }
-        ensures paid { PaysFor one_vertex purse.old purse.new result }
+        ensures refused { OnErr result (RecordsNothing self.old.locked.store self.new.locked.store client.old.session client.new.session) }
+        ensures paid { PaysFor one_vertex client.old.purse client.new.purse result }
+        ensures numbers { KeepsNumbers self.old.locked self.new.locked }
     {
         // It tells that what is in the purse is left.
-        purse.tell(&mut self.till);
-        match self.locked.create(session, label, draft) {
+        client.purse.tell(&mut self.till);
+        match self.locked.create(&mut client.session, label, draft) {
             Ok(name) => {
-                purse.pay_vertex(&mut self.till);
+                client.purse.pay_vertex(&mut self.till);
                 Ok(name)
             }
             Err(refused) => Err(refused),
@@ -126,55 +158,97 @@ impl<L: Round, V: Ledger, P: Payload> Metered<L, V, P> {
     /// may be made, whatever was done before, by whomever. A vertex is paid for; where too many subjects are active an
     /// entry is, since that has one; and nothing where it is refused otherwise. The new session's share is what its
     /// maker then splits off.
-    pub fn spawn(
+    pub(crate) fn spawn(
         &mut self,
-        session: &mut Session<L>,
-        purse: &mut Purse<V>,
+        client: &mut Client<L, V>,
         label: Label,
         draft: Draft<P>,
     ) -> Result<Session<L>, CreateRefused<P>>
-        requires notable { MayNote session.old draft.state }
-        requires share { (0 < purse.old.vertices) × (0 < purse.old.entries) }
-        ensures served { IfOk result (λ fresh. IsFresh fresh × IsMadeAndNoted (Deed.Spawn label draft.law draft.state) label draft self.old.locked.store self.new.locked.store session.old session.new fresh.worker) }
-        ensures refusals { MayRefuse (Deed.Spawn label draft.law draft.state) session.old.worker draft self.old.locked.store self.new.locked.store result }
+        requires notable { MayNote client.old.session draft.state }
+        requires share { CanPayForVertex client.old.purse }
+        ensures served { IfOk result (λ fresh. IsFresh fresh × IsMadeAndNoted (Spawn label draft.law draft.state) label draft self.old.locked.store self.new.locked.store client.old.session client.new.session fresh.worker) }
+        ensures refusals { MayRefuse (Spawn label draft.law draft.state) client.old.session.worker draft self.old.locked.store self.new.locked.store result }
         ensures never_full { IfErr result (λ refused. refused.why ≢ CreateFault.VerticesFull) }
         ensures too_many_entry { IfErr result (λ refused. refused.why ≡ CreateFault.WorkersFull →
-            Records self.old.locked.store self.new.locked.store session.old session.new (Deed.Spawn label draft.law draft.state) Reply.WorkersFull) }
-        ensures refused { IfErr result (λ refused. refused.why ≢ CreateFault.WorkersFull → RecordsNothing self.old.locked.store self.new.locked.store session.old session.new) }
-        ensures paid { OnOk result (Pays one_vertex purse.old purse.new) }
-        ensures paid_entry { IfErr result (λ refused. refused.why ≡ CreateFault.WorkersFull → Pays one_entry purse.old purse.new) }
-        ensures unpaid { IfErr result (λ refused. refused.why ≢ CreateFault.WorkersFull → purse.new ≡ purse.old) }
+            Records self.old.locked.store self.new.locked.store client.old.session client.new.session (Spawn label draft.law draft.state) WorkersFull) }
+        ensures refused { IfErr result (λ refused. refused.why ≢ CreateFault.WorkersFull → RecordsNothing self.old.locked.store self.new.locked.store client.old.session client.new.session) }
+        ensures paid { PaysForSpawn client.old.purse client.new.purse result }
     {
         // It tells that what is in the purse is left.
-        purse.tell(&mut self.till);
-        match self.locked.spawn(session, label, draft) {
+        client.purse.tell(&mut self.till);
+        match self.locked.spawn(&mut client.session, label, draft) {
             Ok(fresh) => {
-                purse.pay_vertex(&mut self.till);
+                client.purse.pay_vertex(&mut self.till);
                 Ok(fresh)
             }
             Err(refused) => {
-                if refused.why == CreateFault::WorkersFull {
-                    purse.pay_entry();
-                }
+                client.purse.pay_refused_spawn(refused.why);
                 Err(refused)
             }
         }
     }
 
-    /// The session's worker leaves, by one call of [`Locked::leave`]. Nothing is paid for, so nobody is kept by an
-    /// empty purse; what is free in its own is for who merges it.
-    pub fn leave(&mut self, session: &mut Session<L>) -> Result<u64, ApplyFault>
-        ensures ended { EndsWorker session.old.worker self.old.locked.store self.new.locked.store result }
-        ensures noted { NotesLeaving self.old.locked.store session.old session.new result }
+    /// The session's worker leaves, by one call of [`Locked::leave`]. An entry is paid for each edge that it gives up,
+    /// and one for its retire. The row may grow until the lock is taken, so the purse is looked at here.
+    ///
+    /// Where it is refused nothing is changed and nothing is paid. `Store` with `NoSuchWorker` is answered exactly
+    /// where the session's subject is none any more; `Share` only where the purse has too few entries; else
+    /// `OutOfMemory` alone.
+    pub(crate) fn leave(&mut self, client: &mut Client<L, V>) -> Result<u64, LeaveFault>
+        ensures { LeavesPaying self.old.locked.store self.new.locked.store client.old.session client.new.session client.old.purse client.new.purse result }
     {
-        self.locked.leave(session)
+        let worker = client.session.worker();
+        let edges = match self.locked.store().row(worker) {
+            Ok(row) => row.as_slice().len() as u64,
+            Err(why) => return Err(LeaveFault::Store(why)),
+        };
+        if client.purse.entries() <= edges {
+            let lacks = Lack::Entries;
+            return Err(LeaveFault::Share(ShareFault { worker, lacks }));
+        }
+        match self.locked.leave(&mut client.session) {
+            Ok(count) => {
+                client.purse.pay_entries(count + 1);
+                Ok(count)
+            }
+            Err(why) => Err(LeaveFault::Store(why)),
+        }
+    }
+
+    /// The rights that the session's subject holds over a vertex, by one call of [`Locked::label`]. Nothing is paid
+    /// for.
+    pub(crate) fn label(&self, client: &Client<L, V>, target: u64) -> Option<Label>
+        ensures held { (g : ProtectionGraph) → StandsFor self.now.locked.store g → IsHeldOver g client.now.session.worker target result }
+    {
+        self.locked.label(&client.session, target)
     }
 
     /// Collects the heap, by one call of [`Locked::collect`]. Nothing is paid for.
-    pub fn collect(&mut self, kind: Kind) -> Result<u64, RoomFault>
+    pub(crate) fn collect(&mut self, kind: Kind) -> Result<u64, RoomFault>
         ensures collected { Collects kind 0 self.old.locked self.new.locked result }
         ensures full { result ≡ Err RoomFault.HeapFull → LacksRoomToCollect kind 1 self.old.locked.store.heap }
     {
         self.locked.collect(kind)
+    }
+
+    /// Hands out the entries that the store holds, by one call of [`Locked::take_journal`]. Nothing is paid for.
+    pub(crate) fn take_journal(&mut self, keeper: &mut Keeper<L>) -> Journal
+        requires in_parts { L.start.in_parts ≡ true }
+        ensures joined { result.start ≡ keeper.old.next }
+        ensures next { keeper.new ≡ record keeper.old { next = length result.entries } }
+        ensures entries { result.entries ≡ self.old.locked.store.entries }
+        ensures start { result.start ≡ self.old.locked.store.handed }
+    {
+        self.locked.take_journal(keeper)
+    }
+
+    /// Ends a worker, by one call of [`Locked::end`]. Nothing is paid for.
+    pub(crate) fn end(&mut self, keeper: &mut Keeper<L>, worker: u64) -> Result<u64, ApplyFault>
+        requires may_end { L.start.may_end ≡ true }
+        ensures ended { EndsWorker worker self.old.locked.store self.new.locked.store result }
+        ensures counted { IfOk result (λ count. keeper.new ≡ record keeper.old { entered = keeper.old.entered + (count + 1) }) }
+        ensures none_counted { OnErr result (keeper.new ≡ keeper.old) }
+    {
+        self.locked.end(keeper, worker)
     }
 }

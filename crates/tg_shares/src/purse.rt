@@ -1,11 +1,12 @@
 //! Purses: what their holders may still take of vertices and entries.
-ghost use Rattle.std.specs.Prelude.{◌≡◌, ◌↔◌, ◌<◌, ◌≤◌, ◌+◌, ◌^◌, ◌-◌, Err, IfOk, OnErr, OnOk, min};
+ghost use Rattle.std.specs.Prelude.{◌≡◌, ◌≢◌, ◌↔◌, ◌<◌, ◌≤◌, ◌+◌, ◌^◌, ◌-◌, Err, IfOk, OnErr, OnOk, min};
 ghost use Rattle.tg_shares.specs.declared.fault.Lack.{Lack as LackOf};
-ghost use Rattle.tg_shares.specs.Shares.{LacksToMake, Pays, one_entry, one_vertex};
+ghost use Rattle.tg_shares.specs.Shares.{CanPayForVertex, LacksToMake, Pays, entries_alone, one_entry, one_vertex};
 
 use crate::fault::{Lack, ShareFault};
 use std::marker::Model;
 use std::sync::ledger::{Blank, Ledger, Share};
+use tg_store::CreateFault;
 
 /// So many vertices to be made, and so many entries of the journal.
 #[derive(Clone, Copy, PartialEq, Eq, Debug)]
@@ -142,7 +143,7 @@ impl<V: Ledger> Purse<V> {
 
     // Pays for a vertex that was made, and for its entry.
     pub(crate) fn pay_vertex(&mut self, till: &mut Till<V>)
-        requires { (0 < self.old.vertices) × (0 < self.old.entries) }
+        requires { CanPayForVertex self.old }
         ensures paid { Pays one_vertex self.old self.new }
         ensures till { till.new + 1 ≡ till.old }
     {
@@ -151,12 +152,24 @@ impl<V: Ledger> Purse<V> {
         self.entries -= 1;
     }
 
-    // Pays for an entry.
-    pub(crate) fn pay_entry(&mut self)
-        requires { 0 < self.old.entries }
-        ensures { Pays one_entry self.old self.new }
+    // Pays for so many entries.
+    pub(crate) fn pay_entries(&mut self, count: u64)
+        requires { count ≤ self.old.entries }
+        ensures { Pays (entries_alone count) self.old self.new }
     {
-        self.entries -= 1;
+        self.entries -= count;
+    }
+
+    // Pays for the entry of a spawn that is refused since too many subjects are active. Any other refusal costs
+    // nothing.
+    pub(crate) fn pay_refused_spawn(&mut self, why: CreateFault)
+        requires { 0 < self.old.entries }
+        ensures crowded { why ≡ CreateFault.WorkersFull → Pays one_entry self.old self.new }
+        ensures unpaid { why ≢ CreateFault.WorkersFull → self.new ≡ self.old }
+    {
+        if why == CreateFault::WorkersFull {
+            self.entries -= 1;
+        }
     }
 
     // Changes nothing, and tells that what is in the purse is left.

@@ -490,10 +490,11 @@ impl<P: Payload> Store<P> {
         Ok(copied)
     }
 
-    /// What a collection of this kind starts from: the rows of the workers, by rising name; for a nursery collection
-    /// the remembered cells too, and a row from the first cell on that may name a young one. The collections from it
-    /// are those from the whole rows, and it reaches the same cells. This, [`spaces`](Store::spaces) and
-    /// [`settle`](Store::settle) are for collectors outside of this crate. Fails only when out of memory.
+    /// What a collection of this kind starts from. For a full collection that is the rows of the workers, by rising
+    /// name. For a nursery collection it is also the remembered cells, and of a row that may name young cells each
+    /// young cell that its marked cells name, as a row of its own. The collections from it are those from the whole
+    /// rows, and it reaches the same cells. This, [`spaces`](Store::spaces) and [`settle`](Store::settle) are for
+    /// collectors outside of this crate. Fails only when out of memory.
     pub fn roots(&self, kind: Kind) -> Result<Vec<Root>, AllocError>
         ensures roots { IfOk result (λ roots. CollectAlike kind self.now.heap.table.spaces (roots_of kind self.now.heap) roots.items) }
         ensures targets { IfOk result (λ roots. all_root_targets (from_space kind) self.now.heap.table.spaces roots.items ≡ all_root_targets (from_space kind) self.now.heap.table.spaces (roots_of kind self.now.heap)) }

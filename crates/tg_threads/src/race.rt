@@ -15,11 +15,10 @@ use crate::turnstile::Turnstile;
 use std::alloc::Global;
 use std::marker::Brand;
 use std::sync::Wait;
-use std::sync::ledger::Blank;
 use std::thread::Threads;
 use tg_payload::{Draft, Payload};
 use tg_script::{Helpers, Settings, open_store, read_script};
-use tg_shared::{Round, Session, Shared, SharedStore, close};
+use tg_shared::{Blanks, Round, Session, Shared, SharedStore, close};
 use tg_store::Store;
 use tg_text::{Line, Sink, Source};
 use tg_weave::{Told, in_script_order, sessions_of, share_out};
@@ -134,13 +133,13 @@ fn race<
     let helpers = settings.helpers;
     let opened = open_race(alloc, source, sink, settings, workers)?;
     let Opened { store, lines } = opened;
-    let blank = Blank::new(store.opening().max_vertices() + 1);
+    let blanks = Blanks::new(store.opening().max_vertices() + 1);
     let raced = share::<Brand, P, G, R>(
         rt,
         alloc,
         turnstile,
         helpers,
-        blank,
+        blanks,
         store,
         stock,
         lines.as_slice(),
@@ -226,17 +225,17 @@ fn share<L: Round + Send + Sync, P: Payload + Send, G: Turnstile + Sync, R: Thre
     alloc: Global,
     turnstile: &G,
     helpers: Helpers,
-    blank: Blank,
+    blanks: Blanks,
     store: Store<P>,
     stock: Vec<Draft<P>>,
     lines: &[Line],
 ) -> Result<Raced<P>, RaceFault>
-    requires shareable { MayShare L.name L.parts L.start blank store }
+    requires shareable { MayShare L.name L.parts L.keeper L.start blanks store }
     requires none_ended { L.start.may_end ≡ false }
     requires raceable { MayRace store.opening store.entries lines.now }
     ensures run { RunsRace helpers store.heap.table.limits.max_blocks store.opening stock.items lines.now result }
 {
-    let shared = SharedStore::<L, P>::new(alloc, blank, store)?;
+    let shared = SharedStore::<L, P>::new(alloc, blanks, store)?;
     run_shared(rt, alloc, turnstile, helpers, shared, stock, lines)
 }
 

@@ -8,7 +8,7 @@
 mod words;
 
 use std::env;
-use std::io::{self, BufReader};
+use std::io::{self, BufReader, ErrorKind};
 use std::process::ExitCode;
 use tg_entries::{TextFault, audit_text};
 use words::{HELP, MORE};
@@ -36,9 +36,13 @@ fn obey(rt: &HostRuntime) -> Result<u8, TextFault> {
 
 // Answers the words of the command line, where there are any. The exit status.
 fn answer_words(rt: &HostRuntime) -> io::Result<Option<u8>> {
-    let Ok(mut words) = env::args(rt) else {
-        eprintln!(rt; "tgaudit: bad words")?;
-        return Ok(Some(2));
+    let mut words = match env::args(rt) {
+        Ok(words) => words,
+        Err(error) if error.kind() == ErrorKind::InvalidData => {
+            eprintln!(rt; "tgaudit: bad words")?;
+            return Ok(Some(2));
+        }
+        Err(error) => return Err(error),
     };
     match words.nth(1) {
         Some(word) => Ok(Some(answer(rt, word.as_str())?)),

@@ -1,18 +1,21 @@
 -- What is told of a question.
-use Rattle.std.specs.Prelude.{◌≡◌, ℕ, false, ◌≤◌, List}
+use Rattle.std.specs.Prelude.{◌≡◌, ◌⊎◌, ℕ, true, false, ◌≤◌, List, length}
 use Rattle.std.specs.List.{Contains}
+use Rattle.tg_rights.specs.RightSet.{RightSet, has, is_none_held}
 use Rattle.tg_rights.specs.declared.Right.{Right}
 use Rattle.tg_model.specs.Graph.{ProtectionGraph}
 use Rattle.tg_model.specs.Picture.{Shown, IsPictureOf}
 use Rattle.tg_could.specs.declared.answer.Answer.{Answer}
 use Rattle.tg_could.specs.Answered.{IsAnswer}
 use Rattle.tg_could.specs.Turns.{NeverHolds}
-use Rattle.tg_could.specs.Told.{IsLeftOut}
-use Rattle.tg_could.specs.declared.who.Who.{Who}
 use Rattle.tg_plain.specs.declared.text.PlainText.{PlainText}
 use Rattle.tg_plain.specs.Grown.{Adds}
+use Rattle.tgcould.specs.declared.question.Question.{Question}
+use Rattle.tgcould.specs.declared.question.Question.TheVariants.{Hold, Who, What}
 use Rattle.tgcould.specs.declared.question.Vertex.{Vertex}
 use Rattle.tgcould.specs.declared.question.Vertex.TheVariants.{Named, New}
+use Rattle.tgcould.specs.declared.stars.Holders.{Holders}
+use Rattle.tgcould.specs.declared.stars.Held.{Held}
 use Rattle.tgcould.specs.Texts.{answer_text}
 
 -- the name of a vertex of a question: the next to be made has the number of those that were
@@ -33,10 +36,41 @@ TellsHold p silent x right y old new =
 abbrev pub IsNever : Shown → List ℕ → ℕ → Right → ℕ → Type 0
 IsNever p silent x right y = (g : ProtectionGraph) → IsPictureOf p g → NeverHolds silent g x right y
 
--- of the vertices that were made, and of the next, whoever isn't among these never holds the right over y
-abbrev pub ListsWho : Shown → List ℕ → Right → ℕ → List ℕ → Type 0
-ListsWho p silent right y names = (x : ℕ) → x ≤ p.made → (¬ Contains names x) → IsNever p silent x right y
+-- ---- questions with a star
 
--- whoever was left out where all were told of at once never holds the right over y
-abbrev pub LeavesOut : Shown → List ℕ → Right → ℕ → Who → Type 0
-LeavesOut p silent right y who = (x : ℕ) → IsLeftOut who x → IsNever p silent x right y
+-- x is listed: by its name, or as one that isn't made yet where those are listed
+abbrev pub IsHolder : Shown → Holders → ℕ → Type 0
+IsHolder p holders x = Contains holders.names.items x ⊎ ((holders.later ≡ true) × (p.made ≤ x))
+
+-- Whoever isn't listed never holds the right over y. This is of all names: those that were made, and those that may yet be.
+abbrev pub ListsWho : Shown → List ℕ → Right → ℕ → Holders → Type 0
+ListsWho p silent right y holders = (x : ℕ) → ¬ IsHolder p holders x → IsNever p silent x right y
+
+-- the right over y stands in a list of vertices and rights
+pub record IsHeld (over : List (ℕ × RightSet)) (right : Right) (y : ℕ) : Type 0 where
+  pub rights : RightSet
+  pub there : Contains over (y, rights)
+  pub is : has rights right ≡ true
+
+-- the right over y is listed: by the name, or as one over those that aren't made yet
+abbrev pub IsHeldBy : Shown → Held → Right → ℕ → Type 0
+IsHeldBy p held right y = IsHeld held.over.items right y ⊎ ((has held.later right ≡ true) × (p.made ≤ y))
+
+-- A right that isn't listed x never holds. This is of rights over all names: those that were made, and those that may yet be.
+abbrev pub ListsWhat : Shown → List ℕ → ℕ → Held → Type 0
+ListsWhat p silent x held = (right : Right) (y : ℕ) → ¬ IsHeldBy p held right y → IsNever p silent x right y
+
+-- nobody is listed, and nothing
+abbrev pub IsNobody : Holders → Type 0
+IsNobody holders = (length holders.names.items ≡ 0) × (holders.later ≡ false)
+
+abbrev pub IsNothing : Held → Type 0
+IsNothing held = (length held.over.items ≡ 0) × (is_none_held held.later ≡ true)
+
+-- ---- what never comes about
+
+-- What the question asks about never comes about. With a star it is about all names, made or not.
+abbrev pub NeverComes : Shown → List ℕ → Question → Type 0
+NeverComes p silent (Hold x right y) = IsNever p silent (named_in p x) right (named_in p y)
+NeverComes p silent (Who right y) = (x : ℕ) → IsNever p silent x right (named_in p y)
+NeverComes p silent (What x) = (right : Right) (y : ℕ) → IsNever p silent (named_in p x) right y

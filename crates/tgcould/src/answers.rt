@@ -1,4 +1,8 @@
 //! The answers to all questions.
+ghost use Rattle.std.specs.Prelude.{◌≡◌, IfOk, IsTrue};
+ghost use Rattle.std.specs.List.{All};
+ghost use Rattle.tgcould.specs.Policies.{IsKept, texts_of};
+ghost use Rattle.tgcould.specs.Told.{NeverComes};
 
 use crate::ask::{Scene, Told, tell};
 use crate::notes::Notes;
@@ -18,7 +22,9 @@ pub struct Answers {
 
 impl Answers {
     /// No answer. So many boxes are left in the stock, and so many questions are asked.
-    pub fn new(alloc: Global, boxes: u64, questions: usize) -> Answers {
+    pub fn new(alloc: Global, boxes: u64, questions: usize) -> Answers
+        ensures { result.notes.status ≡ 0 }
+    {
         Answers {
             text: PlainText::new(alloc),
             notes: Notes::new(alloc, boxes),
@@ -26,18 +32,55 @@ impl Answers {
         }
     }
 
-    /// Adds the answers to the questions of an option.
-    pub fn add_all(&mut self, scene: &Scene, matches: &ArgMatches, option: &str, must_never: bool) {
-        for text in matches.get_strs(option).unwrap_or(&[]) {
-            if let Ok(question) = read_question(text) {
-                let told = self.add(scene, text, question);
-                self.notes.add(text, told, must_never);
-            }
+    /// Adds the answers to the questions of an option. If the exit status is 0 then, it was before. If what these
+    /// questions ask about must never come about, it never does.
+    pub fn add_all(&mut self, scene: &Scene, matches: &ArgMatches, option: &str, must_never: bool)
+        ensures before { self.new.notes.status ≡ 0 → self.old.notes.status ≡ 0 }
+        ensures kept { self.new.notes.status ≡ 0 → IsTrue must_never →
+            All (IsKept scene.now.picture.now scene.now.silent.now) (texts_of matches.now option.now) }
+    {
+        let values = matches.get_strs(option).unwrap_or(&[]);
+        self.add_each(scene, values, must_never);
+    }
+
+    // Adds the answers to the questions that these texts are.
+    fn add_each(&mut self, scene: &Scene, texts: &[&str], must_never: bool)
+        ensures before { self.new.notes.status ≡ 0 → self.old.notes.status ≡ 0 }
+        ensures kept { self.new.notes.status ≡ 0 → IsTrue must_never →
+            All (λ text. IsKept scene.now.picture.now scene.now.silent.now text.now) texts.now }
+    {
+        for text in texts {
+            self.add_text(scene, text, must_never);
         }
     }
 
+    // Adds the answer to the question that a text is, or notes that it is none.
+    fn add_text(&mut self, scene: &Scene, text: &str, must_never: bool)
+        ensures before { self.new.notes.status ≡ 0 → self.old.notes.status ≡ 0 }
+        ensures kept { self.new.notes.status ≡ 0 → IsTrue must_never →
+            IsKept scene.now.picture.now scene.now.silent.now text.now }
+    {
+        match read_question(text) {
+            Ok(question) => self.add_noted(scene, text, question, must_never),
+            Err(_) => self.notes.refuse(),
+        }
+    }
+
+    // Adds the answer to a question, whose text this is, and what standard error says of it.
+    fn add_noted(&mut self, scene: &Scene, text: &str, question: Question, must_never: bool)
+        ensures before { self.new.notes.status ≡ 0 → self.old.notes.status ≡ 0 }
+        ensures kept { self.new.notes.status ≡ 0 → IsTrue must_never →
+            NeverComes scene.now.picture.now scene.now.silent.now question }
+    {
+        let told = self.add(scene, text, question);
+        self.notes.add(text, told, must_never);
+    }
+
     // Adds the answer to a question, whose text this is.
-    fn add(&mut self, scene: &Scene, text: &str, question: Question) -> Told {
+    fn add(&mut self, scene: &Scene, text: &str, question: Question) -> Told
+        ensures never { IsTrue result.is_never → NeverComes scene.now.picture.now scene.now.silent.now question }
+        ensures status { self.new.notes.status ≡ self.old.notes.status }
+    {
         if !self.are_headed {
             return tell(&mut self.text, scene, question);
         }
@@ -49,7 +92,9 @@ impl Answers {
     }
 
     /// Prints the answers, and the notes on standard error. The exit status.
-    pub fn print<R: Print + Eprint>(&self, rt: &R) -> Result<u8, PlainFault> {
+    pub fn print<R: Print + Eprint>(&self, rt: &R) -> Result<u8, PlainFault>
+        ensures { IfOk result (λ status. status ≡ self.now.notes.status) }
+    {
         if self.notes.is_short {
             return Err(PlainFault::OutOfMemory(AllocError));
         }

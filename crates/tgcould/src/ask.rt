@@ -1,30 +1,19 @@
 //! What is asked of a picture, and told.
-ghost use Rattle.std.specs.Prelude.{◌≡◌, ℕ, IfOk, OnOk, IsTrue};
-ghost use Rattle.std.specs.List.{Contains};
-ghost use Rattle.tg_could.specs.Told.{IsLeftOut};
+ghost use Rattle.std.specs.Prelude.{◌≡◌, ℕ, List, IfOk, IsTrue, true, false};
+ghost use Rattle.tg_rights.specs.declared.Right.{Right as TheRight};
+ghost use Rattle.tg_model.specs.Picture.{Shown};
 ghost use Rattle.tg_plain.specs.Grown.{Adds};
 ghost use Rattle.tgcould.specs.Texts.{answer_text};
-ghost use Rattle.tgcould.specs.Told.{Answers, IsNever, LeavesOut, ListsWho, TellsHold, named_in};
+ghost use Rattle.tgcould.specs.Told.{Answers, IsNever, IsNobody, IsNothing, NeverComes, TellsHold, named_in};
 
 use crate::question::{Question, Vertex};
+use crate::stars::{Held, Holders, held_by, holders_of};
 use crate::text::add_answer;
 use std::alloc::{AllocError, Global};
-use tg_could::{Answer, Chance, What, Who, could_hold, what_could, who_could};
+use tg_could::{Answer, could_hold};
 use tg_model::{Deed, Picture};
 use tg_plain::PlainText;
 use tg_rights::{Right, Rights};
-
-// All rights, in the order of their letters.
-const RIGHTS: &[Right] = &[
-    Right::R,
-    Right::W,
-    Right::T,
-    Right::G,
-    Right::A,
-    Right::L,
-    Right::U,
-    Right::V,
-];
 
 /// What is asked about: the picture of a graph, and who takes no turns.
 #[derive(Clone, Copy)]
@@ -49,7 +38,9 @@ pub struct Told {
 }
 
 /// Adds the answer to a question.
-pub fn tell(text: &mut PlainText, scene: &Scene, question: Question) -> Told {
+pub fn tell(text: &mut PlainText, scene: &Scene, question: Question) -> Told
+    ensures { IsTrue result.is_never → NeverComes scene.now.picture.now scene.now.silent.now question }
+{
     match question {
         Question::Hold { x, right, y } => tell_hold(text, scene, x, right, y),
         Question::Who { right, y } => tell_who(text, scene, right, name_of(scene, y)),
@@ -76,8 +67,10 @@ fn ask(scene: &Scene, x: u64, right: Right, y: u64) -> Result<Answer, AllocError
 
 // Adds whether x could come to hold the right over y.
 fn tell_hold(text: &mut PlainText, scene: &Scene, x: Vertex, right: Right, y: Vertex) -> Told
-    ensures { TellsHold scene.now.picture.now scene.now.silent.now
+    ensures text { TellsHold scene.now.picture.now scene.now.silent.now
         (named_in scene.now.picture.now x) right (named_in scene.now.picture.now y) text.old text.new }
+    ensures never { IsTrue result.is_never → IsNever scene.now.picture.now scene.now.silent.now
+        (named_in scene.now.picture.now x) right (named_in scene.now.picture.now y) }
 {
     match ask(scene, name_of(scene, x), right, name_of(scene, y)) {
         Ok(answer) => tell_answer(text, &answer),
@@ -90,14 +83,24 @@ fn tell_hold(text: &mut PlainText, scene: &Scene, x: Vertex, right: Right, y: Ve
 
 // Adds the text of an answer.
 fn tell_answer(text: &mut PlainText, answer: &Answer) -> Told
-    ensures { Adds text.old (answer_text answer.now) text.new }
+    ensures text { Adds text.old (answer_text answer.now) text.new }
+    ensures never { IsTrue result.is_never → (p : Shown) (silent : List ℕ) (x : ℕ) (right : TheRight) (y : ℕ) →
+        Answers p silent x right y answer.now → IsNever p silent x right y }
 {
     add_answer(text, answer);
     Told {
-        is_never: matches!(answer, Answer::Never(_)),
+        is_never: is_never(answer),
         is_open: matches!(answer, Answer::Open),
         made: makings(turns_of(answer)),
     }
+}
+
+// Whether an answer is that it never comes about.
+fn is_never(answer: &Answer) -> bool
+    ensures { IsTrue result → (p : Shown) (silent : List ℕ) (x : ℕ) (right : TheRight) (y : ℕ) →
+        Answers p silent x right y answer.now → IsNever p silent x right y }
+{
+    matches!(answer, Answer::Never(_))
 }
 
 // The turns that an answer tells.
@@ -120,7 +123,9 @@ fn makings(turns: &[(u64, Deed)]) -> u64 {
 }
 
 // What was told by a list.
-fn listed(is_never: bool) -> Told {
+fn listed(is_never: bool) -> Told
+    ensures { result.is_never ≡ is_never }
+{
     Told {
         is_never,
         is_open: false,
@@ -129,9 +134,11 @@ fn listed(is_never: bool) -> Told {
 }
 
 // Adds who could come to hold the right over y.
-fn tell_who(text: &mut PlainText, scene: &Scene, right: Right, y: u64) -> Told {
-    match who(scene, right, y) {
-        Ok(names) => add_who(text, scene.picture.made(), names.as_slice()),
+fn tell_who(text: &mut PlainText, scene: &Scene, right: Right, y: u64) -> Told
+    ensures { IsTrue result.is_never → (x : ℕ) → IsNever scene.now.picture.now scene.now.silent.now x right y }
+{
+    match holders_of(scene, right, y) {
+        Ok(holders) => add_holders(text, &holders),
         Err(_) => {
             text.is_short = true;
             listed(false)
@@ -139,93 +146,47 @@ fn tell_who(text: &mut PlainText, scene: &Scene, right: Right, y: u64) -> Told {
     }
 }
 
-// Adds these names, with a space between two, or that there are none.
-fn add_who(text: &mut PlainText, made: u64, names: &[u64]) -> Told {
+// Adds these names and `new`, with a space between two, or that there are none.
+fn add_holders(text: &mut PlainText, holders: &Holders) -> Told
+    ensures { IsTrue result.is_never → IsNobody holders.now }
+{
     let first = text.len();
-    for name in names {
-        add_vertex(text, first, made, *name);
+    for name in holders.names.as_slice() {
+        add_name(text, first, *name);
     }
-    text.add(if names.is_empty() { "nobody\n" } else { "\n" });
-    listed(names.is_empty())
+    if holders.later {
+        add_new(text, first);
+    }
+    let is_never = holders.names.is_empty() && !holders.later;
+    text.add(if is_never { "nobody\n" } else { "\n" });
+    listed(is_never)
 }
 
-// Adds a vertex to the list that begins here, with a space between two: its name, or `new` where it is the next.
-fn add_vertex(text: &mut PlainText, first: usize, made: u64, name: u64) {
+// Adds a name to the list that begins here, with a space between two.
+fn add_name(text: &mut PlainText, first: usize, name: u64) {
+    add_space(text, first);
+    text.add_number(name);
+}
+
+// Adds those who are made later.
+fn add_new(text: &mut PlainText, first: usize) {
+    add_space(text, first);
+    text.add("new");
+}
+
+// Adds a space, unless the list begins here.
+fn add_space(text: &mut PlainText, first: usize) {
     if text.len() > first {
         text.add(" ");
-    }
-    if name == made {
-        text.add("new");
-    } else {
-        text.add_number(name);
-    }
-}
-
-// Of all vertices and the next, those of whom it isn't shown that they never hold the right over y.
-fn who(scene: &Scene, right: Right, y: u64) -> Result<Vec<u64>, AllocError>
-    ensures { IfOk result (λ names. ListsWho scene.now.picture.now scene.now.silent.now right y names.items) }
-{
-    let who = who_could(scene.alloc, scene.picture, scene.silent, right, y)?;
-    names_told(scene, &who, right, y)
-}
-
-// The same, once one search has told of all at once.
-fn names_told(scene: &Scene, who: &Who, right: Right, y: u64) -> Result<Vec<u64>, AllocError>
-    requires { LeavesOut scene.now.picture.now scene.now.silent.now right y who.now }
-    ensures { IfOk result (λ names. ListsWho scene.now.picture.now scene.now.silent.now right y names.items) }
-{
-    let mut names = Vec::new(scene.alloc);
-    let made = scene.picture.made();
-    for x in 0..made {
-        add_unless_never(&mut names, scene, who, x, right, y)?;
-    }
-    add_unless_never(&mut names, scene, who, made, right, y)?;
-    Ok(names)
-}
-
-// Adds x, unless it is shown that x never holds the right over y: by the search that told of all at once, else by one
-// of its own.
-fn add_unless_never(
-    names: &mut Vec<u64>,
-    scene: &Scene,
-    who: &Who,
-    x: u64,
-    right: Right,
-    y: u64,
-) -> Result<(), AllocError>
-    ensures kept { OnOk result ((k : ℕ) → Contains names.old.items k → Contains names.new.items k) }
-    ensures shown { OnOk result (LeavesOut scene.now.picture.now scene.now.silent.now right y who.now →
-        (¬ Contains names.new.items x) → IsNever scene.now.picture.now scene.now.silent.now x right y) }
-{
-    if is_left_out(who, x) || is_never(scene, x, right, y)? {
-        return Ok(());
-    }
-    names.push(x)?;
-    Ok(())
-}
-
-// Whether it is shown that x never holds the right over y.
-fn is_never(scene: &Scene, x: u64, right: Right, y: u64) -> Result<bool, AllocError>
-    ensures { IfOk result (λ never. IsTrue never → IsNever scene.now.picture.now scene.now.silent.now x right y) }
-{
-    let answer = ask(scene, x, right, y)?;
-    Ok(matches!(answer, Answer::Never(_)))
-}
-
-// Whether x was left out where all were told of at once.
-fn is_left_out(who: &Who, x: u64) -> bool
-    ensures { IsTrue result → IsLeftOut who.now x }
-{
-    match who.of(x) {
-        Chance::Never => true,
-        Chance::Perhaps => false,
     }
 }
 
 // Adds which rights x could come to hold, and over whom.
-fn tell_what(text: &mut PlainText, scene: &Scene, x: u64) -> Told {
-    match what_could(scene.alloc, scene.picture, scene.silent, x) {
-        Ok(told) => add_what(text, scene, &told, x),
+fn tell_what(text: &mut PlainText, scene: &Scene, x: u64) -> Told
+    ensures { IsTrue result.is_never → (right : TheRight) (y : ℕ) → IsNever scene.now.picture.now scene.now.silent.now x right y }
+{
+    match held_by(scene, x) {
+        Ok(held) => add_held(text, &held),
         Err(_) => {
             text.is_short = true;
             listed(false)
@@ -233,48 +194,26 @@ fn tell_what(text: &mut PlainText, scene: &Scene, x: u64) -> Told {
     }
 }
 
-// Adds each vertex over which x could come to hold a right, with these rights, and a space between two.
-fn add_what(text: &mut PlainText, scene: &Scene, told: &What, x: u64) -> Told {
+// Adds each vertex with the rights over it, with a space between two, or that there are none.
+fn add_held(text: &mut PlainText, held: &Held) -> Told
+    ensures { IsTrue result.is_never → IsNothing held.now }
+{
     let first = text.len();
-    for y in 0..=scene.picture.made() {
-        match what(scene, told, x, y) {
-            Ok(rights) => add_held(text, first, scene.picture.made(), y, rights),
-            Err(_) => {
-                text.is_short = true;
-                break;
-            }
-        }
+    for (name, rights) in held.over.as_slice() {
+        add_name(text, first, *name);
+        add_rights(text, *rights);
     }
-    let is_never = text.len() == first;
+    if !held.later.is_empty() {
+        add_new(text, first);
+        add_rights(text, held.later);
+    }
+    let is_never = held.over.is_empty() && held.later.is_empty();
     text.add(if is_never { "nothing\n" } else { "\n" });
     listed(is_never)
 }
 
-// Adds a vertex and the rights over it, unless there are none, to the list that begins here.
-fn add_held(text: &mut PlainText, first: usize, made: u64, y: u64, rights: Rights) {
-    if !rights.is_empty() {
-        add_vertex(text, first, made, y);
-        text.add(":");
-        text.add_rights(rights);
-    }
-}
-
-// The rights of which it isn't shown that x never holds them over y: by the search that told of all at once, else by
-// one of its own.
-fn what(scene: &Scene, told: &What, x: u64, y: u64) -> Result<Rights, AllocError> {
-    let mut rights = Rights::empty();
-    for right in RIGHTS {
-        if could(scene, told, x, *right, y)? {
-            rights = rights.union(Rights::of(*right));
-        }
-    }
-    Ok(rights)
-}
-
-// Whether it isn't shown that x never holds the right over y.
-fn could(scene: &Scene, told: &What, x: u64, right: Right, y: u64) -> Result<bool, AllocError> {
-    match told.of(right, y) {
-        Chance::Never => Ok(false),
-        Chance::Perhaps => Ok(!is_never(scene, x, right, y)?),
-    }
+// Adds the rights over a vertex of the list.
+fn add_rights(text: &mut PlainText, rights: Rights) {
+    text.add(":");
+    text.add_rights(rights);
 }

@@ -32,8 +32,10 @@ Answers:
   now             X holds it
   could           X does after the lines behind this one, each of one who acts
   could, with N names more
-                  the same where N vertices more than --vertices says may be made; fewer than 64 are left
-  open            nothing of a name far ahead of those made. Else X could, after lines that aren't told: it isn't known to come
+                  the same where N vertices more than --vertices says may be made; Y was made, and fewer than 64 names
+                  are left besides X
+  open            nothing of a name that over 65,536 others come before. Else X could, after lines that aren't told, where 64
+                  names are left besides X: this isn't known to come
 
   Who could: names, with 'new' for whoever is made later, or 'nobody'. What could: NAME:RIGHTS for each, or 'nothing'. Whoever
   or whatever isn't listed never does; what is listed is now, could, could with names more, or open: ask for it by itself.

@@ -4,8 +4,8 @@
 //! runs it on the plain graph, and `tg_could` answers of its picture; what is printed is that answer's text.
 //!
 //! The words of the command line are `options`' matter, `checks` says which of them is none, and `supposed` has what
-//! they suppose. What is asked is `question`'s. `ask` asks it and tells the answer, whose texts are in `text`;
-//! `answers` has those to all questions, and `notes` what standard error says of them.
+//! they suppose. What is asked is `question`'s. `ask` asks it and tells the answer, whose texts are in `text`, and
+//! `stars` lists who and what; `answers` has those to all questions, and `notes` what standard error says of them.
 #![tactic(auto)]
 
 mod answers;
@@ -15,6 +15,7 @@ mod help;
 mod notes;
 mod options;
 mod question;
+mod stars;
 mod supposed;
 mod text;
 
@@ -63,7 +64,7 @@ fn answer_script<R: Print + Eprint + Input>(
     matches: &ArgMatches,
     silent: &[u64],
 ) -> Result<u8, PlainFault> {
-    let Outcome { picture, boxes } = Outcome::read(rt, alloc, read_options(matches))?;
+    let Outcome { picture, boxes } = Outcome::read(alloc, read_options(matches), rt.reader())?;
     let picture = suppose(alloc, matches, picture)?;
     let scene = Scene {
         alloc,

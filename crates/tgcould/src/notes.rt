@@ -1,4 +1,6 @@
 //! What standard error says of answers.
+ghost use Rattle.std.specs.Prelude.{◌≡◌};
+ghost use Rattle.tgcould.specs.Policies.{status_after};
 
 use crate::ask::Told;
 use itoa::Buffer;
@@ -19,7 +21,9 @@ pub struct Notes {
 
 impl Notes {
     /// No note. So many boxes are left in the stock.
-    pub fn new(alloc: Global, boxes: u64) -> Notes {
+    pub fn new(alloc: Global, boxes: u64) -> Notes
+        ensures { result.status ≡ 0 }
+    {
         Notes {
             text: String::new(alloc),
             is_short: false,
@@ -30,7 +34,9 @@ impl Notes {
 
     /// Adds how many boxes the lines of an answer want beside those that are left, and whether what must never come
     /// about could.
-    pub fn add(&mut self, question: &str, told: Told, must_never: bool) {
+    pub fn add(&mut self, question: &str, told: Told, must_never: bool)
+        ensures { self.new.status ≡ status_after self.old.status must_never told.is_never }
+    {
         let more = told.made.saturating_sub(self.boxes);
         if more > 0 {
             self.add_stock(question, more);
@@ -41,7 +47,9 @@ impl Notes {
     }
 
     // Adds that an answer's lines want so many boxes more.
-    fn add_stock(&mut self, question: &str, more: u64) {
+    fn add_stock(&mut self, question: &str, more: u64)
+        ensures { self.new.status ≡ self.old.status }
+    {
         let mut buffer = Buffer::new();
         self.put("tgcould: ");
         self.put(question);
@@ -51,7 +59,9 @@ impl Notes {
     }
 
     // Adds that what must never come about could, or that it isn't shown that it never does.
-    fn add_breach(&mut self, question: &str, is_open: bool) {
+    fn add_breach(&mut self, question: &str, is_open: bool)
+        ensures { self.new.status ≡ 1 }
+    {
         self.status = 1;
         self.put("tgcould: --never '");
         self.put(question);
@@ -62,8 +72,17 @@ impl Notes {
         });
     }
 
+    /// Notes that a text is no question. The words of the command line were looked at before, so none comes.
+    pub fn refuse(&mut self)
+        ensures { self.new.status ≡ 2 }
+    {
+        self.status = 2;
+    }
+
     // Adds a text.
-    fn put(&mut self, text: &str) {
+    fn put(&mut self, text: &str)
+        ensures { self.new.status ≡ self.old.status }
+    {
         self.is_short |= self.text.push_str(text).is_err();
     }
 }

@@ -1,4 +1,7 @@
 //! Questions, and how they are written.
+ghost use Rattle.std.specs.Prelude.{◌≡◌, [], ◌∷◌, codes, IfOk, IfSome, IsTrue};
+ghost use Rattle.tg_rights.specs.RightSet.{letter_of};
+ghost use Rattle.tgcould.specs.Policies.{IsQuestion, IsBehind, IsVertex, AreWords};
 
 use tg_reason::reason_of_number;
 use tg_rights::Right;
@@ -30,7 +33,9 @@ const NO_RIGHT: &str = "one right is wanted, a letter out of r w t g a l u v";
 const BOTH_NEW: &str = "'new' is one vertex";
 
 /// The question that the text is, or why it is none: one sentence without its dot.
-pub fn read_question(text: &str) -> Result<Question, &'static str> {
+pub fn read_question(text: &str) -> Result<Question, &'static str>
+    ensures { IfOk result (IsQuestion text.now) }
+{
     match text.split_once(' ') {
         Some((holder, rest)) => read_behind(holder, rest),
         None => Err(NO_WORDS),
@@ -38,7 +43,9 @@ pub fn read_question(text: &str) -> Result<Question, &'static str> {
 }
 
 // The question that begins with this word.
-fn read_behind(holder: &str, rest: &str) -> Result<Question, &'static str> {
+fn read_behind(holder: &str, rest: &str) -> Result<Question, &'static str>
+    ensures { IfOk result (IsBehind holder.now rest.now) }
+{
     match rest.split_once(' ') {
         Some((right, over)) if !over.contains(" ") => question_of(holder, right, over),
         _ => Err(NO_WORDS),
@@ -46,7 +53,9 @@ fn read_behind(holder: &str, rest: &str) -> Result<Question, &'static str> {
 }
 
 // The question of three words, by which of them are stars.
-fn question_of(holder: &str, right: &str, over: &str) -> Result<Question, &'static str> {
+fn question_of(holder: &str, right: &str, over: &str) -> Result<Question, &'static str>
+    ensures { IfOk result (AreWords holder.now right.now over.now) }
+{
     match (is_star(holder), is_star(right), is_star(over)) {
         (false, false, false) => hold_question(holder, right, over),
         (true, false, false) => who_question(right, over),
@@ -55,22 +64,30 @@ fn question_of(holder: &str, right: &str, over: &str) -> Result<Question, &'stat
     }
 }
 
-fn is_star(word: &str) -> bool {
+fn is_star(word: &str) -> bool
+    ensures { IsTrue result → word.now ≡ codes "*" }
+{
     word == "*"
 }
 
-fn is_new(word: &str) -> bool {
+fn is_new(word: &str) -> bool
+    ensures { IsTrue result → word.now ≡ codes "new" }
+{
     word == "new"
 }
 
-fn what_question(x: &str) -> Result<Question, &'static str> {
+fn what_question(x: &str) -> Result<Question, &'static str>
+    ensures { IfOk result (AreWords x.now (codes "*") (codes "*")) }
+{
     match vertex_of(x) {
         Ok(x) => Ok(Question::What { x }),
         Err(reason) => Err(reason),
     }
 }
 
-fn who_question(right: &str, y: &str) -> Result<Question, &'static str> {
+fn who_question(right: &str, y: &str) -> Result<Question, &'static str>
+    ensures { IfOk result (AreWords (codes "*") right.now y.now) }
+{
     match (right_of(right), vertex_of(y)) {
         (Some(right), Ok(y)) => Ok(Question::Who { right, y }),
         (None, _) => Err(NO_RIGHT),
@@ -78,7 +95,9 @@ fn who_question(right: &str, y: &str) -> Result<Question, &'static str> {
     }
 }
 
-fn hold_question(x: &str, right: &str, y: &str) -> Result<Question, &'static str> {
+fn hold_question(x: &str, right: &str, y: &str) -> Result<Question, &'static str>
+    ensures { IfOk result (AreWords x.now right.now y.now) }
+{
     if is_new(x) && is_new(y) {
         return Err(BOTH_NEW);
     }
@@ -91,7 +110,9 @@ fn hold_question(x: &str, right: &str, y: &str) -> Result<Question, &'static str
 }
 
 // The vertex that a word is, or why it is none.
-fn vertex_of(word: &str) -> Result<Vertex, &'static str> {
+fn vertex_of(word: &str) -> Result<Vertex, &'static str>
+    ensures { IfOk result (IsVertex word.now) }
+{
     if is_new(word) {
         return Ok(Vertex::New);
     }
@@ -105,7 +126,9 @@ fn vertex_of(word: &str) -> Result<Vertex, &'static str> {
 }
 
 // The right whose letter a word is.
-fn right_of(word: &str) -> Option<Right> {
+fn right_of(word: &str) -> Option<Right>
+    ensures { IfSome result (λ right. word.now ≡ letter_of right ∷ []) }
+{
     match word.as_bytes() {
         [b'r'] => Some(Right::R),
         [b'w'] => Some(Right::W),

@@ -6,7 +6,7 @@ use tg_plain::{PlainFault, PlainRun, PlainText, Script};
 use tg_text::Line;
 
 /// Writes the graph that a script leaves as a digraph: its vertices by rising name, then its edges. What a collection
-/// would take is there too. A bad line leaves nothing to be drawn.
+/// would take is there too. A fault in the script leaves nothing to be drawn.
 pub fn write_last(text: &mut PlainText, script: &Script) -> Result<(), PlainFault> {
     script.whole()?;
     let mut run = Run::new(script.alloc, PlainRun::open(script)?);

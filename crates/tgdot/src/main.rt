@@ -57,22 +57,11 @@ fn draw_script<R: Print + Input>(
     if let Some(range) = options.steps {
         range.check()?;
     }
-    let mut script = Script::new(alloc, options.plain)?;
-    draw(rt, options.steps, &mut script)
+    let script = Script::read(alloc, options.plain, rt.reader())?;
+    print(rt, &mut PlainText::new(alloc), options.steps, &script)
 }
 
-// Reads the lines, and draws what they leave, or their steps.
-fn draw<R: Print + Input>(
-    rt: &R,
-    steps: Option<LineRange>,
-    script: &mut Script,
-) -> Result<(), PlainFault> {
-    script.read(rt)?;
-    let mut text = PlainText::new(script.alloc);
-    print(rt, &mut text, steps, script)
-}
-
-// Prints what these lines leave, or their steps. A bad line ends the steps.
+// Prints what these lines leave, or their steps. A fault in the script ends the steps.
 fn print<R: Print>(
     rt: &R,
     text: &mut PlainText,

@@ -7,6 +7,7 @@ use std::alloc::Global;
 use tg_model::{Law, Value};
 use tg_plain::{PlainRun, PlainText, Script, ScriptLine};
 use tg_rights::Rights;
+use tg_text::write_line;
 
 /// The graph of a run at a step, what its line was answered, and what stands out.
 #[derive(Drop)]
@@ -60,9 +61,14 @@ impl Shot {
         self.run.open(script);
     }
 
+    /// Whether memory was wanting for a part of it.
+    pub fn is_short(&self) -> bool {
+        self.run.is_short() || self.heading.is_short || self.told.is_short
+    }
+
     /// Runs a line of the script, and shows what is after it.
     pub fn take(&mut self, script: &Script, line: &ScriptLine) {
-        self.head(line.number, script.text_of(line));
+        self.head(line);
         let answer = self.run.take(script.stock.as_slice(), &line.line);
         self.marks = Marks::of(&line.line, &answer);
         self.told.clear();
@@ -70,12 +76,12 @@ impl Shot {
     }
 
     // Puts a line and its number over the picture.
-    fn head(&mut self, number: u64, line: &[u8]) {
-        self.number = number;
+    fn head(&mut self, line: &ScriptLine) {
+        self.number = line.number;
         self.heading.clear();
-        self.heading.add_number(number);
+        self.heading.add_number(line.number);
         self.heading.add(": ");
-        self.heading.add_bytes(line);
+        self.heading.is_short |= write_line(&mut self.heading, line.line).is_err();
     }
 
     /// The vertex of this name, where it is shown. One that isn't there is shown where the picture needs it.

@@ -44,7 +44,7 @@ fn refuse_range(range: LineRange, script: &Script) -> Result<(), PlainFault> {
     script.whole()?;
     Err(PlainFault::NoLine {
         from: range.from,
-        lines: last_line(script),
+        lines: script.count(),
     })
 }
 
@@ -99,7 +99,7 @@ fn show_lines(
             show(text, frame, shot);
         }
     }
-    text.is_short |= shot.run.is_short() || frame.is_short();
+    text.is_short |= shot.is_short() || frame.is_short();
 }
 
 // Shows a step to the frame, or writes it where that is whole.
@@ -117,17 +117,12 @@ fn shows_start(range: LineRange, script: &Script) -> bool {
     range.from <= (script.edges.len() as u64).max(1)
 }
 
-// The number of the last line.
-fn last_line(script: &Script) -> u64 {
-    (script.edges.len() as u64).saturating_add(script.lines.len() as u64)
-}
-
 // How many lines that are no edge lines are in the range.
 fn count(range: LineRange, script: &Script) -> u64 {
     let first = (script.edges.len() as u64)
         .saturating_add(1)
         .max(range.from);
-    let last = last_line(script).min(range.to);
+    let last = script.count().min(range.to);
     if first > last {
         0
     } else {

@@ -24,7 +24,7 @@ BAD_FILES = {
         ":4: breaks: none of 'FILE: GOAL, GOAL; FILE: GOAL': words/pack/Answers.antt"
     ),
     f"what: a user suffers\nfound: by chance\n{EDIT}": (
-        ":2: found: none of 'test CRATE NAME', 'held NAME' and 'row PROGRAM GROUP/NAME': by chance"
+        ":2: found: none of 'test CRATE NAME', 'held NAME', 'row PROGRAM GROUP/NAME', 'counted SCRIPT NAME' and 'wants': by chance"
     ),
 }
 

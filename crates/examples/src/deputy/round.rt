@@ -10,12 +10,11 @@ use crate::sessions::make;
 use std::alloc::Global;
 use std::marker::Brand;
 use std::sync::Wait;
-use std::sync::ledger::Blank;
 use std::thread::{Threads, join};
 use tg_journal::{Journal, audit};
 use tg_payload::CellPayload;
 use tg_rights::Label;
-use tg_shared::{Round, Session, Shared, SharedStore, close};
+use tg_shared::{Blanks, Round, Session, Shared, SharedStore, close};
 use tg_store::{Store, StoreFault};
 
 /// Opens a store, tells the story in it on two threads, and audits its journal from an opening of its own. Answers how
@@ -26,19 +25,19 @@ pub fn run_round<R: Threads + Wait + Sync>(
 ) -> Result<(Ending, u64), StoryFault> {
     let store = open_store(alloc, label("g")?)?;
     let parts = store.opening().max_vertices() + 1;
-    share::<Brand, R>(rt, alloc, Blank::new(parts), store)
+    share::<Brand, R>(rt, alloc, Blanks::new(parts), store)
 }
 
 // Shares the store, tells the story, closes and audits.
 fn share<L: Round + Send + Sync, R: Threads + Wait + Sync>(
     rt: &R,
     alloc: Global,
-    blank: Blank,
+    blanks: Blanks,
     store: Store<CellPayload>,
 ) -> Result<(Ending, u64), StoryFault>
-    requires shareable { MayShare L.name L.parts L.start blank store }
+    requires shareable { MayShare L.name L.parts L.keeper L.start blanks store }
 {
-    let shared = SharedStore::<L, CellPayload>::new(alloc, blank, store)?;
+    let shared = SharedStore::<L, CellPayload>::new(alloc, blanks, store)?;
     tell_and_close(rt, alloc, shared)
 }
 

@@ -11,20 +11,19 @@ use std::alloc::Global;
 use std::io;
 use std::marker::Brand;
 use std::sync::Wait;
-use std::sync::ledger::Blank;
 use std::thread::{Threads, join};
 use tg_journal::audit;
 use tg_model::{Command, Opening, Reply};
 use tg_payload::{Draft, Payload, SumPayload, values_of};
 use tg_rights::Label;
-use tg_shared::{Keeper, Round, Session, Shared, SharedStore, reclaim};
+use tg_shared::{Blanks, Keeper, Round, Session, Shared, SharedStore, reclaim};
 use tg_store::{Kind, Store, StoreFault};
 
 /// Opens a store, shares it, serves in it on threads, has it back and audits its journal. What comes of it is printed.
 pub fn run_story<R: Threads + Wait + Sync + Print + AllocGlobal>(rt: &R) -> Result<(), StoryFault> {
     let store = open_store(rt.alloc())?;
     let parts = store.opening().max_vertices() + 1;
-    share::<Brand, R>(rt, Blank::new(parts), store)
+    share::<Brand, R>(rt, Blanks::new(parts), store)
 }
 
 // A store with the service alone, in which at most 12 vertices may ever be made.
@@ -43,17 +42,17 @@ fn opening_of(alloc: Global, drafts: &[Draft<SumPayload>]) -> Result<Opening, St
 // Shares the store, serves, has it back with all sessions but the one that hangs, and audits the journal.
 fn share<L: Round + Send + Sync, R: Threads + Wait + Sync + Print + AllocGlobal>(
     rt: &R,
-    blank: Blank,
+    blanks: Blanks,
     store: Store<SumPayload>,
 ) -> Result<(), StoryFault>
-    requires shareable { MayShare L.name L.parts L.start blank store }
+    requires shareable { MayShare L.name L.parts L.keeper L.start blanks store }
     requires may_end { L.start.may_end ≡ true }
 {
     let Shared {
         store,
         mut sessions,
         mut keeper,
-    } = SharedStore::<L, SumPayload>::new(rt.alloc(), blank, store)?;
+    } = SharedStore::<L, SumPayload>::new(rt.alloc(), blanks, store)?;
     let served = serve(rt, &store, &mut keeper, &mut sessions);
     let entries = reclaim_and_audit(rt.alloc(), store, sessions);
     Ok(tell_audit(rt, served.and(entries)?)?)

@@ -20,7 +20,7 @@ use Rattle.tg_rows.specs.Inner.Following.{IsReady, IsRowPut, IsWay}
 use Rattle.tg_rows.specs.Graph.{IsGraph, IsLongRow, content_in, rights_found}
 use Rattle.tg_rows.specs.Index.{AreIndexed, Indexes, MayIndex, SameIndexed, indexed_in}
 use Rattle.tg_rows.specs.Rows.{IsVertexAt, name_at}
-use Rattle.tg_rows.specs.Spots.{IsMadeInRow, IsPutInRow, IsSpotFor, LacksCellsFor, note_for}
+use Rattle.tg_rows.specs.Spots.{IsMadeInRow, IsPutInRow, IsSpotFor, LacksCellsFor, note_for, IsTakenFromRow}
 use Rattle.tg_rows.specs.Steps.{ChangesTo}
 use Rattle.tg_rows.specs.declared.cells.Cells.{Cells}
 use Rattle.tg_rows.specs.declared.cells.Found.{Found}
@@ -154,6 +154,7 @@ pub record TakesRights {P : Type 0} (old new : Cells P) (p : Place) (name : ℕ)
   pub remembered : AreRemembered old.spaces.spaces old.remembered.places → AreRemembered new.spaces.spaces old.remembered.places
   pub used : new.spaces.used ≡ old.spaces.used
   pub blocks : (space : ℕ) → length (space_of new.spaces.spaces space) ≡ length (space_of old.spaces.spaces space)
+  pub placed : IsTakenFromRow old.spaces new.spaces p name rights
 
 -- ---- what is promised of the indexes
 

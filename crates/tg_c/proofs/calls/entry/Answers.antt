@@ -10,8 +10,8 @@ use Rattle.tg_c.proofs.calls.entry.Goals as goal
 pub returns : goal.returns
 returns c =
     let store = c.deref.result.now.store in
-    let old : EntryOut = record { record_out = c.args.record.now; numbers = c.args.numbers.now; edges = c.args.edges.now } in
-    let new : EntryOut = record { record_out = c.tell_entry-status.new.record; numbers = c.tell_entry-status.new.numbers; edges = c.tell_entry-status.new.edges } in
+    let old : EntryOut = record { record_out = c.args.out.now; numbers = c.args.numbers.now; edges = c.args.edges.now } in
+    let new : EntryOut = record { record_out = c.tell_entry-status.new.out; numbers = c.tell_entry-status.new.numbers; edges = c.tell_entry-status.new.edges } in
     let answer : Result Entry CallRefusal = entry_at store.handed store.entries c.args.at in
     served_as (λ why. why) (IsEntryAt c.args.at) c.args.place.now c.put.new.self (TellsEntry c.tell_entry-status.result old new) store store answer
     c.in-Some.ensures.taken.0 c.put.ensures.open (sym (ap (λ s. s.store) (c.deref.ensures ∙ c.in-Some.ensures.taken.1))) (ap (λ s. s.store) (c.put.ensures.opened ∙ sym c.deref.ensures))

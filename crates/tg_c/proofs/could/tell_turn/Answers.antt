@@ -12,5 +12,5 @@ returns c =
     let here : slice_get (turns_in c.args.outlook.now.told) c.args.at ≡ Some turn =
     subst (λ (ts : List Turn). slice_get ts c.args.at ≡ Some turn) c.turns-turns.ensures
     (slice_get_read c.turns-turns.result.now (length c.turns-turns.result.now) c.args.at turn refl (omega (arith, c.if-turns-at.false)) c.index-turns-at.is) in
-    subst (λ (o : Option Turn). TellsTurn 0 (record { record_out = c.args.record.now; numbers = c.args.numbers.now }) (record { record_out = c.turn_out.result; numbers = c.put_numbers.new.out }) (ok_or o refusal.BadPlace)) (sym here)
+    subst (λ (o : Option Turn). TellsTurn 0 (record { record_out = c.args.out.now; numbers = c.args.numbers.now }) (record { record_out = c.turn_out.result; numbers = c.put_numbers.new.out }) (ok_or o refusal.BadPlace)) (sym here)
     (refl, λ i. record { record_out = c.turn_out.ensures i; numbers = (c.put_numbers.ensures ∙ ap (λ ns. shown_in ns c.args.numbers.now) c.numbers_of_turn.ensures) i })

@@ -3,7 +3,10 @@ use Rattle.tg_could.specs.Told.{IsUntold}
 use Rattle.tg_could.proofs.who.who_could.Goals as goal
 
 pub returns : goal.returns
-returns c g picture x left =
-    c.leaves_out-is_shown.ensures left.shown g picture x
-    (subst (λ (n : ℕ). IsUntold c.of-told.result c.args.y n c.args.picture.now.limit x) c.made.ensures
-    (subst (λ (n : ℕ). IsUntold c.of-told.result c.args.y c.made.result n x) c.limit.ensures left.untold))
+returns c = record {
+  made = c.made.ensures;
+  never = λ g picture x left.
+      c.leaves_out-is_shown.ensures left.shown g picture x
+      (subst (λ (n : ℕ). IsUntold c.of-told.result c.args.y n c.args.picture.now.limit x) c.made.ensures
+      (subst (λ (n : ℕ). IsUntold c.of-told.result c.args.y c.made.result n x) c.limit.ensures left.untold));
+}

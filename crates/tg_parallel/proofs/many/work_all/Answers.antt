@@ -8,4 +8,4 @@ returns-clause-helped g c =
     let all = c.in_ok-mine.ensures.made.many in
     let e : 1 + length c.in_ok-mine.theirs.items ≡ c.args.helpers = omega arith in
     subst (λ (n : ℕ). IsDone c.args.job.now n c.all_joined.result) e
-    (c.all_joined.ensures c.args.job.now.task.kind c.args.job.now.task.spaces.now c.args.job.now.task.roots.now 1 c.in_ok-mine.ensures.made.first c.in_ok-mine.ensures.made.rest)
+    (c.all_joined.ensures.helped c.args.job.now.task.kind c.args.job.now.task.spaces.now c.args.job.now.task.roots.now 1 c.in_ok-mine.ensures.made.first c.in_ok-mine.ensures.made.rest)

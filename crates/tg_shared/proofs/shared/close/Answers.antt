@@ -1,4 +1,5 @@
 use Rattle.std.proofs.Common.{◌≡◌, ◌<◌, ◌≤◌, ◌+◌, ◌∙◌, ℕ, List, false, length, drop, arith, sym, subst}
+use Rattle.std.specs.List.Sorted.{IsPermutation}
 use Rattle.tg_store.specs.Store.{StoreState}
 use Rattle.tg_shared.specs.Closing.{IsGivenBack}
 use Rattle.tg_shared.specs.Sessions.{AreSharedOut, SessionState, count_of, handed_of, held_from, parts_of, sessions_made}
@@ -27,6 +28,7 @@ returns-in-Ok g c =
       count = λ no. subst (λ (s : StoreState). length s.entries ≡ start + handed_of items + count_of items) same (as_counted start locked.entered (handed_of items) (count_of items) here c.in-Ok.ensures.count (none no));
       shared_out = λ no. subst (λ (s : StoreState). start + handed_of items ≡ held_from g.L.Round.start s → AreSharedOut (drop (held_from g.L.Round.start s) s.entries) items) same (c.in-Ok.ensures.shared_out (none no));
       none_handed = λ no. subst (λ (s : StoreState). handed_of items ≡ 0 → held_from g.L.Round.start s ≡ start) same (c.in-Ok.ensures.none_handed (none no));
+      whole = λ is no. subst (λ (s : StoreState). AreSharedOut (drop start s.entries) items) same (c.in-Ok.ensures.whole is (none no));
       all = subst (λ (s : StoreState). parts_of items ≡ sessions_made g.L.Round.start s.entries) same (c.in-Ok.ensures.all ∙ c.into_locked-locked.ensures.sessions);
       missing = tt;
       too_few = λ few. c.in-Ok.ensures.missing.1 (lt-le few c.into_locked-locked.ensures.started);
@@ -43,6 +45,7 @@ returns-in-Err g c =
       count = λ _. tt;
       shared_out = λ _. tt;
       none_handed = λ _. tt;
+      whole = λ _ _. tt;
       missing = λ is. (
         locked.store,
         c.into_locked-locked.ensures.gone_on,
@@ -56,6 +59,6 @@ returns-in-Err g c =
         c.into_locked-locked.ensures.faithful,
         (still_among (length g.L.Round.start.entries) locked.entered (count_of c.args.sessions.items) (length locked.store.entries) (c.in-Err.ensures.counted (sym why ∙ is)), (c.in-Err.ensures.mismatch.0 (sym why ∙ is)).1),
       );
-      handed_back = c.back_behind_its_lock.ensures.0 ∙ c.in-Err.ensures.ends.handed_back.1;
+      handed_back = subst (IsPermutation c.args.sessions.items) (sym c.back_behind_its_lock.ensures.0) c.in-Err.ensures.ends.handed_back.1;
       all = tt;
     }

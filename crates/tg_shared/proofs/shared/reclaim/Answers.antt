@@ -1,4 +1,5 @@
 use Rattle.std.proofs.Common.{◌≡◌, ◌≤◌, ◌+◌, ◌∙◌, ℕ, List, length, refl, sym, subst}
+use Rattle.std.specs.List.Sorted.{IsPermutation}
 use Rattle.tg_store.specs.Store.{StoreState}
 use Rattle.tg_shared.specs.Closing.{IsGivenBack}
 use Rattle.tg_shared.specs.Sessions.{SessionState, count_of, handed_of, parts_of, sessions_made}
@@ -45,5 +46,5 @@ returns-in-Err g c =
           (still_among (length g.L.Round.start.entries) locked.entered (count_of c.args.sessions.items) (length locked.store.entries) c.in-Err.ensures.counted, c.in-Err.ensures.mismatch.0 refl),
         ),
       );
-      handed_back = c.back_behind_its_lock.ensures.0 ∙ c.in-Err.ensures.ends.handed_back.1;
+      handed_back = subst (IsPermutation c.args.sessions.items) (sym c.back_behind_its_lock.ensures.0) c.in-Err.ensures.ends.handed_back.1;
     }

@@ -7,6 +7,7 @@ use Rattle.tg_space.specs.SpaceList.{space_of}
 use Rattle.tg_rows.specs.Index.{names_indexed}
 use Rattle.tg_rows.specs.Content.{IsContent, IsNamed}
 use Rattle.tg_graph.specs.Heap.{HeapState, KeepsPlaces, content_of, heap_of, name_of}
+use Rattle.tg_rows.specs.Spots.{IsTakenFromRow}
 use Rattle.tg_rows.specs.Steps.{ChangesTo}
 use Rattle.tg_graph.proofs.Heaps.{content_after, heap_with, is_indexed, places_kept, well_formed_after}
 use Rattle.tg_graph.proofs.heap.Heap.drop_rights.Goals as goal
@@ -39,6 +40,9 @@ returns g c =
           subst Dropped c.self.view_is
           (subst (λ r. IsContent (content_of after) (IsNamed content) (without_rights content.label (name_of s c.args.from) c.args.name r) content.value) c.rights.ensures.same
           (content_after s new.spaces new.payloads new.remembered.places names (IsNamed content) label content.value to));
+      placed =
+          subst (λ (x : HeapState). IsTakenFromRow x.table new.spaces c.args.from c.args.name c.args.label) c.self.view_is
+          (subst (λ r. IsTakenFromRow s.table new.spaces c.args.from c.args.name r) c.rights.ensures.same taken.placed);
       kept = subst (λ (x : HeapState). KeepsPlaces x after) c.self.view_is (places_kept s new.spaces new.payloads new.remembered.places names (IsNamed content) label content.value to);
       used = taken.used ∙ ap (λ (x : HeapState). x.table.used) c.self.view_is;
       blocks = λ space. taken.blocks space ∙ ap (λ (x : HeapState). length (space_of x.table.spaces space)) c.self.view_is;

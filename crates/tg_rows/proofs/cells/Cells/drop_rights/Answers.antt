@@ -10,10 +10,11 @@ use Rattle.tg_rows.specs.Content.{IsNamed}
 use Rattle.tg_rows.specs.Graph.{content_in}
 use Rattle.tg_rows.specs.Rows.{name_at}
 use Rattle.tg_rows.specs.Spots.{narrowed, word_put}
+use Rattle.tg_rows.specs.declared.rows.Spot.TheVariants.{Reference}
 use Rattle.tg_rows.specs.Steps.{ChangesTo}
 use Rattle.tg_rows.proofs.Layouts.{present_place}
 use Rattle.tg_rows.proofs.Finding.{found_refers, reference_found}
-use Rattle.tg_rows.proofs.Growing.{changes, nothing_dropped}
+use Rattle.tg_rows.proofs.Growing.{changes, nothing_dropped, untouched}
 use Rattle.tg_rows.proofs.Remembering.{narrowed_remembered}
 use Rattle.tg_rows.proofs.Putting.{can_write, narrowed_becomes}
 use Rattle.tg_rows.proofs.cells.Cells.drop_rights.Goals as goal
@@ -41,6 +42,11 @@ returns-in_default-clause-taken g c = record {
   remembered = λ before. before;
   used = refl;
   blocks = λ space. refl;
+  placed = record {
+    spot = c.spot.result;
+    found = c.spot.ensures.spot;
+    taken = untouched c.args.self.now.spaces c.spot.result c.args.rights c.in_default.not-Reference;
+  };
 }
 
 pub returns-in-Reference-clause-taken : goal.returns-in-Reference-clause-taken
@@ -70,6 +76,11 @@ returns-in-Reference-clause-taken g c =
           let can = can_write t c.spot.ensures.table payloads c.requires.graph c.args.from c.requires.from cell c.in-Reference.index reference.cell (omega arith) in
           let shape = shape_cell t.spaces cell (slice_set words c.in-Reference.index (narrowed word c.args.rights)) can.held in
           ap (λ (x : SpaceTable). length (space_of x.spaces space)) c.narrow.ensures ∙ shape.blocks space;
+      placed = record {
+        spot = Reference cell c.in-Reference.index;
+        found = c.in-Reference.ensures.spot;
+        taken = c.narrow.ensures;
+      };
     }
 
 pub narrow-requires : goal.narrow-requires

@@ -14,6 +14,8 @@ returns g c =
       ended = both_told c.end-ended.result _ _ _ (EndsAtSome g.L.Round.start c.args.worker) (λ left _ number count.
           let after = found_with g.L.Round.start _ c.deref-2.result.now c.end-ended.new.self c.deref-2.ensures c.store-2.ensures.gone_on c.store-2.ensures.faithful (left, count) in
           found_with g.L.Round.start _ c.deref.result.now c.deref_mut.result.now same c.store.ensures.gone_on c.store.ensures.faithful after) told.left told.left (told.count (graph_of_store old) refl);
+      entered = c.end-ended.ensures.counted;
+      none_entered = c.end-ended.ensures.none_counted;
       no_such_worker = err_told c.end-ended.result _ _ (λ is.
           found_with g.L.Round.start _ c.deref.result.now c.deref_mut.result.now same c.store.ensures.gone_on c.store.ensures.faithful ((told.no_such_worker (graph_of_store old) refl).0 is));
       never_full = told.never_full;

@@ -13,7 +13,7 @@ use Rattle.tg_shared.proofs.locked.Locked.apply.Goals as goal
 pub invariant_of-self : goal.invariant_of-self
 invariant_of-self g c =
     let kept = c.in_err-reply.ensures.refused in
-    locked_same g.L.Round.start c.self.inside.store c.apply.new.self _ _ _ _ _ c.self.invariant kept.entries kept.opening c.apply.ensures.limits (λ _. c.apply.ensures.handed)
+    locked_same g.L.Round.start c.self.inside.store c.apply.new.self _ _ _ _ _ c.self.invariant kept.entries kept.opening c.apply.ensures.limits c.apply.ensures.handed
 
 pub returns-in_err-reply-clause-served : goal.returns-in_err-reply-clause-served
 returns-in_err-reply-clause-served g c =

@@ -4,8 +4,8 @@ use Rattle.std.proofs.lemmas.Result.{err_from_is_err_and}
 use Rattle.tg_model.specs.Graph.{listing_of}
 use Rattle.tg_store.specs.Store.{StoreState, graph_of_store}
 use Rattle.tg_shared.specs.Serving.{EndsWorker}
-use Rattle.tg_shared.specs.Sessions.{IsBalanced, LockedState}
-use Rattle.tg_shared.proofs.Balances.{not_both, part_left, some_part}
+use Rattle.tg_shared.specs.Sessions.{IsBalanced, KeeperState, LockedState}
+use Rattle.tg_shared.proofs.Balances.{keeper_as, not_both, part_left, some_part}
 use Rattle.tg_shared.proofs.Leavings.{locked_left}
 use Rattle.tg_shared.proofs.Replies.{ends}
 use Rattle.tg_shared.proofs.locked.Locked.end.Goals as goal
@@ -29,7 +29,12 @@ returns-clause-ended g c =
     (ends c.self.inside.store c.leave.new.self c.args.worker c.args.worker (Ok c.in_ok-count.count) refl told.left told.count told.no_such_worker told.never_full tt)
 
 pub returns-clause-entered : goal.returns-clause-entered
-returns-clause-entered g c = ap (λ (b : LockedState). b.entered + (c.in_ok-count.count + 1)) c.self.view_is
+returns-clause-entered g c = c.raise.ensures.number ∙ ap (λ (b : LockedState). b.entered + (c.in_ok-count.count + 1)) c.self.view_is
+
+pub returns-clause-counted : goal.returns-clause-counted
+returns-clause-counted g c =
+    subst (λ (k : KeeperState). keeper_as c.keeper.inside.next c.raise.new.mirror ≡ record k { entered = k.entered + (c.in_ok-count.count + 1) }) c.keeper.view_is
+    (λ i. keeper_as c.keeper.inside.next (c.raise.ensures.mirror i))
 
 pub returns-clause-sessions : goal.returns-clause-sessions
 returns-clause-sessions g c = ap (λ (b : LockedState). b.sessions) c.self.view_is
@@ -48,6 +53,9 @@ invariant_of-self-2 g c =
     let all : c.audit.new.self.total ≡ total + (row + 1) = counted_all total c.add.new.self.total c.audit.new.self.total total c.in_ok-count.count row c.add.ensures.total c.audit.ensures.total refl (c.in_ok-count.ensures.count (graph_of_store old) refl) in
     let before : IsBalanced old start c.self.inside.sessions total c.audit.new.share.parts g.L.Ledger.parts = subst (λ (n : ℕ). IsBalanced old start c.self.inside.sessions total n g.L.Ledger.parts) (sym (c.audit.ensures.parts ∙ c.add.ensures.parts)) c.self.invariant.0 in
     locked_left old c.leave.new.self c.args.worker c.in_ok-count.ensures.left g.L.Round.start start c.self.inside.sessions total c.audit.new.self.total c.audit.new.share.parts g.L.Ledger.parts (before, c.self.invariant.1, c.self.invariant.2, c.self.invariant.3, c.self.invariant.4) all (
-      counted_all c.self.inside.rest.amount c.add.new.share.amount c.audit.new.share.amount c.self.inside.entered c.in_ok-count.count c.in_ok-count.count c.add.ensures.amount c.audit.ensures.amount c.self.invariant.2.0 refl,
-      λ never. absurd (not_both g.L.Round.start.may_end c.requires.may_end never),
+      (
+        counted_all c.self.inside.rest.amount c.add.new.share.amount c.audit.new.share.amount c.self.inside.entered c.in_ok-count.count c.in_ok-count.count c.add.ensures.amount c.audit.ensures.amount c.self.invariant.2.0.0 refl ∙ sym c.raise.ensures.number,
+        λ never. absurd (not_both g.L.Round.start.may_end c.requires.may_end never),
+      ),
+      c.self.invariant.2.1 ∙ sym c.in_ok-count.ensures.left.handed,
     )

@@ -62,4 +62,4 @@ invariant_of-self-2 g c =
     let graph : ProtectionGraph = graph_of_store c.self.inside.store in
     let row : c.in_ok-row.row ≡ listing_of graph.label graph.made c.worker-worker.result = c.in_ok-row.ensures.edges graph refl in
     locked_left c.self.inside.store c.leave.new.self c.worker-worker.result c.in_ok-count.ensures.left g.L.Round.start (length g.L.Round.start.entries) c.self.inside.sessions c.self.inside.book.total c.note_leaving.new.book.total c.self.inside.rest.parts g.L.Ledger.parts c.self.invariant
-    (c.note_leaving.ensures.book ∙ ap (λ (es : List (ℕ × RightSet)). c.self.inside.book.total + (length es + 1)) row) c.self.invariant.2
+    (c.note_leaving.ensures.book ∙ ap (λ (es : List (ℕ × RightSet)). c.self.inside.book.total + (length es + 1)) row) (c.self.invariant.2.0, c.self.invariant.2.1 ∙ sym c.in_ok-count.ensures.left.handed)

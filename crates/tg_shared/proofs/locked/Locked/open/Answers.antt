@@ -58,7 +58,7 @@ invariant_of-locked g c =
         made = at_most c.len.result (length (graph_of_store c.args.store).subjects) (graph_of_store c.args.store).made (number ∙ names) (active_made c.args.store faithful);
       },
       first,
-      (c.in-Ok.ensures.rest.1, λ _. refl),
+      ((c.in-Ok.ensures.rest.1 ∙ sym c.new-entered.ensures.0, λ _. c.new-entered.ensures.0), c.new-handed.ensures.0 ∙ c.start.ensures.start ∙ c.journal-2.ensures.start),
       goes_on_start start c.args.store c.requires.shareable.start c.journal.ensures.within,
       number ∙ names ∙ at_start ∙ sym made,
     )

@@ -1,12 +1,14 @@
-use Rattle.std.proofs.Common.{◌≡◌, ◌≤◌, ◌+◌, ◌∙◌, ◌++◌, ◌∷◌, [], ℕ, List, drop, false, length, take, add-zero, append_assoc, append-nil, arith, refl, sym, ap, subst}
-use Rattle.std.proofs.lemmas.List.{nil_from_length, take-append-le}
-use Rattle.std.proofs.Math.Seq.{take-length}
+use Rattle.std.proofs.Common.{◌≡◌, ◌≤◌, ◌+◌, ◌∙◌, ◌++◌, ◌∷◌, [], ℕ, List, drop, false, length, add-zero, append_assoc, append-nil, arith, refl, sym, ap, subst}
+use Rattle.std.specs.List.Sorted.{IsNonDecreasingBy, IsPermutation}
+use Rattle.std.proofs.lemmas.List.{nil_from_length}
+use Rattle.std.proofs.lemmas.List.Sorted.{IsPermutation-sym, sum_by-IsPermutation}
 use Rattle.std.proofs.lemmas.List.Sums.{sum_by-append, sum_by-cons}
 use Rattle.std.proofs.Common.{max, ◌-◌}
 use Rattle.std.proofs.Math.Nat.{le-max_left, le-max_right, max-le}
 use Rattle.tg_journal.specs.declared.entry.Entry.{Entry}
-use Rattle.tg_shared.specs.Sessions.{GoesOn, IsBalanced, LockedState, MayClose, SessionState, count_of, handed_of, held_from, parts_of}
-use Rattle.tg_shared.proofs.Balances.{not_both, part_left, some_part}
+use Rattle.tg_shared.specs.Sessions.{AreSharedOut, GoesOn, IsBalanced, LockedState, MayClose, SessionState, count_of, handed_of, held_from, parts_of}
+use Rattle.tg_shared.proofs.Balances.{not_both}
+use Rattle.tg_shared.proofs.Orders.{may_close_shuffled}
 use Rattle.tg_shared.proofs.Sharing.{as_counted, held_at_most, shared_out}
 use Rattle.tg_shared.proofs.locked.Locked.reclaim.Goals as goal
 
@@ -38,14 +40,25 @@ none_gone entries start out handed count since counted fits none is within =
 rest_fits : (made rest parts : ℕ) → made + rest ≡ parts → rest ≤ parts
 rest_fits made rest parts cut = omega arith
 
--- what the sessions have is among what was counted
-counted_all : (entries inside start total rest entered among count : ℕ) → inside ≡ start + total → rest + among ≤ total → among ≡ count → inside ≡ entries → rest ≡ entered → start + entered + count ≤ entries
-counted_all entries inside start total rest entered among count counted held same is ends = omega arith
+-- what was made since, but for what the keeper entered, and the receipts among these
+made_since : (most entries here first start number entered count : ℕ) → most ≡ entries - first - number → entries ≡ here → first ≡ start → number ≡ entered → start + entered ≤ here
+    → (count ≤ most → start + entered + count ≤ here) × (start + entered + count ≤ here → count ≤ most)
+made_since most entries here first start number entered count left same began is within = ((λ few. omega arith), (λ all. omega arith))
 
--- what was lent as a slice and came back as it was is as it was
-all_written : (n : ℕ) (xs new : List SessionState) → new ≡ xs → n ≡ length xs → take n (new ++ drop (length new) xs) ≡ xs
-all_written n xs new same long =
-    ap (λ (l : List SessionState). take n (l ++ drop (length l) xs)) same ∙ (take-append-le n xs (drop (length xs) xs) (omega arith) ∙ (ap (λ (k : ℕ). take k xs) long ∙ take-length xs))
+first_within : (entries here first start number entered : ℕ) → entries ≡ here → first ≡ start → number ≡ entered → start + entered ≤ here → first + number ≤ entries
+first_within entries here first start number entered same began is within = omega arith
+
+entered_within : (here start total rest entered : ℕ) → here ≡ start + total → rest ≤ total → rest ≡ entered → start + entered ≤ here
+entered_within here start total rest entered counted bound same = omega arith
+
+none_more : (xs : List SessionState) (x : SessionState) → handed_of xs ≡ 0 → x.handed ≡ 0 → handed_of (xs ++ x ∷ []) ≡ 0
+none_more xs x none here = omega (arith, none, here, sum_by-append (λ (s : SessionState). s.handed) xs (x ∷ []), sum_by-cons (λ (s : SessionState). s.handed) x [])
+
+gone_none : (start handed since : ℕ) → handed ≡ 0 → since ≡ start → start + handed ≡ since
+gone_none start handed since none held = omega arith
+
+fewer : (start entered handed count entries : ℕ) → start + entered + handed + count ≤ entries → start + entered + count ≤ entries
+fewer start entered handed count entries all = omega arith
 
 -- one session more is through
 moved : (xs : List SessionState) (x : SessionState) (rest left all : List SessionState) → left ≡ x ∷ rest → xs ++ left ≡ all → (xs ++ x ∷ []) ++ rest ≡ all
@@ -58,60 +71,73 @@ its_receipts : (xs : List SessionState) (x : SessionState) (start before now : �
 its_receipts xs x start before now held more =
     omega (arith, sum_by-append (λ (s : SessionState). length s.receipts) xs (x ∷ []), sum_by-cons (λ (s : SessionState). length s.receipts) x [], sum_by-append (λ (s : SessionState). s.handed) xs (x ∷ []), sum_by-cons (λ (s : SessionState). s.handed) x [])
 
-pub may_close-requires : goal.may_close-requires
-may_close-requires g c =
-    held_behind c.self.inside.start c.start.result c.max-since.result c.self.inside.store.handed c.journal-2.result.now.start c.max-since.ensures (c.start.ensures.start ∙ c.journal.ensures.start) c.journal-2.ensures.start
+pub entries_since-entries-requires : goal.entries_since-entries-requires
+entries_since-entries-requires g c =
+    let start : ℕ = length g.L.Round.start.entries in
+    let within : start + c.self.inside.entered ≤ length c.self.inside.store.entries = entered_within (length c.self.inside.store.entries) start c.self.inside.book.total c.self.inside.rest.amount c.self.inside.entered c.self.invariant.0.counted c.audit.ensures.bound c.self.invariant.2.0.0 in
+    first_within (length c.journal-journal.result.now.entries) (length c.self.inside.store.entries) c.self.inside.start start c.number.result c.self.inside.entered (ap (λ (es : List Entry). length es) c.journal-journal.ensures.entries) c.self.invariant.1 c.number.ensures within
 
-pub audit_all-requires : goal.audit_all-requires
-audit_all-requires g c =
-    some_part c.self.inside.rest.parts
-    (part_left c.self.inside.store (length g.L.Round.start.entries) c.self.inside.sessions c.self.inside.book.total c.self.inside.rest.parts g.L.Ledger.parts c.self.invariant.0 c.journal.ensures.faithful)
+pub are_refused-requires : goal.are_refused-requires
+are_refused-requires g c = record {
+  held = held_behind c.self.inside.start c.start.result c.max-since.result c.self.inside.store.handed c.journal-journal.result.now.start c.max-since.ensures (c.start.ensures.start ∙ c.journal-journal.ensures.start) c.journal-journal.ensures.start;
+  rising = subst (IsNonDecreasingBy (λ (s : SessionState). s.worker)) (sym c.as_slice.ensures.value) c.sort_by_worker.ensures.rising;
+}
 
-pub returns-then-not-may_close : goal.returns-then-not-may_close
-returns-then-not-may_close g c =
-    let out : c.start.result ≡ c.args.self.store.handed = c.start.ensures.start ∙ c.journal.ensures.start ∙ ap (λ (b : LockedState). b.store.handed) c.self.view_is in
+pub returns-then-are_refused : goal.returns-then-are_refused
+returns-then-are_refused g c =
+    let items : List SessionState = c.args.sessions.items in
+    let sorted : List SessionState = c.sort_by_worker.new.sessions.items in
+    let moved : IsPermutation items sorted = c.sort_by_worker.ensures.permutation in
+    let start : ℕ = length g.L.Round.start.entries in
+    let here : ℕ = length c.args.self.store.entries in
+    let entries : c.journal-journal.result.now.entries ≡ c.args.self.store.entries = c.journal-journal.ensures.entries ∙ ap (λ (b : LockedState). b.store.entries) c.self.view_is in
+    let out : c.start.result ≡ c.args.self.store.handed = c.start.ensures.start ∙ c.journal-journal.ensures.start ∙ ap (λ (b : LockedState). b.store.handed) c.self.view_is in
     let since : c.max-since.result ≡ held_from g.L.Round.start c.args.self.store = c.max-since.ensures ∙ (λ i. max (c.self.invariant.1 i) (out i)) in
-    let none : ¬ MayClose c.args.self.store.entries (held_from g.L.Round.start c.args.self.store) c.args.sessions.items =
+    let refused = c.are_refused.ensures.refused c.if-are_refused.true in
+    let none : ¬ MayClose c.args.self.store.entries (held_from g.L.Round.start c.args.self.store) items =
     λ may.
-    let here : MayClose c.journal-2.result.now.entries c.max-since.result c.as_slice.result.now =
-    closes c.args.self.store.entries c.journal-2.result.now.entries (held_from g.L.Round.start c.args.self.store) c.max-since.result c.args.sessions.items c.as_slice.result.now
-    (sym (c.journal-2.ensures.entries ∙ ap (λ (b : LockedState). b.store.entries) c.self.view_is)) (sym since) (sym c.as_slice.ensures.value) may in
-    not_both c.may_close.result (c.may_close.ensures.1 here) c.if-not-may_close.true in
+    refused.0 (closes c.args.self.store.entries c.journal-journal.result.now.entries (held_from g.L.Round.start c.args.self.store) c.max-since.result sorted c.as_slice.result.now
+    (sym entries) (sym since) (sym c.as_slice.ensures.value) (may_close_shuffled c.args.self.store.entries (held_from g.L.Round.start c.args.self.store) items sorted moved may)) in
+    let counted : here ≡ start + c.self.inside.book.total = sym (ap (λ (b : LockedState). length b.store.entries) c.self.view_is) ∙ c.self.invariant.0.counted in
+    let entered : c.number.result ≡ c.args.self.entered = c.number.ensures ∙ ap (λ (b : LockedState). b.entered) c.self.view_is in
+    let within : start + c.args.self.entered ≤ here = entered_within here start c.self.inside.book.total c.self.inside.rest.amount c.args.self.entered counted c.audit.ensures.bound (c.self.invariant.2.0.0 ∙ ap (λ (b : LockedState). b.entered) c.self.view_is) in
+    let few : count_of items ≤ c.entries_since-entries.result =
+    subst (λ (n : ℕ). n ≤ c.entries_since-entries.result) (ap count_of c.as_slice.ensures.value ∙ sum_by-IsPermutation (λ (s : SessionState). length s.receipts) items sorted moved) refused.1 in
     record {
       ends = record {
         gone_on = subst (λ (b : LockedState). GoesOn g.L.Round.start b.store) c.self.view_is c.self.invariant.3;
         store = tt;
         matching = tt;
-        handed_back = (c.self.view_is, all_written c.args.sessions.len c.args.sessions.items c.audit_all.new.sessions (c.audit_all.ensures.sessions ∙ c.as_mut_slice.ensures.value) c.args.sessions.ok.0);
+        handed_back = (c.self.view_is, moved);
       };
       adds_up = tt;
       shared_out = λ _. tt;
       none_handed = λ _. tt;
+      whole = λ _ _. tt;
       mismatch = ((λ _. none), (λ _. refl));
       only = refl;
-      counted =
-          counted_all (length c.args.self.store.entries) (length c.self.inside.store.entries) (length g.L.Round.start.entries) c.self.inside.book.total c.self.inside.rest.amount c.args.self.entered (count_of c.as_mut_slice.result.now) (count_of c.args.sessions.items)
-          c.self.invariant.0.counted c.audit_all.ensures.counted (ap count_of c.as_mut_slice.ensures.value) (ap (λ (b : LockedState). length b.store.entries) c.self.view_is) (c.self.invariant.2.0 ∙ ap (λ (b : LockedState). b.entered) c.self.view_is);
+      counted = (made_since c.entries_since-entries.result (length c.journal-journal.result.now.entries) here c.self.inside.start start c.number.result c.args.self.entered (count_of items) c.entries_since-entries.ensures (ap (λ (es : List Entry). length es) entries) c.self.invariant.1 entered within).0 few;
     }
 
 pub invariant_of-self : goal.invariant_of-self
 invariant_of-self g c =
     let start : ℕ = length g.L.Round.start.entries in
-    let rest : IsBalanced c.self.inside.store start c.self.inside.sessions c.self.inside.book.total c.audit_all.new.whole.parts g.L.Ledger.parts =
-    subst (λ (n : ℕ). IsBalanced c.self.inside.store start c.self.inside.sessions c.self.inside.book.total n g.L.Ledger.parts) (sym c.audit_all.ensures.parts) c.self.invariant.0 in (
-      subst (λ (n : ℕ). IsBalanced c.self.inside.store start c.self.inside.sessions n c.audit_all.new.whole.parts g.L.Ledger.parts) (sym c.audit_all.ensures.total) rest,
+    let rest : IsBalanced c.self.inside.store start c.self.inside.sessions c.self.inside.book.total c.audit.new.share.parts g.L.Ledger.parts =
+    subst (λ (n : ℕ). IsBalanced c.self.inside.store start c.self.inside.sessions c.self.inside.book.total n g.L.Ledger.parts) (sym c.audit.ensures.parts) c.self.invariant.0 in (
+      subst (λ (n : ℕ). IsBalanced c.self.inside.store start c.self.inside.sessions n c.audit.new.share.parts g.L.Ledger.parts) (sym c.audit.ensures.total) rest,
       c.self.invariant.1,
-      (c.audit_all.ensures.amount ∙ c.self.invariant.2.0, c.self.invariant.2.1),
+      ((c.audit.ensures.amount ∙ c.self.invariant.2.0.0, c.self.invariant.2.0.1), c.self.invariant.2.1),
       c.self.invariant.3,
       c.self.invariant.4,
     )
 
 pub loop-session-init : goal.loop-session-init
 loop-session-init g c = record {
-  left = c.into_iter-session-iterator.ensures.into_iter_gives.0;
-  parts = sym (add-zero c.self.inside.rest.parts);
-  amount = sym (add-zero (c.self.inside.rest.amount + 0) ∙ add-zero c.self.inside.rest.amount);
-  fits = rest_fits c.self.inside.sessions c.self.inside.rest.parts g.L.Ledger.parts c.self.invariant.0.cut;
+  left = refl;
+  parts = sym (add-zero c.audit.new.share.parts);
+  amount = sym (add-zero (c.audit.new.share.amount + 0) ∙ add-zero c.audit.new.share.amount);
+  fits = rest_fits c.self.inside.sessions c.audit.new.share.parts g.L.Ledger.parts (ap (λ (n : ℕ). c.self.inside.sessions + n) c.audit.ensures.parts ∙ c.self.invariant.0.cut);
+  none_handed = λ _. refl;
 }
 
 pub loop-session-preserved : goal.loop-session-preserved
@@ -119,41 +145,62 @@ loop-session-preserved g c =
     let xs : List SessionState = c.loop-session.yielded in
     let x : SessionState = c.in-Some.session in
     record {
-      left = moved xs x c.next.new.self.rest.items c.loop-session.session-iterator.rest.items c.args.sessions.items c.in-Some.ensures.steps.0 c.loop-session.invariant.left;
-      parts = its_parts xs x c.self.inside.rest.parts c.loop-session.whole.parts c.give_up.new.whole.parts c.loop-session.invariant.parts c.give_up.ensures.parts;
-      amount = its_receipts xs x c.self.inside.rest.amount c.loop-session.whole.amount c.give_up.new.whole.amount c.loop-session.invariant.amount c.give_up.ensures.amount;
+      left = moved xs x c.next.new.self.rest.items c.loop-session.session-iterator.rest.items _ c.in-Some.ensures.steps.0 c.loop-session.invariant.left;
+      parts = its_parts xs x c.audit.new.share.parts c.loop-session.whole.parts c.give_up.new.whole.parts c.loop-session.invariant.parts c.give_up.ensures.parts;
+      amount = its_receipts xs x c.audit.new.share.amount c.loop-session.whole.amount c.give_up.new.whole.amount c.loop-session.invariant.amount c.give_up.ensures.amount;
       fits = c.give_up.ensures.fits;
+      none_handed = λ is. none_more xs x (c.loop-session.invariant.none_handed is) (c.give_up.ensures.none_handed is);
     }
 
 pub returns : goal.returns
 returns g c =
     let items : List SessionState = c.args.sessions.items in
+    let sorted : List SessionState = c.sort_by_worker.new.sessions.items in
+    let moved_to : IsPermutation items sorted = c.sort_by_worker.ensures.permutation in
     let parts : ℕ = parts_of items in
     let start : ℕ = length g.L.Round.start.entries in
     let here : ℕ = length c.args.self.store.entries in
     let entries : c.self.inside.store.entries ≡ c.args.self.store.entries = ap (λ (b : LockedState). b.store.entries) c.self.view_is in
     let made : c.self.inside.sessions ≡ c.args.self.sessions = ap (λ (b : LockedState). b.sessions) c.self.view_is in
-    let amount : c.self.inside.rest.amount ≡ c.args.self.entered = c.self.invariant.2.0 ∙ ap (λ (b : LockedState). b.entered) c.self.view_is in
+    let amount : c.audit.new.share.amount ≡ c.args.self.entered = c.audit.ensures.amount ∙ c.self.invariant.2.0.0 ∙ ap (λ (b : LockedState). b.entered) c.self.view_is in
     let rest : List SessionState = c.loop-session.session-iterator.rest.items in
     let done : rest ≡ [] = nil_from_length rest (sym c.loop-session.session-iterator.rest.ok.0 ∙ c.in-None.ensures.steps.0) in
-    let all : c.loop-session.yielded ≡ items = sym (append-nil c.loop-session.yielded) ∙ (ap (λ (l : List SessionState). c.loop-session.yielded ++ l) (sym done) ∙ c.loop-session.invariant.left) in
-    let whole : c.loop-session.whole.parts ≡ c.self.inside.rest.parts + parts = subst (λ (l : List SessionState). c.loop-session.whole.parts ≡ c.self.inside.rest.parts + parts_of l) all c.loop-session.invariant.parts in
-    let had : c.loop-session.whole.amount ≡ c.self.inside.rest.amount + handed_of items + count_of items =
-    subst (λ (l : List SessionState). c.loop-session.whole.amount ≡ c.self.inside.rest.amount + handed_of l + count_of l) all c.loop-session.invariant.amount in
-    let counted : here ≡ start + c.self.inside.book.total = sym (ap (λ (es : List Entry). length es) entries) ∙ c.self.invariant.0.counted in
-    let given = given_back c.self.inside.sessions c.self.inside.rest.parts g.L.Ledger.parts c.loop-session.whole.parts parts c.self.invariant.0.cut whole in
-    let once = counted_once here start c.self.inside.book.total c.loop-session.whole.amount c.self.inside.rest.amount c.args.self.entered (handed_of items) (count_of items) counted had amount in
-    let out : c.start.result ≡ c.args.self.store.handed = c.start.ensures.start ∙ c.journal.ensures.start ∙ ap (λ (b : LockedState). b.store.handed) c.self.view_is in
+    let all : c.loop-session.yielded ≡ sorted = sym (append-nil c.loop-session.yielded) ∙ (ap (λ (l : List SessionState). c.loop-session.yielded ++ l) (sym done) ∙ c.loop-session.invariant.left ∙ c.into_iter-session-iterator.ensures.into_iter_gives.0) in
+    let parts_same : parts_of sorted ≡ parts = sum_by-IsPermutation (λ (s : SessionState). s.parts) items sorted moved_to in
+    let handed_same : handed_of sorted ≡ handed_of items = sum_by-IsPermutation (λ (s : SessionState). s.handed) items sorted moved_to in
+    let count_same : count_of sorted ≡ count_of items = sum_by-IsPermutation (λ (s : SessionState). length s.receipts) items sorted moved_to in
+    let whole : c.loop-session.whole.parts ≡ c.audit.new.share.parts + parts =
+    subst (λ (l : List SessionState). c.loop-session.whole.parts ≡ c.audit.new.share.parts + parts_of l) all c.loop-session.invariant.parts ∙ ap (λ (n : ℕ). c.audit.new.share.parts + n) parts_same in
+    let had : c.loop-session.whole.amount ≡ c.audit.new.share.amount + handed_of items + count_of items =
+    subst (λ (l : List SessionState). c.loop-session.whole.amount ≡ c.audit.new.share.amount + handed_of l + count_of l) all c.loop-session.invariant.amount ∙ (λ i. c.audit.new.share.amount + handed_same i + count_same i) in
+    let none_out : g.L.Round.start.in_parts ≡ false → handed_of items ≡ 0 = λ is. sym handed_same ∙ ap handed_of (sym all) ∙ c.loop-session.invariant.none_handed is in
+    let counted : here ≡ start + c.audit.new.self.total = sym (ap (λ (es : List Entry). length es) entries) ∙ c.self.invariant.0.counted ∙ ap (λ (n : ℕ). start + n) (sym c.audit.ensures.total) in
+    let given = given_back c.self.inside.sessions c.audit.new.share.parts g.L.Ledger.parts c.loop-session.whole.parts parts (ap (λ (n : ℕ). c.self.inside.sessions + n) c.audit.ensures.parts ∙ c.self.invariant.0.cut) whole in
+    let once = counted_once here start c.audit.new.self.total c.loop-session.whole.amount c.audit.new.share.amount c.args.self.entered (handed_of items) (count_of items) counted had amount in
+    let least : start + c.args.self.entered + handed_of items + count_of items ≤ here = once.0 c.audit-2.ensures.bound in
+    let out : c.start.result ≡ c.args.self.store.handed = c.start.ensures.start ∙ c.journal-journal.ensures.start ∙ ap (λ (b : LockedState). b.store.handed) c.self.view_is in
     let since : c.max-since.result ≡ held_from g.L.Round.start c.args.self.store = c.max-since.ensures ∙ (λ i. max (c.self.invariant.1 i) (out i)) in
+    let entered : c.number.result ≡ c.args.self.entered = c.number.ensures ∙ ap (λ (b : LockedState). b.entered) c.self.view_is in
+    let within : start + c.args.self.entered ≤ here = entered_within here start c.audit.new.self.total c.audit.new.share.amount c.args.self.entered counted (subst (λ (n : ℕ). n ≤ c.audit.new.self.total) (sym c.audit.ensures.amount) (subst (λ (n : ℕ). c.self.inside.rest.amount ≤ n) (sym c.audit.ensures.total) c.audit.ensures.bound)) amount in
+    let few : count_of c.as_slice.result.now ≤ c.entries_since-entries.result =
+    subst (λ (n : ℕ). n ≤ c.entries_since-entries.result) (sym (ap count_of c.as_slice.ensures.value ∙ count_same))
+    ((made_since c.entries_since-entries.result (length c.journal-journal.result.now.entries) here c.self.inside.start start c.number.result c.args.self.entered (count_of items) c.entries_since-entries.ensures (ap (λ (es : List Entry). length es) (c.journal-journal.ensures.entries ∙ entries)) c.self.invariant.1 entered within).1
+    (fewer start c.args.self.entered (handed_of items) (count_of items) here least)) in
     let may : MayClose c.args.self.store.entries (held_from g.L.Round.start c.args.self.store) items =
-    closes c.journal-2.result.now.entries c.args.self.store.entries c.max-since.result (held_from g.L.Round.start c.args.self.store) c.as_slice.result.now items (c.journal-2.ensures.entries ∙ entries) since c.as_slice.ensures.value
-    (c.may_close.ensures.0 c.if-not-may_close.false) in
+    may_close_shuffled c.args.self.store.entries (held_from g.L.Round.start c.args.self.store) sorted items (IsPermutation-sym items sorted moved_to)
+    (closes c.journal-journal.result.now.entries c.args.self.store.entries c.max-since.result (held_from g.L.Round.start c.args.self.store) c.as_slice.result.now sorted (c.journal-journal.ensures.entries ∙ entries) since c.as_slice.ensures.value
+    (c.are_refused.ensures.closes c.if-are_refused.false few)) in
     let since_then : ℕ = held_from g.L.Round.start c.args.self.store in
-    let inside : c.args.self.store.handed ≤ here = subst (λ (b : LockedState). b.store.handed ≤ length b.store.entries) c.self.view_is c.journal.ensures.within in
+    let inside : c.args.self.store.handed ≤ here = subst (λ (b : LockedState). b.store.handed ≤ length b.store.entries) c.self.view_is c.journal-journal.ensures.within in
     let count : parts ≡ c.args.self.sessions → here ≡ start + c.args.self.entered + handed_of items + count_of items =
-    λ as_many. once.1 (c.audit.ensures.whole (given.1 (as_many ∙ sym made))) in
+    λ as_many. once.1 (c.audit-2.ensures.whole (given.1 (as_many ∙ sym made))) in
     let own_count : c.args.self.entered ≡ 0 → parts ≡ c.args.self.sessions → here ≡ start + handed_of items + count_of items =
     λ none as_many. as_counted start c.args.self.entered (handed_of items) (count_of items) here (count as_many) none in
+    let out_to : c.args.self.entered ≡ 0 → parts ≡ c.args.self.sessions → start + handed_of items ≡ since_then → AreSharedOut (drop since_then c.args.self.store.entries) items =
+    λ none as_many gone. shared_out c.args.self.store.entries since_then items may (own_count none as_many ∙ ap (λ (n : ℕ). n + count_of items) gone) in
+    let from_start : c.args.self.entered ≡ 0 → parts ≡ c.args.self.sessions → handed_of items ≡ 0 → since_then ≡ start =
+    λ none as_many not_one.
+    none_gone here start c.args.self.store.handed (handed_of items) (count_of items) since_then (own_count none as_many) (held_at_most c.args.self.store.entries since_then items may) not_one refl inside in
     record {
       ends = record {
         gone_on = subst (λ (b : LockedState). GoesOn g.L.Round.start b.store) c.self.view_is c.self.invariant.3;
@@ -163,12 +210,14 @@ returns g c =
       };
       adds_up = record {
         within = subst (λ (n : ℕ). parts ≤ n) made (given.0 c.loop-session.invariant.fits);
-        least = once.0 c.audit.ensures.bound;
+        least = least;
         count = count;
       };
-      shared_out = λ none as_many gone. shared_out c.args.self.store.entries since_then items may (own_count none as_many ∙ ap (λ (n : ℕ). n + count_of items) gone);
-      none_handed = λ none as_many not_one.
-          none_gone here start c.args.self.store.handed (handed_of items) (count_of items) since_then (own_count none as_many) (held_at_most c.args.self.store.entries since_then items may) not_one refl inside;
+      shared_out = out_to;
+      none_handed = from_start;
+      whole = λ is none as_many.
+          let held = from_start none as_many (none_out is) in
+          subst (λ (n : ℕ). AreSharedOut (drop n c.args.self.store.entries) items) held (out_to none as_many (gone_none start (handed_of items) since_then (none_out is) held));
       mismatch = ((λ none. absurd (not_both false none refl)), (λ no. absurd (no may)));
       only = tt;
       counted = tt;

@@ -48,7 +48,7 @@ invariant_of-self-2 g c =
     let entry : Enters c.self.inside.store c.make.new.store c.args.session.now.worker deed (Reply.Name c.in_ok-name.name) = noted.0.entry in (
       balanced_spawned c.self.inside.store c.make.new.store _ _ _ _ _ _ _ c.args.label c.args.draft.law c.args.draft.state c.self.invariant.0 entry (told.made.name (graph_of_store c.self.inside.store) refl) told.refusals.opening _ _ noted.1 c.split_off-share.ensures.parts_left,
       c.self.invariant.1,
-      (sym (add-zero c.split_off-share.new.self.amount) ∙ c.split_off-share.ensures.amount_left ∙ c.self.invariant.2.0, c.self.invariant.2.1),
+      ((sym (add-zero c.split_off-share.new.self.amount) ∙ c.split_off-share.ensures.amount_left ∙ c.self.invariant.2.0.0, c.self.invariant.2.0.1), c.self.invariant.2.1 ∙ sym told.refusals.handed),
       goes_on_more c.self.inside.store c.make.new.store _ entry told.refusals.opening g.L.Round.start c.self.invariant.3 told.refusals.limits (λ _. told.refusals.handed),
       one_more c.self.inside.sessions _ _ c.self.invariant.4 (made_more g.L.Round.start c.self.inside.store c.make.new.store c.args.session.now.worker deed (Reply.Name c.in_ok-name.name) entry (grown g.L.Round.start c.self.inside.store c.self.invariant.3)),
     )

@@ -11,7 +11,7 @@ invariant_of-self g c = record {
 
 pub returns-in-Err-clause-never_full : goal.returns-in-Err-clause-never_full
 returns-in-Err-clause-never_full g c = λ why.
-    name_left c.args.self.now.till c.args.purse.now.vertices c.args.self.now.locked.store c.args.self.now.covered c.requires.share.0 c.tell.ensures.left
+    name_left c.args.self.now.till c.args.client.now.purse.vertices c.args.self.now.locked.store c.args.self.now.covered c.requires.share.0 c.tell.ensures.left
     (c.in-Err.ensures.refusals.no_more (graph_of_store c.args.self.now.locked.store) refl why).1
 
 pub returns-in-Err-clause-refused : goal.returns-in-Err-clause-refused

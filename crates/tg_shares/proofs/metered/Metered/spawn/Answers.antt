@@ -9,10 +9,10 @@ invariant_of-self g c = record {
       c.args.self.now.covered c.in-Ok.ensures.served.1.entry.entry c.spawn.ensures.refusals.opening (c.pay_vertex.ensures.till ∙ c.tell.ensures.till);
 }
 
-pub returns-after-eq-clause-never_full : goal.returns-after-eq-clause-never_full
-returns-after-eq-clause-never_full g c = λ why.
-    name_left c.args.self.now.till c.args.purse.now.vertices c.args.self.now.locked.store c.args.self.now.covered c.requires.share.0 c.tell.ensures.left
+pub returns-in-Err-clause-never_full : goal.returns-in-Err-clause-never_full
+returns-in-Err-clause-never_full g c = λ why.
+    name_left c.args.self.now.till c.args.client.now.purse.vertices c.args.self.now.locked.store c.args.self.now.covered c.requires.share.0 c.tell.ensures.left
     (c.in-Err.ensures.refusals.no_more (graph_of_store c.args.self.now.locked.store) refl why).1
 
-pub returns-after-eq-clause-refused : goal.returns-after-eq-clause-refused
-returns-after-eq-clause-refused g c = c.in-Err.ensures.noted.refused (returns-after-eq-clause-never_full g c)
+pub returns-in-Err-clause-refused : goal.returns-in-Err-clause-refused
+returns-in-Err-clause-refused g c = c.in-Err.ensures.noted.refused (returns-in-Err-clause-never_full g c)

@@ -1,0 +1,333 @@
+"""The model of the store in plain Python, to test a host against: `plain.Store(..)` stands in for `kovshenul.Store(..)`.
+
+    def use(store):
+        ...                                     # the calls that the host makes
+
+    with kovshenul.Store(*opening) as store, plain.Store(*opening) as model:
+        assert use(store) == use(model)
+        assert list(store.journal()) == list(model.journal())
+
+It has the same calls, with the same arguments and answers. It raises the same exceptions and keeps the same journal. The rules are in
+`_rules.py`, written so that they can be read. The store is proved, and the model isn't. The package's tests compare the two.
+
+It is plain Python. The library for C, which the package loads, is asked for the texts of refusals and for nothing else. `_rules.py`
+runs without the package.
+
+What it leaves out:
+
+- Collections. The model keeps each vertex for good. `collect` of either kind changes nothing, and returns how many vertices a full
+  collection of the store leaves. `names` returns their names.
+- Blocks and memory. Of `Limits` only `max_vertices` counts. No call raises HeapFull or OutOfMemory.
+- The room of a census: `vertices` and `payloads` count all that were ever made, and `blocks` is 0.
+- Files, the Auditor, and the lock: one thread at a time may call.
+- The store's turns. An answer of `could` has turns of the model's own, often fewer. Therefore one side may say WantsNames or Open where
+  the other one says Could. A question takes the time of a closure: about a second for 100 vertices.
+
+The other names of this module are those of `kovshenul`.
+"""
+from __future__ import annotations
+
+from typing import Callable, Iterable, Iterator, List, Optional, Set, Tuple, TypeVar
+
+from . import journal, outlook
+from ._asked import Pair, edges_in, must_be_one, must_be_rights, must_fit, numbers_in, opened, stored_in
+from ._foresight import Foresight
+from ._library import number_in, short_of
+from ._refusals import CAUSES, RULES, BadEntry, BadLaw, BadLimits, BadValues, BadWorkers, Error, HeapFull, NotAudited, OutOfMemory, Refused
+from ._refusals import (
+    AlreadyOpen,
+    BadEdge,
+    BadKind,
+    BadPlace,
+    BadRights,
+    Denied,
+    NoSuchWorker,
+    NotOpen,
+    NotWhole,
+    VerticesFull,
+    WorkersFull,
+    refusal,
+)
+from ._rules import Denial, Full
+from ._values import MOST_NUMBERS, Cell, Counts, Edge, Kind, Limits, Log, Max, Rights, Sum, Target, Value
+from .journal import Create, Deed, Entry, Reply, Spawn
+from .outlook import Chance, Outlook
+
+READ, WRITE, TAKE, GRANT, APPEND, INSPECT, FREE_U, FREE_V = Rights
+FULL, NURSERY = Kind
+
+Own = TypeVar("Own", bound="_Held")
+
+
+class _Held:
+    """What is open or closed, as a store and a view are."""
+
+    closed = True
+
+    def close(self) -> None:
+        """Closes it. What is closed may be closed again."""
+        self.closed = True
+
+    def _must_be_open(self) -> None:
+        if self.closed:
+            raise NotOpen
+
+    def __enter__(self: Own) -> Own:
+        self._must_be_open()
+        return self
+
+    def __exit__(self, *_exception: object) -> None:
+        self.close()
+
+
+class Store(_Held):
+    """A store by the rules alone. Each call does what the call of the same name of `kovshenul.Store` does."""
+
+    def __init__(self, workers: Iterable[Value], edges: Iterable[Pair] = (), limits: Tuple[int, int, int] = Limits()) -> None:
+        if not self.closed:
+            raise AlreadyOpen
+        self._graph = opened(workers, edges, limits)
+        self._entries: List[Entry] = []
+        self._first = 0
+        self._collections = {kind: 0 for kind in Kind}
+        self._foreseen: Optional[Tuple[object, Foresight]] = None
+        self.closed = False
+
+    # ---- commands, each of which has its entry
+
+    def take(self, worker: int, via: int, target: int, rights: int) -> None:
+        """The worker takes rights over the target that `via` has."""
+        self._move(journal.Take, worker, via, target, rights)
+
+    def grant(self, worker: int, via: int, target: int, rights: int) -> None:
+        """The worker grants rights over the target to `via`."""
+        self._move(journal.Grant, worker, via, target, rights)
+
+    def remove(self, worker: int, target: int, rights: int) -> None:
+        """The worker gives up its own rights over the target."""
+        self._move(journal.Remove, worker, target, rights)
+
+    def _move(self, kind: Callable[..., Deed], *words: int) -> None:
+        """Asks for a command whose last word is a set of rights."""
+        worker, *named, rights = numbers_in(*words)
+        must_be_rights(rights)
+        self._ask(worker, kind(*named, Rights(rights)), *named, rights)
+
+    def read(self, worker: int, target: int) -> List[int]:
+        """The state of the target."""
+        worker, target = numbers_in(worker, target)
+        return [*self._ask(worker, journal.Read(target), target).numbers]
+
+    def write(self, worker: int, target: int, value: int) -> None:
+        """The worker writes to the target."""
+        worker, target, value = numbers_in(worker, target, value)
+        self._ask(worker, journal.Write(target, value), target, value)
+
+    def append(self, worker: int, target: int, value: int) -> None:
+        """The worker adds to the log of the target."""
+        worker, target, value = numbers_in(worker, target, value)
+        self._ask(worker, journal.Append(target, value), target, value)
+
+    def list(self, worker: int, room: int = 64) -> List[Target]:
+        """The worker's edges by rising name. `room` has no effect."""
+        worker, _ = numbers_in(worker, room)
+        return [*self._ask(worker, journal.List()).edges]
+
+    def inspect(self, worker: int, target: int, room: int = 64) -> List[Target]:
+        """The target's edges by rising name, by the worker's right to inspect it. `room` has no effect."""
+        worker, target, _ = numbers_in(worker, target, room)
+        return [*self._ask(worker, journal.Inspect(target), target).edges]
+
+    def create(self, worker: int, rights: int, value: Value) -> int:
+        """Makes a vertex over which the worker has the rights, and returns its name."""
+        return self._make(Create, worker, rights, value)
+
+    def spawn(self, worker: int, rights: int, value: Value) -> int:
+        """Makes a worker over which the one who asks has the rights, and returns its name."""
+        return self._make(Spawn, worker, rights, value)
+
+    def _make(self, kind: Callable[..., Deed], worker: int, rights: int, value: Value) -> int:
+        """Asks for a command that makes a vertex."""
+        stored = stored_in(value)
+        worker, rights = numbers_in(worker, rights)
+        must_be_rights(rights)
+        must_fit(stored)
+        return self._ask(worker, kind(Rights(rights), value), rights, stored).name
+
+    def retire(self, worker: int) -> None:
+        """The worker retires, and asks for nothing more."""
+        (worker,) = numbers_in(worker)
+        self._ask(worker, journal.Retire())
+
+    def leave(self, worker: int) -> int:
+        """The worker gives up each edge that it has, by rising name, and retires. Returns how many edges these were."""
+        (worker,) = numbers_in(worker)
+        self._must_work(worker)
+        row = self._graph.row(worker)
+        for target, rights in row:
+            self.remove(worker, target, rights)
+        self.retire(worker)
+        return len(row)
+
+    def _must_work(self, worker: int) -> None:
+        """The store is open, and the worker is active."""
+        self._must_be_open()
+        if worker not in self._graph.subjects:
+            raise refusal(NoSuchWorker.status, worker=worker)
+
+    def _ask(self, worker: int, deed: Deed, *words: object) -> Reply:
+        """Has the rules serve the command, makes its entry, and raises what isn't served."""
+        self._must_work(worker)
+        try:
+            reply = _reply(deed, getattr(self._graph, type(deed).__name__.lower())(worker, *words))
+        except Denial as why:
+            reply = journal.Denied(why.rule, why.cause, why.edge, Rights(why.rights))
+        except Full as why:
+            reply = journal.VerticesFull() if why.limit == "vertices" else journal.WorkersFull()
+        self._entries.append(Entry(worker, deed, reply))
+        if isinstance(reply, journal.Denied):
+            named = [getattr(deed, name) for name in ("via", "target") if hasattr(deed, name)]
+            raise Denied(reply.rule, reply.cause, reply.edge, reply.rights, (worker, *named))
+        if isinstance(reply, journal.VerticesFull):
+            raise VerticesFull
+        if isinstance(reply, journal.WorkersFull):
+            raise WorkersFull
+        return reply
+
+    # ---- questions, which have no entry
+
+    def label(self, worker: int, target: int) -> Rights:
+        """The rights that the worker holds over the target, which may be none."""
+        worker, target = numbers_in(worker, target)
+        self._must_work(worker)
+        return Rights(self._graph.label(worker, target))
+
+    def who_holds(self, right: int, name: int) -> List[int]:
+        """Who holds the right over the vertex with a name, of all that a worker reaches, by rising name."""
+        right, name = numbers_in(right, name)
+        must_be_one(right)
+        self._must_be_open()
+        return self._graph.holders(right, name)
+
+    def subjects(self) -> List[int]:
+        """The names of the active workers, rising."""
+        self._must_be_open()
+        return [*self._graph.subjects]
+
+    def could(self, x: int, right: int, y: int, silent: Iterable[int] = (), as_if: Iterable[Pair] = ()) -> Outlook:
+        """Whether x could ever come to hold the right over y, by any turns of the workers but the silent ones, as if these edges were
+        there too."""
+        names, edges = numbers_in(*silent), edges_in(as_if)
+        x, right, y = numbers_in(x, right, y)
+        must_be_one(right)
+        return self._foresight(names, edges).answer(x, right, y)
+
+    def view(self, silent: Iterable[int] = (), as_if: Iterable[Pair] = ()) -> View:
+        """A view of what the workers reach at the moment."""
+        return View(self, silent, as_if)
+
+    def _foresight(self, silent: Tuple[int, ...], as_if: List[Pair]) -> Foresight:
+        """What answers the questions about the graph with the supposed edges. It is kept for as long as there is no other entry."""
+        must_be_rights(*[rights for _, _, rights in as_if])
+        self._must_be_open()
+        if not {*silent} <= {*self._graph.subjects}:
+            raise NoSuchWorker
+        reached = self._graph.reached()
+        if not all(source != target and {source, target} <= reached for source, target, _ in as_if):
+            raise BadEdge
+        asked = len(self._entries), silent, as_if
+        if self._foreseen is None or self._foreseen[0] != asked:
+            self._foreseen = asked, Foresight(self._graph.with_edges(as_if), silent)
+        return self._foreseen[1]
+
+    def collect(self, kind: int = Kind.FULL) -> int:
+        """Changes nothing. Returns how many vertices a full collection of the store leaves."""
+        kind = number_in(32, kind)
+        if kind not in (FULL, NURSERY):
+            raise BadKind
+        self._must_be_open()
+        self._collections[Kind(kind)] += 1
+        return len(self._graph.reached())
+
+    def names(self) -> Set[int]:
+        """The names of the vertices that a full collection of the store leaves."""
+        self._must_be_open()
+        return self._graph.reached()
+
+    def census(self) -> Counts:
+        """How many vertices, entries and collections were made."""
+        self._must_be_open()
+        replies = [type(entry.reply) for entry in self._entries]
+        refused = [replies.count(kind) for kind in (journal.Denied, journal.VerticesFull, journal.WorkersFull)]
+        made, entries = self._graph.made, len(self._entries)
+        by_kind = self._collections[NURSERY], self._collections[FULL]
+        return Counts(made, made, 0, entries, entries - self._first, *refused, *by_kind)
+
+    # ---- the journal
+
+    def entries(self) -> int:
+        """How many entries the journal ever had."""
+        self._must_be_open()
+        return len(self._entries)
+
+    def first(self) -> int:
+        """The place of the first entry that the journal holds."""
+        self._must_be_open()
+        return self._first
+
+    def forget(self, upto: int) -> None:
+        """Gives up the entries before this place."""
+        (upto,) = numbers_in(upto)
+        if not self.first() <= upto <= self.entries():
+            raise BadPlace
+        self._first = upto
+
+    def entry(self, at: int) -> Entry:
+        """The journal's entry at this place."""
+        (at,) = numbers_in(at)
+        if not self.first() <= at < self.entries():
+            raise BadPlace
+        return self._entries[at]
+
+    def journal(self) -> Iterator[Entry]:
+        """The entries that the journal holds, one after the other."""
+        at = self.first()
+        while at < self.entries():
+            yield self.entry(at)
+            at += 1
+
+    def audit(self) -> int:
+        """How many entries the journal has. Where some were given up it raises NotWhole."""
+        if self.first() > 0:
+            raise NotWhole
+        return self.entries()
+
+
+def _reply(deed: Deed, answer: object) -> Reply:
+    """What the journal says of a command that was served."""
+    if isinstance(deed, journal.Read):
+        return journal.Values(answer)
+    if isinstance(deed, (journal.List, journal.Inspect)):
+        return journal.Edges(tuple(Target(to, Rights(rights)) for to, rights in answer))
+    if isinstance(deed, (Create, Spawn)):
+        return journal.Name(answer)
+    return journal.Done()
+
+
+class View(_Held):
+    """What could come about, as of the moment of `Store.view`."""
+
+    def __init__(self, store: Store, silent: Iterable[int] = (), as_if: Iterable[Pair] = ()) -> None:
+        names, edges = numbers_in(*silent), edges_in(as_if)
+        if not isinstance(store, Store):
+            raise TypeError(f"a store is wanted, and not {short_of(store)}")
+        self._foresight = store._foresight(names, edges)
+        self.closed = False
+
+    def could(self, x: int, right: int, y: int) -> Chance:
+        """That x never comes to hold the right over y; that no worker reached x; or Perhaps, which says nothing."""
+        x, right, y = numbers_in(x, right, y)
+        must_be_one(right)
+        self._must_be_open()
+        answer = self._foresight.answer(x, right, y)
+        return answer if isinstance(answer, (outlook.Never, outlook.Unreached)) else outlook.Perhaps()

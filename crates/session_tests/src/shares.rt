@@ -1,0 +1,205 @@
+//! A store of two workers whose three vertices are shared out: one uses up its share, the other still has its own, and
+//! a leave is paid for.
+ghost use Rattle.std.specs.Prelude.{◌≡◌, ◌+◌, ◌≤◌};
+ghost use Rattle.tg_store.specs.Store.{graph_of_store};
+ghost use Rattle.tg_shared.specs.Sessions.{MayShare};
+ghost use Rattle.tg_shares.specs.Shares.{MayShareOut};
+
+use crate::opened::{draft, open_store};
+use std::alloc::Global;
+use std::marker::Brand;
+use std::sync::Wait;
+use std::sync::ledger::{Blank, Ledger};
+use tg_payload::CellPayload;
+use tg_rights::Label;
+use tg_shared::{Blanks, Round, Session};
+use tg_shares::{Client, Lack, MeteredStore, Portion, Purse, SharedOut};
+use tg_store::Store;
+
+// All that is shared out.
+const WHOLE: Portion = Portion {
+    vertices: 3,
+    entries: 6,
+};
+
+// The share of the second client; the first has the rest.
+const SECOND: Portion = Portion {
+    vertices: 1,
+    entries: 3,
+};
+
+// What the first client lacks for its leave.
+const TWO_ENTRIES: Portion = Portion {
+    vertices: 0,
+    entries: 2,
+};
+
+// What is seen of the two clients.
+#[derive(Clone, Copy, PartialEq, Eq, Debug)]
+struct Seen {
+    // whether the first makes two vertices, and what it then lacks for a third
+    made: bool,
+    lacks: Option<Lack>,
+    // whether the second still makes its own
+    other_made: bool,
+    // how many edges the first gives up by a leave that it can't pay for, and by one that it can; and the entries that
+    // its purse then has
+    left: [Option<u64>; 2],
+    paid_to: u64,
+    // how many entries the closed store has
+    entries: u64,
+}
+
+// Lets a client make a vertex, if it can pay for it.
+fn makes<L: Round, V: Ledger, R: Wait>(
+    rt: &R,
+    alloc: Global,
+    store: &MeteredStore<L, V, CellPayload>,
+    client: &mut Client<L, V>,
+) -> bool {
+    if client.purse.may_make(0, Portion::none()).is_err() {
+        return false;
+    }
+    match (Label::read_text(b"rw"), draft(alloc)) {
+        (Some(label), Some(draft)) => client.create(rt, store, label, draft).is_ok(),
+        _ => false,
+    }
+}
+
+// What a client lacks to make a vertex.
+fn lacks<L: Round, V: Ledger>(client: &Client<L, V>) -> Option<Lack> {
+    match client.purse.may_make(0, Portion::none()) {
+        Ok(()) => None,
+        Err(fault) => Some(fault.lacks),
+    }
+}
+
+// Lets the first leave with what it has, and then with what the second one gives it.
+fn leaves<L: Round, V: Ledger, R: Wait>(
+    rt: &R,
+    store: &MeteredStore<L, V, CellPayload>,
+    first: &mut Client<L, V>,
+    second: &mut Client<L, V>,
+) -> [Option<u64>; 2] {
+    let before = first.leave(rt, store).ok();
+    if let Ok(more) = second.purse.split_off(TWO_ENTRIES) {
+        first.purse.merge(more);
+    }
+    [before, first.leave(rt, store).ok()]
+}
+
+fn see<L: Round, V: Ledger, R: Wait>(
+    rt: &R,
+    alloc: Global,
+    store: &MeteredStore<L, V, CellPayload>,
+    first: &mut Client<L, V>,
+    second: &mut Client<L, V>,
+) -> Seen {
+    let made = [
+        makes(rt, alloc, store, first),
+        makes(rt, alloc, store, first),
+    ];
+    let lacks = lacks(first);
+    let other_made = makes(rt, alloc, store, second);
+    let left = leaves(rt, store, first, second);
+    Seen {
+        made: made == [true, true],
+        lacks,
+        other_made,
+        left,
+        paid_to: first.purse.entries(),
+        entries: 0,
+    }
+}
+
+// The two clients, by their sessions and the purse that has all.
+fn clients_of<L: Round, V: Ledger>(
+    mut sessions: Vec<Session<L>>,
+    mut purse: Purse<V>,
+) -> Option<(Client<L, V>, Client<L, V>)> {
+    let second = sessions.pop()?;
+    let first = sessions.pop()?;
+    let part = purse.split_off(SECOND).ok()?;
+    let second = Client {
+        session: second,
+        purse: part,
+    };
+    let first = Client {
+        session: first,
+        purse,
+    };
+    Some((first, second))
+}
+
+fn seen_of<L: Round, V: Ledger, R: Wait>(
+    rt: &R,
+    alloc: Global,
+    shared: SharedOut<L, V, CellPayload>,
+) -> Option<Seen> {
+    let SharedOut {
+        store,
+        sessions,
+        purse,
+        keeper,
+    } = shared;
+    drop(keeper);
+    let (mut first, mut second) = clients_of(sessions, purse)?;
+    let seen = see(rt, alloc, &store, &mut first, &mut second);
+    let mut sessions = Vec::new(alloc);
+    sessions.push(first.session).ok()?;
+    sessions.push(second.session).ok()?;
+    let store = store.into_locked().close(sessions).ok()?;
+    let entries = store.journal().len();
+    store.let_go();
+    Some(Seen { entries, ..seen })
+}
+
+fn share<L: Round, V: Ledger, R: Wait>(
+    rt: &R,
+    alloc: Global,
+    blanks: Blanks,
+    vertices: Blank,
+    store: Store<CellPayload>,
+) -> Option<Seen>
+    requires shareable { MayShare L.name L.parts L.keeper L.start blanks store }
+    requires shares { MayShareOut V.name V.parts vertices WHOLE.vertices store }
+{
+    match MeteredStore::<L, V, CellPayload>::new(alloc, blanks, vertices, WHOLE, store) {
+        Ok(shared) => seen_of(rt, alloc, shared),
+        Err(store) => {
+            store.let_go();
+            None
+        }
+    }
+}
+
+// Shares out all that may still be made.
+fn share_out<R: Wait>(rt: &R, alloc: Global, store: Store<CellPayload>) -> Option<Seen>
+    requires { (graph_of_store store).made + 3 ≤ store.opening.limit }
+{
+    let blanks = Blanks::new(store.opening().max_vertices() + 1);
+    let vertices = Blank::new(WHOLE.vertices);
+    share::<Brand, Brand, R>(rt, alloc, blanks, vertices, store)
+}
+
+fn story<R: Wait>(rt: &R, alloc: Global) -> Option<Seen> {
+    match open_store(alloc) {
+        Some(store) => share_out(rt, alloc, store),
+        None => None,
+    }
+}
+
+// Who has used up its share is refused by it, and the other one makes what its own share has. A leave that can't be
+// paid for is refused, and one that can costs an entry for each edge and one more.
+#[test]
+fn shares_hold_and_are_paid_from(rt: HostRuntime) {
+    let wanted = Seen {
+        made: true,
+        lacks: Some(Lack::Vertices),
+        other_made: true,
+        left: [None, Some(2)],
+        paid_to: 0,
+        entries: 6,
+    };
+    assert_eq!(rt; story(&rt, rt.alloc()), Some(wanted));
+}

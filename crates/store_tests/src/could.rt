@@ -1,0 +1,80 @@
+//! Answers that no clause of `tg_could` asks for: `Perhaps` of a view and a host of `needs` say nothing, so a body that
+//! gives no other answer keeps every contract.
+use std::alloc::{AllocError, Global};
+use tg_could::{Chance, View, needs};
+use tg_model::{Edge, Picture};
+use tg_rights::{Label, Right, Rights};
+
+// The object that the last subject holds rights over.
+const DOCUMENT: u64 = 10;
+
+// All rights.
+const RIGHTS: &[Right] = &[
+    Right::R,
+    Right::W,
+    Right::T,
+    Right::G,
+    Right::A,
+    Right::L,
+    Right::U,
+    Right::V,
+];
+
+// Ten subjects and the document, over which subject 9 has all rights; and this edge, if it has rights.
+fn picture(alloc: Global, from: u64, to: u64, rights: Rights) -> Result<Picture, AllocError> {
+    let mut subjects = Vec::new(alloc);
+    for name in 0..DOCUMENT {
+        subjects.push(name)?;
+    }
+    let mut edges = Vec::new(alloc);
+    add(&mut edges, from, to, rights)?;
+    for right in RIGHTS {
+        add(&mut edges, 9, DOCUMENT, Rights::of(*right))?;
+    }
+    Ok(Picture::new(subjects, edges, DOCUMENT + 1, 100))
+}
+
+// Adds an edge, if it has rights.
+fn add(edges: &mut Vec<Edge>, from: u64, to: u64, rights: Rights) -> Result<(), AllocError> {
+    if let Some(label) = Label::new(rights) {
+        edges.push(Edge { from, to, label })?;
+    }
+    Ok(())
+}
+
+// Whether a view tells of each right over the document that subject 0 never holds it, and that subject 9 may.
+fn is_told_by_view(alloc: Global) -> Result<bool, AllocError> {
+    let picture = picture(alloc, 0, 1, Rights::of(Right::T))?;
+    let view = View::open(alloc, &picture, &[])?;
+    let mut is_told = true;
+    for right in RIGHTS {
+        is_told &= view.could(0, *right, DOCUMENT) == Chance::Never;
+        is_told &= view.could(9, *right, DOCUMENT) == Chance::Perhaps;
+    }
+    Ok(is_told)
+}
+
+#[test]
+fn a_view_where_ten_act(rt: HostRuntime) {
+    assert!(rt; is_told_by_view(rt.alloc()) == Ok(true));
+}
+
+// Whose turns would be enough for subject 0 to read the document, when all others are silent.
+fn enough(alloc: Global) -> Result<Vec<u64>, AllocError> {
+    let picture = picture(alloc, 9, 0, Rights::of(Right::G))?;
+    let silent = [1, 2, 3, 4, 5, 6, 7, 8, 9];
+    needs(alloc, &picture, &silent, 0, Right::R, DOCUMENT)
+}
+
+// Whether these are subject 9's alone.
+fn is_one_enough(alloc: Global) -> bool {
+    match enough(alloc) {
+        Ok(names) => names.as_slice() == [9].as_slice(),
+        Err(_) => false,
+    }
+}
+
+#[test]
+fn one_of_nine_silent_is_enough(rt: HostRuntime) {
+    assert!(rt; is_one_enough(rt.alloc()));
+}

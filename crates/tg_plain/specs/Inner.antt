@@ -1,0 +1,2 @@
+-- What private calls ask for and promise. No public clause cites it.
+pub mod Reading

@@ -1,0 +1,128 @@
+//! A store with shares behind its lock, from sharing it to having it back.
+ghost use Rattle.std.specs.Prelude.{◌≡◌, ◌≢◌, ◌≤◌, ◌+◌, false, true, Err, IfErr, IfOk, OnErr, length};
+ghost use Rattle.tg_model.specs.Graph.{IsSubject, ProtectionGraph};
+ghost use Rattle.tg_store.specs.Store.{IsFaithful, StandsFor, graph_of_store};
+ghost use Rattle.tg_shared.specs.Sessions.{AreFresh, AtSome, EndsAtSome, GoesOn, MayShare, sessions_made, subjects_at};
+ghost use Rattle.tg_shares.specs.Shares.{MayShareOut};
+
+use crate::metered::{Metered, Opened};
+use crate::purse::{Portion, Purse};
+use std::alloc::Global;
+use std::sync::ledger::{Blank, Ledger};
+use std::sync::{Mutex, Wait};
+use tg_journal::Journal;
+use tg_payload::Payload;
+use tg_shared::{Blanks, Keeper, Locked, Round, Session};
+use tg_store::{ApplyFault, Store};
+
+/// A store behind a lock, whose vertices are shared out. Clients reach it by the calls of
+/// [`Client`](crate::Client), each of which is paid for. Its keeper takes the journal and ends workers, which nobody
+/// pays for. Nobody else has the lock.
+#[derive(Drop)]
+pub struct MeteredStore<L: Round, V: Ledger, P: Payload> {
+    pub(crate) metered: Mutex<Metered<L, V, P>>,
+}
+
+/// A store with shares; a session for each active subject, by rising name; the purse that has all shares; and the one
+/// keeper.
+#[derive(Drop)]
+pub struct SharedOut<L: Round, V: Ledger, P: Payload> {
+    pub store: MeteredStore<L, V, P>,
+    pub sessions: Vec<Session<L>>,
+    pub purse: Purse<V>,
+    pub keeper: Keeper<L>,
+}
+
+impl<L: Round, V: Ledger, P: Payload> MeteredStore<L, V, P> {
+    /// Shares a store as [`SharedStore::new`](tg_shared::SharedStore::new) does, and hands out a purse with so many
+    /// vertices and entries. Each vertex that a client makes is paid out of this purse or of a part of it, and so is
+    /// each entry of a client's call.
+    ///
+    /// The first blanks are those of the round. The other one has as many parts as the purse has vertices, and so many
+    /// vertices may still be made. All are spent. Fails only when out of memory, and hands the store back.
+    pub fn new(
+        alloc: Global,
+        blanks: Blanks,
+        vertices: Blank,
+        whole: Portion,
+        store: Store<P>,
+    ) -> Result<SharedOut<L, V, P>, Store<P>>
+        requires shareable { MayShare L.name L.parts L.keeper L.start blanks store }
+        requires shares { MayShareOut V.name V.parts vertices whole.vertices store }
+        ensures sessions { (g : ProtectionGraph) → StandsFor store g → IfOk result (λ opened. AreFresh g.subjects opened.sessions.items) }
+        ensures purse { IfOk result (λ opened. opened.purse ≡ whole) }
+        ensures handed_back { IfErr result (λ refused. refused ≡ store) }
+    {
+        let Opened {
+            metered,
+            sessions,
+            keeper,
+            purse,
+        } = Metered::open(alloc, blanks, vertices, whole, store)?;
+        Ok(SharedOut {
+            store: MeteredStore {
+                metered: Mutex::new(metered),
+            },
+            sessions,
+            purse,
+            keeper,
+        })
+    }
+
+    /// Hands out the entries that the store behind the lock holds, as [`Keeper::take_journal`] does of a store without
+    /// shares. What is handed out begins where the part before it ended. The store has to be shared so that its journal
+    /// is handed out in parts. Nobody pays for it. Takes no memory.
+    pub fn take_journal<R: Wait>(&self, rt: &R, keeper: &mut Keeper<L>) -> Journal
+        requires in_parts { L.start.in_parts ≡ true }
+        ensures joined { result.start ≡ keeper.old.next }
+        ensures next { keeper.new ≡ record keeper.old { next = length result.entries } }
+        ensures held { AtSome L.start (λ s. (result.entries ≡ s.entries) × (result.start ≡ s.handed)) }
+    {
+        let mut metered = self.metered.lock(rt);
+        // for what is told of it: the shared store, gone on
+        let _ = metered.store();
+        metered.take_journal(keeper)
+    }
+
+    /// Ends a worker by its name, wherever its session is, as [`Keeper::end`] does of a store without shares: the
+    /// worker gives up each edge that it has, by rising name, and retires. Returns how many edges these were. No purse
+    /// pays for these entries. The store has to be shared so that its keeper may end workers.
+    ///
+    /// A refused end changes nothing. The refusals are `NoSuchWorker` and `OutOfMemory`.
+    pub fn end<R: Wait>(
+        &self,
+        rt: &R,
+        keeper: &mut Keeper<L>,
+        worker: u64,
+    ) -> Result<u64, ApplyFault>
+        requires may_end { L.start.may_end ≡ true }
+        ensures ended { IfOk result (EndsAtSome L.start worker) }
+        ensures entered { IfOk result (λ count. keeper.new ≡ record keeper.old { entered = keeper.old.entered + (count + 1) }) }
+        ensures none_entered { OnErr result (keeper.new ≡ keeper.old) }
+        ensures no_such_worker { IfErr result (λ why. why ≡ ApplyFault.NoSuchWorker → AtSome L.start (λ s. ¬ IsSubject (graph_of_store s) worker)) }
+        ensures never_full { result ≢ Err ApplyFault.HeapFull }
+    {
+        let mut metered = self.metered.lock(rt);
+        // for what is told of it: the shared store, gone on
+        let _ = metered.store();
+        let ended = metered.end(keeper, worker);
+        // and of the one that is left
+        let _ = metered.store();
+        ended
+    }
+
+    /// What was behind the lock, without the shares: the store that was shared, gone on.
+    /// [`Locked::close`](tg_shared::Locked::close) ends the round with the clients' sessions, and
+    /// [`Locked::reclaim`](tg_shared::Locked::reclaim) ends it if some are lost. Takes no memory, and no lock is waited
+    /// for.
+    pub fn into_locked(self) -> Locked<L, P>
+        ensures faithful { IsFaithful result.store }
+        ensures gone_on { GoesOn L.start result.store }
+        ensures sessions { result.sessions ≡ sessions_made L.start result.store.entries }
+        ensures started { length (subjects_at L.start) ≤ result.sessions }
+        ensures none_ended { L.start.may_end ≡ false → result.entered ≡ 0 }
+    {
+        let MeteredStore { metered } = self;
+        metered.into_inner().into_locked()
+    }
+}

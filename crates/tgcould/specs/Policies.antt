@@ -1,0 +1,73 @@
+-- What a policy rests on: the texts of the command line, the questions that they are, and the exit status.
+use Rattle.std.specs.Prelude.{◌≡◌, ℕ, Bool, not, ◌&&◌, if◌then◌else◌, List, [], ◌∷◌, ◌++◌, codes, Option, Some, None}
+use Rattle.std.specs.List.{All, Contains}
+use Rattle.std.specs.Str.Parse.{without_leading_plus, digits_value, IsNumeral}
+use Rattle.clap.specs.Matches.{found_of, matched_of, raw_values}
+use Rattle.clap.specs.declared.parser.matches.ArgMatches.{ArgMatches}
+use Rattle.clap.specs.declared.parser.matches.MatchedArg.{MatchedArg}
+use Rattle.tg_rights.specs.RightSet.{letter_of}
+use Rattle.tg_model.specs.Picture.{Shown}
+use Rattle.tgcould.specs.declared.question.Question.{Question}
+use Rattle.tgcould.specs.declared.question.Question.TheVariants.{Hold, Who, What}
+use Rattle.tgcould.specs.declared.question.Vertex.{Vertex}
+use Rattle.tgcould.specs.declared.question.Vertex.TheVariants.{Named, New}
+use Rattle.tgcould.specs.Told.{NeverComes}
+
+-- ---- the command line
+
+-- the values of an option, or none where it isn't there
+abbrev pub values_of : Option MatchedArg → List (List ℕ)
+values_of None = []
+values_of (Some matched) = raw_values matched
+
+-- all values that are given to the option of this name, in order
+abbrev pub texts_of : ArgMatches → List ℕ → List (List ℕ)
+texts_of matches option = values_of (matched_of (found_of matches) option)
+
+-- the text writes the number in decimal digits
+abbrev pub Writes : List ℕ → ℕ → Type 0
+Writes text n = IsNumeral 10 (without_leading_plus text) × (n ≡ digits_value 10 (without_leading_plus text))
+
+-- the names are exactly the numbers that some of the texts write
+pub record AreNamesIn (texts : List (List ℕ)) (names : List ℕ) : Type 0 where
+  pub all : (text : List ℕ) (n : ℕ) → Contains texts text → Writes text n → Contains names n
+  pub only : (n : ℕ) → Contains names n → (text : List ℕ) × Contains texts text × Writes text n
+
+-- ---- questions
+
+-- the word is a vertex of a question
+abbrev pub IsVertex : List ℕ → Vertex → Type 0
+IsVertex word (Named n) = Writes word n
+IsVertex word New = word ≡ codes "new"
+
+-- the three words are the question
+abbrev pub AreWords : List ℕ → List ℕ → List ℕ → Question → Type 0
+AreWords holder right over (Hold x r y) = IsVertex holder x × (right ≡ letter_of r ∷ []) × IsVertex over y
+AreWords holder right over (Who r y) = (holder ≡ codes "*") × (right ≡ letter_of r ∷ []) × IsVertex over y
+AreWords holder right over (What x) = IsVertex holder x × (right ≡ codes "*") × (over ≡ codes "*")
+
+-- behind the holder and a space the text has the two other words of the question, with a space between them
+pub record IsBehind (holder rest : List ℕ) (question : Question) : Type 0 where
+  pub right : List ℕ
+  pub over : List ℕ
+  pub split : rest ≡ right ++ 32 ∷ over
+  pub words : AreWords holder right over question
+
+-- the text is the question: three words with a space between two
+pub record IsQuestion (text : List ℕ) (question : Question) : Type 0 where
+  pub holder : List ℕ
+  pub rest : List ℕ
+  pub split : text ≡ holder ++ 32 ∷ rest
+  pub behind : IsBehind holder rest question
+
+-- ---- policies
+
+-- the text is a question, and what it asks about never comes about
+pub record IsKept (p : Shown) (silent : List ℕ) (text : List ℕ) : Type 0 where
+  pub question : Question
+  pub is : IsQuestion text question
+  pub never : NeverComes p silent question
+
+-- the exit status after an answer: 1 if something must never come about and the answer isn't `never`
+abbrev pub status_after : ℕ → Bool → Bool → ℕ
+status_after status must_never is_never = if (must_never && not is_never) then 1 else status

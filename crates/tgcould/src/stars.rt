@@ -1,0 +1,108 @@
+//! The answers to questions with a star: who could come to hold a right over a vertex, and what somebody could hold.
+ghost use Rattle.std.specs.Prelude.{◌≡◌, ℕ, IfOk, IsTrue, OnOk, true};
+ghost use Rattle.std.specs.List.{Contains};
+ghost use Rattle.tg_rights.specs.RightSet.{has};
+ghost use Rattle.tg_rights.specs.declared.Right.{Right as TheRight};
+ghost use Rattle.tg_could.specs.declared.chance.Chance.{Chance as TheChance};
+ghost use Rattle.tg_could.specs.declared.chance.Chance.TheVariants.{Never};
+ghost use Rattle.tg_could.specs.Told.{TellsWho, IsLeftOut};
+ghost use Rattle.tg_could.specs.Listed.{TellsWhat};
+ghost use Rattle.tgcould.specs.Told.{ListsWho, ListsWhat, IsHeld};
+
+use crate::ask::Scene;
+use std::alloc::AllocError;
+use tg_could::{Chance, What, Who, what_could, who_could};
+use tg_rights::{Right, Rights};
+
+/// Who could come to hold a right over a vertex.
+#[derive(Drop)]
+pub struct Holders {
+    /// Those who were made, by their names.
+    pub names: Vec<u64>,
+    /// Whether those who are made later could, too.
+    pub later: bool,
+}
+
+/// What somebody could come to hold.
+#[derive(Drop)]
+pub struct Held {
+    /// The vertices that were made, by their names, with the rights over each.
+    pub over: Vec<(u64, Rights)>,
+    /// The rights over those that are made later.
+    pub later: Rights,
+}
+
+/// Who could come to hold the right over y: each name that isn't listed never does, whether it was made or not.
+pub fn holders_of(scene: &Scene, right: Right, y: u64) -> Result<Holders, AllocError>
+    ensures { IfOk result (ListsWho scene.now.picture.now scene.now.silent.now right y) }
+{
+    let who = who_could(scene.alloc, scene.picture, scene.silent, right, y)?;
+    list_holders(scene, &who, right, y)
+}
+
+// The names that one search tells.
+fn list_holders(scene: &Scene, who: &Who, right: Right, y: u64) -> Result<Holders, AllocError>
+    requires { TellsWho scene.now.silent.now scene.now.picture.now right y who.now }
+    ensures { IfOk result (ListsWho scene.now.picture.now scene.now.silent.now right y) }
+{
+    let mut names = Vec::new(scene.alloc);
+    for x in 0..scene.picture.made() {
+        add_unless_never(&mut names, who, x)?;
+    }
+    let later = !is_never(who.of_later());
+    Ok(Holders { names, later })
+}
+
+// Adds x, unless it never holds the right.
+fn add_unless_never(names: &mut Vec<u64>, who: &Who, x: u64) -> Result<(), AllocError>
+    ensures kept { OnOk result ((k : ℕ) → Contains names.old.items k → Contains names.new.items k) }
+    ensures shown { OnOk result ((¬ Contains names.new.items x) → IsLeftOut who.now x) }
+{
+    if !is_never(who.of(x)) {
+        names.push(x)?;
+    }
+    Ok(())
+}
+
+// Whether it is told that something never comes about.
+fn is_never(chance: Chance) -> bool
+    ensures { IsTrue result → chance ≡ Never }
+{
+    match chance {
+        Chance::Never => true,
+        Chance::Perhaps => false,
+    }
+}
+
+/// What x could come to hold: a right over a name that isn't listed it never holds, whether the name was made or not.
+pub fn held_by(scene: &Scene, x: u64) -> Result<Held, AllocError>
+    ensures { IfOk result (ListsWhat scene.now.picture.now scene.now.silent.now x) }
+{
+    let what = what_could(scene.alloc, scene.picture, scene.silent, x)?;
+    list_held(scene, &what, x)
+}
+
+// The rights that one search tells.
+fn list_held(scene: &Scene, what: &What, x: u64) -> Result<Held, AllocError>
+    requires { TellsWhat scene.now.silent.now scene.now.picture.now x what.now }
+    ensures { IfOk result (ListsWhat scene.now.picture.now scene.now.silent.now x) }
+{
+    let mut rows = Vec::new(scene.alloc);
+    for y in 0..scene.picture.made() {
+        add_rights(&mut rows, y, what.over(y))?;
+    }
+    let later = what.over_later();
+    Ok(Held { over: rows, later })
+}
+
+// Adds a vertex with the rights over it, unless there are none.
+fn add_rights(rows: &mut Vec<(u64, Rights)>, y: u64, rights: Rights) -> Result<(), AllocError>
+    ensures kept { OnOk result ((right : TheRight) (k : ℕ) → IsHeld rows.old.items right k → IsHeld rows.new.items right k) }
+    ensures added { OnOk result ((right : TheRight) → has rights right ≡ true → IsHeld rows.new.items right y) }
+{
+    if rights.is_empty() {
+        return Ok(());
+    }
+    rows.push((y, rights))?;
+    Ok(())
+}
