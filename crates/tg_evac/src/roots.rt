@@ -19,7 +19,7 @@ impl Walk<'_> {
     ///
     /// It is refused as a claim is. What was claimed till then stays so.
     #[inline(always)]
-    pub fn claim_root<C: Claimer>(self, claimer: &mut C, root: Root) -> Result<(), RoomFault>
+    pub(crate) fn claim_root<C: Claimer>(self, claimer: &mut C, root: Root) -> Result<(), RoomFault>
         requires { MayClaimRoot self.kind self.spaces.now.spaces root (C.walked claimer.old) }
         ensures { ClaimsAll C.walked C.knows C.is_full self.entry.spaces.now.spaces (straight_from (C.walked claimer.old).kind root) (root_targets_of (from_space (C.walked claimer.old).kind) self.entry.spaces.now.spaces root) claimer.old claimer.new result }
     {
