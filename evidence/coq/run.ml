@@ -14,8 +14,12 @@ let number text =
   match positive (bits (Int64.of_string ("0u" ^ text))) with None -> N0 | Some value -> Npos value
 
 let text_of value =
+  let rec length = function XH -> 1 | XI above | XO above -> 1 + length above in
   let rec bits = function XH -> 1L | XI above -> Int64.logor 1L (Int64.shift_left (bits above) 1) | XO above -> Int64.shift_left (bits above) 1 in
-  match value with N0 -> "0" | Npos value -> Printf.sprintf "%Lu" (bits value)
+  match value with
+  | N0 -> "0"
+  | Npos value when length value > 64 -> failwith "a number over 64 bits"
+  | Npos value -> Printf.sprintf "%Lu" (bits value)
 
 let letter = function R -> 'r' | W -> 'w' | T -> 't' | G -> 'g' | A -> 'a' | L -> 'l' | U -> 'u' | V -> 'v'
 let rights text = rights_where (fun one -> String.contains text (letter one))
