@@ -1,5 +1,5 @@
 //! An audit of a history that comes in parts.
-ghost use Rattle.std.specs.Prelude.{◌≡◌, ◌+◌, [], ◌∷◌, false, IfOk, IfErr, OnOk, OnErr};
+ghost use Rattle.std.specs.Prelude.{◌≡◌, ◌+◌, [], ◌∷◌, true, None, Ok, IfOk, IfErr, OnOk, OnErr};
 ghost use Rattle.tg_model.specs.Graph.{ProtectionGraph};
 ghost use Rattle.tg_model.specs.Opened.{start_of};
 ghost use Rattle.tg_journal.specs.Auditing.{FeedsEntries, FeedsPart, IsAnswered, IsEnded, Passes, StandsAt};
@@ -115,13 +115,13 @@ impl Auditor {
             return Err(AuditFault::BadEntry { at: self.at });
         }
         for entry in entries {
-            self.pass(entry)?;
+            self.replay_next(entry)?;
         }
         Ok(())
     }
 
     // Replays the next entry.
-    fn pass(&mut self, entry: &Entry) -> Result<(), AuditFault>
+    fn replay_next(&mut self, entry: &Entry) -> Result<(), AuditFault>
         ensures passed { (g : ProtectionGraph) → StandsAt g self.old → OnOk result (Passes g (entry.now ∷ []) self.new) }
         ensures place { OnOk result (self.new.at ≡ self.old.at + 1) }
         ensures stopped { IfErr result (StopsBefore self.old self.new entry.now) }
@@ -155,10 +155,14 @@ impl Auditor {
         ensures answered { (g : ProtectionGraph) → StandsAt g self.old → IfOk result (IsAnswered g worker deed.now self.old self.new) }
         ensures refused { (g : ProtectionGraph) → StandsAt g self.old → OnErr result (StandsAt g self.new) }
         ensures place { OnErr result (self.new.at ≡ self.old.at) }
+        ensures ended { self.old.found_bad ≡ true → (result ≡ Ok None) × (self.new ≡ self.old) }
     {
+        if self.found_bad {
+            return Ok(None);
+        }
         let next = self.next_place()?;
         self.sweep_where_due();
-        if self.found_bad || !self.graph.is_subject(worker) || !deed.fits() {
+        if !self.graph.is_subject(worker) || !deed.fits() {
             return Ok(None);
         }
         let reply = self.graph.apply(worker, deed)?;

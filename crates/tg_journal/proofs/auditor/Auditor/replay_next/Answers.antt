@@ -3,7 +3,7 @@ use Rattle.std.proofs.lemmas.Result.{err_from_is_err_and}
 use Rattle.tg_journal.specs.Auditing.{StandsAt}
 use Rattle.tg_journal.specs.Live.{AuditState}
 use Rattle.tg_journal.proofs.AuditLaws.{bad_here, passed_on, stays_for_want, stops_for_want}
-use Rattle.tg_journal.proofs.auditor.Auditor.pass.Goals as goal
+use Rattle.tg_journal.proofs.auditor.Auditor.replay_next.Goals as goal
 
 pub returns-clause-passed : goal.returns-clause-passed
 returns-clause-passed c = λ g stands.
