@@ -41,7 +41,8 @@ impl Model for Auditor {
 // Fewer vertices are never swept by an audit itself.
 const FIRST_SWEEP: usize = 65_536;
 
-/// Why an auditor refused a part of a journal, or stopped in it. Each place is one in the whole history, counted from 0.
+/// Why an auditor refused a part of a journal, or stopped in it. Each place is one in the whole history, counted from
+/// 0.
 #[derive(Clone, Copy, PartialEq, Eq, Debug, Error)]
 pub enum PartFault {
     /// The part has the entries from `start` to before `end`. The next entry of the history is at `due`, which isn't
@@ -105,8 +106,8 @@ impl Auditor {
     /// returned only if they are a legal history of the graph so far. The auditor has then come to the graph and the
     /// place after them. Otherwise the entries before [`Auditor::at`] passed. `BadEntry` has that place in the whole
     /// history. After `OutOfMemory` the auditor can be fed again from there. `OutOfMemory` is returned too after
-    /// 2^64 - 1 entries, since the next has no place. The auditor [sweeps](Auditor::sweep) by itself if it has a quarter
-    /// as many vertices again as the last sweep left, and 65,536 at least, unless nothing could be forgotten.
+    /// 2^64 - 1 entries, since the next has no place. The auditor [sweeps](Auditor::sweep) by itself if it has a
+    /// quarter as many vertices again as the last sweep left, and 65,536 at least, unless nothing could be forgotten.
     pub fn feed_entries(&mut self, entries: &[Entry]) -> Result<(), AuditFault>
         ensures fed { FeedsEntries self.old self.new entries.now result }
         ensures ended { IsEnded self.old self.new result }

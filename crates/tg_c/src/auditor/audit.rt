@@ -11,9 +11,10 @@ pub struct Audit {
 impl Audit {
     ghost use Rattle.tg_c.specs.Audits.{FeedsJournal, SweepsAudit};
 
-    /// Replays what the journal holds from the audit's place on, and returns how many entries passed by then in all. If
-    /// its place isn't held, or a bad entry was found before, nothing is replayed. Otherwise it comes to the end, to the
-    /// entry that is bad, or to the entry at which memory was wanting, and goes on from there.
+    /// Replays what the journal holds from the audit's place on, and returns how many entries passed by then in all.
+    /// Nothing is replayed if the journal doesn't hold that place, or if a bad entry was found before. Otherwise the
+    /// audit comes to the end, to the entry that is bad, or to the entry at which memory was wanting. From the last it
+    /// goes on at the next feed.
     pub fn feed(&mut self, journal: &Journal) -> Result<u64, CallRefusal>
         ensures { FeedsJournal self.old self.new journal.now.start journal.now.entries result }
     {
