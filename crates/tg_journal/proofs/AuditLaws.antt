@@ -1,6 +1,7 @@
 -- What one entry more comes to for an audit.
 use mathlib.Core.Bool.{true≢false}
 use Rattle.std.proofs.Common.{◌≡◌, ◌∙◌, ◌≤◌, ◌+◌, ◌-◌, ◌<◌, ◌++◌, ◌∷◌, ◌⊎◌, inl, inr, [], ℕ, false, true, List, length, length-drop, take, drop, Some, refl, sym, ap, subst, arith}
+use Rattle.std.proofs.lemmas.List.{take-append-drop}
 use Rattle.std.specs.Prelude.{slice_get, Result, Ok, Err, IfErr, OnOk, OnErr}
 use Rattle.tg_model.specs.declared.command.Deed.{Deed}
 use Rattle.tg_model.specs.declared.reply.Reply.{Reply}
@@ -136,3 +137,9 @@ module _ (old new : AuditState) (first : ℕ) (entries : List Entry) (none : old
     refused = fed.stopped;
     ended = not_ended;
   }
+
+-- the entries before its place, and then a part with these in front
+pub part_goes_on : (g : ProtectionGraph) (old new : AuditState) (first : ℕ) (entries : List Entry) → Passes g (take old.at entries) old → FeedsPart old new first entries (Ok tt) → Passes g entries new
+part_goes_on g old new first entries was fed =
+    subst (λ (es : List Entry). Passes g es new) (take-append-drop old.at entries)
+    (passes_both g (take old.at entries) (drop old.at entries) old new was (fed.passed (graph_after g (take old.at entries)) was.next))
