@@ -13,6 +13,10 @@ PLACES = {
         ["if u64::MAX-self.len()<more as u64"],
         "a place has a number of 64 bits, and no journal has an entry past them",
     ),
+    ("tg_journal/src/auditor.rt", "next_place"): (
+        ["match self.at.checked_add Some(next) None"],
+        "a place has a number of 64 bits, and no history has an entry past them",
+    ),
     ("tg_index/src/number_set.rt", "lengthen"): (
         ["if words==MOST_WORDS"],
         "a place has a number of 32 bits, and no heap has a row past them",

@@ -15,6 +15,8 @@ mod meet;
 #[cfg(test)]
 mod payloads;
 #[cfg(test)]
+mod parts;
+#[cfg(test)]
 mod runs;
 #[cfg(test)]
 mod shown;

@@ -11,7 +11,7 @@ use tg_text::AsText;
 use tg_threads::RaceFault;
 
 // Whether it is shown with this text.
-fn is_shown<T: Display + Drop>(alloc: Global, shown: T, wanted: &str) -> bool {
+pub(crate) fn is_shown<T: Display + Drop>(alloc: Global, shown: T, wanted: &str) -> bool {
     match format!(in alloc; "{shown}") {
         Ok(text) => text.as_str() == wanted,
         Err(_) => false,

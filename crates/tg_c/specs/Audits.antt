@@ -1,10 +1,11 @@
 -- What the calls of C do to an auditor: it has come to a place of a history, and is fed what a store holds from there on.
-use Rattle.std.specs.Prelude.{◌≡◌, ◌≢◌, ◌↔◌, ◌⊎◌, ◌≤◌, ◌<◌, ◌-◌, ℕ, true, false, List, take, drop, Result, Ok, Err, IfOk, IfErr, OnOk, length}
+use Rattle.std.specs.Prelude.{◌≡◌, ◌≢◌, ◌≤◌, ◌<◌, ℕ, true, false, List, take, Result, Ok, Err, IfErr, OnOk}
 use Rattle.tg_model.specs.Graph.{ProtectionGraph}
 use Rattle.tg_model.specs.Opened.{start_of}
+use Rattle.tg_journal.specs.declared.auditor.PartFault.{PartFault}
 use Rattle.tg_journal.specs.declared.entry.Entry.{Entry}
-use Rattle.tg_journal.specs.Auditing.{HasComeTo, Passes}
-use Rattle.tg_journal.specs.History.{IsFirstBad, graph_after}
+use Rattle.tg_journal.specs.Auditing.{FeedsPart, StandsAt}
+use Rattle.tg_journal.specs.History.{graph_after}
 use Rattle.tg_journal.specs.Live.{IsSwept, graph_kept}
 use Rattle.tg_store.specs.Store.{StoreState}
 use Rattle.tg_c.specs.declared.auditor.audit.Audit.{Audit}
@@ -17,59 +18,33 @@ use Rattle.tg_c.specs.declared.refusal.CallRefusal.{CallRefusal}
 use Rattle.tg_c.specs.declared.refusal.CallRefusal.TheVariants as refusal
 use Rattle.tg_c.specs.Calls.{AreMet, Forgets, IsRefusedFor, IsStatusWhere, demands_of, state_in}
 use Rattle.tg_c.specs.Forms.{plan_of}
-use Rattle.tg_c.specs.Statuses.{status_of}
+use Rattle.tg_c.specs.Statuses.{of_part, status_of}
 
 -- the audit in an open place
 abbrev pub audit_in : AuditorPlace → Audit
 audit_in place = place.handle.opened
 
--- the audit found no bad entry, and has come to this graph
-pub record StandsAt (g : ProtectionGraph) (a : Audit) : Type 0 where
-  pub sound_so_far : a.found_bad ≡ false
-  pub come : HasComeTo g (graph_kept a.auditor)
+-- what C is told of a feed: how many entries passed by then in all, or why it was refused
+abbrev pub told_of_feed : ℕ → Result (Unit {0}) PartFault → Result ℕ CallRefusal
+told_of_feed at (Ok done) = Ok at
+told_of_feed at (Err why) = Err (of_part why)
 
--- the entries from a place on, and of those the ones before another place
-abbrev pub part_of : List Entry → ℕ → ℕ → List Entry
-part_of entries from upto = take (upto - from) (drop from entries)
-
--- the audit has come from one graph to the one after the entries between its places, which are legal there
-pub record GoesOn (g : ProtectionGraph) (old new : Audit) (entries : List Entry) : Type 0 where
-  pub forth : old.at ≤ new.at
-  pub within : new.at ≤ length entries
-  pub passed : Passes g (part_of entries old.at new.at) (graph_kept new.auditor)
-  pub none_bad : new.found_bad ≡ false
-
--- the audit stands at the first bad entry behind its place
-pub record IsEnded (g : ProtectionGraph) (old new : Audit) (entries : List Entry) : Type 0 where
-  pub forth : old.at ≤ new.at
-  pub bad : IsFirstBad g (drop old.at entries) (new.at - old.at)
-  pub ended : new.found_bad ≡ true
-
--- An audit was fed by a journal of these entries, of which it holds those from `first` on.
-pub record FeedsPart (old new : Audit) (first : ℕ) (entries : List Entry) (answer : Result ℕ CallRefusal) : Type 0 where
-  -- it came to the end
-  pub passed : (g : ProtectionGraph) → StandsAt g old → IfOk answer (λ count. GoesOn g old new entries)
-  pub count : IfOk answer (λ count. (count ≡ length entries) × (new.at ≡ length entries))
-  -- its place isn't held
-  pub bad_place : old.found_bad ≡ false → (answer ≡ Err refusal.BadPlace) ↔ ((old.at < first) ⊎ (length entries < old.at))
-  pub not_fed : answer ≡ Err refusal.BadPlace → new ≡ old
-  -- memory was wanting: it goes on where it came to
-  pub wanting : (g : ProtectionGraph) → StandsAt g old → answer ≡ Err refusal.OutOfMemory → GoesOn g old new entries
-  -- it found a bad entry, and tells that from then on
-  pub bad : (g : ProtectionGraph) → StandsAt g old → answer ≡ Err refusal.BadEntry → IsEnded g old new entries
-  pub ended : old.found_bad ≡ true → (answer ≡ Err refusal.BadEntry) × (new ≡ old)
-  pub refusals : IfErr answer (λ why. (why ≡ refusal.BadPlace) ⊎ (why ≡ refusal.OutOfMemory) ⊎ (why ≡ refusal.BadEntry))
+-- An audit was fed a journal of these entries, of which it holds those from `first` on. The auditor has its own answer, which is told.
+pub record FeedsJournal (old new : Audit) (first : ℕ) (entries : List Entry) (answer : Result ℕ CallRefusal) : Type 0 where
+  pub fed : Result (Unit {0}) PartFault
+  pub part : FeedsPart old.auditor new.auditor first entries fed
+  pub told : answer ≡ told_of_feed new.auditor.at fed
 
 -- An audit that stands where the store's own history stood at the audit's place finds no bad entry in it.
 abbrev pub FindsNone : Audit → StoreState → Result ℕ CallRefusal → Type 0
-FindsNone a s answer = StandsAt (graph_after (start_of s.opening) (take a.at s.entries)) a → answer ≢ Err refusal.BadEntry
+FindsNone a s answer = StandsAt (graph_after (start_of s.opening) (take a.auditor.at s.entries)) a.auditor → answer ≢ Err refusal.BadEntry
 
 -- the store is the same, and the audit had this answer, which is told
 pub record IsFed (old new : Audit) (store after : StorePlace) (tells : Result ℕ CallRefusal → Type 0) : Type 0 where
   pub answer : Result ℕ CallRefusal
   pub told : tells answer
   pub same_store : state_in after ≡ state_in store
-  pub part : FeedsPart old new (state_in store).handed (state_in store).entries answer
+  pub part : FeedsJournal old new (state_in store).handed (state_in store).entries answer
   pub own : FindsNone old (state_in store) answer
 
 -- An audit was fed by the store in an open place, which is the same then; a closed place feeds nothing, and is as it was.
@@ -88,23 +63,23 @@ pub record Feeds (old new : AuditorPlace) (store after : StorePlace) (tells : Re
 pub record AsksPlace (old new : AuditorPlace) (tells : Result ℕ CallRefusal → Type 0) : Type 0 where
   pub as_open : new.is_open ≡ old.is_open
   pub not_open : old.is_open ≡ false → tells (Err refusal.NotOpen)
-  pub told : old.is_open ≡ true → tells (Ok (audit_in old).at) × (audit_in new ≡ audit_in old)
+  pub told : old.is_open ≡ true → tells (Ok (audit_in old).auditor.at) × (audit_in new ≡ audit_in old)
 
 -- The store's entries before a place are given up where the auditor has come as far; the auditor is the same then.
 pub record ForgetsAudited (old new : AuditorPlace) (store after : StorePlace) (upto : ℕ) (tells : Result (Unit {0}) CallRefusal → Type 0) : Type 0 where
   pub as_open : new.is_open ≡ old.is_open
   pub not_open : old.is_open ≡ false → tells (Err refusal.NotOpen) × (after ≡ store)
   pub same_audit : old.is_open ≡ true → audit_in new ≡ audit_in old
-  pub not_audited : old.is_open ≡ true → (audit_in old).at < upto → tells (Err refusal.NotAudited) × (after ≡ store)
-  pub audited : old.is_open ≡ true → upto ≤ (audit_in old).at → Forgets store after upto tells
+  pub not_audited : old.is_open ≡ true → (audit_in old).auditor.at < upto → tells (Err refusal.NotAudited) × (after ≡ store)
+  pub audited : old.is_open ≡ true → upto ≤ (audit_in old).auditor.at → Forgets store after upto tells
 
 -- ---- a sweep
 
 -- Where the audit stood it stands, and what no subject reaches isn't kept any more. Only memory can be refused.
 pub record SweepsAudit (old new : Audit) (answer : Result (Unit {0}) CallRefusal) : Type 0 where
-  pub stands : (g : ProtectionGraph) → StandsAt g old → StandsAt g new
-  pub place : (new.at ≡ old.at) × (new.found_bad ≡ old.found_bad)
-  pub swept : OnOk answer (IsSwept (graph_kept old.auditor) (graph_kept new.auditor))
+  pub stands : (g : ProtectionGraph) → StandsAt g old.auditor → StandsAt g new.auditor
+  pub place : (new.auditor.at ≡ old.auditor.at) × (new.auditor.found_bad ≡ old.auditor.found_bad)
+  pub swept : OnOk answer (IsSwept (graph_kept old.auditor.kept) (graph_kept new.auditor.kept))
   pub refused : IfErr answer (λ why. (why ≡ refusal.OutOfMemory) × (new ≡ old))
 
 -- a sweep of the auditor in a place
@@ -118,8 +93,8 @@ pub record Sweeps (old new : AuditorPlace) (tells : Result (Unit {0}) CallRefusa
 -- The audit of an opening, all of whose demands are met: it stands at the first entry, at the graph of what C asked for.
 pub record IsOpenedAudit (a : Audit) (workers : List ValueIn) (edges : List EdgeIn) (limits : LimitsIn) : Type 0 where
   pub met : AreMet (demands_of workers edges limits)
-  pub first : a.at ≡ 0
-  pub stands : StandsAt (start_of (plan_of workers edges limits.max_vertices)) a
+  pub first : a.auditor.at ≡ 0
+  pub stands : StandsAt (start_of (plan_of workers edges limits.max_vertices)) a.auditor
 
 -- What an opening of C does to the auditor's place. Refused, it leaves the place as it was.
 pub record OpensAudit (old new : AuditorPlace) (workers : List ValueIn) (edges : List EdgeIn) (limits : LimitsIn) (status : ℕ) : Type 0 where

@@ -13,6 +13,8 @@ use Rattle.tg_store.specs.declared.fault.CreateFault.{CreateFault}
 use Rattle.tg_store.specs.declared.fault.CreateFault.TheVariants as create
 use Rattle.tg_space.specs.declared.room_fault.RoomFault.{RoomFault}
 use Rattle.tg_space.specs.declared.room_fault.RoomFault.TheVariants as no_room
+use Rattle.tg_journal.specs.declared.auditor.PartFault.{PartFault}
+use Rattle.tg_journal.specs.declared.auditor.PartFault.TheVariants as part
 use Rattle.tg_journal.specs.declared.entry.Entry.{Entry}
 use Rattle.tg_store.specs.declared.fault.StoreAuditFault.{StoreAuditFault}
 use Rattle.tg_store.specs.declared.fault.StoreAuditFault.TheVariants as audit
@@ -82,6 +84,11 @@ abbrev pub of_audit : StoreAuditFault → CallRefusal
 of_audit audit.NotWhole = refusal.NotWhole
 of_audit audit.OutOfMemory = refusal.OutOfMemory
 of_audit (audit.BadEntry at) = refusal.BadEntry
+
+abbrev pub of_part : PartFault → CallRefusal
+of_part (part.BadPlace due start end) = refusal.BadPlace
+of_part (part.BadEntry at) = refusal.BadEntry
+of_part (part.OutOfMemory at) = refusal.OutOfMemory
 
 -- the answer, with its refusal as C knows it
 abbrev pub refused_as : {T E : Type 0} → (E → CallRefusal) → Result T E → Result T CallRefusal

@@ -11,9 +11,9 @@ use Rattle.tg_model.specs.declared.value.Value.{Value}
 use Rattle.tg_model.specs.Graph.{ProtectionGraph}
 use Rattle.tg_model.specs.Opened.{Plan, IsPlan, start_of}
 use Rattle.tg_journal.specs.declared.entry.Entry.{Entry}
-use Rattle.tg_journal.specs.Auditing.{HasComeTo, Passes}
+use Rattle.tg_journal.specs.Auditing.{Passes, StandsAt}
 use Rattle.tg_journal.specs.History.{graph_after}
-use Rattle.tg_journal.specs.Live.{graph_kept}
+use Rattle.tg_journal.specs.Live.{AuditState}
 use Rattle.tg_journal.proofs.HistoryLaws.{IsLegal-push, graph_after-push}
 use Rattle.tg_text.specs.declared.answer.Answer.TheVariants as answer
 use Rattle.tg_text.specs.Texts.{answer_text}
@@ -57,7 +57,7 @@ edge_read text line workers limit values edges now edge more before is =
 
 -- the whole opening, before any entry
 pub opening_read : (text : List ℕ) (plan : Plan) (entered : Entered) → text ≡ head_text plan → IsPlan plan →
-    HasComeTo (start_of plan) (graph_kept entered.auditor) → entered.count ≡ 0 → HasEntered text entered
+    StandsAt (start_of plan) entered.auditor → entered.count ≡ 0 → HasEntered text entered
 opening_read text plan entered is opening come none = record {
   plan = plan;
   entries = [];
@@ -68,9 +68,9 @@ opening_read text plan entered is opening come none = record {
 }
 
 -- the entry of a deed that was written again
-pub next_read : (g kept : ProtectionGraph) (x : ℕ) (deed : Deed) (reply : Reply) (written line : List ℕ) → written ≡ deed_text x deed →
-    line ≡ written ++ (codes " = " ++ answer_text (answer.Reply reply)) → Passes g (record { worker = x; deed = deed; reply = reply } ∷ []) kept → IsNext g line kept
-next_read g kept x deed reply written line same is passes = record {
+pub next_read : (g : ProtectionGraph) (audit : AuditState) (x : ℕ) (deed : Deed) (reply : Reply) (written line : List ℕ) → written ≡ deed_text x deed →
+    line ≡ written ++ (codes " = " ++ answer_text (answer.Reply reply)) → Passes g (record { worker = x; deed = deed; reply = reply } ∷ []) audit → IsNext g line audit
+next_read g audit x deed reply written line same is passes = record {
   entry = record { worker = x; deed = deed; reply = reply };
   line_is = is ∙ ap (λ (t : List ℕ). t ++ (codes " = " ++ answer_text (answer.Reply reply))) same;
   passes = passes;
@@ -78,19 +78,19 @@ next_read g kept x deed reply written line same is passes = record {
 
 -- an entry
 pub entry_read : (text line : List ℕ) (entered next : Entered) → HasEntered text entered →
-    ((g : ProtectionGraph) → HasComeTo g (graph_kept entered.auditor) → IsNext g line (graph_kept next.auditor)) →
+    ((g : ProtectionGraph) → StandsAt g entered.auditor → IsNext g line next.auditor) →
     next.count ≡ entered.count + 1 → HasEntered (text ++ line) next
 entry_read text line entered next was is_next more =
     let g = start_of was.plan in
     let front = head_text was.plan ++ flat_map entry_text was.entries in
-    let this : IsNext (graph_after g was.entries) line (graph_kept next.auditor) = is_next (graph_after g was.entries) was.passes.next in
+    let this : IsNext (graph_after g was.entries) line next.auditor = is_next (graph_after g was.entries) was.passes.next in
     let e : Entry = this.entry in record {
       plan = was.plan;
       entries = was.entries ++ e ∷ [];
       opening = was.opening;
       passes = record {
         legal = IsLegal-push g was.entries e was.passes.legal this.passes.legal.0;
-        next = subst (λ (h : ProtectionGraph). HasComeTo h (graph_kept next.auditor)) (sym (graph_after-push g was.entries e)) this.passes.next;
+        next = subst (λ (h : ProtectionGraph). StandsAt h next.auditor) (sym (graph_after-push g was.entries e)) this.passes.next;
       };
       number = omega (arith, more, was.number, length-append was.entries (e ∷ []));
       text_is =

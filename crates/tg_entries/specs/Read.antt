@@ -5,7 +5,7 @@ use Rattle.tg_model.specs.Graph.{ProtectionGraph}
 use Rattle.tg_model.specs.Opened.{Plan, IsPlan, start_of}
 use Rattle.tg_journal.specs.declared.entry.Entry.{Entry}
 use Rattle.tg_journal.specs.Auditing.{Passes}
-use Rattle.tg_journal.specs.Live.{graph_kept}
+use Rattle.tg_journal.specs.Live.{AuditState}
 use Rattle.tg_entries.specs.declared.stage.Head.{Head}
 use Rattle.tg_entries.specs.declared.stage.Entered.{Entered}
 use Rattle.tg_entries.specs.declared.stage.Stage.{Stage}
@@ -17,15 +17,15 @@ pub record HasEntered (text : List ℕ) (entered : Entered) : Type 0 where
   pub plan : Plan
   pub entries : List Entry
   pub opening : IsPlan plan
-  pub passes : Passes (start_of plan) entries (graph_kept entered.auditor)
+  pub passes : Passes (start_of plan) entries entered.auditor
   pub number : entered.count ≡ length entries
   pub text_is : text ≡ head_text plan ++ flat_map entry_text entries
 
 -- the line is that of an entry which is legal on the first graph, and the audit has come to the one after it
-pub record IsNext (g : ProtectionGraph) (line : List ℕ) (kept : ProtectionGraph) : Type 0 where
+pub record IsNext (g : ProtectionGraph) (line : List ℕ) (audit : AuditState) : Type 0 where
   pub entry : Entry
   pub line_is : line ≡ entry_text entry
-  pub passes : Passes g (entry ∷ []) kept
+  pub passes : Passes g (entry ∷ []) audit
 
 -- the text is the front of an opening's
 abbrev pub HasHead : List ℕ → Head → Type 0

@@ -2,8 +2,7 @@
 ghost use Rattle.std.specs.Prelude.{◌≡◌, ◌++◌, [], List, ℕ, IfOk, IsTrue, OnOk};
 ghost use Rattle.tg_entries.specs.declared.stage.Stage.TheVariants as Stage;
 ghost use Rattle.tg_model.specs.Graph.{ProtectionGraph};
-ghost use Rattle.tg_journal.specs.Auditing.{HasComeTo};
-ghost use Rattle.tg_journal.specs.Live.{graph_kept};
+ghost use Rattle.tg_journal.specs.Auditing.{StandsAt};
 ghost use Rattle.tg_entries.specs.Read.{HasEntered, HasHead, HasRead, IsNext};
 ghost use Rattle.tg_entries.specs.Texts.{IsAudited, deed_text, edge_text, worker_text};
 
@@ -321,7 +320,7 @@ fn is_next<L: Ledger>(
     line: &[u8],
 ) -> Result<bool, AllocError>
     requires { again.old.bytes.items ≡ deed_text worker deed.now }
-    ensures { (g : ProtectionGraph) → HasComeTo g (graph_kept auditor.old) → IfOk result (λ legal. IsTrue legal → IsNext g line.now (graph_kept auditor.new)) }
+    ensures { (g : ProtectionGraph) → StandsAt g auditor.old → IfOk result (λ legal. IsTrue legal → IsNext g line.now auditor.new) }
 {
     match auditor.answer(worker, deed)? {
         Some(reply) => is_reply(again, &reply, line),

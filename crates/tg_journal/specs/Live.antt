@@ -1,5 +1,5 @@
 -- What an audit keeps of a graph: some of its vertices by rising name, each with its row of edges and what it stores.
-use Rattle.std.specs.Prelude.{◌≡◌, ℕ, ◌<◌, ◌≤◌, ◌+◌, ◌==◌, List, [], ◌∷◌, length, slice_index_or, Option, None, if◌then◌else◌}
+use Rattle.std.specs.Prelude.{◌≡◌, Bool, ℕ, ◌<◌, ◌≤◌, ◌+◌, ◌==◌, List, [], ◌∷◌, length, slice_index_or, Option, None, if◌then◌else◌}
 use Rattle.tg_rights.specs.RightSet.{RightSet, no_rights}
 use Rattle.tg_model.specs.declared.value.Value.{Value}
 use Rattle.tg_model.specs.Graph.{ProtectionGraph, IsReachable}
@@ -48,6 +48,12 @@ pub record Kept : Type 0 where
 abbrev pub graph_kept : Kept → ProtectionGraph
 graph_kept k =
     record { subjects = k.subjects; made = k.made; limit = k.limit; label = label_between k.vertices; value = value_of k.vertices }
+
+-- what contracts see of an auditor: what it keeps, how many entries passed, and whether it found the next one bad
+pub record AuditState : Type 0 where
+  pub kept : Kept
+  pub at : ℕ
+  pub found_bad : Bool
 
 -- where memory was wanting for a deed: as before, but for what names store that weren't made yet
 pub record IsAsBefore (old new : ProtectionGraph) : Type 0 where

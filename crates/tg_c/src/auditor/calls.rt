@@ -27,7 +27,7 @@ pub fn open(
 {
     let opening = asked_for(alloc, workers, edges, limits)?.opening;
     let auditor = Auditor::open(alloc, &opening)?;
-    Ok(Box::new(alloc, Audit::of(auditor))?)
+    Ok(Box::new(alloc, Audit { auditor })?)
 }
 
 /// Feeds the auditor what the store holds from its place on, and answers how many entries passed by then in all.
@@ -65,7 +65,7 @@ pub fn at(alloc: Global, auditor: &mut AuditorPlace) -> Result<u64, CallRefusal>
     let Some(audit) = auditor.take(alloc) else {
         return Err(CallRefusal::NotOpen);
     };
-    let at = audit.at;
+    let at = audit.auditor.at();
     auditor.put(audit);
     Ok(at)
 }

@@ -1,11 +1,16 @@
 -- What the calls on the vertices and the graph of an audit promise: each set of clauses stands once, and has a name.
-use Rattle.std.specs.Prelude.{◌≡◌, ℕ, List, Option, Result, IfErr, IfOk, OnErr, OnOk}
+use Rattle.std.specs.Prelude.{◌≡◌, true, ℕ, List, Option, Result, IfErr, IfOk, OnErr, OnOk}
 use Rattle.tg_rights.specs.RightSet.{RightSet}
 use Rattle.tg_model.specs.declared.reply.Reply.{Reply}
 use Rattle.tg_model.specs.declared.value.Value.{Value}
 use Rattle.tg_model.specs.Graph.{ProtectionGraph}
+use Rattle.tg_journal.specs.declared.entry.Entry.{Entry}
+use Rattle.tg_journal.specs.declared.replay.AuditFault.{AuditFault}
+use Rattle.tg_journal.specs.declared.replay.AuditFault.TheVariants.{OutOfMemory, BadEntry}
 use Rattle.tg_journal.specs.declared.vertices.Vertex.{Vertex}
-use Rattle.tg_journal.specs.Live.{IsAsBefore, IsAt, IsGap, label_between, value_of}
+use Rattle.tg_journal.specs.Auditing.{StandsAt}
+use Rattle.tg_journal.specs.History.{IsLegalEntry}
+use Rattle.tg_journal.specs.Live.{AuditState, IsAsBefore, IsAt, IsGap, label_between, value_of}
 
 -- This is answered, and the graph becomes the next one; where memory is wanting, it is as before but for what names store that
 -- weren't made yet.
@@ -24,3 +29,8 @@ pub record Changes {A E : Type 0} (old new : List Vertex) (label : ℕ → ℕ �
   pub labels : OnOk result (label_between new ≡ label)
   pub values : OnOk result ((y : ℕ) → value_of new y ≡ value y)
   pub err : OnErr result (new ≡ old)
+
+-- the auditor stopped before this entry: memory was wanting, or it is bad
+abbrev pub StopsBefore : AuditState → AuditState → Entry → AuditFault → Type 0
+StopsBefore old new e OutOfMemory = (new.at ≡ old.at) × ((g : ProtectionGraph) → StandsAt g old → StandsAt g new)
+StopsBefore old new e (BadEntry at) = (at ≡ old.at) × (new.at ≡ old.at) × (new.found_bad ≡ true) × ((g : ProtectionGraph) → StandsAt g old → ¬ IsLegalEntry g e)

@@ -1,33 +1,37 @@
-use Rattle.std.proofs.Common.{◌≡◌, ◌∙◌, ap, sym, refl, subst, ◌++◌, ◌∷◌, [], ◌+◌, take}
-use Rattle.std.proofs.lemmas.List.{take_more}
-use Rattle.std.proofs.lemmas.Option.{slice_get_read}
-use Rattle.tg_journal.specs.Auditing.{Passes}
-use Rattle.tg_journal.specs.Live.{Kept, graph_kept}
-use Rattle.tg_journal.proofs.AuditLaws.{passed_on, stopped_for_want, stopped_at_bad, still_passes}
+use Rattle.std.proofs.Common.{◌≡◌, ◌∙◌, ◌≤◌, ℕ, List, Result, Err, false, length, drop, ap, sym, subst, arith}
+use Rattle.tg_journal.specs.declared.auditor.PartFault.TheVariants as part
+use Rattle.tg_journal.specs.declared.entry.Entry.{Entry}
+use Rattle.tg_journal.specs.declared.replay.AuditFault.{AuditFault}
+use Rattle.tg_journal.specs.Auditing.{FeedsEntries, FeedsPart}
+use Rattle.tg_journal.specs.Live.{AuditState}
+use Rattle.tg_journal.proofs.AuditLaws.{part_bad, part_passed, part_wanting}
+use Rattle.tg_journal.proofs.PartLaws.{fed_part}
 use Rattle.tg_journal.proofs.auditor.Auditor.feed.Goals as goal
+use Rattle.tg_journal.proofs.auditor.Auditor.feed.Goals.{in-Ok, in-Err-BadEntry, in-Err-OutOfMemory}
 
-pub loop-at-preserved : goal.loop-at-preserved
-loop-at-preserved c = λ g come.
-    let es = c.args.entries.now in
-    let at = c.loop-at.at in
-    let x = c.index-entries-at.result in
-    let more : take (at + 1) es ≡ take at es ++ x ∷ [] =
-    take_more es at x c.loop-at-test.true ∙ ap (λ y. take at es ++ y ∷ []) (sym c.index-entries-at.is) in
-    passed_on g _ _ es at x (subst (λ (k : Kept). Passes g (take at es) (graph_kept k)) (sym c.self.view_is) (still_passes g _ _ _ (c.loop-at.invariant g come) c.sweep_where_due.ensures)) (c.in-Ok.ensures.legal.0 c.if-not-legal.false) (c.in-Ok.ensures.next c.if-not-legal.false) more
-
-pub returns-then-not-legal-clause-stopped : goal.returns-then-not-legal-clause-stopped
-returns-then-not-legal-clause-stopped c = λ g come.
-    let es = c.args.entries.now in
-    let at = c.loop-at.at in
-    let x = c.index-entries-at.result in
-    stopped_at_bad g _ _ es at x (subst (λ (k : Kept). Passes g (take at es) (graph_kept k)) (sym c.self.view_is) (still_passes g _ _ _ (c.loop-at.invariant g come) c.sweep_where_due.ensures)) c.loop-at-test.true
-    (slice_get_read es _ at x refl c.loop-at-test.true c.index-entries-at.is)
-    (λ legal. let same = c.in-Ok.ensures.legal.1 legal in cc (same, c.if-not-legal.true))
-
-pub returns-in_default-clause-stopped : goal.returns-in_default-clause-stopped
-returns-in_default-clause-stopped c = λ g come.
-    let es = c.args.entries.now in
-    let at = c.loop-at.at in
-    stopped_for_want g _ _ es at c.index-entries-at.result
-    (subst (λ (k : Kept). Passes g (take at es) (graph_kept k)) (sym c.self.view_is) (still_passes g _ _ _ (c.loop-at.invariant g come) c.sweep_where_due.ensures))
-    c.loop-at-test.true c.in_default.ensures.refused
+pub returns : goal.returns
+returns c =
+    let old : AuditState = c.args.self.now in
+    let new : AuditState = c.feed_entries.new.self in
+    let first : ℕ = c.args.part.now.start in
+    let entries : List Entry = c.args.part.now.entries in
+    let told : Result (Unit {0}) AuditFault = c.feed_entries.result in
+    let at_is : c.self.inside.at ≡ old.at = ap (λ (a : AuditState). a.at) c.self.view_is in
+    let none : old.found_bad ≡ false = sym (ap (λ (a : AuditState). a.found_bad) c.self.view_is) ∙ c.if-self.false in
+    let here : first ≤ c.self.inside.at = omega (arith, c.start-start.ensures.start, c.if-due-start.false) in
+    let low : first ≤ old.at = omega (arith, here, at_is) in
+    let high : old.at ≤ length entries = omega (arith, c.len-end.ensures, c.if-end-due.false, at_is) in
+    let rest = fed_part entries c.entries.result.now first c.start-start.result c.self.inside.at c.start-start.ensures.start c.entries.ensures here
+    ∙ ap (λ (n : ℕ). drop n entries) at_is in
+    let fed : FeedsEntries old new (drop old.at entries) told = subst (λ (es : List Entry). FeedsEntries old new es told) rest c.feed_entries.ensures.fed in
+    elim c.match-feed_entries.branch [
+      | in-Ok w ↦ subst (FeedsPart old new first entries) (sym w.result-is)
+          (part_passed old new first entries none low high (subst (FeedsEntries old new (drop old.at entries)) w.in-Ok.is fed))
+      | in-Err-BadEntry w ↦ subst (FeedsPart old new first entries) (sym w.result-is)
+          (part_bad old new first entries none low high w.in-Err-BadEntry.at
+          (subst (FeedsEntries old new (drop old.at entries)) (w.in-Err-BadEntry.is ∙ ap (λ (e : AuditFault). Err e) w.in-Err-BadEntry.field-0-is) fed))
+      | in-Err-OutOfMemory w ↦ subst (FeedsPart old new first entries)
+          (sym (w.result-is ∙ ap (λ (n : ℕ). Err (part.OutOfMemory n)) (ap (λ (a : AuditState). a.at) c.self-2.view_is)))
+          (part_wanting old new first entries none low high
+          (subst (FeedsEntries old new (drop old.at entries)) (w.in-Err-OutOfMemory.is ∙ ap (λ (e : AuditFault). Err e) w.in-Err-OutOfMemory.field-0-is) fed))
+    ]
