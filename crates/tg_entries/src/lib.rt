@@ -25,7 +25,10 @@
 mod audit;
 mod fault;
 mod history;
+mod listing;
+mod long;
 mod part;
+mod piece;
 mod read;
 mod stage;
 mod stream;
@@ -34,6 +37,6 @@ mod write;
 pub use audit::TextAudit;
 pub use fault::{LineFault, TextFault};
 pub use history::{write_entries, write_history, write_opening};
-pub use read::MOST_DEED_BYTES;
+pub use read::{MOST_DEED_BYTES, MOST_LINE_BYTES};
 pub use stream::audit_text;
 pub use write::{VERSION, write_edge, write_end, write_entry, write_limits, write_worker};

@@ -14,9 +14,22 @@ fn text_of(line: &[u8]) -> Option<&str> {
     str::from_utf8(line.strip_suffix(b"\n")?).ok()
 }
 
+/// The most bytes that a line has, its line feed among them, unless its reply lists edges: a deed, ` = ok`, and a space
+/// and 20 digits for each of the 64 numbers of the longest log.
+pub const MOST_LINE_BYTES: usize = MOST_DEED_BYTES + 5 + 64 * 21 + 1;
+
 /// What a line has in front of ` = `, where that is no more than [`MOST_DEED_BYTES`].
 pub(crate) fn deed_part(line: &[u8]) -> Option<&str> {
-    let (part, _) = text_of(line)?.split_once(" = ")?;
+    part_of(text_of(line)?)
+}
+
+/// What a line has in front of ` = `, as [`deed_part`] has it, where only the front of the line is at hand.
+pub(crate) fn front_part(front: &[u8]) -> Option<&str> {
+    part_of(str::from_utf8(front).ok()?)
+}
+
+fn part_of(text: &str) -> Option<&str> {
+    let (part, _) = text.split_once(" = ")?;
     (part.len() <= MOST_DEED_BYTES).then_some(part)
 }
 
