@@ -37,6 +37,6 @@ mod write;
 pub use audit::TextAudit;
 pub use fault::{LineFault, TextFault};
 pub use history::{write_entries, write_history, write_opening};
-pub use read::{MOST_DEED_BYTES, MOST_LINE_BYTES};
+pub use read::MOST_DEED_BYTES;
 pub use stream::audit_text;
 pub use write::{VERSION, write_edge, write_end, write_entry, write_limits, write_worker};

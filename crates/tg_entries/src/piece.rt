@@ -89,8 +89,8 @@ fn begins_with(bytes: &[u8], text: &[u8]) -> bool
     text.len() <= bytes.len() && &bytes[..text.len()] == text
 }
 
-// Drops so many of the bytes, from the front.
-fn drop_front(line: &mut Vec<u8>, many: usize)
+/// Drops so many of the bytes, from the front.
+pub(crate) fn drop_front(line: &mut Vec<u8>, many: usize)
     requires { many ≤ length line.old.items }
     ensures { line.new.items ≡ drop many line.old.items }
 {

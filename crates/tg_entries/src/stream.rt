@@ -4,9 +4,9 @@ ghost use Rattle.tg_entries.specs.Read.{GoesOn, HasRead};
 ghost use Rattle.tg_entries.specs.Texts.{IsAudited};
 
 use crate::audit::TextAudit;
-use crate::fault::{LongFault, TextFault};
-use crate::piece::read_some;
-use crate::read::MOST_LINE_BYTES;
+use crate::fault::{LineFault, LongFault, TextFault};
+use crate::piece::{drop_front, read_some};
+use crate::read::{MOST_KEPT_BYTES, text_len};
 use std::alloc::Global;
 use std::io::{self, BufRead};
 use std::marker::Brand;
@@ -49,7 +49,7 @@ fn audit_lines<L: Ledger, R: BufRead + Drop>(
 {
     for number in 1..u64::MAX {
         line.clear();
-        if read_some(reader, MOST_LINE_BYTES, line)? {
+        if read_some(reader, MOST_KEPT_BYTES, line)? {
             return ended(audit, number, line.as_slice());
         }
         audit_line(audit, number, reader, line)?;
@@ -100,26 +100,49 @@ fn audit_long<L: Ledger, R: BufRead>(
     match audit.long_line(reader, line) {
         Ok(()) => Ok(()),
         Err(LongFault::Stream(error)) => Err(TextFault::Stream(error)),
-        Err(LongFault::Line(why)) => {
-            if skip_line(reader, line)? {
-                Err(TextFault::Line { line: number, why })
-            } else {
-                Err(TextFault::CutOff { line: number })
-            }
-        }
+        Err(LongFault::Line(why)) => Err(long_fault(number, why, skip_line(reader, line)?)),
     }
 }
 
-// Reads what is left of a line, of which these bytes are at hand, and keeps none of it. Whether a line feed ends it.
-fn skip_line<R: BufRead>(reader: &mut R, line: &mut Vec<u8>) -> io::Result<bool> {
+// The fault of a long line, whose rest was skipped. Bytes that are no characters are a bad line, whatever the entry.
+fn long_fault(number: u64, why: LineFault, rest: Option<bool>) -> TextFault {
+    let Some(is_text) = rest else {
+        return TextFault::CutOff { line: number };
+    };
+    let why = match why {
+        LineFault::BadEntry { .. } if !is_text => LineFault::BadLine,
+        other => other,
+    };
+    TextFault::Line { line: number, why }
+}
+
+// Reads the rest of a line, of which these bytes are at hand, and keeps none of it. Whether all of them are characters;
+// `None` where the text ends before the line does.
+fn skip_line<R: BufRead>(reader: &mut R, line: &mut Vec<u8>) -> io::Result<Option<bool>> {
+    let mut is_text = true;
     for _ in 0..u64::MAX {
-        if line.ends_with(b"\n") {
-            return Ok(true);
+        let is_whole = line.ends_with(b"\n");
+        is_text = drop_text(line) && is_text;
+        if is_whole {
+            return Ok(Some(is_text));
         }
-        line.clear();
-        if read_some(reader, MOST_LINE_BYTES, line)? {
-            return Ok(false);
+        if read_some(reader, MOST_KEPT_BYTES, line)? {
+            return Ok(None);
         }
     }
-    Ok(false)
+    Ok(None)
+}
+
+// Drops the characters that are whole, where these bytes are characters. Else drops all, and answers `false`.
+fn drop_text(line: &mut Vec<u8>) -> bool {
+    match text_len(line.as_slice()) {
+        Some(len) => {
+            drop_front(line, len);
+            true
+        }
+        None => {
+            line.clear();
+            false
+        }
+    }
 }
