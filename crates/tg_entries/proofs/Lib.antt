@@ -1,2 +1,3 @@
 pub mod WriteLaws
+pub mod PieceLaws
 pub mod ReadLaws

@@ -1,5 +1,6 @@
 -- What a line more comes to for an audit of a text.
-use Rattle.std.proofs.Common.{◌≡◌, ◌∙◌, ℕ, ◌+◌, List, [], ◌∷◌, ◌++◌, Option, Some, None, IfSome, ap, sym, subst, refl, append-nil, append_assoc, length-append, arith}
+use Rattle.std.proofs.Common.{◌≡◌, ◌∙◌, ℕ, ◌+◌, List, [], ◌∷◌, ◌++◌, Option, Some, None, IfSome, OnSome, ap, sym, subst, refl, append-nil, append_assoc, length-append, arith}
+use Rattle.std.proofs.KnownBytes.{Consumes-nil, Consumes-trans}
 use Rattle.std.proofs.lemmas.List.{flat_map_more}
 use Rattle.std.specs.Io.KnownBytes.{Consumes, IsAtEnd}
 use Rattle.std.specs.List.{flat_map}
@@ -19,7 +20,9 @@ use Rattle.tg_text.specs.declared.answer.Answer.TheVariants as answer
 use Rattle.tg_text.specs.Texts.{answer_text}
 use Rattle.tg_entries.specs.declared.stage.Entered.{Entered}
 use Rattle.tg_entries.specs.declared.stage.Stage.{Stage}
-use Rattle.tg_entries.specs.Read.{HasEntered, HasRead, IsNext}
+use Rattle.tg_entries.specs.declared.stage.Stage.TheVariants as stage
+use Rattle.tg_entries.specs.Pieces.{Fetches, Loses}
+use Rattle.tg_entries.specs.Read.{GoesOn, HasEntered, HasRead, IsListed, IsNext}
 use Rattle.tg_entries.specs.Texts.{IsAudited, deed_text, edge_text, end_text, entry_text, head_text, limits_text, opening_text, version_text, worker_text}
 
 -- the limits, behind the first line
@@ -76,14 +79,12 @@ next_read g audit x deed reply written line same is passes = record {
   passes = passes;
 }
 
--- an entry
-pub entry_read : (text line : List ℕ) (entered next : Entered) → HasEntered text entered →
-    ((g : ProtectionGraph) → StandsAt g entered.auditor → IsNext g line next.auditor) →
-    next.count ≡ entered.count + 1 → HasEntered (text ++ line) next
-entry_read text line entered next was is_next more =
+-- an entry, which is next where the audit stands
+entry_at : (text line : List ℕ) (entered next : Entered) (was : HasEntered text entered) →
+    IsNext (graph_after (start_of was.plan) was.entries) line next.auditor → next.count ≡ entered.count + 1 → HasEntered (text ++ line) next
+entry_at text line entered next was this more =
     let g = start_of was.plan in
     let front = head_text was.plan ++ flat_map entry_text was.entries in
-    let this : IsNext (graph_after g was.entries) line next.auditor = is_next (graph_after g was.entries) was.passes.next in
     let e : Entry = this.entry in record {
       plan = was.plan;
       entries = was.entries ++ e ∷ [];
@@ -96,6 +97,34 @@ entry_read text line entered next was is_next more =
       text_is =
           ap (λ (x : List ℕ). x ++ line) was.text_is ∙ ap (λ (x : List ℕ). front ++ x) this.line_is
           ∙ flat_map_more entry_text (head_text was.plan) was.entries e;
+    }
+
+-- an entry
+pub entry_read : (text line : List ℕ) (entered next : Entered) → HasEntered text entered →
+    ((g : ProtectionGraph) → StandsAt g entered.auditor → IsNext g line next.auditor) →
+    next.count ≡ entered.count + 1 → HasEntered (text ++ line) next
+entry_read text line entered next was is_next more =
+    entry_at text line entered next was (is_next (graph_after (start_of was.plan) was.entries) was.passes.next) more
+
+-- the entry of a deed that was written again, with a listing behind it
+pub next_listed : (g : ProtectionGraph) (audit : AuditState) (x : ℕ) (deed : Deed) (reply : Reply) (written held : List ℕ) (left left' : Option (List ℕ)) → written ≡ deed_text x deed →
+    Loses held left (written ++ (codes " = " ++ answer_text (answer.Reply reply))) [] left' →
+    Passes g (record { worker = x; deed = deed; reply = reply } ∷ []) audit → IsListed g held left left' audit
+next_listed g audit x deed reply written held left left' same line passes = record {
+  rest = line.piece;
+  taken = line.taken;
+  next = next_read g audit x deed reply written (held ++ line.piece) same (line.same ∙ append-nil (written ++ (codes " = " ++ answer_text (answer.Reply reply)))) passes;
+}
+
+-- an entry, of which the line is read to its end
+pub listed_read : (text held : List ℕ) (left left' : Option (List ℕ)) (entered next : Entered) → HasEntered text entered →
+    ((g : ProtectionGraph) → StandsAt g entered.auditor → IsListed g held left left' next.auditor) →
+    next.count ≡ entered.count + 1 → GoesOn text held left left' (stage.Entries next)
+listed_read text held left left' entered next was is_listed more =
+    let this = is_listed (graph_after (start_of was.plan) was.entries) was.passes.next in record {
+      rest = this.rest;
+      taken = this.taken;
+      read = entry_at text (held ++ this.rest) entered next was this.next more;
     }
 
 -- the end
@@ -123,25 +152,43 @@ pub at_first : (known : Option (List ℕ)) (stage : Stage) → HasRead [] stage 
 at_first None stage read = tt
 at_first (Some xs) stage read = ([], refl, read)
 
--- a line was taken and read
-pub at_next : (known now then : Option (List ℕ)) (stage next : Stage) (line : List ℕ) → IsAt known now stage → Consumes now then line →
-    ((text : List ℕ) → HasRead text stage → HasRead (text ++ line) next) → IsAt known then next
-at_next None now then stage next line was takes reads = tt
-at_next (Some xs) None then stage next line was takes reads = absurd was
-at_next (Some xs) (Some rest) None stage next line was takes reads = absurd takes
-at_next (Some xs) (Some rest) (Some left) stage next line was takes reads =
-    (was.0 ++ line, was.1 ∙ ap (λ (x : List ℕ). was.0 ++ x) takes ∙ sym (append_assoc was.0 line left), reads was.0 was.2)
+-- a line that is whole
+pub goes_on : (text line : List ℕ) (left : Option (List ℕ)) (next : Stage) → HasRead (text ++ line) next → GoesOn text line left left next
+goes_on text line left next read = record {
+  rest = [];
+  taken = Consumes-nil left;
+  read = subst (λ (x : List ℕ). HasRead (text ++ x) next) (sym (append-nil line)) read;
+}
 
--- none is left
-pub at_last : (known now : Option (List ℕ)) (stage : Stage) (count : ℕ) → IsAt known now stage → IsAtEnd now →
-    ((text : List ℕ) → HasRead text stage → IsAudited text count) → IfSome known (λ text. IsAudited text count)
-at_last None now stage count was none ends = tt
-at_last (Some xs) None stage count was none ends = absurd was
-at_last (Some xs) (Some rest) stage count was none ends =
-    subst (λ (text : List ℕ). IsAudited text count) (sym (was.1 ∙ ap (λ (x : List ℕ). was.0 ++ x) none ∙ append-nil was.0)) (ends was.0 was.2)
+-- a line was taken of the known bytes, and read
+at_read : (xs rest front line : List ℕ) (left : Option (List ℕ)) (next : Stage) → xs ≡ front ++ rest → Consumes (Some rest) left line → HasRead (front ++ line) next →
+    IsAt (Some xs) left next
+at_read xs rest front line None next before takes read = absurd takes
+at_read xs rest front line (Some left) next before takes read =
+    (front ++ line, before ∙ ap (λ (x : List ℕ). front ++ x) takes ∙ sym (append_assoc front line left), read)
 
--- none is left, and what is answered
-pub at_end : {E : Type 0} (known now : Option (List ℕ)) (stage : Stage) (r : Result ℕ E) → IsAt known now stage → IsAtEnd now →
-    ((text : List ℕ) → HasRead text stage → IfOk r (IsAudited text)) → IfOk r (λ count. IfSome known (λ text. IsAudited text count))
-at_end known now stage (Ok count) was none ends = at_last known now stage count was none ends
-at_end known now stage (Err e) was none ends = tt
+-- the front of a line was taken, and then its rest, and all was read
+pub at_next : (known now then left : Option (List ℕ)) (stage next : Stage) (line : List ℕ) → IsAt known now stage → Fetches [] now line then →
+    ((text : List ℕ) → HasRead text stage → GoesOn text line then left next) → IsAt known left next
+at_next None now then left stage next line was taken reads = tt
+at_next (Some xs) None then left stage next line was taken reads = absurd was
+at_next (Some xs) (Some rest) then left stage next line was taken reads =
+    let goes = reads was.0 was.2 in
+    at_read xs rest was.0 (line ++ goes.rest) left next was.1
+    (subst (λ (x : List ℕ). Consumes (Some rest) left (x ++ goes.rest)) (sym taken.held_is) (Consumes-trans (Some rest) then left taken.piece goes.rest taken.taken goes.taken)) goes.read
+
+-- the text ends with these bytes of a line
+pub at_last : (known now then : Option (List ℕ)) (stage : Stage) (line : List ℕ) (count : ℕ) → IsAt known now stage → Fetches [] now line then → OnSome now (IsAtEnd then) →
+    ((text : List ℕ) → HasRead text stage → IsAudited (text ++ line) count) → IfSome known (λ text. IsAudited text count)
+at_last None now then stage line count was taken none ends = tt
+at_last (Some xs) None then stage line count was taken none ends = absurd was
+at_last (Some xs) (Some rest) None stage line count was taken none ends = absurd taken.taken
+at_last (Some xs) (Some rest) (Some left) stage line count was taken none ends =
+    let all : rest ≡ line = taken.taken ∙ ap (λ (x : List ℕ). taken.piece ++ x) none ∙ append-nil taken.piece ∙ sym taken.held_is in
+    subst (λ (text : List ℕ). IsAudited text count) (sym (was.1 ∙ ap (λ (x : List ℕ). was.0 ++ x) all)) (ends was.0 was.2)
+
+-- the text ends, and this is answered
+pub at_end : {E : Type 0} (known now then : Option (List ℕ)) (stage : Stage) (line : List ℕ) (r : Result ℕ E) → IsAt known now stage → Fetches [] now line then →
+    OnSome now (IsAtEnd then) → ((text : List ℕ) → HasRead text stage → IfOk r (IsAudited (text ++ line))) → IfOk r (λ count. IfSome known (λ text. IsAudited text count))
+at_end known now then stage line (Ok count) was taken none ends = at_last known now then stage line count was taken none ends
+at_end known now then stage line (Err e) was taken none ends = tt

@@ -1,5 +1,6 @@
 -- What an audit of a text has read.
-use Rattle.std.specs.Prelude.{◌≡◌, ℕ, List, [], ◌∷◌, ◌++◌, length}
+use Rattle.std.specs.Prelude.{◌≡◌, ℕ, List, [], ◌∷◌, ◌++◌, length, Option}
+use Rattle.std.specs.Io.KnownBytes.{Consumes}
 use Rattle.std.specs.List.{flat_map}
 use Rattle.tg_model.specs.Graph.{ProtectionGraph}
 use Rattle.tg_model.specs.Opened.{Plan, IsPlan, start_of}
@@ -27,6 +28,12 @@ pub record IsNext (g : ProtectionGraph) (line : List ℕ) (audit : AuditState) :
   pub line_is : line ≡ entry_text entry
   pub passes : Passes g (entry ∷ []) audit
 
+-- the line that begins with the bytes at hand, and goes on with those that were taken of the reader's, is one that is next
+pub record IsListed (g : ProtectionGraph) (held : List ℕ) (left left' : Option (List ℕ)) (audit : AuditState) : Type 0 where
+  pub rest : List ℕ
+  pub taken : Consumes left left' rest
+  pub next : IsNext g (held ++ rest) audit
+
 -- the text is the front of an opening's
 abbrev pub HasHead : List ℕ → Head → Type 0
 HasHead text head = text ≡ opening_text head.workers head.max_vertices head.values.items head.edges.items
@@ -39,3 +46,9 @@ HasRead text (stage.Opening head) = HasHead text head
 HasRead text (stage.Entries entered) = HasEntered text entered
 HasRead text (stage.Ended count) = IsAudited text count
 HasRead text stage.Stopped = ⊥
+
+-- a line begins with the bytes at hand, and goes on with those that were taken of the reader's; the audit has read it behind the text
+pub record GoesOn (text held : List ℕ) (left left' : Option (List ℕ)) (next : Stage) : Type 0 where
+  pub rest : List ℕ
+  pub taken : Consumes left left' rest
+  pub read : HasRead (text ++ (held ++ rest)) next

@@ -3,15 +3,17 @@ ghost use Rattle.std.specs.Prelude.{◌≡◌, ◌++◌, [], List, ℕ, IfOk, Is
 ghost use Rattle.tg_entries.specs.declared.stage.Stage.TheVariants as Stage;
 ghost use Rattle.tg_model.specs.Graph.{ProtectionGraph};
 ghost use Rattle.tg_journal.specs.Auditing.{StandsAt};
-ghost use Rattle.tg_entries.specs.Read.{HasEntered, HasHead, HasRead, IsNext};
+ghost use Rattle.tg_entries.specs.Read.{GoesOn, HasEntered, HasHead, HasRead, IsNext};
 ghost use Rattle.tg_entries.specs.Texts.{IsAudited, deed_text, edge_text, worker_text};
 
-use crate::fault::LineFault;
+use crate::fault::{LineFault, LongFault};
+use crate::long::long_stage;
 use crate::part::{Part, check_part, is_reply};
 use crate::read::{deed_part, read_deed, read_edge, read_limits, read_value, worker_part};
 use crate::stage::{Entered, Head, Stage};
 use crate::write::VERSION;
 use std::alloc::{AllocError, Global};
+use std::io::BufRead;
 use std::marker::Model;
 use std::mem;
 use std::sync::ledger::Ledger;
@@ -57,6 +59,21 @@ impl<L: Ledger> TextAudit<L> {
     {
         let stage = mem::replace(&mut self.stage, Stage::Stopped);
         self.stage = next_stage(self.alloc, &mut self.again, stage, line)?;
+        Ok(())
+    }
+
+    /// Reads the next line, of which the front is at hand: more than any line has but an entry that lists edges. Its
+    /// rest is read piece by piece, and compared. `Ok` and a fault mean what they do of [`TextAudit::line`]. At a fault
+    /// the rest may be read in part.
+    pub(crate) fn long_line<R: BufRead>(
+        &mut self,
+        reader: &mut R,
+        line: &mut Vec<u8>,
+    ) -> Result<(), LongFault>
+        ensures { (text : List ℕ) → HasRead text self.old → OnOk result (GoesOn text line.old.items (R.remaining reader.old) (R.remaining reader.new) self.new) }
+    {
+        let stage = mem::replace(&mut self.stage, Stage::Stopped);
+        self.stage = long_stage(self.alloc, &mut self.again, stage, reader, line)?;
         Ok(())
     }
 
@@ -220,8 +237,8 @@ fn may_have_edge(head: &Head, edge: Edge) -> bool {
     head.values.len() as u64 == head.workers && edge.joins_workers(head.workers)
 }
 
-// The audit of a history of the opening, where all of it came.
-fn open(alloc: Global, head: Head) -> Result<Entered, LineFault>
+/// The audit of a history of the opening, where all of it came.
+pub(crate) fn open(alloc: Global, head: Head) -> Result<Entered, LineFault>
     ensures { (text : List ℕ) → HasHead text head → IfOk result (HasEntered text) }
 {
     let Head {
@@ -279,7 +296,7 @@ fn entry_line<L: Ledger>(
 ) -> Result<(), LineFault>
     ensures { (text : List ℕ) → HasEntered text entered.old → OnOk result (HasEntered (text ++ line.now) entered.new) }
 {
-    let (worker, deed) = next_deed(alloc, again, line)?;
+    let (worker, deed) = next_deed(alloc, again, deed_part(line))?;
     let Some(next) = entered.count.checked_add(1) else {
         return Err(LineFault::BadLine);
     };
@@ -290,15 +307,15 @@ fn entry_line<L: Ledger>(
     Ok(())
 }
 
-// Who asks, and for what, where the line is spelled as that is.
-fn next_deed<L: Ledger>(
+/// Who asks, and for what, where the part of a line in front of ` = ` is spelled as that is.
+pub(crate) fn next_deed<L: Ledger>(
     alloc: Global,
     again: &mut Written<L>,
-    line: &[u8],
+    part: Option<&str>,
 ) -> Result<(u64, Deed), LineFault>
     ensures { IfOk result (λ told. again.new.bytes.items ≡ deed_text told.0 told.1) }
 {
-    let Some(part) = deed_part(line) else {
+    let Some(part) = part else {
         return Err(LineFault::BadLine);
     };
     let (worker, deed) = read_deed(alloc, part)?;

@@ -3,6 +3,7 @@ ghost use Rattle.std.specs.Prelude.{◌≡◌};
 
 use std::alloc::AllocError;
 use std::io;
+use tg_text::WriteFailed;
 use thiserror::Error;
 
 /// Why a line doesn't go on with the lines before it.
@@ -47,4 +48,37 @@ pub enum TextFault {
     /// Reading failed.
     #[error(transparent)]
     Stream(#[from] io::Error),
+}
+
+/// Why a line of which only the front was at hand doesn't go on with the lines before it.
+#[derive(Clone, Copy, Debug)]
+pub(crate) enum LongFault {
+    Line(LineFault),
+    /// Reading failed.
+    Stream(io::Error),
+}
+
+impl From<LineFault> for LongFault {
+    fn from(why: LineFault) -> LongFault {
+        LongFault::Line(why)
+    }
+}
+
+impl From<io::Error> for LongFault {
+    fn from(error: io::Error) -> LongFault {
+        LongFault::Stream(error)
+    }
+}
+
+impl From<AllocError> for LongFault {
+    fn from(_error: AllocError) -> LongFault {
+        LongFault::Line(LineFault::OutOfMemory)
+    }
+}
+
+// What was read from a line is written again in memory, which fails only where that is wanting.
+impl From<WriteFailed> for LongFault {
+    fn from(_error: WriteFailed) -> LongFault {
+        LongFault::Line(LineFault::OutOfMemory)
+    }
 }

@@ -25,7 +25,10 @@
 mod audit;
 mod fault;
 mod history;
+mod listing;
+mod long;
 mod part;
+mod piece;
 mod read;
 mod stage;
 mod stream;

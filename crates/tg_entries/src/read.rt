@@ -1,4 +1,5 @@
 //! How lines are taken apart. Nothing here has to be believed: what is read is written again and compared.
+ghost use Rattle.std.specs.Prelude.{◌≤◌, length, IfSome};
 
 use crate::fault::LineFault;
 use std::alloc::{AllocError, Global};
@@ -14,9 +15,35 @@ fn text_of(line: &[u8]) -> Option<&str> {
     str::from_utf8(line.strip_suffix(b"\n")?).ok()
 }
 
+/// The most bytes that a line may have, with its line feed, unless its reply lists edges: a deed, ` = ok`, and a space
+/// and 20 digits for each of the 64 numbers of the longest log.
+pub(crate) const MOST_KEPT_BYTES: usize = MOST_DEED_BYTES + 5 + 64 * 21 + 1;
+
 /// What a line has in front of ` = `, where that is no more than [`MOST_DEED_BYTES`].
 pub(crate) fn deed_part(line: &[u8]) -> Option<&str> {
-    let (part, _) = text_of(line)?.split_once(" = ")?;
+    part_of(text_of(line)?)
+}
+
+/// What a line has in front of ` = `, as [`deed_part`] has it. Only the front of the line is at hand, which may end
+/// within a character.
+pub(crate) fn front_part(front: &[u8]) -> Option<&str> {
+    part_of(str::from_utf8(&front[..text_len(front)?]).ok()?)
+}
+
+/// How many bytes the characters have that are whole. Behind them stands nothing, or the front of one more. `None` where
+/// some bytes are no characters.
+pub(crate) fn text_len(bytes: &[u8]) -> Option<usize>
+    ensures { IfSome result (λ len. len ≤ length bytes.now) }
+{
+    match str::from_utf8(bytes) {
+        Ok(text) => Some(text.len()),
+        Err(error) if error.error_len().is_none() => Some(error.valid_up_to()),
+        Err(_) => None,
+    }
+}
+
+fn part_of(text: &str) -> Option<&str> {
+    let (part, _) = text.split_once(" = ")?;
     (part.len() <= MOST_DEED_BYTES).then_some(part)
 }
 

@@ -1,12 +1,14 @@
 //! An audit of all lines of a reader.
 ghost use Rattle.std.specs.Prelude.{◌≡◌, ◌<◌, ◌++◌, [], List, ℕ, IfOk, IfSome, OnOk};
-ghost use Rattle.tg_entries.specs.Read.{HasRead};
+ghost use Rattle.tg_entries.specs.Read.{GoesOn, HasRead};
 ghost use Rattle.tg_entries.specs.Texts.{IsAudited};
 
 use crate::audit::TextAudit;
-use crate::fault::TextFault;
+use crate::fault::{LineFault, LongFault, TextFault};
+use crate::piece::{drop_front, read_some};
+use crate::read::{MOST_KEPT_BYTES, text_len};
 use std::alloc::Global;
-use std::io::BufRead;
+use std::io::{self, BufRead};
 use std::marker::Brand;
 use std::sync::ledger::{Blank, Ledger};
 use tg_text::Count;
@@ -36,7 +38,7 @@ fn audit_named<L: Ledger, R: BufRead + Drop>(
     audit_lines(&mut audit, reader, &mut line)
 }
 
-// All lines, each of which is kept in turn.
+// All lines, each of which is kept in turn, or only its front.
 fn audit_lines<L: Ledger, R: BufRead + Drop>(
     audit: &mut TextAudit<L>,
     reader: &mut R,
@@ -47,37 +49,100 @@ fn audit_lines<L: Ledger, R: BufRead + Drop>(
 {
     for number in 1..u64::MAX {
         line.clear();
-        if reader.read_until(b'\n', line)? == 0 {
-            return ended(audit, number);
+        if read_some(reader, MOST_KEPT_BYTES, line)? {
+            return ended(audit, number, line.as_slice());
         }
-        audit_line(audit, number, line.as_slice())?;
+        audit_line(audit, number, reader, line)?;
     }
     Err(TextFault::CutOff { line: u64::MAX })
 }
 
-// How many entries there are, where the text ends in front of the line of this number.
-fn ended<L: Ledger>(audit: &TextAudit<L>, number: u64) -> Result<u64, TextFault>
-    ensures { (text : List ℕ) → HasRead text audit.now → IfOk result (IsAudited text) }
+// How many entries there are, where the text ends with this of the line of this number.
+fn ended<L: Ledger>(audit: &TextAudit<L>, number: u64, line: &[u8]) -> Result<u64, TextFault>
+    ensures { (text : List ℕ) → HasRead text audit.now → IfOk result (IsAudited (text ++ line.now)) }
 {
+    if !line.is_empty() {
+        return Err(TextFault::CutOff { line: number });
+    }
     match audit.ended() {
         Some(count) => Ok(count),
         None => Err(TextFault::CutOff { line: number }),
     }
 }
 
-// The line of this number, which may have no line feed at the end of a text.
-fn audit_line<L: Ledger>(
+// The line of this number, of which the front is at hand, or all.
+fn audit_line<L: Ledger, R: BufRead>(
     audit: &mut TextAudit<L>,
     number: u64,
-    line: &[u8],
+    reader: &mut R,
+    line: &mut Vec<u8>,
 ) -> Result<(), TextFault>
-    ensures { (text : List ℕ) → HasRead text audit.old → OnOk result (HasRead (text ++ line.now) audit.new) }
+    ensures { (text : List ℕ) → HasRead text audit.old → OnOk result (GoesOn text line.old.items (R.remaining reader.old) (R.remaining reader.new) audit.new) }
 {
     if !line.ends_with(b"\n") {
-        return Err(TextFault::CutOff { line: number });
+        return audit_long(audit, number, reader, line);
     }
-    match audit.line(line) {
+    match audit.line(line.as_slice()) {
         Ok(()) => Ok(()),
         Err(why) => Err(TextFault::Line { line: number, why }),
+    }
+}
+
+// The line of this number, which is longer than those that are kept whole.
+fn audit_long<L: Ledger, R: BufRead>(
+    audit: &mut TextAudit<L>,
+    number: u64,
+    reader: &mut R,
+    line: &mut Vec<u8>,
+) -> Result<(), TextFault>
+    ensures { (text : List ℕ) → HasRead text audit.old → OnOk result (GoesOn text line.old.items (R.remaining reader.old) (R.remaining reader.new) audit.new) }
+{
+    match audit.long_line(reader, line) {
+        Ok(()) => Ok(()),
+        Err(LongFault::Stream(error)) => Err(TextFault::Stream(error)),
+        Err(LongFault::Line(why)) => Err(long_fault(number, why, skip_line(reader, line)?)),
+    }
+}
+
+// The fault of a long line, whose rest was skipped. Bytes that are no characters are a bad line, whatever the entry.
+fn long_fault(number: u64, why: LineFault, rest: Option<bool>) -> TextFault {
+    let Some(is_text) = rest else {
+        return TextFault::CutOff { line: number };
+    };
+    let why = match why {
+        LineFault::BadEntry { .. } if !is_text => LineFault::BadLine,
+        other => other,
+    };
+    TextFault::Line { line: number, why }
+}
+
+// Reads the rest of a line, of which these bytes are at hand, and keeps none of it. Whether all of them are characters;
+// `None` where the text ends before the line does.
+fn skip_line<R: BufRead>(reader: &mut R, line: &mut Vec<u8>) -> io::Result<Option<bool>> {
+    let mut is_text = true;
+    for _ in 0..u64::MAX {
+        let is_whole = line.ends_with(b"\n");
+        is_text = drop_text(line) && is_text;
+        if is_whole {
+            return Ok(Some(is_text));
+        }
+        if read_some(reader, MOST_KEPT_BYTES, line)? {
+            return Ok(None);
+        }
+    }
+    Ok(None)
+}
+
+// Drops the characters that are whole, where these bytes are characters. Else drops all, and answers `false`.
+fn drop_text(line: &mut Vec<u8>) -> bool {
+    match text_len(line.as_slice()) {
+        Some(len) => {
+            drop_front(line, len);
+            true
+        }
+        None => {
+            line.clear();
+            false
+        }
     }
 }

@@ -1,0 +1,77 @@
+//! A line that is longer than any but a listing's entry, of which the front is at hand.
+ghost use Rattle.std.specs.Prelude.{◌≡◌, List, ℕ, IfOk, IsTrue};
+ghost use Rattle.tg_model.specs.Graph.{ProtectionGraph};
+ghost use Rattle.tg_journal.specs.Auditing.{StandsAt};
+ghost use Rattle.tg_entries.specs.Read.{GoesOn, HasEntered, HasRead, IsListed};
+ghost use Rattle.tg_entries.specs.Texts.{deed_text};
+
+use crate::audit::{next_deed, open};
+use crate::fault::{LineFault, LongFault};
+use crate::listing::is_listing;
+use crate::read::front_part;
+use crate::stage::{Entered, Stage};
+use std::alloc::Global;
+use std::io::BufRead;
+use std::sync::ledger::Ledger;
+use tg_journal::Auditor;
+use tg_model::{Deed, Reply};
+use tg_text::Written;
+
+/// What comes of a long line. Only an entry that lists edges may be one.
+pub(crate) fn long_stage<L: Ledger, R: BufRead>(
+    alloc: Global,
+    again: &mut Written<L>,
+    stage: Stage,
+    reader: &mut R,
+    line: &mut Vec<u8>,
+) -> Result<Stage, LongFault>
+    ensures { (text : List ℕ) → HasRead text stage → IfOk result (GoesOn text line.old.items (R.remaining reader.old) (R.remaining reader.new)) }
+{
+    match stage {
+        Stage::Version => Err(LongFault::Line(LineFault::OtherVersion)),
+        Stage::Opening(head) => long_entry(alloc, again, open(alloc, head)?, reader, line),
+        Stage::Entries(entered) => long_entry(alloc, again, entered, reader, line),
+        Stage::Limits | Stage::Ended(_) | Stage::Stopped => {
+            Err(LongFault::Line(LineFault::BadLine))
+        }
+    }
+}
+
+// The next entry.
+fn long_entry<L: Ledger, R: BufRead>(
+    alloc: Global,
+    again: &mut Written<L>,
+    entered: Entered,
+    reader: &mut R,
+    line: &mut Vec<u8>,
+) -> Result<Stage, LongFault>
+    ensures { (text : List ℕ) → HasEntered text entered → IfOk result (GoesOn text line.old.items (R.remaining reader.old) (R.remaining reader.new)) }
+{
+    let mut entered = entered;
+    let told = next_deed(alloc, again, front_part(line.as_slice()))?;
+    let Some(next) = entered.count.checked_add(1) else {
+        return Err(LongFault::Line(LineFault::BadLine));
+    };
+    if !is_listed(again, &mut entered.auditor, &told, reader, line)? {
+        return Err(LongFault::Line(LineFault::BadEntry { at: entered.count }));
+    }
+    entered.count = next;
+    Ok(Stage::Entries(entered))
+}
+
+// Whether the line is that of the deed, which was written again, with the listing that is the rules' reply.
+fn is_listed<L: Ledger, R: BufRead>(
+    again: &mut Written<L>,
+    auditor: &mut Auditor,
+    told: &(u64, Deed),
+    reader: &mut R,
+    line: &mut Vec<u8>,
+) -> Result<bool, LongFault>
+    requires { again.old.bytes.items ≡ deed_text told.now.0 told.now.1 }
+    ensures { (g : ProtectionGraph) → StandsAt g auditor.old → IfOk result (λ legal. IsTrue legal → IsListed g line.old.items (R.remaining reader.old) (R.remaining reader.new) auditor.new) }
+{
+    match auditor.answer(told.0, &told.1)? {
+        Some(Reply::Edges(edges)) => is_listing(again, edges.as_slice(), reader, line),
+        _ => Ok(false),
+    }
+}
