@@ -13,9 +13,9 @@ mod helpers;
 #[cfg(test)]
 mod meet;
 #[cfg(test)]
-mod payloads;
-#[cfg(test)]
 mod parts;
+#[cfg(test)]
+mod payloads;
 #[cfg(test)]
 mod runs;
 #[cfg(test)]

@@ -20,5 +20,5 @@ closed_spec 𝓤 𝓛 𝓜 𝓡 wired =
     let 𝓣 : Tables 𝓤 𝓛.H = tables_of 𝓤 𝓛.H 𝓜 (tables 𝓤 𝓛.H 𝓜 𝓡 𝓡.env) in
     entered 𝓤 𝓛.H (triple_of 𝓛 F.signature (F.spec 𝓛 𝓜.mem 𝓡.returns)) 𝓣.C 𝓣.Λ #self code.function (code.unfolded 𝓤 𝓛.H 𝓜 𝓡 wired)
     (Meets-closed Handle.the_row Handle.the_type.name 𝓛
-    (λ a. record { at = null_ptr; alloc = a; is_open = false; opened = record { auditor = record { subjects = []; made = 0; limit = 0; vertices = [] }; at = 0; found_bad = false } })
+    (λ a. record { at = null_ptr; alloc = a; is_open = false; opened = record { auditor = record { kept = record { subjects = []; made = 0; limit = 0; vertices = [] }; at = 0; found_bad = false } } })
     (λ a h. h.is_open ≡ false) 𝓣 (λ κs a f. refl) (λ a. tt) (λ a. refl) (null_held Handle.the_type.name 𝓛))
