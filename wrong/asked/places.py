@@ -64,13 +64,14 @@ PLACES = {
     ),
     ("tgcould/src/answers.rt", "print"): (["if self.notes.is_short"] * 2, "a growth was refused before, and noted"),
     **{
-        ("tg_entries/src/part.rt", name): (
+        (f"tg_entries/src/{file}", name): (
             [f"match {writer} Ok(()) Err(_)"],
             "what was read is written to memory, which fails for want of it alone",
         )
-        for name, writer in (
-            ("check_part", "write_part"),
-            ("is_reply", "write_answered"),
+        for file, name, writer in (
+            ("part.rt", "check_part", "write_part"),
+            ("part.rt", "is_reply", "write_answered"),
+            ("listing.rt", "write_again", "write_listed"),
         )
     },
 }
@@ -118,7 +119,9 @@ NAMED = {
     ("tg_could/src/search.rt", "spread", "NONE"): "a step that was found each",
     ("tg_could/src/search.rt", "spread_along", "NONE"): "an edge of the vertex each",
     ("tg_could/src/walks.rt", "begin", "u64::MAX"): "an edge along a path each",
+    ("tg_entries/src/piece.rt", "read_some", "u64::MAX"): "a piece of the line each",
     ("tg_entries/src/stream.rt", "audit_lines", "u64::MAX"): "a line of the reader each",
+    ("tg_entries/src/stream.rt", "skip_line", "u64::MAX"): "a piece of the line each",
     ("tg_plain/src/script.rt", "add_lines", "while let Some(line)=reading.next(source,&mut sink)?"): "a line of the reader each",
     ("tg_evac/src/copies.rt", "scan", "while next<claimer.len()"): "a cell that was won each",
     ("tg_evac/src/walk.rt", "each", "loop"): "a root each",

@@ -3,7 +3,6 @@ ghost use Rattle.std.specs.Prelude.{◌≡◌};
 
 use std::alloc::AllocError;
 use std::io;
-use tg_text::WriteFailed;
 use thiserror::Error;
 
 /// Why a line doesn't go on with the lines before it.
@@ -72,13 +71,6 @@ impl From<io::Error> for LongFault {
 
 impl From<AllocError> for LongFault {
     fn from(_error: AllocError) -> LongFault {
-        LongFault::Line(LineFault::OutOfMemory)
-    }
-}
-
-// What was read from a line is written again in memory, which fails only where that is wanting.
-impl From<WriteFailed> for LongFault {
-    fn from(_error: WriteFailed) -> LongFault {
         LongFault::Line(LineFault::OutOfMemory)
     }
 }

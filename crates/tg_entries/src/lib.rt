@@ -19,7 +19,12 @@
 //! entries there are only where the text is that of a legal history of the opening that it tells ([`TextAudit`] is the
 //! same, fed a line at a time). Nothing that takes a line apart has to be believed, and no reply is read: the deed of a
 //! line is written again, and the answer of `tg_journal`'s [`Auditor`](tg_journal::Auditor) behind it, and that has to
-//! be what came. So an audit takes memory by the longest line and by what its subjects reach, and not by the entries.
+//! be what came.
+//!
+//! [`audit_text`] keeps at most 1,606 bytes of a line. Only an entry that lists edges may be longer. Its deed is read
+//! from the front of the line. Then the edges of the reply are written one after another, and each is compared with
+//! what is read next. So an audit takes memory by the edges of the opening and by what its subjects reach, and not by
+//! lines or entries.
 #![tactic(auto)]
 
 mod audit;

@@ -1,5 +1,5 @@
 //! An entry that lists edges, whose line is compared edge by edge.
-ghost use Rattle.std.specs.Prelude.{◌≡◌, ◌++◌, [], codes, IfOk, IsTrue};
+ghost use Rattle.std.specs.Prelude.{◌≡◌, ◌++◌, [], codes, IfOk, IsTrue, OnOk};
 ghost use Rattle.std.specs.List.{flat_map};
 ghost use Rattle.tg_model.specs.declared.reply.Reply.TheVariants.{Edges};
 ghost use Rattle.tg_text.specs.declared.answer.Answer.TheVariants as Answer;
@@ -10,10 +10,11 @@ ghost use Rattle.tg_entries.specs.Pieces.{Loses};
 use crate::fault::LongFault;
 use crate::piece::takes;
 use itoa::Buffer;
+use std::alloc::AllocError;
 use std::io::BufRead;
 use std::sync::ledger::Ledger;
 use tg_rights::Label;
-use tg_text::{Sink, WriteFailed, Written, put_all, put_texts};
+use tg_text::{Sink, WriteFailed, Written, put_texts};
 
 /// Whether the line is what was written, with a listing of these edges behind it.
 pub(crate) fn is_listing<L: Ledger, R: BufRead>(
@@ -25,7 +26,7 @@ pub(crate) fn is_listing<L: Ledger, R: BufRead>(
     ensures { IfOk result (λ same. IsTrue same → Loses line.old.items (R.remaining reader.old)
         (again.old.bytes.items ++ (codes " = " ++ answer_text (Answer.Reply (Edges edges.now)))) [] (R.remaining reader.new)) }
 {
-    put_all(again, b" = ok")?;
+    again.bytes.extend_from_slice(b" = ok")?;
     if !takes(reader, line, again.bytes.as_slice())? || !are_next(again, edges, reader, line)? {
         return Ok(false);
     }
@@ -42,13 +43,23 @@ fn are_next<L: Ledger, R: BufRead>(
     ensures { IfOk result (λ same. IsTrue same → Loses line.old.items (R.remaining reader.old) (flat_map edge_text edges.now) line.new.items (R.remaining reader.new)) }
 {
     for edge in edges {
-        again.bytes.clear();
-        write_listed(again, *edge)?;
+        write_again(again, *edge)?;
         if !takes(reader, line, again.bytes.as_slice())? {
             return Ok(false);
         }
     }
     Ok(true)
+}
+
+// Writes the edge in the place of what was written before. Fails only when out of memory.
+fn write_again<L: Ledger>(again: &mut Written<L>, edge: (u64, Label)) -> Result<(), AllocError>
+    ensures { OnOk result (again.new.bytes.items ≡ edge_text edge) }
+{
+    again.bytes.clear();
+    match write_listed(again, edge) {
+        Ok(()) => Ok(()),
+        Err(_) => Err(AllocError),
+    }
 }
 
 // Writes an edge as a listing has it, or a front of it where the sink fails.

@@ -67,11 +67,7 @@ fn line_len(shown: &[u8], most: usize) -> usize
 }
 
 /// Whether the text comes next in the line. Then it is taken.
-pub(crate) fn takes<R: BufRead>(
-    reader: &mut R,
-    line: &mut Vec<u8>,
-    text: &[u8],
-) -> io::Result<bool>
+pub(crate) fn takes<R: BufRead>(reader: &mut R, line: &mut Vec<u8>, text: &[u8]) -> io::Result<bool>
     ensures { IfOk result (λ same. IsTrue same → Loses line.old.items (R.remaining reader.old) text.now line.new.items (R.remaining reader.new)) }
 {
     read_some(reader, text.len(), line)?;

@@ -30,8 +30,8 @@ pub(crate) fn front_part(front: &[u8]) -> Option<&str> {
     part_of(str::from_utf8(&front[..text_len(front)?]).ok()?)
 }
 
-/// How many bytes the characters have that are whole. Behind them stands nothing, or the front of one more. `None` where
-/// some bytes are no characters.
+/// How many bytes the whole characters have. Behind them stands nothing, or the front of one more. `None` where some
+/// bytes are no characters.
 pub(crate) fn text_len(bytes: &[u8]) -> Option<usize>
     ensures { IfSome result (λ len. len ≤ length bytes.now) }
 {
