@@ -11,3 +11,5 @@ mod opened;
 mod shares;
 #[cfg(test)]
 mod story;
+#[cfg(test)]
+mod unasked;
