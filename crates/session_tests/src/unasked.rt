@@ -4,7 +4,7 @@
 ghost use Rattle.std.specs.Prelude.{◌≡◌};
 ghost use Rattle.tg_shared.specs.Sessions.{MayShare};
 
-use crate::opened::{draft, is_answered, makes, open_store, spawned_by};
+use crate::opened::{Counted, counted, is_answered, makes, open_store, spawned_by};
 use std::alloc::Global;
 use std::marker::Brand;
 use std::sync::Wait;
@@ -27,15 +27,6 @@ enum Way {
     Loses,
     // a session collects the nurseries
     Collects,
-}
-
-// How many vertices a store has, and how many collections of the nurseries, and full ones, it has made.
-type Counted = [u64; 3];
-
-fn counted(store: &Store<CellPayload>) -> Counted {
-    let census = store.census();
-    let collections = census.collections;
-    [census.vertices, collections.nursery, collections.full]
 }
 
 // Lets the session make a vertex, and give it up: nobody reaches it then.
