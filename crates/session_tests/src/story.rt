@@ -194,10 +194,7 @@ type Back = ([u64; 4], Counted);
 type Seen = (Told, Option<Back>);
 
 // The numbers of the entries, where the store was had back.
-fn entries_of<L: Round>(
-    keeper: &Keeper<L>,
-    closed: Option<Store<CellPayload>>,
-) -> Option<Back> {
+fn entries_of<L: Round>(keeper: &Keeper<L>, closed: Option<Store<CellPayload>>) -> Option<Back> {
     let store = closed?;
     let journal = store.journal();
     let entries = [

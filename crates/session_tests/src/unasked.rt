@@ -11,9 +11,7 @@ use std::sync::Wait;
 use tg_model::Command;
 use tg_payload::CellPayload;
 use tg_rights::Label;
-use tg_shared::{
-    Blanks, Keeper, Round, Session, Shared, SharedStore, close, close_with, reclaim,
-};
+use tg_shared::{Blanks, Keeper, Round, Session, Shared, SharedStore, close, close_with, reclaim};
 use tg_store::{Kind, Store};
 
 // What is done with the sessions of a store until it is had back.
@@ -56,10 +54,11 @@ fn act_of_two<L: Round, R: Wait>(
 ) -> Option<Session<L>> {
     let made = gives_up(rt, alloc, store, first) && makes(rt, alloc, store, second);
     let spawned = spawned_by(rt, alloc, store, first);
-    let label = second.label(rt, store, 3).is_some();
+    let is_read = is_answered(rt, store, second, Command::Read { target: 3 });
+    let is_told = second.label(rt, store, 3).is_some();
     let is_shown = keeper.picture(rt, alloc, store).is_ok();
     let left = first.leave(rt, store).is_ok();
-    if made && label && is_shown && left {
+    if made && is_read && is_told && is_shown && left {
         spawned
     } else {
         None
