@@ -297,7 +297,7 @@ fn nobody_else_is_ended(rt: HostRuntime) {
 }
 
 // The store is closed without the session that was taken over, and with that of the worker that was ended; it holds
-// the entries that are in no part, from where the keeper's last one ended. Nobody asked it to collect, and it never did.
+// the entries that are in no part, from where the keeper's last one ended. Nobody asked it to collect, and it didn't.
 #[test]
 fn a_shared_store_is_cut_and_closes(rt: HostRuntime) {
     assert_eq!(rt; story(&rt, rt.alloc()).1, Some(([2, 4, 8, 4], [5, 0, 0])));
