@@ -145,13 +145,14 @@ def late(others):
 
 
 def hints(worker):
-    """The worker, 0 or 70, takes what it has from an object that it made first, and whose row is long, too."""
-    made = ["0 create rwtg"] * 68 + ["0 spawn rwtg"] + ["70 create rwtg"] * 68
-    first = {0: 2, 70: 71}[worker]
-    targets = range(first + 1, first + 1 + LONG)
+    """The worker, 0 or 70, takes what it has from an object that it made first, and whose row is long, too. The index of another row
+    comes first. All names have two digits."""
+    made = ["1 create r"] * LONG + ["0 create rwtg"] * 28 + ["0 spawn r"] + ["70 create rwtg"] * 28
+    first = {0: LONG + 2, 70: 71}[worker]
+    targets = range(first + 1, first + 28)
     given = [f"{worker} grant {first} {target} r" for target in targets]
-    takes = [f"{worker} take {first} {targets[i % LONG]} r" for i in range(TIMES)]
-    return Counted(["--workers", "2", "--stock", f"c{len(made)}"], made + given, takes)
+    takes = [f"{worker} take {first} {targets[i % 27]} r" for i in range(TIMES)]
+    return Counted(["--workers", "2", "--stock", "c200"], made + given, takes)
 
 
 @dataclass

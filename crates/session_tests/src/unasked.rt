@@ -65,21 +65,36 @@ fn act_of_two<L: Round, R: Wait>(
     }
 }
 
-// The same with the sessions of a store, of which there have to be two. The one that is made stands behind them.
+// The same with the sessions of a store, of which there have to be two.
 fn act<L: Round, R: Wait>(
     rt: &R,
     alloc: Global,
     store: &SharedStore<L, CellPayload>,
     keeper: &Keeper<L>,
-    sessions: &mut Vec<Session<L>>,
-) {
-    let spawned = match sessions.as_mut_slice() {
+    sessions: &mut [Session<L>],
+) -> Option<Session<L>> {
+    match sessions {
         [first, second] => act_of_two(rt, alloc, store, keeper, first, second),
         _ => None,
-    };
+    }
+}
+
+// Acts, and closes the store with the session that was made behind the others.
+fn acted<L: Round, R: Wait>(
+    rt: &R,
+    alloc: Global,
+    shared: Shared<L, CellPayload>,
+) -> Option<Store<CellPayload>> {
+    let Shared {
+        store,
+        mut sessions,
+        mut keeper,
+    } = shared;
+    let spawned = act(rt, alloc, &store, &keeper, &mut sessions);
     if let Some(session) = spawned {
         let _pushed = sessions.push(session);
     }
+    close_with(store, sessions, &mut keeper).ok()
 }
 
 // Lets the first session collect the nurseries.
@@ -93,24 +108,18 @@ fn collect<L: Round, R: Wait>(
     }
 }
 
-// Does so with the sessions, and has the store back.
+// Lets it, where that is the way, or loses the last session, and has the store back.
 fn had_back<L: Round, R: Wait>(
     rt: &R,
-    alloc: Global,
     shared: Shared<L, CellPayload>,
     way: Way,
 ) -> Option<Store<CellPayload>> {
     let Shared {
         store,
         mut sessions,
-        mut keeper,
+        keeper: _,
     } = shared;
     match way {
-        Way::Acts => {
-            act(rt, alloc, &store, &keeper, &mut sessions);
-            close_with(store, sessions, &mut keeper).ok()
-        }
-        Way::Closes => close(store, sessions).ok(),
         Way::Loses => {
             drop(sessions.pop());
             reclaim(store, sessions).ok()
@@ -119,6 +128,7 @@ fn had_back<L: Round, R: Wait>(
             collect(rt, &store, &sessions);
             close(store, sessions).ok()
         }
+        _ => close(store, sessions).ok(),
     }
 }
 
@@ -132,7 +142,8 @@ fn share_by<L: Round, R: Wait>(
     requires shareable { MayShare L.name L.parts L.keeper L.start blanks store }
 {
     match SharedStore::<L, CellPayload>::new(alloc, blanks, store) {
-        Ok(shared) => had_back(rt, alloc, shared, way),
+        Ok(shared) if way == Way::Acts => acted(rt, alloc, shared),
+        Ok(shared) => had_back(rt, shared, way),
         Err(refused) => {
             refused.store.let_go();
             None
