@@ -170,7 +170,7 @@ CHECKS = {
     "minors": Check(minors, "a create, a remove and a minor beside a row with a hole of", "edges", (1_000, 50_000)),
     "learnt": Check(learnt, "the same beside a row that minors moved to Old, of", "edges", (1_000, 50_000)),
     "marks": Check(marks, "a minor beside a row that came to Old while a cell was remembered, of", "edges", (1_000, 50_000), 10),
-    "noted": Check(noted, "a minor beside a row whose cells were all remembered once, of", "edges", (1_000, 20_000), 10),
+    "noted": Check(noted, "a minor beside a row whose cells were all remembered once, of", "edges", (1_000, 20_000), 3),
     "rows": Check(rows, "a create, a grant to a long row and a minor beside other long rows:", "rows", (30, 300)),
     "grown": Check(grown, "a row that gets long and a minor beside other long rows:", "rows", (30, 300), 1.1),
     "removes": Check(removes, "a remove of the last edge of a row of", "edges", (200, 20_000)),
