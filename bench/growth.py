@@ -4,9 +4,9 @@
 Counts, under valgrind, what a few commands cost beside little and beside much that they don't change, and says whether the second is
 at most so many times the first. No clause speaks of it: a walk over all that is there finds the same.
 
-  minors   a vertex is made and given up, and a nursery collection follows, beside a row in Old of 1,000 edges and of 50,000, of
+  minors   a vertex is made and given up, and a nursery collection follows, beside a row in Old of 1,000 edges and of 90,000, of
            which the first was given up
-  learnt   the same beside a row that nursery collections moved to Old
+  learnt   the same beside a row of 1,000 edges and of 50,000 that nursery collections moved to Old
   marks    one nursery collection, beside a row of 1,000 edges and of 50,000 that the one before it moved to Old while another cell
            was remembered
   noted    one nursery collection, beside a row in Old of 1,000 edges and of 20,000, of which each cell came to name a young vertex that
@@ -17,6 +17,8 @@ at most so many times the first. No clause speaks of it: a walk over all that is
   removes  the last edge of a row is given up, of a row of 200 edges and of 20,000
   holes    the last edge of a row is given up and a vertex is made, whose edge takes its place, in a row of 1,000 and of 50,000
   young    a full collection of 30,000 vertices that were just made, by one worker and by 64
+  bare     20 full collections of 16,383 objects. The first count is of a tree, in which each names two others. The second is of objects
+           that name nothing, and has to be less, since one look tells it
   spawns   a worker is spawned and retires, beside 3 others and beside 63
   parties  worker 0, whose row is empty, lists it, beside one other worker and beside 63
   late     the same of the worker that was spawned last, after others retired
@@ -30,6 +32,7 @@ status 1 where one costs more, or a run ended otherwise than it is to. Where val
 import sys
 from dataclasses import dataclass
 
+from cells import NODES, tree
 from counted import instructions, run
 
 TIMES = 100
@@ -126,6 +129,12 @@ def young(workers):
     return Counted(["--workers", str(workers), "--stock", "c30000"], before, ["full"], times=1)
 
 
+def bare(names):
+    """Objects that name so many others each."""
+    made = tree()[2] if names else ["0 create rg"] * NODES
+    return Counted(["--workers", "1", "--stock", f"c{NODES}"], made + ["full"], ["full"] * 20, times=20)
+
+
 def spawns(others):
     """Rounds in which worker 0 spawns one, which retires, beside so many others."""
     names = range(others, others + TIMES)
@@ -167,15 +176,16 @@ class Check:
 
 
 CHECKS = {
-    "minors": Check(minors, "a create, a remove and a minor beside a row with a hole of", "edges", (1_000, 50_000)),
+    "minors": Check(minors, "a create, a remove and a minor beside a row with a hole of", "edges", (1_000, 90_000), 1.1),
     "learnt": Check(learnt, "the same beside a row that minors moved to Old, of", "edges", (1_000, 50_000)),
     "marks": Check(marks, "a minor beside a row that came to Old while a cell was remembered, of", "edges", (1_000, 50_000), 10),
     "noted": Check(noted, "a minor beside a row whose cells were all remembered once, of", "edges", (1_000, 20_000), 3),
-    "rows": Check(rows, "a create, a grant to a long row and a minor beside other long rows:", "rows", (30, 300)),
+    "rows": Check(rows, "a create, a grant to a long row and a minor beside other long rows:", "rows", (30, 300), 1.1),
     "grown": Check(grown, "a row that gets long and a minor beside other long rows:", "rows", (30, 300), 1.1),
     "removes": Check(removes, "a remove of the last edge of a row of", "edges", (200, 20_000)),
     "holes": Check(holes, "a remove of the last edge and a create, in a row of", "edges", (1_000, 50_000)),
     "young": Check(young, "a full of 30,000 vertices that were made by", "workers", (1, 64)),
+    "bare": Check(bare, "a full of 16,383 objects that name", "others each", (2, 0), 0.97),
     "spawns": Check(spawns, "a spawn and a retire beside", "others", (3, 63)),
     "parties": Check(parties, "a list of worker 0 beside", "others", (1, 63), 1.02),
     "late": Check(late, "a list of the last worker beside", "others", (1, 61), 1.02),
