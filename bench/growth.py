@@ -11,8 +11,8 @@ at most so many times the first. No clause speaks of it: a walk over all that is
            was remembered
   noted    one nursery collection, beside a row in Old of 1,000 edges and of 20,000, of which each cell came to name a young vertex that
            lies in Old by now
-  rows     one row in Old gets an edge to a new vertex, and a nursery collection follows, beside 30 other long rows in Old and beside
-           300
+  rows     one row in Old after the other gets an edge to a new vertex, and a nursery collection follows, beside 30 other long rows in
+           Old and beside 300
   grown    a row gets long, and a nursery collection follows, beside 30 other long rows in Old and beside 300
   removes  the last edge of a row is given up, of a row of 200 edges and of 20,000
   holes    the last edge of a row is given up and a vertex is made, whose edge takes its place, in a row of 1,000 and of 50,000
@@ -98,10 +98,10 @@ def long_rows(count):
 
 
 def rows(others):
-    """The first of these rows gets an edge to a new vertex, again and again."""
+    """One of these rows after the other gets an edge to a new vertex."""
     first, new = LONG + 1, LONG + others + 2
-    rounds = [line for name in range(new, new + TIMES) for line in ("0 create r", f"0 grant {first} {name} r", "minor")]
-    return Counted(*long_rows(others + 1), rounds)
+    given = [f"0 grant {first + i % (others + 1)} {new + i} r" for i in range(TIMES)]
+    return Counted(*long_rows(others + 1), [line for grant in given for line in ("0 create r", grant, "minor")])
 
 
 def grown(others):
@@ -180,7 +180,7 @@ CHECKS = {
     "learnt": Check(learnt, "the same beside a row that minors moved to Old, of", "edges", (1_000, 50_000)),
     "marks": Check(marks, "a minor beside a row that came to Old while a cell was remembered, of", "edges", (1_000, 50_000), 10),
     "noted": Check(noted, "a minor beside a row whose cells were all remembered once, of", "edges", (1_000, 20_000), 3),
-    "rows": Check(rows, "a create, a grant to a long row and a minor beside other long rows:", "rows", (30, 300), 1.1),
+    "rows": Check(rows, "a create, a grant to a long row and a minor beside other long rows:", "rows", (30, 300), 1.2),
     "grown": Check(grown, "a row that gets long and a minor beside other long rows:", "rows", (30, 300), 1.1),
     "removes": Check(removes, "a remove of the last edge of a row of", "edges", (200, 20_000)),
     "holes": Check(holes, "a remove of the last edge and a create, in a row of", "edges", (1_000, 50_000)),
