@@ -42,7 +42,7 @@ def try_by_run(kit: Kit, body: Body) -> Verdict:
             case ("counted", script, *names):
                 only = [word for name in names for word in ("--only", name)]
                 command = [f"{kit.tree.top}/bench/{script}.py", *only, f"{room}/tgstore"]
-                outcome, said = try_by_script(kit, made, "tgstore", command)
+                outcome, said = try_by_script(kit, made, "tgstore", command, is_counted=True)
             case ("wants",):
                 shutil.copytree(kit.tree.top / "wrong", room / "wrong")
                 outcome, said = told_by([f"{room}/wrong/wants"])
@@ -61,10 +61,12 @@ def plant_tree(tree: Tree, body: Body, room: Path) -> Tree:
     return Tree(room)
 
 
-def try_by_script(kit: Kit, tree: Tree, program: str, command: list[str]) -> tuple[Outcome, str]:
+def try_by_script(
+    kit: Kit, tree: Tree, program: str, command: list[str], is_counted: bool = False
+) -> tuple[Outcome, str]:
     """What a run of stored scripts found of the program that is built of the tree. A row asks for both programs: there
     is none in the place of the other one."""
-    refused = kit.build_program(tree, program, tree.top)
+    refused = kit.build_program(tree, program, tree.top, is_counted)
     if refused is not None:
         return Outcome.NOT_JUDGED, on_one_line(refused, 300)
     for other in PROGRAMS:

@@ -10,4 +10,8 @@ mod opened;
 #[cfg(test)]
 mod shares;
 #[cfg(test)]
+mod shown;
+#[cfg(test)]
 mod story;
+#[cfg(test)]
+mod unasked;

@@ -42,6 +42,16 @@ pub(crate) fn open_store(alloc: Global) -> Option<Store<CellPayload>>
     Store::open(alloc, opening, limits, drafts).ok()
 }
 
+/// How many vertices a store has, and how many collections of the nurseries, and full ones, it has made.
+pub(crate) type Counted = [u64; 3];
+
+/// What is counted of a store. A collection that nobody asked for shows here.
+pub(crate) fn counted(store: &Store<CellPayload>) -> Counted {
+    let census = store.census();
+    let collections = census.collections;
+    [census.vertices, collections.nursery, collections.full]
+}
+
 /// Lets the session make a vertex, which it may read and write. Whether it does.
 pub(crate) fn makes<L: Round, R: Wait>(
     rt: &R,

@@ -5,7 +5,7 @@ ghost use Rattle.tg_store.specs.Store.{graph_of_store};
 ghost use Rattle.tg_shared.specs.Sessions.{MayShare};
 ghost use Rattle.tg_shares.specs.Shares.{MayShareOut};
 
-use crate::opened::{draft, open_store};
+use crate::opened::{Counted, counted, draft, open_store};
 use std::alloc::Global;
 use std::marker::Brand;
 use std::sync::Wait;
@@ -46,8 +46,9 @@ struct Seen {
     // its purse then has
     left: [Option<u64>; 2],
     paid_to: u64,
-    // how many entries the closed store has
+    // how many entries the closed store has, and what else is counted of it
     entries: u64,
+    counted: Counted,
 }
 
 // Lets a client make a vertex, if it can pay for it.
@@ -109,6 +110,7 @@ fn see<L: Round, V: Ledger, R: Wait>(
         left,
         paid_to: first.purse.entries(),
         entries: 0,
+        counted: [0, 0, 0],
     }
 }
 
@@ -150,8 +152,13 @@ fn seen_of<L: Round, V: Ledger, R: Wait>(
     sessions.push(second.session).ok()?;
     let store = store.into_locked().close(sessions).ok()?;
     let entries = store.journal().len();
+    let counted = counted(&store);
     store.let_go();
-    Some(Seen { entries, ..seen })
+    Some(Seen {
+        entries,
+        counted,
+        ..seen
+    })
 }
 
 fn share<L: Round, V: Ledger, R: Wait>(
@@ -190,7 +197,7 @@ fn story<R: Wait>(rt: &R, alloc: Global) -> Option<Seen> {
 }
 
 // Who has used up its share is refused by it, and the other one makes what its own share has. A leave that can't be
-// paid for is refused, and one that can costs an entry for each edge and one more.
+// paid for is refused, and one that can costs an entry for each edge and one more. Nobody collects.
 #[test]
 fn shares_hold_and_are_paid_from(rt: HostRuntime) {
     let wanted = Seen {
@@ -200,6 +207,7 @@ fn shares_hold_and_are_paid_from(rt: HostRuntime) {
         left: [None, Some(2)],
         paid_to: 0,
         entries: 6,
+        counted: [5, 0, 0],
     };
     assert_eq!(rt; story(&rt, rt.alloc()), Some(wanted));
 }

@@ -3,7 +3,7 @@
 ghost use Rattle.std.specs.Prelude.{◌≡◌, true};
 ghost use Rattle.tg_shared.specs.Sessions.{MayShare};
 
-use crate::opened::{is_answered, makes, open_store, spawned_by};
+use crate::opened::{Counted, counted, is_answered, makes, open_store, spawned_by};
 use std::alloc::Global;
 use std::marker::Brand;
 use std::sync::Wait;
@@ -186,15 +186,15 @@ fn tell<L: Round, R: Wait>(
     }
 }
 
-// What is seen, and of the store that is had back with both sessions: how many entries its keeper made, and at which
-// place its last part ended; how many entries there are, and from which place on the store holds them.
-type Seen = (Told, Option<[u64; 4]>);
+// Of the store that is had back with both sessions: how many entries its keeper made, and at which place its last part
+// ended; how many entries there are, and from which place on the store holds them; and what is counted of it.
+type Back = ([u64; 4], Counted);
+
+// What is seen, and what of the store that is had back.
+type Seen = (Told, Option<Back>);
 
 // The numbers of the entries, where the store was had back.
-fn entries_of<L: Round>(
-    keeper: &Keeper<L>,
-    closed: Option<Store<CellPayload>>,
-) -> Option<[u64; 4]> {
+fn entries_of<L: Round>(keeper: &Keeper<L>, closed: Option<Store<CellPayload>>) -> Option<Back> {
     let store = closed?;
     let journal = store.journal();
     let entries = [
@@ -203,8 +203,9 @@ fn entries_of<L: Round>(
         journal.len(),
         journal.start(),
     ];
+    let counted = counted(&store);
     store.let_go();
-    Some(entries)
+    Some((entries, counted))
 }
 
 fn seen_of_shared<L: Round, R: Wait>(rt: &R, alloc: Global, shared: Shared<L, CellPayload>) -> Seen
@@ -296,8 +297,8 @@ fn nobody_else_is_ended(rt: HostRuntime) {
 }
 
 // The store is closed without the session that was taken over, and with that of the worker that was ended; it holds
-// the entries that are in no part, from where the keeper's last one ended.
+// the entries that are in no part, from where the keeper's last one ended. Nobody asked it to collect, and it didn't.
 #[test]
 fn a_shared_store_is_cut_and_closes(rt: HostRuntime) {
-    assert_eq!(rt; story(&rt, rt.alloc()).1, Some([2, 4, 8, 4]));
+    assert_eq!(rt; story(&rt, rt.alloc()).1, Some(([2, 4, 8, 4], [5, 0, 0])));
 }

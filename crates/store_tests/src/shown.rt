@@ -3,10 +3,12 @@ use std::alloc::{AllocError, Global};
 use std::fmt::Display;
 use tg_helpers::HelpersFault;
 use tg_journal::AuditFault;
-use tg_model::{Cause, Denial, Edge, EdgeList, Graph, ModelFault, Opening, Reply, Rule};
+use tg_model::{
+    Cause, Denial, Edge, EdgeList, Graph, ModelFault, Opening, OpeningFault, Reply, Rule,
+};
 use tg_payload::{CellPayload, Draft, values_of};
 use tg_rights::{Label, Right, Rights};
-use tg_store::RoomFault;
+use tg_store::{ApplyFault, CreateFault, OpenFault, RoomFault, StoreAuditFault};
 use tg_text::AsText;
 use tg_threads::RaceFault;
 
@@ -99,6 +101,62 @@ fn are_refusals_shown(alloc: Global) -> [bool; 7] {
 #[test]
 fn refusals_that_no_program_shows(rt: HostRuntime) {
     assert_eq!(rt; are_refusals_shown(rt.alloc()), [true; 7]);
+}
+
+// Why a store is not opened, and why its opening isn't made.
+fn are_openings_refused(alloc: Global) -> [bool; 7] {
+    let edge = "edge 3 joins a vertex with itself or has an end that is no worker";
+    let value = "value 3 does not fit its law, or is one too many or too few";
+    let draft = "draft 3 does not have the opening's value, or is one too many or too few";
+    let workers = "the number of workers is not from 1 to 64";
+    [
+        is_shown(alloc, OpeningFault::BadWorkers, workers),
+        is_shown(
+            alloc,
+            OpeningFault::BadLimits,
+            "a limit is out of its range",
+        ),
+        is_shown(alloc, OpeningFault::BadEdge { at: 3 }, edge),
+        is_shown(alloc, OpeningFault::BadValues { at: 3 }, value),
+        is_shown(alloc, OpenFault::PayloadMismatch { at: 3 }, draft),
+        is_shown(alloc, OpenFault::OutOfMemory, "out of memory"),
+        is_shown(alloc, OpenFault::HeapFull, "heap full"),
+    ]
+}
+
+// Why a store refuses a command, a vertex and an audit.
+fn are_calls_refused(alloc: Global) -> [bool; 11] {
+    [
+        is_shown(alloc, ApplyFault::NoSuchWorker, "no such worker"),
+        is_shown(alloc, ApplyFault::OutOfMemory, "out of memory"),
+        is_shown(alloc, ApplyFault::HeapFull, "heap full"),
+        is_shown(alloc, CreateFault::NoSuchWorker, "no such worker"),
+        is_shown(
+            alloc,
+            CreateFault::VerticesFull,
+            "no more vertices may be made",
+        ),
+        is_shown(
+            alloc,
+            CreateFault::WorkersFull,
+            "no more subjects may be active",
+        ),
+        is_shown(alloc, CreateFault::OutOfMemory, "out of memory"),
+        is_shown(alloc, CreateFault::HeapFull, "heap full"),
+        is_shown(alloc, StoreAuditFault::NotWhole, "entries were given up"),
+        is_shown(alloc, StoreAuditFault::OutOfMemory, "out of memory"),
+        is_shown(
+            alloc,
+            StoreAuditFault::BadEntry { at: 3 },
+            "entry 3 is not legal",
+        ),
+    ]
+}
+
+#[test]
+fn refusals_of_a_store(rt: HostRuntime) {
+    assert_eq!(rt; are_openings_refused(rt.alloc()), [true; 7]);
+    assert_eq!(rt; are_calls_refused(rt.alloc()), [true; 11]);
 }
 
 // The plain graph of two workers with cells, of whom one may read the other.

@@ -1,7 +1,7 @@
 """What is read of a check's output, and what the kit is asked."""
 import unittest
 
-from ..kit import Goal
+from ..kit import Goal, without_checks
 from .stored import said
 
 
@@ -58,3 +58,18 @@ class OutputOfTheKit(unittest.TestCase):
             "loop-kept": "invariant",
         }
         self.assertEqual({name: Goal(name).clause for name in wanted}, wanted)
+
+
+class ModuleThatIsCounted(unittest.TestCase):
+    """What is left of a module of `rt try`."""
+
+    def test_fills_and_checks_are_gone(self):
+        kept = ["  %r0 = alloca i64, align 8", "  call void @llvm.memset.p0.i64(ptr %r0, i8 0, i64 16, i1 false)"]
+        gone = ["  call void @llvm.memset.p0.i64(ptr %r0, i8 -86, i64 8, i1 false)"]
+        gone.append('  call void @"rattle-llvm-checks::Value"(i8 %r31)')
+        module = "\n".join([kept[0], *gone, kept[1], ""])
+        self.assertEqual(without_checks(module), "\n".join([*kept, ""]))
+
+    def test_no_group_of_attributes_is_empty(self):
+        left = without_checks('attributes #9 = { sanitize_address "frame-pointer"="all" }\n')
+        self.assertEqual(left, "attributes #9 = { nounwind }\n")

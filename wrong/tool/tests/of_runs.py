@@ -13,7 +13,7 @@ class Builder:
     def __init__(self, refused: str | None):
         self.refused = refused
 
-    def build_program(self, _tree: Tree, _crate: str, _folder: Path) -> str | None:
+    def build_program(self, _tree: Tree, _crate: str, _folder: Path, _is_counted: bool = False) -> str | None:
         """What is said where it can't."""
         return self.refused
 
