@@ -1,5 +1,5 @@
 //! The calls of a session, each under the lock.
-ghost use Rattle.std.specs.Prelude.{◌≡◌, ◌≢◌, ◌⊎◌, ◌≤◌, ℕ, Err, IfOk, IfErr, IsErrAnd, MatchResult, OnErr, OnOk, true, ⊤};
+ghost use Rattle.std.specs.Prelude.{◌≡◌, ◌≢◌, ◌⊎◌, ◌≤◌, ℕ, Err, false, IfOk, IfErr, IsErrAnd, MatchResult, OnErr, OnOk, true, ⊤};
 ghost use Rattle.tg_model.specs.Graph.{IsSubject};
 ghost use Rattle.tg_model.specs.Rules.{IsAllowed};
 ghost use Rattle.tg_model.specs.declared.command.Deed.TheVariants.{Create, Plain, Spawn};
@@ -9,7 +9,7 @@ ghost use Rattle.tg_rules.specs.Effect.{AddsEdge, LacksCellsToServe};
 ghost use Rattle.tg_store.specs.Held.{IsHeldOver};
 ghost use Rattle.tg_store.specs.Room.{LacksRoomToCollect};
 ghost use Rattle.tg_store.specs.Store.{graph_of_store};
-ghost use Rattle.tg_shared.specs.Sessions.{AtSome, HasLeftAtSome, IsAnswered, IsFresh, KeepsReceipts, LeavesAtSome, MayNote, MayRefuseAtSome};
+ghost use Rattle.tg_shared.specs.Sessions.{AtKnown, AtSome, HasLeftAtSome, IsAnswered, IsFresh, KeepsReceipts, LeavesAtSome, MayNote, MayRefuseAtSome};
 
 use crate::round::Round;
 use crate::session::Session;
@@ -41,8 +41,8 @@ impl<L: Round> Session<L> {
     ) -> Result<&Reply, ApplyFault>
         ensures* receipt { sem 𝓛 (follows_so (the_row L.row (record { start = L.start; keeper = L.keeper }) L.Ledger) (the_row L.row (record { start = L.start; keeper = L.keeper }) L.Ledger) self.entry.ghost_name none (λ _ _. ⊤)
             (λ after. MatchResult result (λ reply. IsAnswered L.start self.old after (Plain command) reply.now) (λ _. KeepsReceipts self.old after))) }
-        ensures no_such_worker { IfErr result (λ why. why ≡ ApplyFault.NoSuchWorker → AtSome L.start (λ s. ¬ IsSubject (graph_of_store s) self.old.worker)) }
-        ensures full { IfErr result (λ why. why ≡ ApplyFault.HeapFull → AtSome L.start (λ s.
+        ensures no_such_worker { IfErr result (λ why. why ≡ ApplyFault.NoSuchWorker → AtKnown L.start self.old (λ s. ¬ IsSubject (graph_of_store s) self.old.worker)) }
+        ensures full { IfErr result (λ why. why ≡ ApplyFault.HeapFull → AtKnown L.start self.old (λ s.
             IsAllowed (graph_of_store s) self.old.worker (Plain command) × AddsEdge command × LacksCellsToServe s.heap.table (nursery_of s.heap self.old.worker) self.old.worker command)) }
         ensures retired { self.old.retired ≡ true → IsErrAnd result (λ why. why ≡ ApplyFault.NoSuchWorker) }
     {
@@ -51,7 +51,8 @@ impl<L: Round> Session<L> {
         }
         self.make_room(&[])?;
         let mut locked = store.locked.lock(rt);
-        // for what is told of it: the shared store, gone on
+        // for what is told of it: the shared store, gone on, of which the session knows what it does
+        locked.look(self);
         let _ = locked.store();
         locked.apply(self, command)?;
         // and that the new entry is legal
@@ -81,7 +82,8 @@ impl<L: Round> Session<L> {
             return Err(CreateRefused { draft, why });
         }
         let mut locked = store.locked.lock(rt);
-        // for what is told of it: the shared store, gone on
+        // for what is told of it: the shared store, gone on, of which the session knows what it does
+        locked.look(self);
         let _ = locked.store();
         let created = locked.create(self, label, draft);
         // and of the one that is left
@@ -106,6 +108,7 @@ impl<L: Round> Session<L> {
     ) -> Result<Session<L>, CreateRefused<P>>
         ensures receipt { IfOk result (λ fresh. IsAnswered L.start self.old self.new (Spawn label draft.law draft.state) (Name fresh.worker)) }
         ensures fresh { IfOk result IsFresh }
+        ensures fresh_seen { L.start.may_end ≡ false → IfOk result (λ fresh. fresh.seen ≡ self.new.seen) }
         ensures refusals { MayRefuseAtSome L.start (Spawn label draft.law draft.state) draft self.old self.new result }
         ensures workers_full { IfErr result (λ refused. refused.why ≡ CreateFault.WorkersFull → IsAnswered L.start self.old self.new (Spawn label draft.law draft.state) WorkersFull) }
         ensures refused { IfErr result (λ refused. refused.why ≢ CreateFault.VerticesFull → refused.why ≢ CreateFault.WorkersFull → KeepsReceipts self.old self.new) }
@@ -115,7 +118,8 @@ impl<L: Round> Session<L> {
             return Err(CreateRefused { draft, why });
         }
         let mut locked = store.locked.lock(rt);
-        // for what is told of it: the shared store, gone on
+        // for what is told of it: the shared store, gone on, of which the session knows what it does
+        locked.look(self);
         let _ = locked.store();
         let spawned = locked.spawn(self, label, draft);
         // and of the one that is left
@@ -132,7 +136,7 @@ impl<L: Round> Session<L> {
         ensures notable { OnOk result (MayNote self.new state.now) }
         ensures receipts { KeepsReceipts self.old self.new }
         ensures retired { self.old.retired ≡ true → result ≡ Err CreateFault.NoSuchWorker }
-        ensures why { IfErr result (λ why. (why ≡ CreateFault.NoSuchWorker × AtSome L.start (λ s. ¬ IsSubject (graph_of_store s) self.old.worker)) ⊎ (why ≡ CreateFault.OutOfMemory)) }
+        ensures why { IfErr result (λ why. (why ≡ CreateFault.NoSuchWorker × AtKnown L.start self.old (λ s. ¬ IsSubject (graph_of_store s) self.old.worker)) ⊎ (why ≡ CreateFault.OutOfMemory)) }
     {
         if self.retired() {
             return Err(CreateFault::NoSuchWorker);
@@ -159,7 +163,7 @@ impl<L: Round> Session<L> {
         ensures left { IfOk result (HasLeftAtSome L.start self.old self.new) }
         ensures gone { OnOk result (self.new.retired ≡ true) }
         ensures refused { OnErr result (KeepsReceipts self.old self.new) }
-        ensures no_such_worker { IfErr result (λ why. why ≡ ApplyFault.NoSuchWorker → AtSome L.start (λ s. ¬ IsSubject (graph_of_store s) self.old.worker)) }
+        ensures no_such_worker { IfErr result (λ why. why ≡ ApplyFault.NoSuchWorker → AtKnown L.start self.old (λ s. ¬ IsSubject (graph_of_store s) self.old.worker)) }
         ensures never_full { result ≢ Err ApplyFault.HeapFull }
         ensures retired { self.old.retired ≡ true → IsErrAnd result (λ why. why ≡ ApplyFault.NoSuchWorker) }
     {
@@ -167,7 +171,8 @@ impl<L: Round> Session<L> {
             return Err(ApplyFault::NoSuchWorker);
         }
         let mut locked = store.locked.lock(rt);
-        // for what is told of it: the shared store, gone on
+        // for what is told of it: the shared store, gone on, of which the session knows what it does
+        locked.look(self);
         let _ = locked.store();
         let left = locked.leave(self);
         // and that the new entries are legal

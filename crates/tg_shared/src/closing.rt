@@ -91,7 +91,7 @@ impl<L: Round, P: Payload> Locked<L, P> {
     {
         sort_by_worker(&mut sessions);
         // It tells that what the keeper entered was counted.
-        self.book.audit(&mut self.rest);
+        self.register.book.audit(&mut self.rest);
         let journal = self.store.journal();
         let since = self.start.max(journal.start());
         let entries = entries_since(journal, self.start, self.entered.number());
@@ -108,13 +108,13 @@ impl<L: Round, P: Payload> Locked<L, P> {
             sessions: _,
             entered: _,
             handed: _,
-            mut book,
+            mut register,
             rest: mut whole,
         } = self;
         for session in sessions {
             session.give_up(&mut whole);
         }
-        book.audit(&mut whole);
+        register.book.audit(&mut whole);
         Ok(store)
     }
 }
