@@ -1,9 +1,12 @@
 -- What a session knows of the store behind the lock, and what the roll has of it.
-use Rattle.std.proofs.Common.{◌≡◌, ◌≢◌, ◌∙◌, ℕ, ◌+◌, ◌≤◌, ◌==◌, Bool, true, false, List, [], ◌∷◌, ◌++◌, length, map, drop, append_assoc, append-nil, length-append, ap, arith, refl, subst, sym}
+use Rattle.std.proofs.Common.{◌≡◌, ◌≢◌, ◌⊎◌, ◌∙◌, ℕ, ◌+◌, ◌≤◌, ◌==◌, Bool, true, false, List, [], ◌∷◌, ◌++◌, length, map, drop, append_assoc, append-nil, length-append, ap, arith, inl, inr, refl, subst, sym, ⊎_elim}
 use Rattle.std.proofs.lemmas.List.{drop-append-le, drop_all}
 use Rattle.std.proofs.lemmas.List.Elements.{filter-append}
 use lib.ListN.{take-append-drop}
 use Rattle.tg_rights.specs.RightSet.{RightSet}
+use Rattle.tg_model.specs.declared.command.Command.TheVariants.{Retire}
+use Rattle.tg_model.specs.declared.command.Deed.{Deed}
+use Rattle.tg_model.specs.declared.command.Deed.TheVariants.{Plain}
 use Rattle.tg_model.specs.Graph.{ProtectionGraph, IsSound, IsSubject}
 use Rattle.tg_model.specs.Opened.{Plan, start_of}
 use Rattle.tg_journal.specs.declared.entry.Entry.{Entry}
@@ -13,9 +16,9 @@ use Rattle.tg_passes.specs.Passes.{BeginsWith, PassState, RollState, Sees, own_e
 use Rattle.tg_passes.proofs.Rolling.{only_own, whole}
 use Rattle.tg_store.specs.Leaving.{removal, retiring}
 use Rattle.tg_store.specs.Store.{StoreState, IsFaithful, graph_of_store}
-use Rattle.tg_shared.specs.Sessions.{AtPass, GoesOn, HasSeen, IsKnown, IsRolled, KeepsReceipts, SessionState, SharedStart, StaysOut, knowledge, knowledge_with, retired_behind, since}
+use Rattle.tg_shared.specs.Sessions.{AtPass, GoesOn, HasSeen, IsKnown, IsRolled, KeepsReceipts, SessionState, SharedStart, StaysOut, knowledge, knowledge_with, retired_behind, retired_by, since}
 use Rattle.tg_shared.proofs.Balances.{graph_more, graph_same, grown, not_both}
-use Rattle.tg_shared.proofs.Staying.{none_later, own_here, who_retired, who_stays}
+use Rattle.tg_shared.proofs.Staying.{behind_append, none_later, own_here, who_retired, who_stays}
 
 -- ---- the entries since the start
 
@@ -63,6 +66,20 @@ rolled_ended start old new roll more held entries opening may = record {
   below = low_more old new more roll.below entries opening held.below;
 }
 
+-- and where a worker got a pass
+pub rolled_issued : (start : SharedStart) (s : StoreState) (roll next : RollState) (name : ℕ) → IsRolled start s roll → next.entries ≡ roll.entries → next.below ≡ name + 1 → (graph_of_store s).made ≡ name + 1 → IsRolled start s next
+rolled_issued start s roll next name held entries below made = record {
+  all = λ none. held.all none ∙ ap (λ l. start.entries ++ l) (sym entries);
+  below = omega (arith, below, made);
+}
+
+-- at the start it has nothing
+pub rolled_start : (start : SharedStart) (s : StoreState) (roll : RollState) → s.entries ≡ start.entries → roll.entries ≡ [] → roll.below ≤ (graph_of_store s).made → IsRolled start s roll
+rolled_start start s roll same none low = record {
+  all = λ _. same ∙ sym (append-nil start.entries) ∙ ap (λ l. start.entries ++ l) (sym none);
+  below = low;
+}
+
 -- ---- what a session knows
 
 pub same_knowledge : (old new : SessionState) → KeepsReceipts old new → knowledge new ≡ knowledge old
@@ -108,7 +125,7 @@ pub seen_same : (start : SharedStart) (new : StoreState) (before after : Session
 seen_same start new before after same = λ is more. absurd (more same)
 
 -- where an entry was added, all were seen up to it
-longer_made : (es : List Entry) (e : Entry) → es ++ e ∷ [] ≢ es
+pub longer_made : (es : List Entry) (e : Entry) → es ++ e ∷ [] ≢ es
 longer_made es e same = let l = ap (λ (x : List Entry). length x) same in let long = length-append es (e ∷ []) in omega (arith, l, long)
 
 pub has_seen : (start : SharedStart) (s next : StoreState) (before after : SessionState) (e : Entry) → GoesOn start s → next.entries ≡ s.entries ++ e ∷ [] → after.made ≡ before.made ++ e ∷ [] → HasSeen start next before after
@@ -130,7 +147,7 @@ has_seen_all start s next before after front e on entries made seen is = seen is
 
 -- the graph at the start, and the one behind the entries since
 module _ (start : SharedStart) (s : StoreState) (on : GoesOn start s) (faithful : IsFaithful s) where
-  first : ProtectionGraph
+  abbrev first : ProtectionGraph
   first = graph_after (start_of s.opening) start.entries
 
   later : graph_of_store s ≡ graph_after first (since start s)
@@ -167,3 +184,68 @@ stays_out start s roll session on faithful held = λ sees entered retired is. go
 pub or_may_end : (b : Bool) → (b ≡ false → ⊥) → b ≡ true
 or_may_end true not = refl
 or_may_end false not = absurd (not refl)
+
+-- ---- a leave's notes
+
+pub sees_looked : (roll now : RollState) (old new : SessionState) → now ≡ roll → new ≡ old → Sees now.entries (knowledge new) → Sees roll.entries (knowledge old)
+sees_looked roll now old new same_roll same sees = subst (λ (r : RollState). Sees r.entries (knowledge old)) same_roll (subst (λ (s : SessionState). Sees now.entries (knowledge s)) same sees)
+
+-- who asked before it looked
+pub still_looked : (start : SharedStart) (roll now : RollState) (old new : SessionState) → (Sees roll.entries (knowledge old) → old.retired ≡ retired_behind false old.made → old.retired ≡ true → start.may_end ≡ true)
+    → now ≡ roll → new ≡ old → Sees now.entries (knowledge new) → new.retired ≡ retired_behind false new.made → new.retired ≡ true → start.may_end ≡ true
+still_looked start roll now old new asked same_roll same sees entered retired =
+    asked (sees_looked roll now old new same_roll same sees)
+    (subst (λ (s : SessionState). s.retired ≡ retired_behind false s.made) same entered) (subst (λ (s : SessionState). s.retired ≡ true) same retired)
+
+abbrev as_rolled : List Entry → ℕ → RollState
+as_rolled entries below = record { entries = entries; below = below }
+
+-- one note more of the roll
+pub noted_all : (first now next : RollState) (done more : List Entry) (e : Entry) → now ≡ record { entries = first.entries ++ done; below = first.below } → next ≡ record { entries = now.entries ++ e ∷ []; below = now.below }
+    → more ≡ done ++ e ∷ [] → next ≡ record { entries = first.entries ++ more; below = first.below }
+noted_all first now next done more e before after is =
+    after ∙ ap (λ (r : RollState). as_rolled (r.entries ++ e ∷ []) r.below) before ∙ ap (λ (l : List Entry). as_rolled l first.below) (append_assoc first.entries done (e ∷ []) ∙ ap (λ l. first.entries ++ l) (sym is))
+
+pub gone_moved : (start : SharedStart) (p q : PassState) (v w : ℕ) → p ≡ q → v ≡ w → AtPass start p (λ s. ¬ IsSubject (graph_of_store s) v) → AtPass start q (λ s. ¬ IsSubject (graph_of_store s) w)
+gone_moved start p q v w same named gone =
+    subst (λ (n : ℕ). AtPass start q (λ s. ¬ IsSubject (graph_of_store s) n)) named (subst (λ (x : PassState). AtPass start x (λ s. ¬ IsSubject (graph_of_store s) v)) same gone)
+
+-- a session that makes an entry has then retired only where it had before, or where the entry is a retire
+retired_from : (retired : Bool) (deed : Deed) → retired_by retired deed ≡ true → (deed ≡ Plain Retire) ⊎ (retired ≡ true)
+retired_from retired (Plain Retire) is = inl refl
+retired_from retired deed is = inr is
+
+module _ (start : SharedStart) (roll : RollState) (v : SessionState) (pass next : PassState) (w : ℕ) (before after : Bool) (e : Entry) (worker : v.worker ≡ w) (made : v.made ≡ pass.made) (retired : v.retired ≡ before)
+    (own : pass.worker ≡ w) (entered : before ≡ retired_behind false pass.made) (noted : next ≡ record { worker = pass.worker; made = pass.made ++ e ∷ []; seen = roll.entries ++ e ∷ [] }) (by : after ≡ retired_by before e.deed) where
+  pub note_gone : v.seen ≡ pass.seen → Sees roll.entries pass → (Sees roll.entries (knowledge v) → v.retired ≡ retired_behind false v.made → v.retired ≡ true → start.may_end ≡ true)
+      → (Sees roll.entries (knowledge v) → e.deed ≡ Plain Retire → AtPass start (knowledge_with v roll.entries (e ∷ [])) (λ s. ¬ IsSubject (graph_of_store s) v.worker))
+      → (before ≡ true → AtPass start (record { worker = w; made = pass.made; seen = pass.seen }) (λ s. ¬ IsSubject (graph_of_store s) w))
+      → after ≡ true → AtPass start (record { worker = w; made = next.made; seen = next.seen }) (λ s. ¬ IsSubject (graph_of_store s) w)
+  note_gone seen sees still gone was is =
+      let known : Sees roll.entries (knowledge v) = subst (λ (p : PassState). Sees roll.entries p) (λ i. record { worker = (own ∙ sym worker) i; made = sym made i; seen = sym seen i }) sees in
+      ⊎_elim
+      (λ (here : e.deed ≡ Plain Retire). gone_moved start _ _ v.worker w
+      (λ i. record { worker = worker i; made = (ap (λ l. l ++ e ∷ []) made ∙ ap (λ (p : PassState). p.made) (sym noted)) i; seen = ap (λ (p : PassState). p.seen) (sym noted) i }) worker (gone known here))
+      (λ (earlier : before ≡ true).
+      let old = was earlier in
+      let may : start.may_end ≡ true = still known (retired ∙ entered ∙ ap (retired_behind false) (sym made)) (retired ∙ earlier) in
+      (old.0, old.1, old.2, (old.3.0, λ none. absurd (not_both start.may_end may none))))
+      (retired_from before e.deed (sym by ∙ is))
+
+  pub note_entered : after ≡ retired_behind false next.made
+  note_entered =
+      by ∙ ap (λ b. retired_by b e.deed) entered ∙ sym (behind_append false pass.made (e ∷ [])) ∙ ap (λ (p : PassState). retired_behind false p.made) (sym noted)
+
+-- what is known after the last of a leave's notes
+pub moved_pass : (old first now : SessionState) (roll looked rolled : RollState) (row taken : List (ℕ × RightSet)) (e : Entry) → first ≡ old → looked ≡ roll → now.worker ≡ first.worker → now.made ≡ first.made ++ map (removal first.worker) taken
+    → rolled ≡ record { entries = looked.entries ++ map (removal first.worker) taken; below = looked.below } → taken ≡ row → e ≡ retiring first.worker
+    → knowledge_with old roll.entries (map (removal old.worker) row ++ retiring old.worker ∷ []) ≡ knowledge_with now rolled.entries (e ∷ [])
+moved_pass old first now roll looked rolled row taken e same same_roll worker made entries all is =
+    let w = first.worker in
+    let done : List Entry = map (removal w) taken in
+    let made_is : now.made ++ e ∷ [] ≡ first.made ++ (map (removal w) row ++ retiring w ∷ []) =
+    (λ i. made i ++ is i ∷ []) ∙ append_assoc first.made done (retiring w ∷ []) ∙ ap (λ (l : List (ℕ × RightSet)). first.made ++ (map (removal w) l ++ retiring w ∷ [])) all in
+    let seen_is : rolled.entries ++ e ∷ [] ≡ looked.entries ++ (map (removal w) row ++ retiring w ∷ []) =
+    (λ i. (entries i).entries ++ is i ∷ []) ∙ append_assoc looked.entries done (retiring w ∷ []) ∙ ap (λ (l : List (ℕ × RightSet)). looked.entries ++ (map (removal w) l ++ retiring w ∷ [])) all in
+    let before : knowledge_with first looked.entries (map (removal w) row ++ retiring w ∷ []) ≡ knowledge_with now rolled.entries (e ∷ []) = λ i. record { worker = sym worker i; made = sym made_is i; seen = sym seen_is i } in
+    sym (λ i. knowledge_with (same i) (same_roll i).entries (map (removal (same i).worker) row ++ retiring (same i).worker ∷ [])) ∙ before

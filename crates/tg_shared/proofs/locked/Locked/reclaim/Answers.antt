@@ -74,8 +74,8 @@ its_receipts xs x start before now held more =
 pub entries_since-entries-requires : goal.entries_since-entries-requires
 entries_since-entries-requires g c =
     let start : ℕ = length g.L.Round.start.entries in
-    let within : start + c.self.inside.entered ≤ length c.self.inside.store.entries = entered_within (length c.self.inside.store.entries) start c.self.inside.book.total c.self.inside.rest.amount c.self.inside.entered c.self.invariant.0.counted c.audit.ensures.bound c.self.invariant.2.0.0 in
-    first_within (length c.journal-journal.result.now.entries) (length c.self.inside.store.entries) c.self.inside.start start c.number.result c.self.inside.entered (ap (λ (es : List Entry). length es) c.journal-journal.ensures.entries) c.self.invariant.1 c.number.ensures within
+    let within : start + c.self.inside.entered ≤ length c.self.inside.store.entries = entered_within (length c.self.inside.store.entries) start c.self.inside.register.book.total c.self.inside.rest.amount c.self.inside.entered c.self.invariant.0.0.counted c.audit.ensures.bound c.self.invariant.0.2.0.0 in
+    first_within (length c.journal-journal.result.now.entries) (length c.self.inside.store.entries) c.self.inside.start start c.number.result c.self.inside.entered (ap (λ (es : List Entry). length es) c.journal-journal.ensures.entries) c.self.invariant.0.1 c.number.ensures within
 
 pub are_refused-requires : goal.are_refused-requires
 are_refused-requires g c = record {
@@ -92,20 +92,20 @@ returns-then-are_refused g c =
     let here : ℕ = length c.args.self.store.entries in
     let entries : c.journal-journal.result.now.entries ≡ c.args.self.store.entries = c.journal-journal.ensures.entries ∙ ap (λ (b : LockedState). b.store.entries) c.self.view_is in
     let out : c.start.result ≡ c.args.self.store.handed = c.start.ensures.start ∙ c.journal-journal.ensures.start ∙ ap (λ (b : LockedState). b.store.handed) c.self.view_is in
-    let since : c.max-since.result ≡ held_from g.L.Round.start c.args.self.store = c.max-since.ensures ∙ (λ i. max (c.self.invariant.1 i) (out i)) in
+    let since : c.max-since.result ≡ held_from g.L.Round.start c.args.self.store = c.max-since.ensures ∙ (λ i. max (c.self.invariant.0.1 i) (out i)) in
     let refused = c.are_refused.ensures.refused c.if-are_refused.true in
     let none : ¬ MayClose c.args.self.store.entries (held_from g.L.Round.start c.args.self.store) items =
     λ may.
     refused.0 (closes c.args.self.store.entries c.journal-journal.result.now.entries (held_from g.L.Round.start c.args.self.store) c.max-since.result sorted c.as_slice.result.now
     (sym entries) (sym since) (sym c.as_slice.ensures.value) (may_close_shuffled c.args.self.store.entries (held_from g.L.Round.start c.args.self.store) items sorted moved may)) in
-    let counted : here ≡ start + c.self.inside.book.total = sym (ap (λ (b : LockedState). length b.store.entries) c.self.view_is) ∙ c.self.invariant.0.counted in
+    let counted : here ≡ start + c.self.inside.register.book.total = sym (ap (λ (b : LockedState). length b.store.entries) c.self.view_is) ∙ c.self.invariant.0.0.counted in
     let entered : c.number.result ≡ c.args.self.entered = c.number.ensures ∙ ap (λ (b : LockedState). b.entered) c.self.view_is in
-    let within : start + c.args.self.entered ≤ here = entered_within here start c.self.inside.book.total c.self.inside.rest.amount c.args.self.entered counted c.audit.ensures.bound (c.self.invariant.2.0.0 ∙ ap (λ (b : LockedState). b.entered) c.self.view_is) in
+    let within : start + c.args.self.entered ≤ here = entered_within here start c.self.inside.register.book.total c.self.inside.rest.amount c.args.self.entered counted c.audit.ensures.bound (c.self.invariant.0.2.0.0 ∙ ap (λ (b : LockedState). b.entered) c.self.view_is) in
     let few : count_of items ≤ c.entries_since-entries.result =
     subst (λ (n : ℕ). n ≤ c.entries_since-entries.result) (ap count_of c.as_slice.ensures.value ∙ sum_by-IsPermutation (λ (s : SessionState). length s.receipts) items sorted moved) refused.1 in
     record {
       ends = record {
-        gone_on = subst (λ (b : LockedState). GoesOn g.L.Round.start b.store) c.self.view_is c.self.invariant.3;
+        gone_on = subst (λ (b : LockedState). GoesOn g.L.Round.start b.store) c.self.view_is c.self.invariant.0.3;
         store = tt;
         matching = tt;
         handed_back = (c.self.view_is, moved);
@@ -116,27 +116,27 @@ returns-then-are_refused g c =
       whole = λ _ _. tt;
       mismatch = ((λ _. none), (λ _. refl));
       only = refl;
-      counted = (made_since c.entries_since-entries.result (length c.journal-journal.result.now.entries) here c.self.inside.start start c.number.result c.args.self.entered (count_of items) c.entries_since-entries.ensures (ap (λ (es : List Entry). length es) entries) c.self.invariant.1 entered within).0 few;
+      counted = (made_since c.entries_since-entries.result (length c.journal-journal.result.now.entries) here c.self.inside.start start c.number.result c.args.self.entered (count_of items) c.entries_since-entries.ensures (ap (λ (es : List Entry). length es) entries) c.self.invariant.0.1 entered within).0 few;
     }
 
 pub invariant_of-self : goal.invariant_of-self
 invariant_of-self g c =
     let start : ℕ = length g.L.Round.start.entries in
-    let rest : IsBalanced c.self.inside.store start c.self.inside.sessions c.self.inside.book.total c.audit.new.share.parts g.L.Ledger.parts =
-    subst (λ (n : ℕ). IsBalanced c.self.inside.store start c.self.inside.sessions c.self.inside.book.total n g.L.Ledger.parts) (sym c.audit.ensures.parts) c.self.invariant.0 in (
+    let rest : IsBalanced c.self.inside.store start c.self.inside.sessions c.self.inside.register.book.total c.audit.new.share.parts g.L.Ledger.parts =
+    subst (λ (n : ℕ). IsBalanced c.self.inside.store start c.self.inside.sessions c.self.inside.register.book.total n g.L.Ledger.parts) (sym c.audit.ensures.parts) c.self.invariant.0.0 in ((
       subst (λ (n : ℕ). IsBalanced c.self.inside.store start c.self.inside.sessions n c.audit.new.share.parts g.L.Ledger.parts) (sym c.audit.ensures.total) rest,
-      c.self.invariant.1,
-      ((c.audit.ensures.amount ∙ c.self.invariant.2.0.0, c.self.invariant.2.0.1), c.self.invariant.2.1),
-      c.self.invariant.3,
-      c.self.invariant.4,
-    )
+      c.self.invariant.0.1,
+      ((c.audit.ensures.amount ∙ c.self.invariant.0.2.0.0, c.self.invariant.0.2.0.1), c.self.invariant.0.2.1),
+      c.self.invariant.0.3,
+      c.self.invariant.0.4,
+    ), c.self.invariant.1)
 
 pub loop-session-init : goal.loop-session-init
 loop-session-init g c = record {
   left = refl;
   parts = sym (add-zero c.audit.new.share.parts);
   amount = sym (add-zero (c.audit.new.share.amount + 0) ∙ add-zero c.audit.new.share.amount);
-  fits = rest_fits c.self.inside.sessions c.audit.new.share.parts g.L.Ledger.parts (ap (λ (n : ℕ). c.self.inside.sessions + n) c.audit.ensures.parts ∙ c.self.invariant.0.cut);
+  fits = rest_fits c.self.inside.sessions c.audit.new.share.parts g.L.Ledger.parts (ap (λ (n : ℕ). c.self.inside.sessions + n) c.audit.ensures.parts ∙ c.self.invariant.0.0.cut);
   none_handed = λ _. refl;
 }
 
@@ -162,7 +162,7 @@ returns g c =
     let here : ℕ = length c.args.self.store.entries in
     let entries : c.self.inside.store.entries ≡ c.args.self.store.entries = ap (λ (b : LockedState). b.store.entries) c.self.view_is in
     let made : c.self.inside.sessions ≡ c.args.self.sessions = ap (λ (b : LockedState). b.sessions) c.self.view_is in
-    let amount : c.audit.new.share.amount ≡ c.args.self.entered = c.audit.ensures.amount ∙ c.self.invariant.2.0.0 ∙ ap (λ (b : LockedState). b.entered) c.self.view_is in
+    let amount : c.audit.new.share.amount ≡ c.args.self.entered = c.audit.ensures.amount ∙ c.self.invariant.0.2.0.0 ∙ ap (λ (b : LockedState). b.entered) c.self.view_is in
     let rest : List SessionState = c.loop-session.session-iterator.rest.items in
     let done : rest ≡ [] = nil_from_length rest (sym c.loop-session.session-iterator.rest.ok.0 ∙ c.in-None.ensures.steps.0) in
     let all : c.loop-session.yielded ≡ sorted = sym (append-nil c.loop-session.yielded) ∙ (ap (λ (l : List SessionState). c.loop-session.yielded ++ l) (sym done) ∙ c.loop-session.invariant.left ∙ c.into_iter-session-iterator.ensures.into_iter_gives.0) in
@@ -174,17 +174,17 @@ returns g c =
     let had : c.loop-session.whole.amount ≡ c.audit.new.share.amount + handed_of items + count_of items =
     subst (λ (l : List SessionState). c.loop-session.whole.amount ≡ c.audit.new.share.amount + handed_of l + count_of l) all c.loop-session.invariant.amount ∙ (λ i. c.audit.new.share.amount + handed_same i + count_same i) in
     let none_out : g.L.Round.start.in_parts ≡ false → handed_of items ≡ 0 = λ is. sym handed_same ∙ ap handed_of (sym all) ∙ c.loop-session.invariant.none_handed is in
-    let counted : here ≡ start + c.audit.new.self.total = sym (ap (λ (es : List Entry). length es) entries) ∙ c.self.invariant.0.counted ∙ ap (λ (n : ℕ). start + n) (sym c.audit.ensures.total) in
-    let given = given_back c.self.inside.sessions c.audit.new.share.parts g.L.Ledger.parts c.loop-session.whole.parts parts (ap (λ (n : ℕ). c.self.inside.sessions + n) c.audit.ensures.parts ∙ c.self.invariant.0.cut) whole in
+    let counted : here ≡ start + c.audit.new.self.total = sym (ap (λ (es : List Entry). length es) entries) ∙ c.self.invariant.0.0.counted ∙ ap (λ (n : ℕ). start + n) (sym c.audit.ensures.total) in
+    let given = given_back c.self.inside.sessions c.audit.new.share.parts g.L.Ledger.parts c.loop-session.whole.parts parts (ap (λ (n : ℕ). c.self.inside.sessions + n) c.audit.ensures.parts ∙ c.self.invariant.0.0.cut) whole in
     let once = counted_once here start c.audit.new.self.total c.loop-session.whole.amount c.audit.new.share.amount c.args.self.entered (handed_of items) (count_of items) counted had amount in
     let least : start + c.args.self.entered + handed_of items + count_of items ≤ here = once.0 c.audit-2.ensures.bound in
     let out : c.start.result ≡ c.args.self.store.handed = c.start.ensures.start ∙ c.journal-journal.ensures.start ∙ ap (λ (b : LockedState). b.store.handed) c.self.view_is in
-    let since : c.max-since.result ≡ held_from g.L.Round.start c.args.self.store = c.max-since.ensures ∙ (λ i. max (c.self.invariant.1 i) (out i)) in
+    let since : c.max-since.result ≡ held_from g.L.Round.start c.args.self.store = c.max-since.ensures ∙ (λ i. max (c.self.invariant.0.1 i) (out i)) in
     let entered : c.number.result ≡ c.args.self.entered = c.number.ensures ∙ ap (λ (b : LockedState). b.entered) c.self.view_is in
     let within : start + c.args.self.entered ≤ here = entered_within here start c.audit.new.self.total c.audit.new.share.amount c.args.self.entered counted (subst (λ (n : ℕ). n ≤ c.audit.new.self.total) (sym c.audit.ensures.amount) (subst (λ (n : ℕ). c.self.inside.rest.amount ≤ n) (sym c.audit.ensures.total) c.audit.ensures.bound)) amount in
     let few : count_of c.as_slice.result.now ≤ c.entries_since-entries.result =
     subst (λ (n : ℕ). n ≤ c.entries_since-entries.result) (sym (ap count_of c.as_slice.ensures.value ∙ count_same))
-    ((made_since c.entries_since-entries.result (length c.journal-journal.result.now.entries) here c.self.inside.start start c.number.result c.args.self.entered (count_of items) c.entries_since-entries.ensures (ap (λ (es : List Entry). length es) (c.journal-journal.ensures.entries ∙ entries)) c.self.invariant.1 entered within).1
+    ((made_since c.entries_since-entries.result (length c.journal-journal.result.now.entries) here c.self.inside.start start c.number.result c.args.self.entered (count_of items) c.entries_since-entries.ensures (ap (λ (es : List Entry). length es) (c.journal-journal.ensures.entries ∙ entries)) c.self.invariant.0.1 entered within).1
     (fewer start c.args.self.entered (handed_of items) (count_of items) here least)) in
     let may : MayClose c.args.self.store.entries (held_from g.L.Round.start c.args.self.store) items =
     may_close_shuffled c.args.self.store.entries (held_from g.L.Round.start c.args.self.store) sorted items (IsPermutation-sym items sorted moved_to)
@@ -203,7 +203,7 @@ returns g c =
     none_gone here start c.args.self.store.handed (handed_of items) (count_of items) since_then (own_count none as_many) (held_at_most c.args.self.store.entries since_then items may) not_one refl inside in
     record {
       ends = record {
-        gone_on = subst (λ (b : LockedState). GoesOn g.L.Round.start b.store) c.self.view_is c.self.invariant.3;
+        gone_on = subst (λ (b : LockedState). GoesOn g.L.Round.start b.store) c.self.view_is c.self.invariant.0.3;
         store = ap (λ (b : LockedState). b.store) c.self.view_is;
         matching = may;
         handed_back = tt;
