@@ -32,7 +32,7 @@ invariant_of-self g c =
     rolled_noted g.L.Round.start c.self.inside.store c.make.new.store c.args.session.now c.make.new.session c.self.inside.register.roll c.make.new.register.roll deed _ c.self.invariant.1 told.refusals.opening
     (λ reply is. (told.noted reply is).0.entry) told.rolled (λ none. let same = told.nothing none in (same.0.0.entries, ap (λ b. b.roll) same.1)))
 
-pub make-requires-clause-out : goal.make-name-requires-clause-out
+pub make-requires-clause-out : goal.make-requires-clause-out
 make-requires-clause-out g c = stays_out g.L.Round.start c.self.inside.store c.self.inside.register.roll c.args.session.now c.self.invariant.0.3 c.journal.ensures.faithful c.self.invariant.1
 
 pub returns-in_err-name-clause-seen : goal.returns-in_err-name-clause-seen
