@@ -157,11 +157,14 @@ module _ (start : SharedStart) (s : StoreState) (on : GoesOn start s) (faithful 
   cut = IsLegal-cut (start_of s.opening) start.entries (since start s) (subst (IsLegal (start_of s.opening)) (from_start start s on) faithful.legal)
 
   -- a session that entered a retire has no subject there
-  pub gone_known : (session : SessionState) → IsKnown start (knowledge session) s → session.retired ≡ retired_behind false session.made → session.retired ≡ true → start.may_end ≡ false → ¬ IsSubject (graph_of_store s) session.worker
-  gone_known session known entered retired is = λ here.
+  pub gone_made : (session : SessionState) → IsKnown start (knowledge session) s → start.may_end ≡ false → retired_behind false session.made ≡ true → ¬ IsSubject (graph_of_store s) session.worker
+  gone_made session known is among = λ here.
       let sound : IsSound first = IsSound-opened s.opening start.entries faithful.plan cut.0 in
-      let among : retired_behind false (own_entries session.worker (since start s)) ≡ true = ap (retired_behind false) (known is).own ∙ sym entered ∙ retired in
-      who_retired first session.worker (since start s) sound cut.1 among (subst (λ (g : ProtectionGraph). IsSubject g session.worker) later here)
+      let own : retired_behind false (own_entries session.worker (since start s)) ≡ true = ap (retired_behind false) (known is).own ∙ among in
+      who_retired first session.worker (since start s) sound cut.1 own (subst (λ (g : ProtectionGraph). IsSubject g session.worker) later here)
+
+  pub gone_known : (session : SessionState) → IsKnown start (knowledge session) s → session.retired ≡ retired_behind false session.made → session.retired ≡ true → start.may_end ≡ false → ¬ IsSubject (graph_of_store s) session.worker
+  gone_known session known entered retired is = gone_made session known is (sym entered ∙ retired)
 
   -- and one that entered none has one, if it was one behind a front of what the session has seen
   pub stays_known : (session : SessionState) (front : List Entry) → Sees (since start s) (knowledge session) → retired_behind false session.made ≡ false → BeginsWith session.seen front
