@@ -38,6 +38,12 @@ impl<T: Drop> From<AllocFailed<T>> for StoryFault {
     }
 }
 
+impl From<AllocError> for StoryFault {
+    fn from(_error: AllocError) -> StoryFault {
+        StoryFault::Store(StoreFault::OutOfMemory)
+    }
+}
+
 impl<P: Payload> From<SharedRefused<P>> for StoryFault {
     // The store is let go.
     fn from(refused: SharedRefused<P>) -> StoryFault {

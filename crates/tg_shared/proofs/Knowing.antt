@@ -1,5 +1,6 @@
 -- What a session knows of the store behind the lock, and what the roll has of it.
-use Rattle.std.proofs.Common.{◌≡◌, ◌≢◌, ◌⊎◌, ◌∙◌, ℕ, ◌+◌, ◌≤◌, ◌==◌, Bool, true, false, List, [], ◌∷◌, ◌++◌, length, map, drop, append_assoc, append-nil, length-append, ap, arith, inl, inr, refl, subst, sym, ⊎_elim}
+use Rattle.std.proofs.Common.{◌≡◌, ◌≢◌, ◌⊎◌, ◌∙◌, ℕ, ◌+◌, ◌≤◌, ◌==◌, Bool, true, false, List, [], ◌∷◌, ◌++◌, length, map, drop, append_assoc, append-nil, length-append, ap, arith, inl, inr, refl, subst, sym, ⊎_elim, Result, Ok, Err}
+use Rattle.std.specs.Prelude.{IfOk}
 use Rattle.std.proofs.lemmas.List.{drop-append-le, drop_all}
 use Rattle.std.proofs.lemmas.List.Elements.{filter-append}
 use lib.ListN.{take-append-drop}
@@ -125,7 +126,7 @@ pub seen_same : (start : SharedStart) (new : StoreState) (before after : Session
 seen_same start new before after same = λ is more. absurd (more same)
 
 -- where an entry was added, all were seen up to it
-pub longer_made : (es : List Entry) (e : Entry) → es ++ e ∷ [] ≢ es
+longer_made : (es : List Entry) (e : Entry) → es ++ e ∷ [] ≢ es
 longer_made es e same = let l = ap (λ (x : List Entry). length x) same in let long = length-append es (e ∷ []) in omega (arith, l, long)
 
 pub has_seen : (start : SharedStart) (s next : StoreState) (before after : SessionState) (e : Entry) → GoesOn start s → next.entries ≡ s.entries ++ e ∷ [] → after.made ≡ before.made ++ e ∷ [] → HasSeen start next before after
@@ -142,6 +143,12 @@ longer_left es front e same =
 pub has_seen_all : (start : SharedStart) (s next : StoreState) (before after : SessionState) (front : List Entry) (e : Entry) → GoesOn start s → next.entries ≡ s.entries ++ (front ++ e ∷ []) → after.made ≡ before.made ++ (front ++ e ∷ []) → HasSeen start next before after
     → start.may_end ≡ false → after.seen ≡ since start s ++ (front ++ e ∷ [])
 has_seen_all start s next before after front e on entries made seen is = seen is (λ same. longer_left before.made front e (sym made ∙ same)) ∙ since_more start s next (front ++ e ∷ []) on entries
+
+-- the new session has seen what the one that asked has
+pub fresh_sees : {E : Type 0} (r : Result SessionState E) (s next : StoreState) (before after : SessionState) (e : ℕ → Entry) (start : SharedStart) → IfOk r (λ fresh. after.made ≡ before.made ++ e fresh.worker ∷ []) → HasSeen start next before after
+    → IfOk r (λ fresh. fresh.seen ≡ since start next) → start.may_end ≡ false → IfOk r (λ fresh. fresh.seen ≡ after.seen)
+fresh_sees (Ok fresh) s next before after e start made seen sees never = sees ∙ sym (seen never (λ same. longer_made before.made (e fresh.worker) (sym made ∙ same)))
+fresh_sees (Err why) s next before after e start made seen sees never = tt
 
 -- ---- who is a subject
 

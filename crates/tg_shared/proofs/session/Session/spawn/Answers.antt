@@ -1,19 +1,11 @@
-use Rattle.std.proofs.Common.{◌≡◌, ◌∙◌, ◌++◌, ◌∷◌, [], ℕ, List, Result, Ok, Err, false, refl, sym, subst}
-use Rattle.std.specs.Prelude.{IfOk}
+use Rattle.std.proofs.Common.{◌∙◌, refl, sym, subst}
 use Rattle.std.proofs.lemmas.Result.{IfErr-weaker, IfOk-weaker}
 use Rattle.tg_store.specs.Store.{StoreState, IsFaithful}
-use Rattle.tg_journal.specs.declared.entry.Entry.{Entry}
-use Rattle.tg_shared.proofs.Knowing.{longer_made}
-use Rattle.tg_shared.specs.Sessions.{HasSeen, IsKnown, KeepsReceipts, LockedState, SessionState, SharedStart, knowledge, since}
+use Rattle.tg_shared.proofs.Knowing.{fresh_sees}
+use Rattle.tg_shared.specs.Sessions.{IsKnown, KeepsReceipts, LockedState, SessionState, knowledge}
 use Rattle.tg_shared.proofs.Calls.{found, kept, kept_as}
 use Rattle.tg_shared.proofs.Replies.{answered, few_workers, refusals_at_some, refusals_unasked}
 use Rattle.tg_shared.proofs.session.Session.spawn.Goals as goal
-
--- the new session has seen what the one that asked has
-fresh_sees : {E : Type 0} (r : Result SessionState E) (s next : StoreState) (before after : SessionState) (e : ℕ → Entry) (start : SharedStart) → IfOk r (λ fresh. after.made ≡ before.made ++ e fresh.worker ∷ []) → HasSeen start next before after
-    → IfOk r (λ fresh. fresh.seen ≡ since start next) → start.may_end ≡ false → IfOk r (λ fresh. fresh.seen ≡ after.seen)
-fresh_sees (Ok fresh) s next before after e start made seen sees never = sees ∙ sym (seen never (λ same. longer_made before.made (e fresh.worker) (sym made ∙ same)))
-fresh_sees (Err why) s next before after e start made seen sees never = tt
 
 pub returns-in-Err-clause-refusals : goal.returns-in-Err-clause-refusals
 returns-in-Err-clause-refusals g c = refusals_unasked g.L.Round.start _ c.args.draft c.args.self.now _ _ refl c.in-Err.ensures.why
