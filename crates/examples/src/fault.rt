@@ -1,7 +1,7 @@
 //! Why a story ends early.
 
 use crate::stand_in::DeskFault;
-use std::alloc::AllocFailed;
+use std::alloc::{AllocError, AllocFailed};
 use std::io;
 use tg_payload::Payload;
 use tg_shared::{CloseFault, CloseRefused, Round, SharedRefused};
