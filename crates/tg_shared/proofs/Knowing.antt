@@ -1,7 +1,7 @@
 -- What a session knows of the store behind the lock, and what the roll has of it.
 use Rattle.std.proofs.Common.{◌≡◌, ◌≢◌, ◌⊎◌, ◌∙◌, ℕ, ◌+◌, ◌≤◌, ◌==◌, Bool, true, false, List, [], ◌∷◌, ◌++◌, length, map, drop, append_assoc, append-nil, length-append, ap, arith, inl, inr, refl, subst, sym, ⊎_elim, Result, Ok, Err}
 use Rattle.std.specs.Prelude.{IfOk}
-use Rattle.std.proofs.lemmas.List.{drop-append-le, drop_all}
+use Rattle.std.proofs.lemmas.List.{drop-append-le, drop_all, map_push}
 use Rattle.std.proofs.lemmas.List.Elements.{filter-append}
 use lib.ListN.{take-append-drop}
 use Rattle.tg_rights.specs.RightSet.{RightSet}
@@ -17,7 +17,8 @@ use Rattle.tg_passes.specs.Passes.{BeginsWith, PassState, RollState, Sees, own_e
 use Rattle.tg_passes.proofs.Rolling.{only_own, whole}
 use Rattle.tg_store.specs.Leaving.{removal, retiring}
 use Rattle.tg_store.specs.Store.{StoreState, IsFaithful, graph_of_store}
-use Rattle.tg_shared.specs.Sessions.{AtPass, GoesOn, HasSeen, IsKnown, IsRolled, KeepsReceipts, SessionState, SharedStart, StaysOut, knowledge, knowledge_with, retired_behind, retired_by, since}
+use Rattle.tg_shared.specs.declared.receipt.Receipt.{Receipt}
+use Rattle.tg_shared.specs.Sessions.{AtPass, GoesOn, HasAll, HasMade, HasSeen, IsKnown, IsRolled, KeepsReceipts, SessionState, SharedStart, StaysOut, knowledge, knowledge_with, retired_behind, retired_by, since}
 use Rattle.tg_shared.proofs.Balances.{graph_more, graph_same, grown, not_both}
 use Rattle.tg_shared.proofs.Staying.{behind_append, none_later, own_here, who_retired, who_stays}
 
@@ -245,6 +246,14 @@ module _ (start : SharedStart) (roll : RollState) (v : SessionState) (pass next 
   pub note_entered : after ≡ retired_behind false next.made
   note_entered =
       by ∙ ap (λ b. retired_by b e.deed) entered ∙ sym (behind_append false pass.made (e ∷ [])) ∙ ap (λ (p : PassState). retired_behind false p.made) (sym noted)
+
+-- all receipts so far, and one more
+pub note_single : (items new : List Receipt) (r : Receipt) (made next : List Entry) (e : Entry) → new ≡ items ++ r ∷ [] → r.entry ≡ e → next ≡ made ++ e ∷ [] → map (λ x. x.entry) items ≡ made → map (λ x. x.entry) new ≡ next
+note_single items new r made next e more is noted held = ap (map (λ (x : Receipt). x.entry)) more ∙ map_push (λ (x : Receipt). x.entry) items r ∙ (λ i. held i ++ is i ∷ []) ∙ sym noted
+
+-- so where the session knows of the store, its receipts are all entries of its worker
+pub has_all : (start : SharedStart) (s : StoreState) (roll : RollState) (session : SessionState) → IsRolled start s roll → start.may_end ≡ false → Sees roll.entries (knowledge session) → HasMade session → HasAll (since start s) session
+has_all start s roll session held never sees own = λ none one. own none one ∙ sym (knows_rolled start s roll session held sees never).own
 
 -- what is known after the last of a leave's notes
 pub moved_pass : (old first now : SessionState) (roll looked rolled : RollState) (row taken : List (ℕ × RightSet)) (e : Entry) → first ≡ old → looked ≡ roll → now.worker ≡ first.worker → now.made ≡ first.made ++ map (removal first.worker) taken

@@ -24,7 +24,7 @@ use Rattle.tg_store.specs.declared.fault.CreateFault.{CreateFault}
 use Rattle.tg_store.specs.declared.fault.CreateFault.TheVariants as fault
 use Rattle.tg_store.specs.declared.fault.CreateRefused.{CreateRefused}
 use Rattle.tg_store.specs.Store.{StoreState, Enters, IsFaithful, IsUnchanged, graph_of_store}
-use Rattle.tg_passes.specs.Passes.{PassState, RollState, RoundTable, Sees}
+use Rattle.tg_passes.specs.Passes.{PassState, RollState, RoundTable, Sees, own_entries}
 use Rattle.tg_shared.specs.declared.receipt.Receipt.{Receipt}
 use Rattle.tg_shared.specs.declared.round.Blanks.{Blanks}
 use Rattle.tg_shared.specs.Receipts.{MatchParts, ReceiptsMatch, all_receipts, receipt_of, receipts_from}
@@ -356,6 +356,14 @@ pub record AddsUp (start entries made entered : ℕ) (sessions : List SessionSta
 -- the place from which on a store holds the entries that were made since it was shared
 abbrev pub held_from : SharedStart → StoreState → ℕ
 held_from start s = max (length start.entries) s.handed
+
+-- A session that handed out no receipt and took over nobody has receipts of all entries of its worker among these, in their order.
+abbrev pub HasAll : List Entry → SessionState → Type 0
+HasAll entries s = s.handed ≡ 0 → s.parts ≡ 1 → map (λ r. r.entry) s.receipts ≡ own_entries s.worker entries
+
+-- and those of all entries that its own calls made
+abbrev pub HasMade : SessionState → Type 0
+HasMade s = s.handed ≡ 0 → s.parts ≡ 1 → map (λ r. r.entry) s.receipts ≡ s.made
 
 -- The session has all its receipts, part by part, each of which matches its part of the journal.
 pub record KeptInParts (parts : List Entries) (s : SessionState) : Type 0 where

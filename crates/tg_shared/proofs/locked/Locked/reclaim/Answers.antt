@@ -6,7 +6,13 @@ use Rattle.std.proofs.lemmas.List.Sums.{sum_by-append, sum_by-cons}
 use Rattle.std.proofs.Common.{max, ◌-◌}
 use Rattle.std.proofs.Math.Nat.{le-max_left, le-max_right, max-le}
 use Rattle.tg_journal.specs.declared.entry.Entry.{Entry}
-use Rattle.tg_shared.specs.Sessions.{AreSharedOut, GoesOn, IsBalanced, LockedState, MayClose, SessionState, count_of, handed_of, held_from, parts_of}
+use Rattle.std.specs.List.{All}
+use Rattle.std.proofs.lemmas.List.Elements.{All-nil, All-push, All-weaker}
+use Rattle.std.proofs.lemmas.List.Sorted.{All-permutation}
+use Rattle.tg_passes.specs.Passes.{RollState, Sees}
+use Rattle.tg_store.specs.Store.{StoreState}
+use Rattle.tg_shared.specs.Sessions.{AreSharedOut, GoesOn, HasAll, HasMade, IsBalanced, IsRolled, LockedState, MayClose, SessionState, SharedStart, count_of, handed_of, held_from, knowledge, parts_of}
+use Rattle.tg_shared.proofs.Knowing.{has_all}
 use Rattle.tg_shared.proofs.Balances.{not_both}
 use Rattle.tg_shared.proofs.Orders.{may_close_shuffled}
 use Rattle.tg_shared.proofs.Sharing.{as_counted, held_at_most, shared_out}
@@ -116,6 +122,7 @@ returns-then-are_refused g c =
       whole = λ _ _. tt;
       mismatch = ((λ _. none), (λ _. refl));
       only = refl;
+      single = λ _. tt;
       counted = (made_since c.entries_since-entries.result (length c.journal-journal.result.now.entries) here c.self.inside.start start c.number.result c.args.self.entered (count_of items) c.entries_since-entries.ensures (ap (λ (es : List Entry). length es) entries) c.self.invariant.0.1 entered within).0 few;
     }
 
@@ -131,6 +138,14 @@ invariant_of-self g c =
       c.self.invariant.0.4,
     ), c.self.invariant.1)
 
+-- each session's receipts are all entries of its worker, in whatever order the sessions stand
+singles : (start : SharedStart) (s t : StoreState) (roll : RollState) (sorted items : List SessionState) → s ≡ t → IsRolled start s roll → start.may_end ≡ false → IsPermutation sorted items → All (λ x. Sees roll.entries (knowledge x) × HasMade x) sorted
+    → All (HasAll (drop (length start.entries) t.entries)) items
+singles start s t roll sorted items same held never moved each =
+    let here : All (HasAll (drop (length start.entries) t.entries)) sorted =
+    All-weaker (λ x. Sees roll.entries (knowledge x) × HasMade x) (HasAll (drop (length start.entries) t.entries)) (λ x told. has_all start t roll x (subst (λ (b : StoreState). IsRolled start b roll) same held) never told.0 told.1) sorted each in
+    All-permutation (HasAll (drop (length start.entries) t.entries)) sorted items moved here
+
 pub loop-session-init : goal.loop-session-init
 loop-session-init g c = record {
   left = refl;
@@ -138,6 +153,8 @@ loop-session-init g c = record {
   amount = sym (add-zero (c.audit.new.share.amount + 0) ∙ add-zero c.audit.new.share.amount);
   fits = rest_fits c.self.inside.sessions c.audit.new.share.parts g.L.Ledger.parts (ap (λ (n : ℕ). c.self.inside.sessions + n) c.audit.ensures.parts ∙ c.self.invariant.0.0.cut);
   none_handed = λ _. refl;
+  same_roll = refl;
+  single = All-nil (λ (s : SessionState). Sees c.self.inside.register.roll.entries (knowledge s) × HasMade s);
 }
 
 pub loop-session-preserved : goal.loop-session-preserved
@@ -150,6 +167,9 @@ loop-session-preserved g c =
       amount = its_receipts xs x c.audit.new.share.amount c.loop-session.whole.amount c.give_up.new.whole.amount c.loop-session.invariant.amount c.give_up.ensures.amount;
       fits = c.give_up.ensures.fits;
       none_handed = λ is. none_more xs x (c.loop-session.invariant.none_handed is) (c.give_up.ensures.none_handed is);
+      same_roll = c.give_up.ensures.same_roll ∙ c.loop-session.invariant.same_roll;
+      single = All-push (λ (s : SessionState). Sees c.self.inside.register.roll.entries (knowledge s) × HasMade s) xs x c.loop-session.invariant.single
+          (subst (λ (r : RollState). Sees r.entries (knowledge x)) (c.give_up.ensures.same_roll ∙ c.loop-session.invariant.same_roll) c.give_up.ensures.sees, c.give_up.ensures.own);
     }
 
 pub returns : goal.returns
@@ -218,6 +238,8 @@ returns g c =
       whole = λ is none as_many.
           let held = from_start none as_many (none_out is) in
           subst (λ (n : ℕ). AreSharedOut (drop n c.args.self.store.entries) items) held (out_to none as_many (gone_none start (handed_of items) since_then (none_out is) held));
+      single = λ never. singles g.L.Round.start c.self.inside.store c.args.self.store c.self.inside.register.roll sorted items (ap (λ (b : LockedState). b.store) c.self.view_is) c.self.invariant.1 never (IsPermutation-sym items sorted moved_to)
+          (subst (All (λ s. Sees c.self.inside.register.roll.entries (knowledge s) × HasMade s)) all c.loop-session.invariant.single);
       mismatch = ((λ none. absurd (not_both false none refl)), (λ no. absurd (no may)));
       only = tt;
       counted = tt;
