@@ -30,9 +30,17 @@ impl<L: Round> Session<L> {
     /// [`Locked::apply`](crate::Locked::apply) under the lock. Answers the reply, lent from the receipt: exactly one
     /// was added, with this command and this reply. Its entry came next in the journal of a store that may have been
     /// behind the lock, the shared one, gone on, and was legal there: the reply is the rules' on the graph of that
-    /// store. Where the call is refused, the receipts stay, and of such a store the refusal was due: there was no such
-    /// worker, or the command was allowed and a cell was lacking. Want of memory may come at any call. Behind a retire
-    /// that it entered itself it always answers that there is no such worker, and takes no lock.
+    /// store.
+    ///
+    /// A refused call keeps the receipts, and its refusal was due of such a store: there was no such worker, or the
+    /// command was allowed and a cell was lacking. Memory may run out at any call. After a retire that the session
+    /// entered itself, the call always reports that there is no such worker, and takes no lock.
+    ///
+    /// If the keeper may end nobody, the entries of the session's worker in that store are exactly those that the
+    /// session's own calls made, and the store's entries since the start begin with those that the session has seen
+    /// (`AtKnown`). So a worker that entered no retire is never reported missing:
+    /// [`a_session_without_a_retire_is_a_subject`](crate::laws::a_session_without_a_retire_is_a_subject). If the keeper
+    /// may end workers, the clauses tie that store to nothing that the session did.
     pub fn call<P: Payload, R: Wait>(
         &mut self,
         rt: &R,
@@ -62,9 +70,9 @@ impl<L: Round> Session<L> {
 
     /// Makes a vertex of the session's subject, by one call of [`Locked::create`](crate::Locked::create) under the
     /// lock. A name, and `VerticesFull`, have added exactly one receipt, with this create and that answer. Its entry
-    /// came next in the journal of a store that may have been behind the lock, and was legal there. Where the call is
-    /// refused otherwise, the receipts stay, and of such a store the refusal was due, but for want of memory. A refused
-    /// draft is handed back.
+    /// came next in the journal of a store that may have been behind the lock, and was legal there. A call that is
+    /// refused otherwise keeps the receipts, and its refusal was due of such a store, unless memory ran out. What the
+    /// session knows of that store [`call`](Session::call) says. A refused draft is handed back.
     pub fn create<P: Payload, R: Wait>(
         &mut self,
         rt: &R,
@@ -97,8 +105,10 @@ impl<L: Round> Session<L> {
     /// session goes to [`close`](crate::close) with the others: a round does not end without it, so it is kept where
     /// nothing else is refused.
     ///
-    /// `VerticesFull` and `WorkersFull` have added a receipt with that answer. Where the call is refused otherwise, the
-    /// receipts stay, and of such a store the refusal was due, but for want of memory. A refused draft is handed back.
+    /// `VerticesFull` and `WorkersFull` have added a receipt with that answer. A call that is refused otherwise keeps
+    /// the receipts, and its refusal was due of such a store, unless memory ran out. What the session knows of that
+    /// store [`call`](Session::call) says. The new session has seen what the session that asks has seen then
+    /// (`fresh_seen`). A refused draft is handed back.
     pub fn spawn<P: Payload, R: Wait>(
         &mut self,
         rt: &R,
@@ -153,8 +163,9 @@ impl<L: Round> Session<L> {
     /// legal there. From then on each call of the session answers that there is no such worker; its receipts are taken
     /// or closed with as before.
     ///
-    /// Where it is refused, the receipts stay, and the worker holds what it held: of such a store there was no such
-    /// worker, or memory was wanting. Nothing is refused on the way.
+    /// A refused leave keeps the receipts, and the worker holds what it held: there was no such worker in such a store,
+    /// or memory ran out. What the session knows of that store [`call`](Session::call) says. Nothing is refused on the
+    /// way.
     pub fn leave<P: Payload, R: Wait>(
         &mut self,
         rt: &R,

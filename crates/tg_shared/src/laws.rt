@@ -103,7 +103,8 @@ pub fn a_session_with_a_retire_has_no_subject()
         retired_behind false session.made ≡ true → ¬ IsSubject (graph_of_store s) session.worker }
 {}
 
-/// A session whose call made an entry has then seen all that it had seen before, in a round whose keeper may end nobody.
+/// A session whose call made an entry has then seen all that it had seen before. This holds in a round whose keeper may
+/// end nobody.
 pub fn what_a_session_has_seen_grows()
     ensures { (start : SharedStart) (old new : SessionState) (deed : Deed) (reply : Reply) → start.may_end ≡ false → IsAnswered start old new deed reply → BeginsWith new.seen old.seen }
 {}

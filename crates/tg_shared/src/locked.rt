@@ -107,9 +107,9 @@ impl<L: Round, P: Payload> Locked<L, P> {
         self.handed.tell(&mut keeper.next);
     }
 
-    /// Changes nothing, and tells what a session knows of the store. Where the keeper may end nobody, the entries of its
-    /// worker since the start are exactly those that its own calls made. The entries since the start begin with those
-    /// that it has seen.
+    /// Changes nothing, and shows what a session knows of the store. If the keeper may end nobody, the entries of the
+    /// session's worker since the start are exactly those that the session's own calls made. The entries since the
+    /// start begin with those that the session has seen.
     pub fn look(&mut self, session: &mut Session<L>)
         ensures known { IsKnown L.start (knowledge session.new) self.new.store }
         ensures same { self.new ≡ self.old }

@@ -14,8 +14,8 @@ pub trait Round: Ledger {
     /// and its keeper may end workers.
     ghost start: { SharedStart };
 
-    /// The names of the two ledgers by which its keeper and what is behind the lock know the same numbers, and the table
-    /// by which its sessions and what is behind the lock know of the same entries.
+    /// The names of the two ledgers by which its keeper and what is behind the lock know the same numbers. The table by
+    /// which its sessions and what is behind the lock know of the same entries.
     ghost keeper: { KeeperNames };
 }
 
