@@ -86,7 +86,8 @@ invariant_of-self-2 g c =
     let row : c.in_ok-row.row ≡ listing_of graph.label graph.made c.worker-worker.result = c.in_ok-row.ensures.edges graph refl in
     let ready : SessionState = c.make_room_for.new.self in
     let named : c.worker-worker.result ≡ ready.worker = c.worker-worker.ensures ∙ sym c.in_ok-make_room_for.ensures.receipts.0 in (
-    locked_left c.self.inside.store c.leave.new.self c.worker-worker.result c.in_ok-count.ensures.left g.L.Round.start (length g.L.Round.start.entries) c.self.inside.sessions c.self.inside.register.book.total c.note_leaving.new.register.book.total c.self.inside.rest.parts g.L.Ledger.parts c.self.invariant.0
-    (c.note_leaving.ensures.book ∙ ap (λ (es : List (ℕ × RightSet)). c.self.inside.register.book.total + (length es + 1)) row) (c.self.invariant.0.2.0, c.self.invariant.0.2.1 ∙ sym c.in_ok-count.ensures.left.handed),
-    rolled_more g.L.Round.start c.self.inside.store c.leave.new.self c.self.inside.register.roll c.note_leaving.new.register.roll _ c.self.invariant.1
-    (left_as c.self.inside.store c.leave.new.self c.worker-worker.result ready.worker c.in_ok-row.row c.in_ok-count.ensures.left named row) c.in_ok-count.ensures.left.opening c.note_leaving.ensures.roll)
+      locked_left c.self.inside.store c.leave.new.self c.worker-worker.result c.in_ok-count.ensures.left g.L.Round.start (length g.L.Round.start.entries) c.self.inside.sessions c.self.inside.register.book.total c.note_leaving.new.register.book.total c.self.inside.rest.parts g.L.Ledger.parts c.self.invariant.0
+          (c.note_leaving.ensures.book ∙ ap (λ (es : List (ℕ × RightSet)). c.self.inside.register.book.total + (length es + 1)) row) (c.self.invariant.0.2.0, c.self.invariant.0.2.1 ∙ sym c.in_ok-count.ensures.left.handed),
+      rolled_more g.L.Round.start c.self.inside.store c.leave.new.self c.self.inside.register.roll c.note_leaving.new.register.roll _ c.self.invariant.1
+          (left_as c.self.inside.store c.leave.new.self c.worker-worker.result ready.worker c.in_ok-row.row c.in_ok-count.ensures.left named row) c.in_ok-count.ensures.left.opening c.note_leaving.ensures.roll,
+    )

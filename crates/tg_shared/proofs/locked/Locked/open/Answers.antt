@@ -70,16 +70,19 @@ invariant_of-locked g c =
     let first : c.len-start.result ≡ length start.entries = c.len-start.ensures ∙ (ap (λ (es : List Entry). length es) entries ∙ shared) in
     let at_start : length (graph_of_store c.args.store).subjects ≡ length (subjects_at start) = ap (λ (s : SharedStart). length (subjects_at s)) c.requires.shareable.start in
     let made : sessions_made start c.args.store.entries ≡ length (subjects_at start) =
-    ap (sessions_made start) (ap (λ (s : SharedStart). s.entries) c.requires.shareable.start) ∙ sessions_start start in ((
-      record {
-        counted = shared ∙ none_yet (length start.entries) c.open-book.result.0.total total;
-        cut = cut_up c.len.result (length c.subjects.result.now) c.sessions_of.new.rest.parts c.open-book.result.1.parts g.L.Ledger.parts number left parts;
-        enough = sym c.requires.shareable.parts.0 ∙ c.requires.shareable.parts.1;
-        made = at_most c.len.result (length (graph_of_store c.args.store).subjects) (graph_of_store c.args.store).made (number ∙ names) (active_made c.args.store faithful);
-      },
-      first,
-      ((c.in-Ok.ensures.rest.1 ∙ sym c.new-entered.ensures.0, λ _. c.new-entered.ensures.0), c.new-handed.ensures.0 ∙ c.start.ensures.start ∙ c.journal-2.ensures.start),
-      goes_on_start start c.args.store c.requires.shareable.start c.journal.ensures.within,
-      number ∙ names ∙ at_start ∙ sym made,
-    ), rolled_start start c.args.store c.sessions_of.new.roll (ap (λ (s : SharedStart). s.entries) c.requires.shareable.start) c.in-Ok.ensures.roll.0
-    (c.in-Ok.ensures.roll.1 (graph_of_store c.args.store).made (names_low c.args.store c.subjects.result.now faithful (c.subjects.ensures.names (graph_of_store c.args.store) refl))))
+    ap (sessions_made start) (ap (λ (s : SharedStart). s.entries) c.requires.shareable.start) ∙ sessions_start start in (
+      (
+        record {
+          counted = shared ∙ none_yet (length start.entries) c.open-book.result.0.total total;
+          cut = cut_up c.len.result (length c.subjects.result.now) c.sessions_of.new.rest.parts c.open-book.result.1.parts g.L.Ledger.parts number left parts;
+          enough = sym c.requires.shareable.parts.0 ∙ c.requires.shareable.parts.1;
+          made = at_most c.len.result (length (graph_of_store c.args.store).subjects) (graph_of_store c.args.store).made (number ∙ names) (active_made c.args.store faithful);
+        },
+        first,
+        ((c.in-Ok.ensures.rest.1 ∙ sym c.new-entered.ensures.0, λ _. c.new-entered.ensures.0), c.new-handed.ensures.0 ∙ c.start.ensures.start ∙ c.journal-2.ensures.start),
+        goes_on_start start c.args.store c.requires.shareable.start c.journal.ensures.within,
+        number ∙ names ∙ at_start ∙ sym made,
+      ),
+      rolled_start start c.args.store c.sessions_of.new.roll (ap (λ (s : SharedStart). s.entries) c.requires.shareable.start) c.in-Ok.ensures.roll.0
+          (c.in-Ok.ensures.roll.1 (graph_of_store c.args.store).made (names_low c.args.store c.subjects.result.now faithful (c.subjects.ensures.names (graph_of_store c.args.store) refl))),
+    )

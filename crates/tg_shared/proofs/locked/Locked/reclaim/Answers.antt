@@ -130,13 +130,16 @@ pub invariant_of-self : goal.invariant_of-self
 invariant_of-self g c =
     let start : ℕ = length g.L.Round.start.entries in
     let rest : IsBalanced c.self.inside.store start c.self.inside.sessions c.self.inside.register.book.total c.audit.new.share.parts g.L.Ledger.parts =
-    subst (λ (n : ℕ). IsBalanced c.self.inside.store start c.self.inside.sessions c.self.inside.register.book.total n g.L.Ledger.parts) (sym c.audit.ensures.parts) c.self.invariant.0.0 in ((
-      subst (λ (n : ℕ). IsBalanced c.self.inside.store start c.self.inside.sessions n c.audit.new.share.parts g.L.Ledger.parts) (sym c.audit.ensures.total) rest,
-      c.self.invariant.0.1,
-      ((c.audit.ensures.amount ∙ c.self.invariant.0.2.0.0, c.self.invariant.0.2.0.1), c.self.invariant.0.2.1),
-      c.self.invariant.0.3,
-      c.self.invariant.0.4,
-    ), c.self.invariant.1)
+    subst (λ (n : ℕ). IsBalanced c.self.inside.store start c.self.inside.sessions c.self.inside.register.book.total n g.L.Ledger.parts) (sym c.audit.ensures.parts) c.self.invariant.0.0 in (
+      (
+        subst (λ (n : ℕ). IsBalanced c.self.inside.store start c.self.inside.sessions n c.audit.new.share.parts g.L.Ledger.parts) (sym c.audit.ensures.total) rest,
+        c.self.invariant.0.1,
+        ((c.audit.ensures.amount ∙ c.self.invariant.0.2.0.0, c.self.invariant.0.2.0.1), c.self.invariant.0.2.1),
+        c.self.invariant.0.3,
+        c.self.invariant.0.4,
+      ),
+      c.self.invariant.1,
+    )
 
 -- each session's receipts are all entries of its worker, in whatever order the sessions stand
 singles : (start : SharedStart) (s t : StoreState) (roll : RollState) (sorted items : List SessionState) → s ≡ t → IsRolled start s roll → start.may_end ≡ false → IsPermutation sorted items → All (λ x. Sees roll.entries (knowledge x) × HasMade x) sorted

@@ -26,11 +26,12 @@ pub invariant_of-self : goal.invariant_of-self
 invariant_of-self g c =
     let deed : Deed = Deed.Spawn c.args.label c.args.draft.law c.args.draft.state in
     let told = c.in_err-name.ensures in (
-    locked_noted g.L.Round.start c.self.inside.store c.make.new.store c.args.session.now c.make.new.session _ _ _ _ _ _ deed _ told.noted
-    (λ none. let same = told.nothing none in (same.0, ap (λ b. b.book.total) same.1)) (λ reply is. entered_as (λ r. made_subject deed r ≡ false) _ reply is (λ _. refl) (λ _. refl))
-    told.refusals.opening told.refusals.limits told.refusals.handed c.self.invariant.0,
-    rolled_noted g.L.Round.start c.self.inside.store c.make.new.store c.args.session.now c.make.new.session c.self.inside.register.roll c.make.new.register.roll deed _ c.self.invariant.1 told.refusals.opening
-    (λ reply is. (told.noted reply is).0.entry) told.rolled (λ none. let same = told.nothing none in (same.0.0.entries, ap (λ b. b.roll) same.1)))
+      locked_noted g.L.Round.start c.self.inside.store c.make.new.store c.args.session.now c.make.new.session _ _ _ _ _ _ deed _ told.noted
+          (λ none. let same = told.nothing none in (same.0, ap (λ b. b.book.total) same.1)) (λ reply is. entered_as (λ r. made_subject deed r ≡ false) _ reply is (λ _. refl) (λ _. refl))
+          told.refusals.opening told.refusals.limits told.refusals.handed c.self.invariant.0,
+      rolled_noted g.L.Round.start c.self.inside.store c.make.new.store c.args.session.now c.make.new.session c.self.inside.register.roll c.make.new.register.roll deed _ c.self.invariant.1 told.refusals.opening
+          (λ reply is. (told.noted reply is).0.entry) told.rolled (λ none. let same = told.nothing none in (same.0.0.entries, ap (λ b. b.roll) same.1)),
+    )
 
 pub make-requires-clause-out : goal.make-requires-clause-out
 make-requires-clause-out g c = stays_out g.L.Round.start c.self.inside.store c.self.inside.register.roll c.args.session.now c.self.invariant.0.3 c.journal.ensures.faithful c.self.invariant.1
@@ -87,16 +88,19 @@ invariant_of-self-2 g c =
     let told = c.in_ok-name.ensures in
     let deed : Deed = Deed.Spawn c.args.label c.args.draft.law c.args.draft.state in
     let noted = told.noted (Reply.Name c.in_ok-name.name) refl in
-    let entry : Enters c.self.inside.store c.make.new.store c.args.session.now.worker deed (Reply.Name c.in_ok-name.name) = noted.0.entry in ((
-      balanced_spawned c.self.inside.store c.make.new.store _ _ _ _ _ _ _ c.args.label c.args.draft.law c.args.draft.state c.self.invariant.0.0 entry (told.made.name (graph_of_store c.self.inside.store) refl) told.refusals.opening _ _ noted.1 c.split_off-share.ensures.parts_left,
-      c.self.invariant.0.1,
-      ((sym (add-zero c.split_off-share.new.self.amount) ∙ c.split_off-share.ensures.amount_left ∙ c.self.invariant.0.2.0.0, c.self.invariant.0.2.0.1), c.self.invariant.0.2.1 ∙ sym told.refusals.handed),
-      goes_on_more c.self.inside.store c.make.new.store _ entry told.refusals.opening g.L.Round.start c.self.invariant.0.3 told.refusals.limits (λ _. told.refusals.handed),
-      one_more c.self.inside.sessions _ _ c.self.invariant.0.4 (made_more g.L.Round.start c.self.inside.store c.make.new.store c.args.session.now.worker deed (Reply.Name c.in_ok-name.name) entry (grown g.L.Round.start c.self.inside.store c.self.invariant.0.3)),
-    ), rolled_issued g.L.Round.start c.make.new.store c.make.new.register.roll c.issue-pass.new.self c.in_ok-name.name
-    (rolled_more g.L.Round.start c.self.inside.store c.make.new.store c.self.inside.register.roll c.make.new.register.roll _ c.self.invariant.1 entry told.refusals.opening (told.rolled (Reply.Name c.in_ok-name.name) refl).1)
-    c.issue-pass.ensures.entries c.issue-pass.ensures.below
-    (made_named c.self.inside.store c.make.new.store (length g.L.Round.start.entries) c.self.inside.sessions c.self.inside.register.book.total c.self.inside.rest.parts g.L.Ledger.parts _ _ c.args.label c.args.draft.law c.args.draft.state c.self.invariant.0.0 entry (told.made.name (graph_of_store c.self.inside.store) refl) told.refusals.opening))
+    let entry : Enters c.self.inside.store c.make.new.store c.args.session.now.worker deed (Reply.Name c.in_ok-name.name) = noted.0.entry in (
+      (
+        balanced_spawned c.self.inside.store c.make.new.store _ _ _ _ _ _ _ c.args.label c.args.draft.law c.args.draft.state c.self.invariant.0.0 entry (told.made.name (graph_of_store c.self.inside.store) refl) told.refusals.opening _ _ noted.1 c.split_off-share.ensures.parts_left,
+        c.self.invariant.0.1,
+        ((sym (add-zero c.split_off-share.new.self.amount) ∙ c.split_off-share.ensures.amount_left ∙ c.self.invariant.0.2.0.0, c.self.invariant.0.2.0.1), c.self.invariant.0.2.1 ∙ sym told.refusals.handed),
+        goes_on_more c.self.inside.store c.make.new.store _ entry told.refusals.opening g.L.Round.start c.self.invariant.0.3 told.refusals.limits (λ _. told.refusals.handed),
+        one_more c.self.inside.sessions _ _ c.self.invariant.0.4 (made_more g.L.Round.start c.self.inside.store c.make.new.store c.args.session.now.worker deed (Reply.Name c.in_ok-name.name) entry (grown g.L.Round.start c.self.inside.store c.self.invariant.0.3)),
+      ),
+      rolled_issued g.L.Round.start c.make.new.store c.make.new.register.roll c.issue-pass.new.self c.in_ok-name.name
+          (rolled_more g.L.Round.start c.self.inside.store c.make.new.store c.self.inside.register.roll c.make.new.register.roll _ c.self.invariant.1 entry told.refusals.opening (told.rolled (Reply.Name c.in_ok-name.name) refl).1)
+          c.issue-pass.ensures.entries c.issue-pass.ensures.below
+          (made_named c.self.inside.store c.make.new.store (length g.L.Round.start.entries) c.self.inside.sessions c.self.inside.register.book.total c.self.inside.rest.parts g.L.Ledger.parts _ _ c.args.label c.args.draft.law c.args.draft.state c.self.invariant.0.0 entry (told.made.name (graph_of_store c.self.inside.store) refl) told.refusals.opening),
+    )
 
 pub returns-clause-entered : goal.returns-clause-entered
 returns-clause-entered g c = ap (λ (b : LockedState). b.entered) c.self.view_is

@@ -28,10 +28,11 @@ invariant_of-self g c =
     let at : c.self.inside.handed ≡ c.start.result = c.self.invariant.0.2.1 ∙ sym (c.start.ensures.start ∙ c.take_journal-journal.ensures.start) in
     let within : c.start.result ≤ c.len.result = subst (λ (n : ℕ). n ≤ c.len.result) (sym c.start.ensures.start) (subst (λ (n : ℕ). c.take_journal-journal.result.start ≤ n) (sym entries) c.start.ensures.within) in
     let end : c.len.result ≡ length c.self.inside.store.entries = entries ∙ ap (λ (es : List Entry). length es) c.take_journal-journal.ensures.entries in (
-    locked_taken g.L.Round.start c.self.inside.store c.take_journal-journal.new.self _ _ _ _ _ c.self.invariant.0 out.entries out.opening (ap (λ (h : HeapState). h.table.limits) out.heap)
-    (λ is_whole. absurd (not_both g.L.Round.start.in_parts c.requires.in_parts is_whole))
-    (c.self.invariant.0.2.0, c.raise.ensures.number ∙ all_out c.self.inside.handed (c.len.result - c.start.result) c.start.result c.len.result at refl within ∙ end ∙ sym out.handed),
-    rolled_same g.L.Round.start c.self.inside.store c.take_journal-journal.new.self c.self.inside.register.roll c.self.invariant.1 out.entries out.opening)
+      locked_taken g.L.Round.start c.self.inside.store c.take_journal-journal.new.self _ _ _ _ _ c.self.invariant.0 out.entries out.opening (ap (λ (h : HeapState). h.table.limits) out.heap)
+          (λ is_whole. absurd (not_both g.L.Round.start.in_parts c.requires.in_parts is_whole))
+          (c.self.invariant.0.2.0, c.raise.ensures.number ∙ all_out c.self.inside.handed (c.len.result - c.start.result) c.start.result c.len.result at refl within ∙ end ∙ sym out.handed),
+      rolled_same g.L.Round.start c.self.inside.store c.take_journal-journal.new.self c.self.inside.register.roll c.self.invariant.1 out.entries out.opening,
+    )
 
 pub returns-clause-joined : goal.returns-clause-joined
 returns-clause-joined g c = c.take_journal-journal.ensures.start ∙ sym c.self.invariant.0.2.1 ∙ sym c.raise.ensures.equal ∙ ap (λ (k : KeeperState). k.next) c.keeper.view_is

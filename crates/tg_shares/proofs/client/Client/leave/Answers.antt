@@ -34,18 +34,18 @@ returns-clause-left g c =
     let seen : HasSeen g.L.Round.start next old c.leave-left.new.client.session = subst (λ (b : SessionState). HasSeen g.L.Round.start next b c.leave-left.new.client.session) as_before c.leave-left.ensures.seen in
     let knows : IsKnown g.L.Round.start (knowledge old) s = subst (λ (b : SessionState). IsKnown g.L.Round.start (knowledge b) s) as_before known in
     both_told c.leave-left.result _ _ _ (HasLeftAtSome g.L.Round.start old c.leave-left.new.client.session) (λ receipts left number count. (
-    s,
-    held.0,
-    held.1,
-    (
+      s,
+      held.0,
+      held.1,
       (
-        receipts,
-        legal_more s next (leaving (graph_of_store s) old.worker) left.entries left.opening after,
-        count,
-        has_seen_all g.L.Round.start s next old c.leave-left.new.client.session _ _ held.0 left.entries receipts.5 seen,
+        (
+          receipts,
+          legal_more s next (leaving (graph_of_store s) old.worker) left.entries left.opening after,
+          count,
+          has_seen_all g.L.Round.start s next old c.leave-left.new.client.session _ _ held.0 left.entries receipts.5 seen,
+        ),
+        knows,
       ),
-      knows,
-    ),
     )) receipts left count
 
 pub returns-clause-lacks : goal.returns-clause-lacks
