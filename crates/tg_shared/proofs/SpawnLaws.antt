@@ -1,5 +1,5 @@
 -- A subject that a spawn made, as the session that asked knows of it.
-use Rattle.std.proofs.Common.{◌≡◌, ◌∙◌, ℕ, ◌+◌, Bool, true, false, cond, nat_lt, List, [], ◌∷◌, ◌++◌, append-nil, append_assoc, length, ap, refl, subst, sym}
+use Rattle.std.proofs.Common.{◌≡◌, ◌∙◌, ℕ, Bool, true, false, cond, nat_lt, List, [], ◌∷◌, ◌++◌, append_assoc, length, ap, refl, subst, sym}
 use Rattle.std.specs.List.{Contains}
 use Rattle.std.proofs.lemmas.List.Elements.{Contains-push}
 use Rattle.tg_rights.specs.RightSet.{RightSet}
@@ -10,7 +10,7 @@ use Rattle.tg_model.specs.declared.opening.TheConstants.{MAX_WORKERS}
 use Rattle.tg_model.specs.declared.reply.Reply.{Reply}
 use Rattle.tg_model.specs.declared.reply.Reply.TheVariants.{Name, VerticesFull, WorkersFull}
 use Rattle.tg_model.specs.Graph.{ProtectionGraph, IsSubject}
-use Rattle.tg_model.specs.Opened.{Plan, start_of}
+use Rattle.tg_model.specs.Opened.{start_of}
 use Rattle.tg_model.specs.Rules.{answer_of, step, with_subject}
 use Rattle.tg_model.proofs.NameLaws.{name_is_next}
 use Rattle.tg_journal.specs.declared.entry.Entry.{Entry}

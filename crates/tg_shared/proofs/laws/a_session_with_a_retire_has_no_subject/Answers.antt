@@ -1,4 +1,3 @@
-use Rattle.std.proofs.Common.{◌≡◌}
 use Rattle.tg_shared.proofs.Knowing.{gone_made}
 use Rattle.tg_shared.proofs.laws.a_session_with_a_retire_has_no_subject.Goals as goal
 
