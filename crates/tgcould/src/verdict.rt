@@ -15,8 +15,8 @@ use std::io::Read;
 use tg_model::Picture;
 use tg_plain::{Outcome, PlainFault, PlainOptions};
 
-/// Answers what is asked on the graph that the reader's script leaves, run with these options. The exit status: if it is
-/// 0, all policies are kept.
+/// Answers what is asked on the graph that the reader's script leaves, run with these options. Returns the exit status.
+/// If it is 0, all policies are kept.
 pub fn status_of<R: AllocGlobal + Print + Eprint, B: Read + Drop>(
     rt: &R,
     matches: &ArgMatches,
@@ -31,7 +31,7 @@ pub fn status_of<R: AllocGlobal + Print + Eprint, B: Read + Drop>(
     status_on(rt, matches, supposed, picture, boxes)
 }
 
-// Answers it on a picture, with what is supposed. So many boxes are left in the stock. The exit status.
+// Answers it on a picture, with what is supposed. So many boxes are left in the stock. Returns the exit status.
 fn status_on<R: AllocGlobal + Print + Eprint>(
     rt: &R,
     matches: &ArgMatches,
@@ -53,7 +53,7 @@ fn status_on<R: AllocGlobal + Print + Eprint>(
     print_answers(rt, matches, &scene, boxes)
 }
 
-// Prints the answers, where so many boxes are left in the stock. The exit status.
+// Prints the answers. So many boxes are left in the stock. Returns the exit status.
 fn print_answers<R: Print + Eprint>(
     rt: &R,
     matches: &ArgMatches,
