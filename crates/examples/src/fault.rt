@@ -5,6 +5,7 @@ use std::alloc::{AllocError, AllocFailed};
 use std::io;
 use tg_payload::Payload;
 use tg_shared::{CloseFault, CloseRefused, Round, SharedRefused};
+use tg_shares::ShareFault;
 use tg_store::StoreFault;
 use thiserror::Error;
 
@@ -23,6 +24,9 @@ pub enum StoryFault {
     /// A store or a session refused a call, or memory for it was wanting.
     #[error("{0}")]
     Store(#[from] StoreFault),
+    /// A client's purse can't pay.
+    #[error("{0}")]
+    Share(#[from] ShareFault),
     /// A shared store was not had back.
     #[error("{0}")]
     Close(CloseFault),

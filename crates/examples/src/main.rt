@@ -1,9 +1,10 @@
-//! Examples: four stories of programs that embed the store, told one after the other.
+//! Examples: five stories of programs that embed the store, told one after the other.
 //!
 //! - `caretaker`: a store, rights that are handed on and given back, collections and an audit. To be read first.
 //! - `stand_in`: how to take back, though no rule does. What is proved reaches into the program.
 //! - `deputy`: a store that is shared by sessions on two threads.
 //! - `service`: subjects that come and go while others work, and one that hangs.
+//! - `tenants`: clients who pay for their commands, and one who can't any more.
 //!
 //! Each has a folder of its own. What they have in common is what stores are opened with (`opening`), what sessions are
 //! asked for (`sessions`), what is told of a reply (`tell`) and why a story ends early (`fault`).
@@ -17,6 +18,7 @@ mod service;
 mod sessions;
 mod stand_in;
 mod tell;
+mod tenants;
 
 use fault::StoryFault;
 use std::process::ExitCode;
@@ -39,14 +41,16 @@ enum Story {
     StandIn,
     Deputy,
     Service,
+    Tenants,
 }
 
 // The stories, in the order in which they are told.
-const STORIES: [Story; 4] = [
+const STORIES: [Story; 5] = [
     Story::Caretaker,
     Story::StandIn,
     Story::Deputy,
     Story::Service,
+    Story::Tenants,
 ];
 
 impl Story {
@@ -57,6 +61,7 @@ impl Story {
             Story::StandIn => "stand_in",
             Story::Deputy => "deputy",
             Story::Service => "service",
+            Story::Tenants => "tenants",
         }
     }
 
@@ -67,6 +72,7 @@ impl Story {
             Story::StandIn => "an owner takes back, though no rule does",
             Story::Deputy => "who works for others uses no right of its own",
             Story::Service => "clients come, go and hang",
+            Story::Tenants => "one has used up its share, and another goes on",
         }
     }
 }
@@ -82,5 +88,6 @@ fn run<R: Threads + Wait + Sync + Print + AllocGlobal>(
         Story::StandIn => stand_in::run_story(rt),
         Story::Deputy => deputy::run_story(rt),
         Story::Service => service::run_story(rt),
+        Story::Tenants => tenants::run_story(rt),
     }
 }

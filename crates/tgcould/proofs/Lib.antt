@@ -1,1 +1,4 @@
 pub mod TextLaws
+pub mod SupposedLaws
+pub mod OptionLaws
+pub mod VerdictLaws

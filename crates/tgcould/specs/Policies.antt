@@ -1,6 +1,5 @@
 -- What a policy rests on: the texts of the command line, the questions that they are, and the exit status.
 use Rattle.std.specs.Prelude.{◌≡◌, ℕ, Bool, not, ◌&&◌, if◌then◌else◌, List, [], ◌∷◌, ◌++◌, codes, Option, Some, None}
-use Rattle.std.specs.List.{All, Contains}
 use Rattle.std.specs.Str.Parse.{without_leading_plus, digits_value, IsNumeral}
 use Rattle.clap.specs.Matches.{found_of, matched_of, raw_values}
 use Rattle.clap.specs.declared.parser.matches.ArgMatches.{ArgMatches}
@@ -27,11 +26,6 @@ texts_of matches option = values_of (matched_of (found_of matches) option)
 -- the text writes the number in decimal digits
 abbrev pub Writes : List ℕ → ℕ → Type 0
 Writes text n = IsNumeral 10 (without_leading_plus text) × (n ≡ digits_value 10 (without_leading_plus text))
-
--- the names are exactly the numbers that some of the texts write
-pub record AreNamesIn (texts : List (List ℕ)) (names : List ℕ) : Type 0 where
-  pub all : (text : List ℕ) (n : ℕ) → Contains texts text → Writes text n → Contains names n
-  pub only : (n : ℕ) → Contains names n → (text : List ℕ) × Contains texts text × Writes text n
 
 -- ---- questions
 

@@ -1,51 +1,33 @@
 //! Whether the words of the command line are what their options want. The first that isn't is said on standard error.
+ghost use Rattle.std.specs.Prelude.{IsTrue};
+ghost use Rattle.std.specs.List.{All};
+ghost use Rattle.tgcould.specs.Supposed.{JoinsMade};
 
-use crate::ask::Scene;
-use crate::options::{AS_IF, ASK, NEVER, questions_in};
+use crate::options::{ASK, NEVER, questions_in};
 use crate::question::read_question;
-use crate::supposed::read_edge;
+use crate::supposed::Supposed;
 use clap::ArgMatches;
-use std::alloc::{AllocError, Global};
 use tg_model::Edge;
 
-/// Whether all values are what their options want. Fails only when out of memory.
-pub fn are_accepted<R: Eprint>(
-    rt: &R,
-    alloc: Global,
-    matches: &ArgMatches,
-) -> Result<bool, AllocError> {
-    if !are_questions(rt, matches, ASK) || !are_questions(rt, matches, NEVER) {
-        return Ok(false);
-    }
-    are_edges(rt, alloc, matches)
+/// Whether all values of the two options for questions are questions.
+pub fn are_accepted<R: Eprint>(rt: &R, matches: &ArgMatches) -> bool {
+    are_questions(rt, matches, ASK) && are_questions(rt, matches, NEVER)
 }
 
 // Whether all are questions.
 fn are_questions<R: Eprint>(rt: &R, matches: &ArgMatches, option: &str) -> bool {
     for text in matches.get_strs(option).unwrap_or(&[]) {
         if let Err(reason) = read_question(text) {
-            return refuse(rt, option, text, reason);
+            refuse(rt, option, text, reason);
+            return false;
         }
     }
     true
 }
 
-// Whether all are edges.
-fn are_edges<R: Eprint>(rt: &R, alloc: Global, matches: &ArgMatches) -> Result<bool, AllocError> {
-    for text in matches.get_strs(AS_IF).unwrap_or(&[]) {
-        match read_edge(alloc, text) {
-            Ok(Ok(_)) => (),
-            Ok(Err(reason)) => return Ok(refuse(rt, AS_IF, text, reason)),
-            Err(error) => return Err(error),
-        }
-    }
-    Ok(true)
-}
-
-// Says why a value is none of its option's.
-fn refuse<R: Eprint>(rt: &R, option: &str, text: &str, reason: &str) -> bool {
+/// Says why a value is none of its option's.
+pub fn refuse<R: Eprint>(rt: &R, option: &str, text: &str, reason: &str) {
     let _ = eprintln!(rt; "tgcould: --{option} '{text}': {reason}");
-    false
 }
 
 /// Whether there is a question.
@@ -57,34 +39,48 @@ pub fn is_asked<R: Eprint>(rt: &R, matches: &ArgMatches) -> bool {
     false
 }
 
-/// Whether the script made who is to be silent, and both ends of each edge.
-pub fn are_made<R: Eprint>(rt: &R, scene: &Scene) -> bool {
-    let made = scene.picture.made();
-    for name in scene.silent {
+/// Whether the script made who is to be silent, and both ends of each edge. It made so many vertices.
+pub fn are_made<R: Eprint>(rt: &R, made: u64, supposed: &Supposed) -> bool
+    ensures { IsTrue result → All (JoinsMade made) supposed.now.edges.items }
+{
+    are_names_made(rt, made, supposed.silent.as_slice())
+        && are_ends_made(rt, made, supposed.edges.as_slice())
+}
+
+// Whether the script made all of these.
+fn are_names_made<R: Eprint>(rt: &R, made: u64, names: &[u64]) -> bool {
+    for name in names {
         if *name >= made {
-            return refuse_name(rt, *name);
+            refuse_name(rt, *name);
+            return false;
         }
     }
-    for edge in scene.picture.edges() {
-        if edge.from.max(edge.to) >= made {
-            return refuse_end(rt, *edge);
+    true
+}
+
+// Whether the script made both ends of each edge.
+fn are_ends_made<R: Eprint>(rt: &R, made: u64, edges: &[Edge]) -> bool
+    ensures { IsTrue result → All (JoinsMade made) edges.now }
+{
+    for edge in edges {
+        if edge.from >= made || edge.to >= made {
+            refuse_end(rt, *edge);
+            return false;
         }
     }
     true
 }
 
 // Says that the script doesn't make who is to be silent.
-fn refuse_name<R: Eprint>(rt: &R, name: u64) -> bool {
+fn refuse_name<R: Eprint>(rt: &R, name: u64) {
     let _ = eprintln!(rt; "tgcould: --silent {name}: the script makes no vertex {name}");
-    false
 }
 
 // Says that the script doesn't make the greater end of an edge.
-fn refuse_end<R: Eprint>(rt: &R, edge: Edge) -> bool {
+fn refuse_end<R: Eprint>(rt: &R, edge: Edge) {
     let Edge { from, to, label } = edge;
     let name = from.max(to);
     let _ = eprintln!(rt;
         "tgcould: --as-if '{from} {to} {label}': the script makes no vertex {name}"
     );
-    false
 }

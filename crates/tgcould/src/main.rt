@@ -5,8 +5,13 @@
 //!
 //! The words of the command line are `options`' matter, `checks` says which of them is none, and `supposed` has what
 //! they suppose. What is asked is `question`'s. `ask` asks it and tells the answer, whose texts are in `text`, and
-//! `stars` lists who and what; `answers` has those to all questions, and `notes` what standard error says of them.
+//! `stars` lists who and what. `answers` has those to all questions, and `notes` what standard error says of them.
+//! `verdict` has the exit status.
 #![tactic(auto)]
+
+ghost use Rattle.std.specs.Prelude.{◌≡◌, IfOk};
+ghost use Rattle.tg_plain.specs.declared.options.PlainOptions.{PlainOptions};
+ghost use Rattle.tgcould.specs.Verdict.{Passes};
 
 mod answers;
 mod ask;
@@ -18,16 +23,15 @@ mod question;
 mod stars;
 mod supposed;
 mod text;
+mod verdict;
 
-use answers::Answers;
-use ask::Scene;
-use checks::{are_accepted, are_made, is_asked};
+use checks::{are_accepted, is_asked};
 use clap::ArgMatches;
-use options::{ASK, COMMAND_LINE, NEVER, questions_in};
-use std::alloc::Global;
+use options::COMMAND_LINE;
 use std::process::ExitCode;
-use supposed::{silent_of, suppose};
-use tg_plain::{Outcome, PlainFault, Program, obey, read_options};
+use supposed::Supposed;
+use tg_plain::{PlainFault, Program, obey, read_options};
+use verdict::status_of;
 
 fn main(rt: HostRuntime) -> ExitCode {
     ExitCode::from(obey(&rt, &COMMAND_LINE, &Asking))
@@ -38,54 +42,18 @@ fn main(rt: HostRuntime) -> ExitCode {
 struct Asking;
 
 impl<R: AllocGlobal + Print + Eprint + Input> Program<R> for Asking {
-    fn run(&self, rt: &R, matches: &ArgMatches) -> Result<u8, PlainFault> {
-        if are_accepted(rt, rt.alloc(), matches)? && is_asked(rt, matches) {
-            answer(rt, rt.alloc(), matches)
-        } else {
-            Ok(2)
+    // If the status is 0, all policies are kept.
+    fn run(&self, rt: &R, matches: &ArgMatches) -> Result<u8, PlainFault>
+        ensures { IfOk result (λ status. status ≡ 0 → (options : PlainOptions) × (reader : R.Reader) × Passes options matches.now (R.Reader.remaining reader)) }
+    {
+        if !are_accepted(rt, matches) {
+            return Ok(2);
+        }
+        match Supposed::read(rt, rt.alloc(), matches)? {
+            Some(supposed) if is_asked(rt, matches) => {
+                status_of(rt, matches, &supposed, read_options(matches), rt.reader())
+            }
+            _ => Ok(2),
         }
     }
-}
-
-// Answers what these options ask. The exit status.
-fn answer<R: Print + Eprint + Input>(
-    rt: &R,
-    alloc: Global,
-    matches: &ArgMatches,
-) -> Result<u8, PlainFault> {
-    let silent = silent_of(alloc, matches)?;
-    answer_script(rt, alloc, matches, silent.as_slice())
-}
-
-// Answers it on the graph that the script on standard input leaves. The exit status.
-fn answer_script<R: Print + Eprint + Input>(
-    rt: &R,
-    alloc: Global,
-    matches: &ArgMatches,
-    silent: &[u64],
-) -> Result<u8, PlainFault> {
-    let Outcome { picture, boxes } = Outcome::read(alloc, read_options(matches), rt.reader())?;
-    let picture = suppose(alloc, matches, picture)?;
-    let scene = Scene {
-        alloc,
-        picture: &picture,
-        silent,
-    };
-    answer_on(rt, matches, &scene, boxes)
-}
-
-// Prints the answers, where so many boxes are left in the stock. The exit status.
-fn answer_on<R: Print + Eprint>(
-    rt: &R,
-    matches: &ArgMatches,
-    scene: &Scene,
-    boxes: u64,
-) -> Result<u8, PlainFault> {
-    if !are_made(rt, scene) {
-        return Ok(2);
-    }
-    let mut answers = Answers::new(scene.alloc, boxes, questions_in(matches));
-    answers.add_all(scene, matches, ASK, false);
-    answers.add_all(scene, matches, NEVER, true);
-    answers.print(rt)
 }

@@ -1,0 +1,56 @@
+-- From pictures to the graphs that they are of.
+use Rattle.std.proofs.Common.{◌≡◌, ◌∙◌, ℕ, List, Option, Some, None, refl, sym, subst}
+use Rattle.std.specs.Prelude.{IfSome}
+use Rattle.std.specs.List.{All}
+use Rattle.clap.specs.declared.parser.matches.ArgMatches.{ArgMatches}
+use Rattle.tg_model.specs.Graph.{ProtectionGraph}
+use Rattle.tg_model.specs.Picture.{Shown, IsPictureOf}
+use Rattle.tg_could.specs.Turns.{NeverHolds}
+use Rattle.tgcould.specs.declared.options.TheConstants.{NEVER}
+use Rattle.tgcould.specs.declared.question.Question.{Question}
+use Rattle.tgcould.specs.declared.question.Question.TheVariants.{Hold, Who, What}
+use Rattle.tgcould.specs.declared.question.Vertex.{Vertex}
+use Rattle.tgcould.specs.declared.question.Vertex.TheVariants.{Named, New}
+use Rattle.tgcould.specs.declared.supposed.Supposed.{Supposed}
+use Rattle.tgcould.specs.Policies.{IsKept, texts_of}
+use Rattle.tgcould.specs.Supposed.{JoinsMade, Supposes, with_edges}
+use Rattle.tgcould.specs.Told.{NeverComes, named_in}
+use Rattle.tgcould.specs.Verdict.{AreKept, IsKeptOn, NeverComesOn, named_on}
+
+-- a vertex of a question has one name on both
+same_name : (p : Shown) (g : ProtectionGraph) → IsPictureOf p g → (v : Vertex) → named_in p v ≡ named_on g v
+same_name p g picture (Named name) = refl
+same_name p g picture New = sym picture.made
+
+never_on : (p : Shown) (g : ProtectionGraph) (silent : List ℕ) → IsPictureOf p g → (question : Question) → NeverComes p silent question → NeverComesOn g silent question
+never_on p g silent picture (Hold x right y) never =
+    subst (λ (n : ℕ). NeverHolds silent g (named_on g x) right n) (same_name p g picture y)
+    (subst (λ (n : ℕ). NeverHolds silent g n right (named_in p y)) (same_name p g picture x) (never g picture))
+never_on p g silent picture (Who right y) never =
+    λ x. subst (λ (n : ℕ). NeverHolds silent g x right n) (same_name p g picture y) (never x g picture)
+never_on p g silent picture (What x) never =
+    λ right y. subst (λ (n : ℕ). NeverHolds silent g n right y) (same_name p g picture x) (never right y g picture)
+
+kept_on : (p : Shown) (g : ProtectionGraph) (silent text : List ℕ) → IsPictureOf p g → IsKept p silent text → IsKeptOn g silent text
+kept_on p g silent text picture kept = record {
+  question = kept.question;
+  is = kept.is;
+  never = never_on p g silent picture kept.question kept.never;
+}
+
+-- what is kept on a picture is kept on the graph
+pub all_kept_on : (p : Shown) (g : ProtectionGraph) (silent : List ℕ) (texts : List (List ℕ)) → IsPictureOf p g → All (IsKept p silent) texts → All (IsKeptOn g silent) texts
+all_kept_on p g silent texts picture all = λ k d inside. kept_on p g silent _ picture (all k d inside)
+
+-- what is kept on the picture with the supposed edges
+pub all_kept_supposed : (p q : Shown) (matches : ArgMatches) (supposed : Supposed) (made : ℕ) → made ≡ p.made → All (JoinsMade made) supposed.edges.items →
+    Supposes p supposed.edges.items q → All (IsKept q supposed.silent.items) (texts_of matches NEVER.now) → AreKept matches supposed p
+all_kept_supposed p q matches supposed made same joined supposes kept =
+    λ g picture.
+    all_kept_on q (with_edges g supposed.edges.items) supposed.silent.items (texts_of matches NEVER.now)
+    (supposes g picture (subst (λ (m : ℕ). All (JoinsMade m) supposed.edges.items) (same ∙ sym picture.made) joined)) kept
+
+-- what holds wherever something is known
+pub if_known : {X : Type 0} (known : Option X) (P : X → Type 0) → ((x : X) → known ≡ Some x → P x) → IfSome known P
+if_known None P all = tt
+if_known (Some x) P all = all x refl

@@ -1,0 +1,46 @@
+-- What the options suppose: who takes no turns, and edges that are asked about as if they were there.
+use Rattle.std.specs.Prelude.{◌≡◌, ◌≢◌, ℕ, ◌<◌, List, ◌++◌, codes}
+use Rattle.std.specs.List.{All, AllZip}
+use Rattle.clap.specs.declared.parser.matches.ArgMatches.{ArgMatches}
+use Rattle.tg_rights.specs.RightSet.{union}
+use Rattle.tg_model.specs.declared.edge.Edge.{Edge}
+use Rattle.tg_model.specs.Graph.{ProtectionGraph}
+use Rattle.tg_model.specs.Opened.{label_in}
+use Rattle.tg_model.specs.Picture.{Shown, IsPictureOf}
+use Rattle.tg_text.specs.declared.line.Line.TheVariants as line
+use Rattle.tg_text.specs.Grammar.{line_text}
+use Rattle.tgcould.specs.declared.options.TheConstants.{SILENT, AS_IF}
+use Rattle.tgcould.specs.declared.supposed.Supposed.{Supposed}
+use Rattle.tgcould.specs.Policies.{Writes, texts_of}
+
+-- behind `edge ` the text is the line of this edge, which joins two different vertices
+pub record WritesEdge (text : List ℕ) (edge : Edge) : Type 0 where
+  pub is : codes "edge " ++ text ≡ line_text (line.Edge edge)
+  pub differ : edge.from ≢ edge.to
+
+-- each text writes the name in its place: no text is left out, and no other name is there
+abbrev pub AreNames : List (List ℕ) → List ℕ → Type 0
+AreNames texts names = AllZip Writes texts names
+
+-- each text writes the edge in its place: no text is left out, and no other edge is there
+abbrev pub AreEdges : List (List ℕ) → List Edge → Type 0
+AreEdges texts edges = AllZip WritesEdge texts edges
+
+-- exactly what all values of the two options write
+pub record IsSupposed (matches : ArgMatches) (supposed : Supposed) : Type 0 where
+  pub silent : AreNames (texts_of matches SILENT.now) supposed.silent.items
+  pub edges : AreEdges (texts_of matches AS_IF.now) supposed.edges.items
+
+-- ---- the graph that is asked about
+
+-- both ends of the edge are among so many vertices
+abbrev pub JoinsMade : ℕ → Edge → Type 0
+JoinsMade made edge = (edge.from < made) × (edge.to < made)
+
+-- the graph where these edges are there too
+abbrev pub with_edges : ProtectionGraph → List Edge → ProtectionGraph
+with_edges g edges = record g { label = λ a b. union (g.label a b) (label_in edges a b) }
+
+-- of each graph that the one is a picture of, and that has both ends of these edges, the other is a picture with the edges
+abbrev pub Supposes : Shown → List Edge → Shown → Type 0
+Supposes old edges new = (g : ProtectionGraph) → IsPictureOf old g → All (JoinsMade g.made) edges → IsPictureOf new (with_edges g edges)

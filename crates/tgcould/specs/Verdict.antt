@@ -1,0 +1,50 @@
+-- What the exit status 0 says.
+use Rattle.std.specs.Prelude.{ℕ, List, Option, IfSome}
+use Rattle.std.specs.List.{All}
+use Rattle.clap.specs.declared.parser.matches.ArgMatches.{ArgMatches}
+use Rattle.tg_rights.specs.declared.Right.{Right}
+use Rattle.tg_model.specs.Graph.{ProtectionGraph}
+use Rattle.tg_model.specs.Picture.{Shown, IsPictureOf}
+use Rattle.tg_could.specs.Turns.{NeverHolds}
+use Rattle.tg_plain.specs.declared.options.PlainOptions.{PlainOptions}
+use Rattle.tg_plain.specs.declared.outcome.Outcome.{Outcome}
+use Rattle.tg_plain.specs.Lines.{IsOutcomeOf}
+use Rattle.tgcould.specs.declared.options.TheConstants.{NEVER}
+use Rattle.tgcould.specs.declared.question.Question.{Question}
+use Rattle.tgcould.specs.declared.question.Question.TheVariants.{Hold, Who, What}
+use Rattle.tgcould.specs.declared.question.Vertex.{Vertex}
+use Rattle.tgcould.specs.declared.question.Vertex.TheVariants.{Named, New}
+use Rattle.tgcould.specs.declared.supposed.Supposed.{Supposed}
+use Rattle.tgcould.specs.Policies.{IsQuestion, texts_of}
+use Rattle.tgcould.specs.Supposed.{IsSupposed, with_edges}
+
+-- the name of a vertex of a question: the next to be made has the number of those that were
+abbrev pub named_on : ProtectionGraph → Vertex → ℕ
+named_on g (Named name) = name
+named_on g New = g.made
+
+-- what the question asks about never comes about on this graph; with a star it is about all names, made or not
+abbrev pub NeverComesOn : ProtectionGraph → List ℕ → Question → Type 0
+NeverComesOn g silent (Hold x right y) = NeverHolds silent g (named_on g x) right (named_on g y)
+NeverComesOn g silent (Who right y) = (x : ℕ) → NeverHolds silent g x right (named_on g y)
+NeverComesOn g silent (What x) = (right : Right) (y : ℕ) → NeverHolds silent g (named_on g x) right y
+
+-- the text is a question, and what it asks about never comes about on this graph
+pub record IsKeptOn (g : ProtectionGraph) (silent : List ℕ) (text : List ℕ) : Type 0 where
+  pub question : Question
+  pub is : IsQuestion text question
+  pub never : NeverComesOn g silent question
+
+-- all policies are kept on each graph of which this is the picture, with the edges that are supposed and against all but the silent
+abbrev pub AreKept : ArgMatches → Supposed → Shown → Type 0
+AreKept matches supposed p =
+    (g : ProtectionGraph) → IsPictureOf p g → All (IsKeptOn (with_edges g supposed.edges.items) supposed.silent.items) (texts_of matches NEVER.now)
+
+-- A script was read to its end, and on the graph that it leaves all policies are kept. If it is known which bytes the reader had, the script
+-- is these.
+pub record Passes (options : PlainOptions) (matches : ArgMatches) (remaining : Option (List ℕ)) : Type 0 where
+  pub outcome : Outcome
+  pub left : IfSome remaining (λ bytes. IsOutcomeOf options bytes outcome)
+  pub supposed : Supposed
+  pub is_supposed : IsSupposed matches supposed
+  pub kept : AreKept matches supposed outcome.picture
