@@ -1,4 +1,4 @@
-use Rattle.std.proofs.Common.{◌≡◌, rules}
+use Rattle.std.proofs.Common.{rules}
 use Rattle.tg_store.specs.declared.fault.ApplyFault.TheVariants.{NoSuchWorker}
 use Rattle.tg_shared.proofs.Calls.{ok_not_err}
 use Rattle.tg_shares.proofs.metered.Metered.leave.Goals as goal
