@@ -183,9 +183,9 @@ def a_heap_of_5000_blocks():
 
 
 def old_cells_of_1100000_places():
-    count = 17_300
+    count = 21_000
     lines = alone_in_blocks(count) + ["0 create r", "minor", "full", "0 read 5"]
-    return Script("--workers 1 --stock c20000 --blocks 65536", lines, (1, 2))
+    return Script("--workers 1 --stock c24000 --blocks 65536", lines, (1, 2))
 
 
 def sixty_four_blocks():
