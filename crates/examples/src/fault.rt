@@ -1,7 +1,7 @@
 //! Why a story ends early.
 
 use crate::stand_in::DeskFault;
-use std::alloc::AllocFailed;
+use std::alloc::{AllocError, AllocFailed};
 use std::io;
 use tg_payload::Payload;
 use tg_shared::{CloseFault, CloseRefused, Round, SharedRefused};
@@ -34,6 +34,12 @@ pub enum StoryFault {
 impl<T: Drop> From<AllocFailed<T>> for StoryFault {
     // What there was no memory for is dropped.
     fn from(_refused: AllocFailed<T>) -> StoryFault {
+        StoryFault::Store(StoreFault::OutOfMemory)
+    }
+}
+
+impl From<AllocError> for StoryFault {
+    fn from(_error: AllocError) -> StoryFault {
         StoryFault::Store(StoreFault::OutOfMemory)
     }
 }

@@ -177,7 +177,10 @@ fn share<L: Round, V: Ledger, R: Wait>(
 fn share_out<R: Wait>(rt: &R, alloc: Global, store: Store<CellPayload>) -> Option<Seen>
     requires { (graph_of_store store).made + 3 ≤ store.opening.limit }
 {
-    let blanks = Blanks::new(store.opening().max_vertices() + 1);
+    let Ok(blanks) = Blanks::new(alloc, store.opening().max_vertices() + 1) else {
+        store.let_go();
+        return None;
+    };
     let vertices = Blank::new(WHOLE.vertices);
     share::<Brand, Brand, R>(rt, alloc, blanks, vertices, store)
 }

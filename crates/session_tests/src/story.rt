@@ -242,7 +242,10 @@ fn seen_of_store<L: Round, R: Wait>(
 
 // Shares the store, so that its keeper may take parts and end workers.
 fn share<R: Wait>(rt: &R, alloc: Global, store: Store<CellPayload>) -> Seen {
-    let blanks = Blanks::new(store.opening().max_vertices() + 1);
+    let Ok(blanks) = Blanks::new(alloc, store.opening().max_vertices() + 1) else {
+        store.let_go();
+        return (NOTHING, None);
+    };
     seen_of_store::<Brand, R>(rt, alloc, blanks, store)
 }
 

@@ -11,13 +11,13 @@ use Rattle.atomic_table.specs.Table.{Allows, Joins, Me, Splits, State, step}
 use Rattle.atomic_table.specs.Table.{Act, keeps as stays}
 use Rattle.tg_journal.specs.declared.entry.Entry.{Entry}
 use Rattle.tg_passes.specs.declared.pass.View.{View}
-use Rattle.tg_passes.specs.Passes.{AreApart, BeginsWith, Fits, IsBound, Issued, Kept, Knows, Looked, Noted, PassState, hand, hand_of, issuing, keeper, keeper_of, Sat, looking, nobody, noting, own_entries, together}
+use Rattle.tg_passes.specs.Passes.{AreApart, BeginsWith, Fits, IsBound, Issued, Kept, Knows, Looked, Noted, PassState, hand, hand_of, issuing, keeper, keeper_of, Sat, nobody, noting, own_entries, together}
 
 off : false ≡ true → ⊥
 off e = true≢false (sym e)
 
 -- all begins with itself, with what it began with, and with nothing
-whole : (all : List Entry) → BeginsWith all all
+pub whole : (all : List Entry) → BeginsWith all all
 whole all = ([], sym (append-nil all))
 
 nothing : (all : List Entry) → BeginsWith all []
@@ -57,13 +57,13 @@ module _ (views : List View) (id : ℕ) (v w : View) (kept : Kept views) (at : g
   apart_as worker acts = apart_set (λ u j off_id there x y same. off_id (sym (kept.apart id j v u at there (acts x) y (sym worker ∙ same))))
 
 -- the entries of who made the last one, and of who did not
-only_own : (worker : ℕ) (e : Entry) → e.worker ≡ worker → own_entries worker (e ∷ []) ≡ e ∷ []
+pub only_own : (worker : ℕ) (e : Entry) → e.worker ≡ worker → own_entries worker (e ∷ []) ≡ e ∷ []
 only_own worker e is = grind (arith, nat_tests)
 
-no_own : (worker : ℕ) (e : Entry) → e.worker ≢ worker → own_entries worker (e ∷ []) ≡ []
+pub no_own : (worker : ℕ) (e : Entry) → e.worker ≢ worker → own_entries worker (e ∷ []) ≡ []
 no_own worker e isnt = grind (arith, nat_tests)
 
-own_push : (worker : ℕ) (all : List Entry) (e : Entry) → e.worker ≡ worker → own_entries worker (all ++ e ∷ []) ≡ own_entries worker all ++ e ∷ []
+pub own_push : (worker : ℕ) (all : List Entry) (e : Entry) → e.worker ≡ worker → own_entries worker (all ++ e ∷ []) ≡ own_entries worker all ++ e ∷ []
 own_push worker all e is = filter-append (λ (x : Entry). x.worker == worker) all (e ∷ []) ∙ ap (λ l. own_entries worker all ++ l) (only_own worker e is)
 
 own_other : (worker : ℕ) (all : List Entry) (e : Entry) → e.worker ≢ worker → own_entries worker (all ++ e ∷ []) ≡ own_entries worker all
@@ -106,18 +106,15 @@ knows views id v kept at keeper_is =
       front = subst (λ (l : List Entry). BeginsWith l v.seen) (sym roll.1) mine.front;
     }
 
-pub looks : (views : List View) (id : ℕ) (v : View) (kept : Kept views) → get_elem? views id ≡ some v → v.keeps ≡ true → Kept (set views id (looking v))
-looks views id v kept at keeper_is =
-    let mine = kept.each id v at in
-    let roll = mine.roll keeper_is in
-    record {
-      log = kept.log;
-      seat = kept.seat;
-      low = kept.low;
-      each = each_set views id v (looking v) kept at kept.log kept.low (λ by u _ there. kept.each by u there)
-          (record { roll = mine.roll; own = mine.own; front = subst (λ (l : List Entry). BeginsWith kept.log l) (sym roll.1) (whole kept.log) });
-      apart = apart_as views id v (looking v) kept at refl (λ a. a);
-    }
+-- and a seat that looks stays as it is
+pub looks : (views : List View) (id : ℕ) (v : View) (kept : Kept views) → get_elem? views id ≡ some v → Kept (set views id v)
+looks views id v kept at = record {
+  log = kept.log;
+  seat = kept.seat;
+  low = kept.low;
+  each = each_set views id v v kept at kept.log kept.low (λ by u _ there. kept.each by u there) (kept.each id v at);
+  apart = apart_as views id v v kept at refl (λ a. a);
+}
 
 -- an entry of the worker for whom the seat acts goes behind the others
 pub notes : (views : List View) (id : ℕ) (v : View) (e : Entry) (kept : Kept views) → get_elem? views id ≡ some v → v.keeps ≡ true → v.acts ≡ true → e.worker ≡ v.worker → Kept (set views id (noting v e))
@@ -265,7 +262,7 @@ pub splits_as : (id : ℕ) (v : View) → Splits Rule id v (keeper_of v) (hand_o
 splits_as id v = splits id v
 
 pub looks_as : (slots id : ℕ) (me : Sat) → me.0.keeps ≡ true → Allows Rule slots id me 0 (λ n. n) (Looked (step slots 0 0 0 none) me)
-looks_as slots id me keeper_is s kept homes at fits = (looking me.0, stays, tt, looks s.views id me.0 kept at keeper_is, (refl, refl, knows s.views id me.0 kept at keeper_is))
+looks_as slots id me keeper_is s kept homes at fits = (me.0, stays, tt, looks s.views id me.0 kept at, (refl, refl, knows s.views id me.0 kept at keeper_is))
 
 pub notes_as : (slots id : ℕ) (me : Sat) (e : Entry) → me.0.keeps ≡ true → me.0.acts ≡ true → e.worker ≡ me.0.worker → Allows Rule slots id me 0 (λ n. either (n == 0) 0 n) (Noted (step slots 0 0 0 (some e)) me)
 notes_as slots id me e keeper_is acting is s kept homes at fits = (noting me.0 e, stays, tt, notes s.views id me.0 e kept at keeper_is acting is, (refl, refl, knows s.views id me.0 kept at keeper_is))

@@ -65,8 +65,12 @@ roll_of v = record { entries = v.all; below = v.below }
 abbrev pub IsBound : List Entry → ℕ → Type 0
 IsBound all below = All (λ e. e.worker < below) all
 
+-- the name of a round's table
+abbrev pub RoundTable : Type 0
+RoundTable = TableId
+
 -- no table's name
-abbrev pub no_table : TableId
+abbrev pub no_table : RoundTable
 no_table = record { words = 0; slots = 0; views_name = 0; atom = 0; block = 0; offset = 0; slot_names = [] }
 
 -- ---- the rule
@@ -99,9 +103,6 @@ pub record Knows (v : View) : Type 0 where
   pub own : v.acts ≡ true → (v.worker < v.below) × (own_entries v.worker v.all ≡ v.made)
   pub front : BeginsWith v.all v.seen
 
-abbrev pub looking : View → View
-looking v = record { keeps = v.keeps; all = v.all; below = v.below; acts = v.acts; worker = v.worker; made = v.made; seen = v.all }
-
 abbrev pub noting : View → Entry → View
 noting v e = record { keeps = v.keeps; all = v.all ++ e ∷ []; below = v.below; acts = v.acts; worker = v.worker; made = v.made ++ e ∷ []; seen = v.all ++ e ∷ [] }
 
@@ -109,7 +110,7 @@ abbrev pub issuing : View → ℕ → View
 issuing v name = record { keeps = v.keeps; all = v.all; below = name + 1; acts = true; worker = name; made = []; seen = v.all }
 
 abbrev pub Looked : Step Entry → Sat → ℕ → Sat → Type 0
-Looked st m n m' = (m'.0 ≡ looking m.0) × (m'.1 ≡ m.1) × Knows m.0
+Looked st m n m' = (m'.0 ≡ m.0) × (m'.1 ≡ m.1) × Knows m.0
 
 abbrev pub IsNoted : Option Entry → Sat → Sat → Type 0
 IsNoted none m m' = (m'.0 ≡ m.0) × (m'.1 ≡ m.1)

@@ -54,7 +54,7 @@ impl Split<View> for Meeting {
     ghost right = { hand_of };
 }
 
-/// The session looks at all entries.
+/// The session looks at all entries. Nothing changes.
 pub struct Looks;
 
 impl Play<Entry, View> for Looks {
@@ -160,11 +160,11 @@ impl BlankRoll {
 }
 
 impl<L: Board> Roll<L> {
-    /// The session looks at all entries since the start: it has then seen them all.
+    /// Shows what the session knows of all entries since the start. Nothing changes.
     pub fn look(&mut self, pass: &mut Pass<L>)
         ensures same { self.new ≡ self.old }
         ensures sees { Sees self.old.entries pass.old }
-        ensures pass { pass.new ≡ record pass.old { seen = self.old.entries } }
+        ensures pass { pass.new ≡ pass.old }
     {
         let other = mem::replace(&mut pass.badge, Badge::blank()).into_seat();
         let Roll { table, seat, of: _ } = self;

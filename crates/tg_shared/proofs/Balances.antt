@@ -14,6 +14,7 @@ use Rattle.tg_model.specs.declared.reply.Reply.TheVariants.{Name}
 use Rattle.tg_model.specs.Graph.{ProtectionGraph, IsSound}
 use Rattle.tg_model.specs.Rules.{answer_of}
 use Rattle.tg_model.specs.Opened.{Plan, IsPlan, start_of}
+use Rattle.tg_model.proofs.NameLaws.{name_is_next}
 use Rattle.tg_model.proofs.SubjectLaws.{few_from_rising, made-spawned}
 use Rattle.tg_journal.specs.declared.entry.Entry.{Entry}
 use Rattle.tg_journal.specs.History.{graph_after}
@@ -153,6 +154,13 @@ module _ (old new : StoreState) (start sessions total rest parts worker name : �
     (entry : Enters old new worker (Spawn label law state) (Name name)) (answer : answer_of (graph_of_store old) worker (Spawn label law state) ≡ Name name) (opening : new.opening ≡ old.opening) where
   one_made : (graph_of_store new).made ≡ (graph_of_store old).made + 1
   one_made = ap (λ (g : ProtectionGraph). g.made) (graph-entered old new worker (Spawn label law state) (Name name) opening entry) ∙ made-spawned (graph_of_store old) worker label law state name answer
+
+  -- its name is the next one
+  pub named_next : name ≡ (graph_of_store old).made
+  named_next = (name_is_next (graph_of_store old) worker (Spawn label law state) name answer).0
+
+  pub made_named : (graph_of_store new).made ≡ name + 1
+  made_named = ap (λ (g : ProtectionGraph). g.made) (graph-entered old new worker (Spawn label law state) (Name name) opening entry) ∙ (name_is_next (graph_of_store old) worker (Spawn label law state) name answer).1
 
   -- where an entry made a subject, it wasn't the last part that was left
   pub parts_left : IsFaithful old → 1 ≡ rest → ⊥

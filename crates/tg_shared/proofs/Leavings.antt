@@ -39,9 +39,14 @@ adds_one old now new at next es e more one place own = (
   one.2 ∙ more.2,
   one.3 ∙ more.3,
   one.4 ∙ ap (λ b. retired_by b e.deed) more.4 ∙ sym (retired_push old.retired es e),
+  one.5 ∙ (λ i. more.5 i ++ (record { worker = sym own i; deed = e.deed; reply = e.reply }) ∷ []) ∙ append_assoc old.made es (e ∷ []),
 )
 
--- who gives rights up does not retire by it
+-- who gives edges up does not retire by it
+pub removals_stay : (retired : Bool) (x : ℕ) (row : List (ℕ × RightSet)) → retired_behind retired (map (removal x) row) ≡ retired
+removals_stay retired x [] = refl
+removals_stay retired x (e ∷ row) = removals_stay retired x row
+
 pub remove_stays : (target : ℕ) (rights : RightSet) → Plain (Remove rights target) ≡ Plain Retire → ⊥
 remove_stays target rights is = cc
 

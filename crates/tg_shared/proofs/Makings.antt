@@ -1,6 +1,6 @@
 -- What the answer of a make tells of its entry, and what is behind the lock then.
-use Rattle.std.specs.Prelude.{IfOk, IfErr}
-use Rattle.std.proofs.Common.{◌≡◌, ◌≢◌, ℕ, ◌+◌, false, Option, Some, None, Result, Ok, Err, ap, refl, subst, sym}
+use Rattle.std.specs.Prelude.{IfOk, IfErr, IsErrAnd}
+use Rattle.std.proofs.Common.{◌≡◌, ◌≢◌, ℕ, ◌+◌, ◌++◌, ◌∷◌, [], false, Option, Some, None, Result, Ok, Err, ap, refl, subst, sym}
 use Rattle.tg_rights.specs.RightSet.{RightSet}
 use Rattle.tg_model.specs.declared.command.Deed.{Deed}
 use Rattle.tg_model.specs.declared.reply.Reply.{Reply}
@@ -15,10 +15,12 @@ use Rattle.tg_store.specs.Made.{IsMadeFor}
 use Rattle.tg_store.specs.declared.fault.CreateFault.{CreateFault}
 use Rattle.tg_store.specs.declared.fault.CreateFault.TheVariants as fault
 use Rattle.tg_store.specs.declared.fault.CreateRefused.{CreateRefused}
-use Rattle.tg_store.specs.Store.{StoreState}
+use Rattle.tg_passes.specs.Passes.{RollState}
+use Rattle.tg_store.specs.Store.{StoreState, Enters}
 use Rattle.tg_shared.specs.Serving.{IsMadeAndNoted, NotesRefusal}
-use Rattle.tg_shared.specs.Sessions.{GoesOn, IsBalanced, Records, RecordsNothing, SessionState, SharedStart, made_subject, reply_entered, reply_made, sessions_made}
+use Rattle.tg_shared.specs.Sessions.{GoesOn, HasSeen, IsBalanced, IsRolled, Records, RecordsNothing, SessionState, SharedStart, made_subject, reply_entered, reply_made, sessions_made}
 use Rattle.tg_shared.proofs.Balances.{locked_entered, locked_same}
+use Rattle.tg_shared.proofs.Knowing.{rolled_more, rolled_same, seen_same, seen_with}
 
 pub object_not_subject : Object ≡ Subject → ⊥
 object_not_subject is = cc
@@ -42,6 +44,11 @@ pub made_as : {P : Type 0} (E : Reply → Type 0) (answer : Result ℕ (CreateRe
     → IfErr answer (λ refused. refused.why ≡ fault.VerticesFull → E VerticesFull) → IfErr answer (λ refused. refused.why ≡ fault.WorkersFull → E WorkersFull) → E reply
 made_as E (Ok name) reply is named v w = let same : Name name ≡ reply = cc in subst E same named
 made_as E (Err refused) reply is named v w = entered_as E refused.why reply is v w
+
+-- and it is not that there is no such worker
+pub made_by_one : {P : Type 0} (answer : Result ℕ (CreateRefused P)) (reply : Reply) → reply_made answer ≡ Some reply → IsErrAnd answer (λ refused. refused.why ≡ fault.NoSuchWorker) → ⊥
+made_by_one (Ok name) reply is none = none
+made_by_one (Err refused) reply is none = let told = ap reply_entered none in let no : ⊥ = cc (told, is) in no
 
 -- and leaves the heap as it was
 pub heap_stays : {P : Type 0} (old new : StoreState) (answer : Result ℕ (CreateRefused P)) → IfErr answer (λ refused. refused.why ≡ fault.VerticesFull → new.heap ≡ old.heap) → IfErr answer (λ refused. refused.why ≡ fault.WorkersFull → new.heap ≡ old.heap)
@@ -72,6 +79,26 @@ pub made_noted : {P N : Type 0} (deed : Deed) (label : RightSet) (value : Value)
     → IfOk answer (IsMadeFor deed before.worker label value old new) → IfOk answer (IsMadeAndNoted deed label value old new before after)
 made_noted deed label value old new before after (Ok name) noted made = record { entry = (noted (Name name) refl).0; made = made }
 made_noted deed label value old new before after (Err refused) noted made = tt
+
+-- What the roll has stays so there.
+pub rolled_noted : (start : SharedStart) (old new : StoreState) (before after : SessionState) (roll next : RollState) (deed : Deed) (noted : Option Reply) → IsRolled start old roll → new.opening ≡ old.opening
+    → ((reply : Reply) → noted ≡ Some reply → Enters old new before.worker deed reply) → ((reply : Reply) → noted ≡ Some reply →
+    (after.seen ≡ next.entries) × (next ≡ record { entries = roll.entries ++ (record { worker = before.worker; deed = deed; reply = reply }) ∷ []; below = roll.below }))
+    → (noted ≡ None → (new.entries ≡ old.entries) × (next ≡ roll)) → IsRolled start new next
+rolled_noted start old new before after roll next deed (Some reply) held opening entry rolled none = rolled_more start old new roll next _ held (entry reply refl) opening (rolled reply refl).1
+rolled_noted start old new before after roll next deed None held opening entry rolled none =
+    let told = none refl in
+    subst (IsRolled start new) (sym told.1) (rolled_same start old new roll held told.0 opening)
+
+-- And a session that made the entry has seen it.
+pub seen_noted : (start : SharedStart) (old new : StoreState) (before after : SessionState) (roll next : RollState) (deed : Deed) (noted : Option Reply) → IsRolled start old roll → GoesOn start old
+    → ((reply : Reply) → noted ≡ Some reply → Enters old new before.worker deed reply) → ((reply : Reply) → noted ≡ Some reply →
+    (after.seen ≡ next.entries) × (next ≡ record { entries = roll.entries ++ (record { worker = before.worker; deed = deed; reply = reply }) ∷ []; below = roll.below }))
+    → (noted ≡ None → after.made ≡ before.made) → HasSeen start new before after
+seen_noted start old new before after roll next deed (Some reply) held on entry rolled none =
+    let told = rolled reply refl in
+    seen_with start old new roll next before after _ held on (entry reply refl) (ap (λ (r : RollState). r.entries) told.1) told.0
+seen_noted start old new before after roll next deed None held on entry rolled none = seen_same start new before after (none refl)
 
 -- What is so behind the lock stays so where what was entered of a make is noted, and it made no subject.
 pub locked_noted : {P Q : Type 0} {out : ℕ} (start : SharedStart) (old new : StoreState) (before after : SessionState) (first sessions total next rest parts : ℕ) (deed : Deed) (noted : Option Reply)

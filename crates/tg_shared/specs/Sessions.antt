@@ -24,13 +24,15 @@ use Rattle.tg_store.specs.declared.fault.CreateFault.{CreateFault}
 use Rattle.tg_store.specs.declared.fault.CreateFault.TheVariants as fault
 use Rattle.tg_store.specs.declared.fault.CreateRefused.{CreateRefused}
 use Rattle.tg_store.specs.Store.{StoreState, Enters, IsFaithful, IsUnchanged, graph_of_store}
+use Rattle.tg_passes.specs.Passes.{PassState, RollState, RoundTable, Sees, own_entries}
 use Rattle.tg_shared.specs.declared.receipt.Receipt.{Receipt}
 use Rattle.tg_shared.specs.declared.round.Blanks.{Blanks}
 use Rattle.tg_shared.specs.Receipts.{MatchParts, ReceiptsMatch, all_receipts, receipt_of, receipts_from}
 
 -- A session: the name of its subject, its receipts in order, how many before them were handed out, for how many sessions it stands
 -- (its own, and those that it took over), whether it entered a retire of its own, for how many more receipts there is room, and the
--- copy of a state that the next may need.
+-- copy of a state that the next may need. It also has the entries that its own calls made, and those that it has seen: all entries
+-- that the sessions made since the start, up to its own last one or to its making.
 pub record SessionState : Type 0 where
   pub worker : ℕ
   pub receipts : List Receipt
@@ -39,6 +41,16 @@ pub record SessionState : Type 0 where
   pub retired : Bool
   pub spare : ℕ
   pub copy : List ℕ
+  pub made : List Entry
+  pub seen : List Entry
+
+-- what a session knows of the entries since the start
+abbrev pub knowledge : SessionState → PassState
+knowledge s = record { worker = s.worker; made = s.made; seen = s.seen }
+
+-- what it knows after it made these entries, which come next after all others
+abbrev pub knowledge_with : SessionState → List Entry → List Entry → PassState
+knowledge_with s all more = record { worker = s.worker; made = s.made ++ more; seen = all ++ more }
 
 -- A session may note a receipt of a deed with this state: it has room for one, and a copy of the state.
 pub record MayNote (session : SessionState) (state : List ℕ) : Type 0 where
@@ -84,23 +96,25 @@ start_with_ends s = shared_as false true s
 abbrev pub start_in_parts_with_ends : StoreState → SharedStart
 start_in_parts_with_ends s = shared_as true true s
 
--- the names of a keeper's two ledgers, and those of the blanks that a round is opened with
+-- the names of a keeper's two ledgers and the table of the roll, and those of the blanks that a round is opened with
 pub record KeeperNames : Type 0 where
   pub handed : ℕ
   pub entered : ℕ
+  pub roll : RoundTable
 
 abbrev pub names_of : Blanks → KeeperNames
-names_of blanks = record { handed = blanks.handed.name; entered = blanks.entered.name }
+names_of blanks = record { handed = blanks.handed.name; entered = blanks.entered.name; roll = blanks.roll }
 
--- A store may be shared with blanks by the round whose ledger has this name and so many parts, whose keeper's ledgers have these
--- names, and which has this start: the blanks are the round's, that of the sessions has one part more than vertices may be made, those
--- of the keeper two each, and the round starts from the store.
+-- A store may be shared with blanks by the round whose ledger has this name and so many parts, whose keeper's ledgers and roll have
+-- these names, and which has this start: the blanks are the round's, that of the sessions has one part more than vertices may be made,
+-- those of the keeper two each, and the round starts from the store.
 pub record MayShare (ledger whole : ℕ) (keeper : KeeperNames) (first : SharedStart) (blanks : Blanks) (store : StoreState) : Type 0 where
   pub name : blanks.sessions.name ≡ ledger
   pub parts : (blanks.sessions.parts ≡ whole) × (blanks.sessions.parts ≡ store.opening.limit + 1)
   pub handed_name : blanks.handed.name ≡ keeper.handed
   pub entered_name : blanks.entered.name ≡ keeper.entered
   pub keeper_parts : (blanks.handed.parts ≡ 2) × (blanks.entered.parts ≡ 2)
+  pub roll : blanks.roll ≡ keeper.roll
   pub start : shared_as first.in_parts first.may_end store ≡ first
 
 -- ---- how many sessions were made
@@ -126,6 +140,18 @@ spawned entries = count_by is_spawn entries
 abbrev pub sessions_made : SharedStart → List Entry → ℕ
 sessions_made start entries = length (subjects_at start) + spawned (drop (length start.entries) entries)
 
+-- ---- who has retired
+
+-- whether a session has entered a retire of its own behind a deed of its worker
+abbrev pub retired_by : Bool → Deed → Bool
+retired_by retired (Plain Retire) = true
+retired_by retired deed = retired
+
+-- whether a session has entered a retire of its own behind these entries of its worker
+abbrev pub retired_behind : Bool → List Entry → Bool
+retired_behind retired [] = retired
+retired_behind retired (e ∷ es) = retired_behind (retired_by retired e.deed) es
+
 -- ---- what is behind the lock
 
 -- The store is the one that was shared, and has only gone on: opening and limits are as they were, and the journal begins
@@ -141,6 +167,39 @@ pub record GoesOn (start : SharedStart) (s : StoreState) : Type 0 where
 abbrev pub AtSome : SharedStart → (StoreState → Type 0) → Type 0
 AtSome start holds = (s : StoreState) × GoesOn start s × IsFaithful s × holds s
 
+-- the entries that a store has since it was shared
+abbrev pub since : SharedStart → StoreState → List Entry
+since start s = drop (length start.entries) s.entries
+
+-- Where the keeper may end nobody, who has this knowledge knows of the store: the entries of its worker since the start are exactly
+-- those that it made, and the entries since the start begin with those that it has seen.
+abbrev pub IsKnown : SharedStart → PassState → StoreState → Type 0
+IsKnown start pass s = start.may_end ≡ false → Sees (since start s) pass
+
+-- This holds of some store that may have been behind the lock, of which this is known.
+abbrev pub AtPass : SharedStart → PassState → (StoreState → Type 0) → Type 0
+AtPass start pass holds = AtSome start (λ s. holds s × IsKnown start pass s)
+
+-- This holds of some store that may have been behind the lock, of which the session knows what it does.
+abbrev pub AtKnown : SharedStart → SessionState → (StoreState → Type 0) → Type 0
+AtKnown start session holds = AtPass start (knowledge session) holds
+
+-- Where the keeper may end nobody, a session that made an entry has seen all entries of the store.
+abbrev pub HasSeen : SharedStart → StoreState → SessionState → SessionState → Type 0
+HasSeen start next old new = start.may_end ≡ false → new.made ≢ old.made → new.seen ≡ since start next
+
+-- A session that has retired, sees the roll and knows whether it has retired, has no subject in the store, where the keeper may end
+-- nobody.
+abbrev pub StaysOut : SharedStart → StoreState → RollState → SessionState → Type 0
+StaysOut start s roll session =
+    Sees roll.entries (knowledge session) → session.retired ≡ retired_behind false session.made → session.retired ≡ true → start.may_end ≡ false → ¬ IsSubject (graph_of_store s) session.worker
+
+-- What is behind the lock beside the store: where the keeper may end nobody, the roll has exactly the entries since the start; and
+-- the names of those who act are names of vertices.
+pub record IsRolled (start : SharedStart) (store : StoreState) (roll : RollState) : Type 0 where
+  pub all : start.may_end ≡ false → store.entries ≡ start.entries ++ roll.entries
+  pub below : roll.below ≤ (graph_of_store store).made
+
 -- A collection left so many vertices: of two stores that may have been behind the lock, with the same journal, it made the second
 -- out of the first.
 abbrev pub LeavesAtSome : SharedStart → Kind → ℕ → Type 0
@@ -155,14 +214,9 @@ EndsAtSome start worker count =
 
 -- ---- what a call does
 
--- the same receipts
+-- the same receipts, and the same entries made and seen
 abbrev pub KeepsReceipts : SessionState → SessionState → Type 0
-KeepsReceipts old new = (new.worker ≡ old.worker) × (new.receipts ≡ old.receipts) × (new.handed ≡ old.handed) × (new.parts ≡ old.parts) × (new.retired ≡ old.retired)
-
--- whether a session has entered a retire of its own behind a deed of its worker
-abbrev pub retired_by : Bool → Deed → Bool
-retired_by retired (Plain Retire) = true
-retired_by retired deed = retired
+KeepsReceipts old new = (new.worker ≡ old.worker) × (new.receipts ≡ old.receipts) × (new.handed ≡ old.handed) × (new.parts ≡ old.parts) × (new.retired ≡ old.retired) × (new.made ≡ old.made) × (new.seen ≡ old.seen)
 
 -- Room for so many more receipts was made, where memory was not refused. The receipts are the same.
 pub record MakesRoom {T E : Type 0} (more : ℕ) (old new : SessionState) (result : Result T E) : Type 0 where
@@ -177,11 +231,7 @@ AddsReceipt old new at deed reply =
     × (new.handed ≡ old.handed)
     × (new.parts ≡ old.parts)
     × (new.retired ≡ retired_by old.retired deed)
-
--- whether a session has entered a retire of its own behind these entries of its worker
-abbrev pub retired_behind : Bool → List Entry → Bool
-retired_behind retired [] = retired
-retired_behind retired (e ∷ es) = retired_behind (retired_by retired e.deed) es
+    × (new.made ≡ old.made ++ (record { worker = old.worker; deed = deed; reply = reply }) ∷ [])
 
 -- exactly these receipts more: of the entries, one behind the other from this place on
 abbrev pub AddsReceipts : SessionState → SessionState → ℕ → List Entry → Type 0
@@ -191,6 +241,7 @@ AddsReceipts old new at entries =
     × (new.handed ≡ old.handed)
     × (new.parts ≡ old.parts)
     × (new.retired ≡ retired_behind old.retired entries)
+    × (new.made ≡ old.made ++ entries)
 
 -- A session took over one that ended, and stands for both: what that one handed out counts as handed out by this one.
 pub record TakesOver (old ended new : SessionState) : Type 0 where
@@ -199,22 +250,27 @@ pub record TakesOver (old ended new : SessionState) : Type 0 where
   pub handed : new.handed ≡ old.handed + ended.handed
   pub parts : new.parts ≡ old.parts + ended.parts
   pub retired : new.retired ≡ old.retired
+  pub made : new.made ≡ old.made
+  pub seen : new.seen ≡ old.seen
 
 -- Exactly one receipt more, of an entry with this deed and this reply. The entry came next in the journal of a store that may
--- have been behind the lock, and was legal there: the reply is the rules' answer on that store's graph.
+-- have been behind the lock, and was legal there: the reply is the rules' answer on that store's graph. The session knows of that
+-- store what it knew before, and has then seen its entries and the new one.
 abbrev pub IsAnswered : SharedStart → SessionState → SessionState → Deed → Reply → Type 0
 IsAnswered start old new deed reply =
-    AtSome start (λ s. AddsReceipt old new (length s.entries) deed reply
-    × IsLegalEntry (graph_of_store s) (record { worker = old.worker; deed = deed; reply = reply }))
+    AtKnown start old (λ s. AddsReceipt old new (length s.entries) deed reply
+    × IsLegalEntry (graph_of_store s) (record { worker = old.worker; deed = deed; reply = reply })
+    × (start.may_end ≡ false → new.seen ≡ since start s ++ (record { worker = old.worker; deed = deed; reply = reply }) ∷ []))
 
 -- The session's worker left, and gave up so many edges. Exactly the receipts of its leaving were added: of a remove for each edge, by
 -- rising name, and of a retire. These entries came next in the journal of a store that may have been behind the lock, and were
--- legal there.
+-- legal there. The session knows of that store what it knew before, and has then seen its entries and the new ones.
 abbrev pub HasLeftAtSome : SharedStart → SessionState → SessionState → ℕ → Type 0
 HasLeftAtSome start old new count =
-    AtSome start (λ s. AddsReceipts old new (length s.entries) (leaving (graph_of_store s) old.worker)
+    AtKnown start old (λ s. AddsReceipts old new (length s.entries) (leaving (graph_of_store s) old.worker)
     × IsLegal (graph_of_store s) (leaving (graph_of_store s) old.worker)
-    × (count ≡ length (listing_of (graph_of_store s).label (graph_of_store s).made old.worker)))
+    × (count ≡ length (listing_of (graph_of_store s).label (graph_of_store s).made old.worker))
+    × (start.may_end ≡ false → new.seen ≡ since start s ++ leaving (graph_of_store s) old.worker))
 
 -- exactly one entry more, and exactly one receipt of it, at the place of the entry
 pub record Records (old new : StoreState) (before after : SessionState) (deed : Deed) (reply : Reply) : Type 0 where
@@ -225,18 +281,19 @@ pub record Records (old new : StoreState) (before after : SessionState) (deed : 
 abbrev pub RecordsNothing : StoreState → StoreState → SessionState → SessionState → Type 0
 RecordsNothing old new before after = IsUnchanged old new × KeepsReceipts before after
 
--- When a session's deed makes no vertex, of a store that may have been behind the lock, and the draft is handed back. Where as many
+-- When a session's deed makes no vertex, of a store that may have been behind the lock and of which the session knows what it does, and
+-- the draft is handed back. Where as many
 -- vertices were made as may be a receipt is added; a spawn's clauses tell of one where as many are subjects as may be.
 pub record MayRefuseAtSome {P T : Type 0} (start : SharedStart) (deed : Deed) (value : Value) (old new : SessionState) (result : Result T (CreateRefused P)) : Type 0 where
   pub full : IfErr result (λ refused. refused.why ≡ fault.VerticesFull → IsAnswered start old new deed VerticesFull)
-  pub no_such_worker : IfErr result (λ refused. refused.why ≡ fault.NoSuchWorker → AtSome start (λ s. ¬ IsSubject (graph_of_store s) old.worker))
-  pub heap_full : IfErr result (λ refused. refused.why ≡ fault.HeapFull → AtSome start (λ s.
+  pub no_such_worker : IfErr result (λ refused. refused.why ≡ fault.NoSuchWorker → AtKnown start old (λ s. ¬ IsSubject (graph_of_store s) old.worker))
+  pub heap_full : IfErr result (λ refused. refused.why ≡ fault.HeapFull → AtKnown start old (λ s.
       IsAllowed (graph_of_store s) old.worker deed × LacksCellsFor s.heap.table (nursery_space (nursery_of s.heap old.worker)) 1 old.worker (graph_of_store s).made))
   pub handed_back : IfErr result (λ refused. refused.draft ≡ value)
 
--- a session as it is made: it never had a receipt, took no other over, and entered no retire
+-- a session as it is made: it never had a receipt, took no other over, and made no entry, so no retire either
 abbrev pub IsFresh : SessionState → Type 0
-IsFresh s = (s.receipts ≡ []) × (s.handed ≡ 0) × (s.parts ≡ 1) × (s.retired ≡ false)
+IsFresh s = (s.receipts ≡ []) × (s.handed ≡ 0) × (s.parts ≡ 1) × (s.retired ≡ false) × (s.made ≡ [])
 
 -- one session for each of the subjects, none of which ever had a receipt
 abbrev pub AreFresh : List ℕ → List SessionState → Type 0
@@ -299,6 +356,14 @@ pub record AddsUp (start entries made entered : ℕ) (sessions : List SessionSta
 -- the place from which on a store holds the entries that were made since it was shared
 abbrev pub held_from : SharedStart → StoreState → ℕ
 held_from start s = max (length start.entries) s.handed
+
+-- A session that handed out no receipt and took over nobody has receipts of all entries of its worker among these, in their order.
+abbrev pub HasAll : List Entry → SessionState → Type 0
+HasAll entries s = s.handed ≡ 0 → s.parts ≡ 1 → map (λ r. r.entry) s.receipts ≡ own_entries s.worker entries
+
+-- and those of all entries that its own calls made
+abbrev pub HasMade : SessionState → Type 0
+HasMade s = s.handed ≡ 0 → s.parts ≡ 1 → map (λ r. r.entry) s.receipts ≡ s.made
 
 -- The session has all its receipts, part by part, each of which matches its part of the journal.
 pub record KeptInParts (parts : List Entries) (s : SessionState) : Type 0 where

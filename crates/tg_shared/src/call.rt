@@ -1,5 +1,5 @@
 //! The calls of a session, each under the lock.
-ghost use Rattle.std.specs.Prelude.{◌≡◌, ◌≢◌, ◌⊎◌, ◌≤◌, ℕ, Err, IfOk, IfErr, IsErrAnd, MatchResult, OnErr, OnOk, true, ⊤};
+ghost use Rattle.std.specs.Prelude.{◌≡◌, ◌≢◌, ◌⊎◌, ◌≤◌, ℕ, Err, false, IfOk, IfErr, IsErrAnd, MatchResult, OnErr, OnOk, true, ⊤};
 ghost use Rattle.tg_model.specs.Graph.{IsSubject};
 ghost use Rattle.tg_model.specs.Rules.{IsAllowed};
 ghost use Rattle.tg_model.specs.declared.command.Deed.TheVariants.{Create, Plain, Spawn};
@@ -9,7 +9,7 @@ ghost use Rattle.tg_rules.specs.Effect.{AddsEdge, LacksCellsToServe};
 ghost use Rattle.tg_store.specs.Held.{IsHeldOver};
 ghost use Rattle.tg_store.specs.Room.{LacksRoomToCollect};
 ghost use Rattle.tg_store.specs.Store.{graph_of_store};
-ghost use Rattle.tg_shared.specs.Sessions.{AtSome, HasLeftAtSome, IsAnswered, IsFresh, KeepsReceipts, LeavesAtSome, MayNote, MayRefuseAtSome};
+ghost use Rattle.tg_shared.specs.Sessions.{AtKnown, AtSome, HasLeftAtSome, IsAnswered, IsFresh, KeepsReceipts, LeavesAtSome, MayNote, MayRefuseAtSome};
 
 use crate::round::Round;
 use crate::session::Session;
@@ -30,9 +30,17 @@ impl<L: Round> Session<L> {
     /// [`Locked::apply`](crate::Locked::apply) under the lock. Answers the reply, lent from the receipt: exactly one
     /// was added, with this command and this reply. Its entry came next in the journal of a store that may have been
     /// behind the lock, the shared one, gone on, and was legal there: the reply is the rules' on the graph of that
-    /// store. Where the call is refused, the receipts stay, and of such a store the refusal was due: there was no such
-    /// worker, or the command was allowed and a cell was lacking. Want of memory may come at any call. Behind a retire
-    /// that it entered itself it always answers that there is no such worker, and takes no lock.
+    /// store.
+    ///
+    /// A refused call keeps the receipts, and its refusal was due of such a store: there was no such worker, or the
+    /// command was allowed and a cell was lacking. Memory may run out at any call. After a retire that the session
+    /// entered itself, the call always reports that there is no such worker, and takes no lock.
+    ///
+    /// If the keeper may end nobody, the entries of the session's worker in that store are exactly those that the
+    /// session's own calls made, and the store's entries since the start begin with those that the session has seen
+    /// (`AtKnown`). So a worker that entered no retire is never reported missing:
+    /// [`a_session_without_a_retire_is_a_subject`](crate::laws::a_session_without_a_retire_is_a_subject). If the keeper
+    /// may end workers, the clauses tie that store to nothing that the session did.
     pub fn call<P: Payload, R: Wait>(
         &mut self,
         rt: &R,
@@ -41,8 +49,8 @@ impl<L: Round> Session<L> {
     ) -> Result<&Reply, ApplyFault>
         ensures* receipt { sem 𝓛 (follows_so (the_row L.row (record { start = L.start; keeper = L.keeper }) L.Ledger) (the_row L.row (record { start = L.start; keeper = L.keeper }) L.Ledger) self.entry.ghost_name none (λ _ _. ⊤)
             (λ after. MatchResult result (λ reply. IsAnswered L.start self.old after (Plain command) reply.now) (λ _. KeepsReceipts self.old after))) }
-        ensures no_such_worker { IfErr result (λ why. why ≡ ApplyFault.NoSuchWorker → AtSome L.start (λ s. ¬ IsSubject (graph_of_store s) self.old.worker)) }
-        ensures full { IfErr result (λ why. why ≡ ApplyFault.HeapFull → AtSome L.start (λ s.
+        ensures no_such_worker { IfErr result (λ why. why ≡ ApplyFault.NoSuchWorker → AtKnown L.start self.old (λ s. ¬ IsSubject (graph_of_store s) self.old.worker)) }
+        ensures full { IfErr result (λ why. why ≡ ApplyFault.HeapFull → AtKnown L.start self.old (λ s.
             IsAllowed (graph_of_store s) self.old.worker (Plain command) × AddsEdge command × LacksCellsToServe s.heap.table (nursery_of s.heap self.old.worker) self.old.worker command)) }
         ensures retired { self.old.retired ≡ true → IsErrAnd result (λ why. why ≡ ApplyFault.NoSuchWorker) }
     {
@@ -51,7 +59,8 @@ impl<L: Round> Session<L> {
         }
         self.make_room(&[])?;
         let mut locked = store.locked.lock(rt);
-        // for what is told of it: the shared store, gone on
+        // for what is told of it: the shared store, gone on, of which the session knows what it does
+        locked.look(self);
         let _ = locked.store();
         locked.apply(self, command)?;
         // and that the new entry is legal
@@ -61,9 +70,9 @@ impl<L: Round> Session<L> {
 
     /// Makes a vertex of the session's subject, by one call of [`Locked::create`](crate::Locked::create) under the
     /// lock. A name, and `VerticesFull`, have added exactly one receipt, with this create and that answer. Its entry
-    /// came next in the journal of a store that may have been behind the lock, and was legal there. Where the call is
-    /// refused otherwise, the receipts stay, and of such a store the refusal was due, but for want of memory. A refused
-    /// draft is handed back.
+    /// came next in the journal of a store that may have been behind the lock, and was legal there. A call that is
+    /// refused otherwise keeps the receipts, and its refusal was due of such a store, unless memory ran out. What the
+    /// session knows of that store [`call`](Session::call) says. A refused draft is handed back.
     pub fn create<P: Payload, R: Wait>(
         &mut self,
         rt: &R,
@@ -81,7 +90,8 @@ impl<L: Round> Session<L> {
             return Err(CreateRefused { draft, why });
         }
         let mut locked = store.locked.lock(rt);
-        // for what is told of it: the shared store, gone on
+        // for what is told of it: the shared store, gone on, of which the session knows what it does
+        locked.look(self);
         let _ = locked.store();
         let created = locked.create(self, label, draft);
         // and of the one that is left
@@ -95,8 +105,10 @@ impl<L: Round> Session<L> {
     /// session goes to [`close`](crate::close) with the others: a round does not end without it, so it is kept where
     /// nothing else is refused.
     ///
-    /// `VerticesFull` and `WorkersFull` have added a receipt with that answer. Where the call is refused otherwise, the
-    /// receipts stay, and of such a store the refusal was due, but for want of memory. A refused draft is handed back.
+    /// `VerticesFull` and `WorkersFull` have added a receipt with that answer. A call that is refused otherwise keeps
+    /// the receipts, and its refusal was due of such a store, unless memory ran out. What the session knows of that
+    /// store [`call`](Session::call) says. The new session has seen what the session that asks has seen then
+    /// (`fresh_seen`). A refused draft is handed back.
     pub fn spawn<P: Payload, R: Wait>(
         &mut self,
         rt: &R,
@@ -106,6 +118,7 @@ impl<L: Round> Session<L> {
     ) -> Result<Session<L>, CreateRefused<P>>
         ensures receipt { IfOk result (λ fresh. IsAnswered L.start self.old self.new (Spawn label draft.law draft.state) (Name fresh.worker)) }
         ensures fresh { IfOk result IsFresh }
+        ensures fresh_seen { L.start.may_end ≡ false → IfOk result (λ fresh. fresh.seen ≡ self.new.seen) }
         ensures refusals { MayRefuseAtSome L.start (Spawn label draft.law draft.state) draft self.old self.new result }
         ensures workers_full { IfErr result (λ refused. refused.why ≡ CreateFault.WorkersFull → IsAnswered L.start self.old self.new (Spawn label draft.law draft.state) WorkersFull) }
         ensures refused { IfErr result (λ refused. refused.why ≢ CreateFault.VerticesFull → refused.why ≢ CreateFault.WorkersFull → KeepsReceipts self.old self.new) }
@@ -115,7 +128,8 @@ impl<L: Round> Session<L> {
             return Err(CreateRefused { draft, why });
         }
         let mut locked = store.locked.lock(rt);
-        // for what is told of it: the shared store, gone on
+        // for what is told of it: the shared store, gone on, of which the session knows what it does
+        locked.look(self);
         let _ = locked.store();
         let spawned = locked.spawn(self, label, draft);
         // and of the one that is left
@@ -132,7 +146,7 @@ impl<L: Round> Session<L> {
         ensures notable { OnOk result (MayNote self.new state.now) }
         ensures receipts { KeepsReceipts self.old self.new }
         ensures retired { self.old.retired ≡ true → result ≡ Err CreateFault.NoSuchWorker }
-        ensures why { IfErr result (λ why. (why ≡ CreateFault.NoSuchWorker × AtSome L.start (λ s. ¬ IsSubject (graph_of_store s) self.old.worker)) ⊎ (why ≡ CreateFault.OutOfMemory)) }
+        ensures why { IfErr result (λ why. (why ≡ CreateFault.NoSuchWorker × AtKnown L.start self.old (λ s. ¬ IsSubject (graph_of_store s) self.old.worker)) ⊎ (why ≡ CreateFault.OutOfMemory)) }
     {
         if self.retired() {
             return Err(CreateFault::NoSuchWorker);
@@ -149,8 +163,9 @@ impl<L: Round> Session<L> {
     /// legal there. From then on each call of the session answers that there is no such worker; its receipts are taken
     /// or closed with as before.
     ///
-    /// Where it is refused, the receipts stay, and the worker holds what it held: of such a store there was no such
-    /// worker, or memory was wanting. Nothing is refused on the way.
+    /// A refused leave keeps the receipts, and the worker holds what it held: there was no such worker in such a store,
+    /// or memory ran out. What the session knows of that store [`call`](Session::call) says. Nothing is refused on the
+    /// way.
     pub fn leave<P: Payload, R: Wait>(
         &mut self,
         rt: &R,
@@ -159,7 +174,7 @@ impl<L: Round> Session<L> {
         ensures left { IfOk result (HasLeftAtSome L.start self.old self.new) }
         ensures gone { OnOk result (self.new.retired ≡ true) }
         ensures refused { OnErr result (KeepsReceipts self.old self.new) }
-        ensures no_such_worker { IfErr result (λ why. why ≡ ApplyFault.NoSuchWorker → AtSome L.start (λ s. ¬ IsSubject (graph_of_store s) self.old.worker)) }
+        ensures no_such_worker { IfErr result (λ why. why ≡ ApplyFault.NoSuchWorker → AtKnown L.start self.old (λ s. ¬ IsSubject (graph_of_store s) self.old.worker)) }
         ensures never_full { result ≢ Err ApplyFault.HeapFull }
         ensures retired { self.old.retired ≡ true → IsErrAnd result (λ why. why ≡ ApplyFault.NoSuchWorker) }
     {
@@ -167,7 +182,8 @@ impl<L: Round> Session<L> {
             return Err(ApplyFault::NoSuchWorker);
         }
         let mut locked = store.locked.lock(rt);
-        // for what is told of it: the shared store, gone on
+        // for what is told of it: the shared store, gone on, of which the session knows what it does
+        locked.look(self);
         let _ = locked.store();
         let left = locked.leave(self);
         // and that the new entries are legal

@@ -6,7 +6,7 @@ ghost use Rattle.tg_shared.specs.Sessions.{MatchesSince, MayClose, count_of};
 
 use crate::locked::Locked;
 use crate::receipt::{Receipt, receipts_match};
-use crate::round::Round;
+use crate::round::{Register, Round};
 use crate::session::{Session, have_at_most, sort_by_worker, still_owed};
 use tg_journal::Journal;
 use tg_payload::Payload;
@@ -35,7 +35,7 @@ pub struct LockedRefused<L: Round, P: Payload> {
 
 impl<L: Round, P: Payload> Locked<L, P> {
     ghost use Rattle.tg_shared.specs.Closing.{EndsRound};
-    ghost use Rattle.tg_shared.specs.Sessions.{AddsUp, AreSharedOut, MayClose, count_of, handed_of, held_from, parts_of};
+    ghost use Rattle.tg_shared.specs.Sessions.{AddsUp, AreSharedOut, HasAll, MayClose, count_of, handed_of, held_from, parts_of, since};
 
     /// Ends a round: hands out the store, where all sessions are given back and their receipts are right. Then the
     /// journal has grown by as many entries as there are receipts, and they are shared out among the sessions. What the
@@ -48,6 +48,10 @@ impl<L: Round, P: Payload> Locked<L, P> {
     /// Of a store that was shared whole (`whole`) no session has handed out a receipt: where the keeper ended no
     /// worker, each entry made since stands in exactly one receipt, and the receipts of each session are all its
     /// entries.
+    ///
+    /// If the keeper may end nobody, `single` says this of each single session, whatever the other sessions did. A
+    /// session that handed out no receipt and took over nobody has receipts of all entries of its worker since the
+    /// store was shared.
     pub fn close(self, sessions: Vec<Session<L>>) -> Result<Store<P>, LockedRefused<L, P>>
         ensures ends { EndsRound L.start self sessions.items result }
         ensures all { OnOk result (parts_of sessions.items ≡ self.sessions) }
@@ -56,6 +60,7 @@ impl<L: Round, P: Payload> Locked<L, P> {
             AreSharedOut (drop (held_from L.start self.store) self.store.entries) sessions.items) }
         ensures none_handed { self.entered ≡ 0 → OnOk result (handed_of sessions.items ≡ 0 → held_from L.start self.store ≡ length L.start.entries) }
         ensures whole { L.start.in_parts ≡ false → self.entered ≡ 0 → OnOk result (AreSharedOut (drop (length L.start.entries) self.store.entries) sessions.items) }
+        ensures single { L.start.may_end ≡ false → OnOk result (All (HasAll (since L.start self.store)) sessions.items) }
         ensures missing { IsErrAnd result (λ refused. refused.why ≡ CloseFault.SessionsMissing) ↔ (parts_of sessions.items < self.sessions) }
         ensures mismatch { IsErrAnd result (λ refused. refused.why ≡ CloseFault.ReceiptMismatch) ↔
             ((self.sessions ≤ parts_of sessions.items) × (¬ MayClose self.store.entries (held_from L.start self.store) sessions.items)) }
@@ -85,13 +90,14 @@ impl<L: Round, P: Payload> Locked<L, P> {
             AreSharedOut (drop (held_from L.start self.store) self.store.entries) sessions.items) }
         ensures none_handed { self.entered ≡ 0 → OnOk result (parts_of sessions.items ≡ self.sessions → handed_of sessions.items ≡ 0 → held_from L.start self.store ≡ length L.start.entries) }
         ensures whole { L.start.in_parts ≡ false → self.entered ≡ 0 → OnOk result (parts_of sessions.items ≡ self.sessions → AreSharedOut (drop (length L.start.entries) self.store.entries) sessions.items) }
+        ensures single { L.start.may_end ≡ false → OnOk result (All (HasAll (since L.start self.store)) sessions.items) }
         ensures mismatch { IsErr result ↔ (¬ MayClose self.store.entries (held_from L.start self.store) sessions.items) }
         ensures only { IfErr result (λ refused. refused.why ≡ CloseFault.ReceiptMismatch) }
         ensures counted { OnErr result (length L.start.entries + self.entered + count_of sessions.items ≤ length self.store.entries) }
     {
         sort_by_worker(&mut sessions);
         // It tells that what the keeper entered was counted.
-        self.book.audit(&mut self.rest);
+        self.register.book.audit(&mut self.rest);
         let journal = self.store.journal();
         let since = self.start.max(journal.start());
         let entries = entries_since(journal, self.start, self.entered.number());
@@ -108,11 +114,12 @@ impl<L: Round, P: Payload> Locked<L, P> {
             sessions: _,
             entered: _,
             handed: _,
-            mut book,
+            register,
             rest: mut whole,
         } = self;
+        let Register { mut book, mut roll } = register;
         for session in sessions {
-            session.give_up(&mut whole);
+            session.give_up(&mut whole, &mut roll);
         }
         book.audit(&mut whole);
         Ok(store)

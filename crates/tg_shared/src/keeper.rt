@@ -88,8 +88,10 @@ impl<L: Round> Keeper<L> {
     /// is had back without it ([`reclaim`](crate::reclaim)). The store has to be shared so that its keeper may end
     /// workers.
     ///
-    /// Where it is refused, the keeper has made no entry, so nobody is ended: of such a store there was no such worker,
-    /// or memory was wanting. Nothing is refused on the way.
+    /// If the call is refused, the keeper has made no entry, so nobody is ended. Memory ran out, or there was no such
+    /// worker in some legal continuation of the shared store, which need not be the store behind the lock.
+    /// [`Locked::end`](crate::Locked::end) says of that store exactly when the refusal comes. Nothing is refused on the
+    /// way.
     pub fn end<P: Payload, R: Wait>(
         &mut self,
         rt: &R,

@@ -1,6 +1,13 @@
 //! What receipts say of a history. A function here does nothing: what it ensures is the law.
-ghost use Rattle.std.specs.Prelude.{◌≡◌, ◌≢◌, ◌≤◌, ◌+◌, ◌++◌, ℕ, List, drop, false, length, take};
+ghost use Rattle.std.specs.Prelude.{◌≡◌, ◌≢◌, ◌≤◌, ◌+◌, ◌++◌, ℕ, List, drop, false, length, take, true};
 ghost use Rattle.std.specs.List.{All, AllPairs, Contains};
+ghost use Rattle.tg_rights.specs.RightSet.{RightSet};
+ghost use Rattle.tg_model.specs.declared.command.Deed.{Deed};
+ghost use Rattle.tg_model.specs.declared.command.Deed.TheVariants.{Spawn};
+ghost use Rattle.tg_model.specs.declared.law.Law.{Law};
+ghost use Rattle.tg_model.specs.declared.reply.Reply.{Reply};
+ghost use Rattle.tg_model.specs.declared.reply.Reply.TheVariants.{Name};
+ghost use Rattle.tg_passes.specs.Passes.{BeginsWith};
 ghost use Rattle.tg_model.specs.Graph.{IsReachable, IsSubject, ProtectionGraph};
 ghost use Rattle.tg_graph.specs.Heap.{content_of};
 ghost use Rattle.tg_space.specs.declared.kind.Kind.{Kind};
@@ -9,7 +16,7 @@ ghost use Rattle.tg_journal.specs.History.{IsLegal, IsLegalEntry, graph_after};
 ghost use Rattle.tg_shared.specs.declared.receipt.Receipt.{Receipt};
 ghost use Rattle.tg_journal.specs.Journal.{Entries};
 ghost use Rattle.tg_shared.specs.Receipts.{AreParts, MatchParts, ReceiptsMatch, all_receipts};
-ghost use Rattle.tg_shared.specs.Sessions.{AreSharedOut, AtSome, GoesOn, KeptInParts, LeavesAtSome, MayClose, SessionState, SharedStart, count_of, held_from, parts_of};
+ghost use Rattle.tg_shared.specs.Sessions.{AreSharedOut, AtKnown, AtSome, GoesOn, IsAnswered, IsKnown, KeptInParts, LeavesAtSome, MayClose, SessionState, SharedStart, count_of, held_from, knowledge, parts_of, retired_behind, subjects_at};
 ghost use Rattle.tg_space.specs.declared.kind.Kind.TheVariants.{Full};
 ghost use Rattle.tg_store.specs.Leaving.{HasLeft};
 ghost use Rattle.tg_store.specs.Store.{IsCountOf, IsFaithful, StoreState, graph_of_store};
@@ -75,6 +82,31 @@ pub fn each_stands_for_itself()
 pub fn who_left_stays_away()
     ensures { (old new later : StoreState) (worker : ℕ) (entries : List Entry) → IsFaithful old → IsSubject (graph_of_store old) worker → HasLeft worker old new →
         later.opening ≡ new.opening → later.entries ≡ new.entries ++ entries → ¬ IsSubject (graph_of_store later) worker }
+{}
+
+/// What a session knows bounds what its calls are refused for, in a round whose keeper may end nobody. Its worker was a
+/// subject when the store was shared, or was made by a spawn whose entry the session has seen. While no retire is among
+/// the entries that the session made, the worker is a subject of each store that the session's clauses speak of. So
+/// none of its calls is answered that there is no such worker.
+pub fn a_session_without_a_retire_is_a_subject()
+    ensures from_the_start { (start : SharedStart) (session : SessionState) → start.may_end ≡ false → Contains (subjects_at start) session.worker → retired_behind false session.made ≡ false →
+        ¬ AtKnown start session (λ s. ¬ IsSubject (graph_of_store s) session.worker) }
+    ensures spawned { (start : SharedStart) (before after session : SessionState) (label : RightSet) (law : Law) (state : List ℕ) → start.may_end ≡ false →
+        IsAnswered start before after (Spawn label law state) (Name session.worker) → BeginsWith session.seen after.seen → retired_behind false session.made ≡ false →
+        ¬ AtKnown start session (λ s. ¬ IsSubject (graph_of_store s) session.worker) }
+{}
+
+/// Where a retire is among the entries that a session made, its worker is a subject of no store of which the session
+/// knows what it does, in a round whose keeper may end nobody.
+pub fn a_session_with_a_retire_has_no_subject()
+    ensures { (start : SharedStart) (session : SessionState) (s : StoreState) → start.may_end ≡ false → GoesOn start s → IsFaithful s → IsKnown start (knowledge session) s →
+        retired_behind false session.made ≡ true → ¬ IsSubject (graph_of_store s) session.worker }
+{}
+
+/// A session whose call made an entry has then seen all that it had seen before. This holds in a round whose keeper may
+/// end nobody.
+pub fn what_a_session_has_seen_grows()
+    ensures { (start : SharedStart) (old new : SessionState) (deed : Deed) (reply : Reply) → start.may_end ≡ false → IsAnswered start old new deed reply → BeginsWith new.seen old.seen }
 {}
 
 /// What a collection of a session answers is how many vertices a store has that may have been behind the lock, and

@@ -4,11 +4,12 @@
 //! to a thread of its own. Each of its calls takes the lock, makes one call of the store, and lets go:
 //!
 //! ```text
-//!     session 0   [receipts] --call--+
-//!                                    |      +--lock--------------------------+
-//!     session 1   [receipts] --call--+----> | store: heap and journal        |
-//!                                    |      | book: how many entries since   |
-//!     session 2   [receipts] --call--+      +--------------------------------+
+//!     session 0   [receipts, pass] --call--+
+//!                                          |      +--lock--------------------------+
+//!     session 1   [receipts, pass] --call--+----> | store: heap and journal        |
+//!                                          |      | book: how many entries since   |
+//!     session 2   [receipts, pass] --call--+      | roll: which entries since      |
+//!                                                 +--------------------------------+
 //! ```
 //!
 //! A call that makes an entry of the journal leaves a [`Receipt`] with the session: the entry and its place. So a
@@ -18,8 +19,10 @@
 //! What a call does to the value behind the lock stands in the contracts of [`Locked`], the type that is locked: each
 //! of its calls is one call of the store and makes at most one receipt. A caller of a session is told of its own
 //! receipts, and that its answer was right of some store that may have been behind the lock: of the shared one, gone on
-//! (see 'What a session can know' in docs/ARCHITECTURE.md). Whenever the lock is free, the store is that one and keeps
-//! its promise ([`Locked::store`]), and the book that stands beside it has counted each entry since.
+//! (see 'What a session can know' in docs/ARCHITECTURE.md). If the keeper may end nobody, that store has exactly the
+//! entries of the session's worker that the session's own calls made, by its pass (see 'How a session knows its own
+//! entries' there). Whenever the lock is free, the store is that one and keeps its promise ([`Locked::store`]), and the
+//! book that stands beside it has counted each entry since.
 //!
 //! A session may make a subject, and is answered its session ([`Session::spawn`]), which is owed to [`close`] like the
 //! others. A subject that retires makes no entry any more; its session is owed all the same.

@@ -1,26 +1,28 @@
 //! The value behind the lock, and what each call does to it.
-ghost use Rattle.std.specs.Prelude.{◌≡◌, ◌≢◌, ◌⊎◌, ◌<◌, ◌≤◌, ◌+◌, ◌^◌, Err, false, true, IfOk, IfErr, IsErrAnd, OnOk, OnErr, length};
-ghost use Rattle.tg_subjects.specs.Subjects.{names_of};
+ghost use Rattle.std.specs.Prelude.{◌≡◌, ◌≢◌, ◌⊎◌, ◌<◌, ◌≤◌, ◌+◌, ◌^◌, ℕ, [], Err, false, true, IfOk, IfErr, IsErrAnd, OnOk, OnErr, length};
+ghost use Rattle.std.specs.List.{All};
+ghost use Rattle.tg_subjects.specs.Subjects.{AreSubjects, names_of};
 ghost use Rattle.tg_shared.specs.Sessions.{AreFresh};
 
 use crate::keeper::Keeper;
 use crate::making::make;
 use crate::mirror::Mirrored;
-use crate::round::{Blanks, Entered, HandedOut, Round};
+use crate::round::{Blanks, Entered, HandedOut, Register, Rolled, Round};
 use crate::session::Session;
 use std::alloc::{AllocError, Global};
 use std::marker::Model;
-use std::sync::ledger::{Book, Share};
+use std::sync::ledger::Share;
 use tg_journal::{Entry, Journal};
 use tg_model::{Command, Deed, Making, Picture};
+use tg_passes::Roll;
 use tg_payload::{Draft, Payload};
 use tg_rights::Label;
 use tg_store::{ApplyFault, CreateFault, CreateRefused, Kind, RoomFault, Store};
 use tg_subjects::Subject;
 
-/// What is behind the lock: the store, the book that counts its entries since it was shared, and the parts of the
-/// ledger that no session has. Each call is one call of the store, with its contract; one of a session makes a receipt
-/// of each entry.
+/// What is behind the lock: the store, the book that counts its entries since it was shared, the roll that has them,
+/// and the parts of the ledger that no session has. Each call is one call of the store, with its contract; one of a
+/// session makes a receipt of each entry.
 ///
 /// Contracts see a `LockedState`: the store, how many sessions were made, and how many entries the keeper made for
 /// workers that he ended.
@@ -34,19 +36,19 @@ pub struct Locked<L: Round, P: Payload> {
     pub(crate) entered: Mirrored<Entered<L>>,
     // How many entries the store has handed out, which the keeper knows.
     pub(crate) handed: Mirrored<HandedOut<L>>,
-    pub(crate) book: Book<L>,
+    pub(crate) register: Register<L>,
     pub(crate) rest: Share<L>,
 }
 
 impl<L: Round, P: Payload> Model for Locked<L, P> {
     ghost use Rattle.std.specs.Prelude.{◌≡◌, false, length};
-    ghost use Rattle.tg_shared.specs.Sessions.{GoesOn, IsBalanced, LockedState, sessions_made};
+    ghost use Rattle.tg_shared.specs.Sessions.{GoesOn, IsBalanced, IsRolled, LockedState, sessions_made};
 
     ghost Value = { LockedState };
 
     ghost view = { λ a. record { store = a.store; sessions = a.sessions; entered = a.entered } };
 
-    ghost invariant = { λ a. IsBalanced a.store (length L.start.entries) a.sessions a.book.total a.rest.parts L.parts × (a.start ≡ length L.start.entries) × (((a.rest.amount ≡ a.entered) × (L.start.may_end ≡ false → a.entered ≡ 0)) × (a.handed ≡ a.store.handed)) × GoesOn L.start a.store × (a.sessions ≡ sessions_made L.start a.store.entries) };
+    ghost invariant = { λ a. (IsBalanced a.store (length L.start.entries) a.sessions a.register.book.total a.rest.parts L.parts × (a.start ≡ length L.start.entries) × (((a.rest.amount ≡ a.entered) × (L.start.may_end ≡ false → a.entered ≡ 0)) × (a.handed ≡ a.store.handed)) × GoesOn L.start a.store × (a.sessions ≡ sessions_made L.start a.store.entries)) × IsRolled L.start a.store a.register.roll };
 }
 
 impl<L: Round, P: Payload> Locked<L, P> {
@@ -58,7 +60,7 @@ impl<L: Round, P: Payload> Locked<L, P> {
     ghost use Rattle.tg_store.specs.Room.{LacksRoomToCollect};
     ghost use Rattle.tg_store.specs.Store.{IsFaithful, StandsFor};
     ghost use Rattle.tg_shared.specs.Serving.{Collects, EndsWorker, IsMadeAndNoted, KeepsNumbers, KeepsRound, NotesLeaving, NotesRefusal, ServesCommand};
-    ghost use Rattle.tg_shared.specs.Sessions.{AreFresh, GoesOn, IsFresh, MayNote, MayShare, sessions_made, subjects_at};
+    ghost use Rattle.tg_shared.specs.Sessions.{AreFresh, GoesOn, HasSeen, IsFresh, IsKnown, MayNote, MayShare, knowledge, sessions_made, since, subjects_at};
 
     /// The store. What holds whenever the lock is free is told here: the store's own promise, that its journal is a
     /// legal history of its opening and its heap stands for the graph after it; and it is the store that was shared,
@@ -105,6 +107,17 @@ impl<L: Round, P: Payload> Locked<L, P> {
         self.handed.tell(&mut keeper.next);
     }
 
+    /// Changes nothing, and shows what a session knows of the store. If the keeper may end nobody, the entries of the
+    /// session's worker since the start are exactly those that the session's own calls made. The entries since the
+    /// start begin with those that the session has seen.
+    pub fn look(&mut self, session: &mut Session<L>)
+        ensures known { IsKnown L.start (knowledge session.new) self.new.store }
+        ensures same { self.new ≡ self.old }
+        ensures same_session { session.new ≡ session.old }
+    {
+        session.look(&mut self.register.roll);
+    }
+
     /// Shares a store: the value to be locked, a session for each subject of the graph that the store stands for, and
     /// its one keeper. The blanks are spent, and that of the sessions has to have one part more than vertices may be
     /// made. Fails only when out of memory, and hands the store back.
@@ -125,12 +138,14 @@ impl<L: Round, P: Payload> Locked<L, P> {
             sessions: blank,
             handed,
             entered,
+            roll,
         } = blanks;
         let (book, mut rest) = blank.open::<L>();
+        let mut roll = roll.open();
         let start = store.journal().len();
         let (handed, next) = Mirrored::new(handed, store.journal().start());
         let (entered, ended) = Mirrored::new(entered, 0);
-        let Ok(sessions) = sessions_of(alloc, &mut rest, store.subjects()) else {
+        let Ok(sessions) = sessions_of(alloc, &mut rest, &mut roll, store.subjects()) else {
             return Err(store);
         };
         let locked = Locked {
@@ -139,7 +154,7 @@ impl<L: Round, P: Payload> Locked<L, P> {
             sessions: sessions.len() as u64,
             entered,
             handed,
-            book,
+            register: Register { book, roll },
             rest,
         };
         Ok((locked, sessions, Keeper::new(next, ended)))
@@ -152,6 +167,7 @@ impl<L: Round, P: Payload> Locked<L, P> {
         requires room { 0 < session.old.spare }
         ensures served { ServesCommand command self.old.store self.new.store session.old session.new result }
         ensures kept { KeepsRound self.old self.new }
+        ensures seen { HasSeen L.start self.new.store session.old session.new }
     {
         let at = self.store.journal().len();
         let worker = session.worker();
@@ -164,7 +180,7 @@ impl<L: Round, P: Payload> Locked<L, P> {
             deed,
             reply,
         };
-        session.note(&mut self.book, at, entry);
+        session.note(&mut self.register, at, entry);
         Ok(())
     }
 
@@ -183,10 +199,13 @@ impl<L: Round, P: Payload> Locked<L, P> {
         ensures noted { NotesRefusal (Deed.Create label draft.law draft.state) self.old.store self.new.store session.old session.new result }
         ensures no_workers_full { IfErr result (λ refused. refused.why ≢ CreateFault.WorkersFull) }
         ensures numbers { KeepsNumbers self.old self.new }
+        ensures seen { HasSeen L.start self.new.store session.old session.new }
     {
+        // It tells that the store is faithful, so a session that has retired has no subject in it.
+        let _ = self.store.journal();
         make(
             &mut self.store,
-            &mut self.book,
+            &mut self.register,
             session,
             Making::Object,
             label,
@@ -216,12 +235,14 @@ impl<L: Round, P: Payload> Locked<L, P> {
         ensures one_more { OnOk result (self.new.sessions ≡ self.old.sessions + 1) }
         ensures no_more_sessions { OnErr result (self.new.sessions ≡ self.old.sessions) }
         ensures entered { self.new.entered ≡ self.old.entered }
+        ensures seen { HasSeen L.start self.new.store session.old session.new }
+        ensures fresh_seen { L.start.may_end ≡ false → IfOk result (λ fresh. fresh.seen ≡ since L.start self.new.store) }
     {
         // It tells that the store is faithful, so there is a part left.
         let _ = self.store.journal();
         let name = make(
             &mut self.store,
-            &mut self.book,
+            &mut self.register,
             session,
             Making::Subject,
             label,
@@ -229,7 +250,8 @@ impl<L: Round, P: Payload> Locked<L, P> {
         )?;
         self.sessions += 1;
         let share = self.rest.split_off(1, 0);
-        Ok(Session::new(session.alloc(), name, share))
+        let pass = self.register.roll.issue(name);
+        Ok(Session::new(session.alloc(), name, share, pass))
     }
 
     /// The session's worker leaves, by one call of the store: it gives up each edge that it has, by rising name, and
@@ -243,6 +265,7 @@ impl<L: Round, P: Payload> Locked<L, P> {
         ensures ended { EndsWorker session.old.worker self.old.store self.new.store result }
         ensures noted { NotesLeaving self.old.store session.old session.new result }
         ensures numbers { KeepsNumbers self.old self.new }
+        ensures seen { HasSeen L.start self.new.store session.old session.new }
     {
         let at = self.store.journal().len();
         let worker = session.worker();
@@ -251,7 +274,7 @@ impl<L: Round, P: Payload> Locked<L, P> {
         let count = self.store.leave(worker)?;
         // It tells that the store is faithful, and that the journal's places are numbers.
         let _ = self.store.journal().len();
-        session.note_leaving(&mut self.book, at, &row);
+        session.note_leaving(&mut self.register, at, &row);
         Ok(count)
     }
 
@@ -276,9 +299,9 @@ impl<L: Round, P: Payload> Locked<L, P> {
         // It tells that the store is faithful, and that the journal's places are numbers.
         let _ = self.store.journal().len();
         let entries = count + 1;
-        self.book.add(&mut self.rest, entries);
+        self.register.book.add(&mut self.rest, entries);
         // It tells that so many entries were made, so their number is one.
-        self.book.audit(&mut self.rest);
+        self.register.book.audit(&mut self.rest);
         self.entered.raise(&mut keeper.entered, entries);
         Ok(count)
     }
@@ -333,20 +356,25 @@ fn deed_of(command: &Command) -> Deed
     Deed::Plain(*command)
 }
 
-// A session for each subject, each with one part of the share.
+// A session for each subject, each with one part of the share and with a pass.
 fn sessions_of<L: Round>(
     alloc: Global,
     rest: &mut Share<L>,
+    roll: &mut Roll<Rolled<L>>,
     subjects: &[Subject],
 ) -> Result<Vec<Session<L>>, AllocError>
-    requires { (length subjects.now < rest.old.parts) × (rest.old.amount ≡ 0) × (L.parts < 2 ^ 64) }
+    requires parts { (length subjects.now < rest.old.parts) × (rest.old.amount ≡ 0) × (L.parts < 2 ^ 64) }
+    requires rising { AreSubjects subjects.now }
+    requires none_yet { (roll.old.entries ≡ []) × (roll.old.below ≡ 0) }
     ensures fresh { IfOk result (λ sessions. AreFresh (names_of subjects.now) sessions.items) }
     ensures rest { OnOk result ((rest.new.parts + length subjects.now ≡ rest.old.parts) × (rest.new.amount ≡ 0)) }
+    ensures roll { OnOk result ((roll.new.entries ≡ []) × ((made : ℕ) → All (λ subject. subject.name < made) subjects.now → roll.new.below ≤ made)) }
 {
     let mut sessions = Vec::new(alloc);
     for subject in subjects {
         let share = rest.split_off(1, 0);
-        sessions.push(Session::new(alloc, subject.name, share))?;
+        let pass = roll.issue(subject.name);
+        sessions.push(Session::new(alloc, subject.name, share, pass))?;
     }
     Ok(sessions)
 }

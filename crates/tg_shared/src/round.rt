@@ -1,9 +1,11 @@
 //! The time from sharing a store to closing it, as a type.
-ghost use Rattle.std.specs.Prelude.{◌≡◌, [], false};
+ghost use Rattle.std.specs.Prelude.{◌≡◌, [], false, IfOk};
 ghost use Rattle.tg_shared.specs.Sessions.{KeeperNames, SharedStart};
 
+use std::alloc::{AllocError, Global};
 use std::marker::{Brand, PhantomData};
-use std::sync::ledger::{Blank, Ledger};
+use std::sync::ledger::{Blank, Book, Ledger};
+use tg_passes::{BlankRoll, Board, Roll};
 
 /// One shared store, from [`SharedStore::new`](crate::SharedStore::new) to [`close`](crate::close). Its parameter ties
 /// the sessions to the store. A function that shares a store is generic in it, and is called with `Brand`.
@@ -12,12 +14,15 @@ pub trait Round: Ledger {
     /// and its keeper may end workers.
     ghost start: { SharedStart };
 
-    /// The names of the two ledgers by which its keeper and what is behind the lock know the same numbers.
+    /// The names of the two ledgers by which its keeper and what is behind the lock know the same numbers. The table by
+    /// which its sessions and what is behind the lock know of the same entries.
     ghost keeper: { KeeperNames };
 }
 
 impl Round for Brand {
-    ghost keeper = { record { handed = 0; entered = 0 } };
+    ghost use Rattle.tg_passes.specs.Passes.{no_table};
+
+    ghost keeper = { record { handed = 0; entered = 0; roll = no_table } };
 
     ghost start = { record { opening = record { workers = 0; edges = []; values = []; limit = 0 }; entries = []; handed = 0; limits = record { max_blocks = 0; space_blocks = 0 }; in_parts = false; may_end = false } };
 }
@@ -44,25 +49,44 @@ impl<L: Round> Ledger for Entered<L> {
     ghost parts = { 2 };
 }
 
-/// What a round is opened with: the blank of its sessions' ledger, and those of its keeper's two. They take no bytes.
+/// The board of the roll behind the lock, and of the sessions' passes.
+pub(crate) struct Rolled<L: Round> {
+    of: PhantomData<L>,
+}
+
+impl<L: Round> Board for Rolled<L> {
+    ghost board = { L.keeper.roll };
+}
+
+/// What is noted of each entry behind the lock: the book counts it, and the roll has it.
+#[derive(Drop)]
+pub(crate) struct Register<L: Round> {
+    pub(crate) book: Book<L>,
+    pub(crate) roll: Roll<Rolled<L>>,
+}
+
+/// What a round is opened with: the blank of its sessions' ledger, those of its keeper's two, and a blank roll. The
+/// roll takes a word of memory, and the others take no bytes.
 #[derive(Drop)]
 pub struct Blanks {
     pub sessions: Blank,
     pub handed: Blank,
     pub entered: Blank,
+    pub roll: BlankRoll,
 }
 
 impl Blanks {
     /// The blanks of a round whose sessions' ledger has so many parts. [`SharedStore::new`](crate::SharedStore::new)
-    /// asks for one part more than vertices may be made.
-    pub fn new(parts: u64) -> Blanks
-        ensures sessions { result.sessions.parts ≡ parts }
-        ensures keeper { (result.handed.parts ≡ 2) × (result.entered.parts ≡ 2) }
+    /// asks for one part more than vertices may be made. Fails only when out of memory.
+    pub fn new(alloc: Global, parts: u64) -> Result<Blanks, AllocError>
+        ensures sessions { IfOk result (λ blanks. blanks.sessions.parts ≡ parts) }
+        ensures keeper { IfOk result (λ blanks. (blanks.handed.parts ≡ 2) × (blanks.entered.parts ≡ 2)) }
     {
-        Blanks {
+        Ok(Blanks {
             sessions: Blank::new(parts),
             handed: Blank::new(2),
             entered: Blank::new(2),
-        }
+            roll: BlankRoll::new(alloc)?,
+        })
     }
 }

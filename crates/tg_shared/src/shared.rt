@@ -1,9 +1,10 @@
 //! The store behind its lock, from sharing it to closing it.
 ghost use Rattle.std.specs.Prelude.{◌≡◌, ◌<◌, ◌≤◌, ◌+◌, false, IfOk, IfErr, IsErrAnd, drop, length};
+ghost use Rattle.std.specs.List.{All};
 ghost use Rattle.std.specs.List.Sorted.{IsPermutation};
 ghost use Rattle.tg_store.specs.Store.{IsFaithful};
 ghost use Rattle.tg_shared.specs.Closing.{IsGivenBack};
-ghost use Rattle.tg_shared.specs.Sessions.{AreFresh, AreSharedOut, AtSome, GoesOn, MayClose, count_of, handed_of, held_from, parts_of, sessions_made, subjects_at};
+ghost use Rattle.tg_shared.specs.Sessions.{AreFresh, AreSharedOut, AtSome, GoesOn, HasAll, MayClose, count_of, handed_of, held_from, parts_of, sessions_made, since, subjects_at};
 
 use crate::closing::{CloseFault, LockedRefused};
 use crate::keeper::Keeper;
@@ -131,6 +132,9 @@ impl<L: Round, P: Payload> SharedStore<L, P> {
 ///
 /// Where the keeper may end workers, the journal may have grown by more than there are receipts: by what the keeper
 /// entered for them. [`close_with`] tells how much that is.
+///
+/// If the keeper may end nobody, `single` speaks of each single session. A session that handed out no receipt and took
+/// over nobody has receipts of all entries of its worker since the store was shared, whatever the other sessions did.
 pub fn close<L: Round, P: Payload>(
     store: SharedStore<L, P>,
     sessions: Vec<Session<L>>,
@@ -141,6 +145,7 @@ pub fn close<L: Round, P: Payload>(
         AreSharedOut (drop (held_from L.start store) store.entries) sessions.items) }
     ensures none_handed { L.start.may_end ≡ false → IfOk result (λ store. handed_of sessions.items ≡ 0 → held_from L.start store ≡ length L.start.entries) }
     ensures whole { L.start.in_parts ≡ false → L.start.may_end ≡ false → IfOk result (λ store. AreSharedOut (drop (length L.start.entries) store.entries) sessions.items) }
+    ensures single { L.start.may_end ≡ false → IfOk result (λ store. All (HasAll (since L.start store)) sessions.items) }
     ensures all { IfOk result (λ store. parts_of sessions.items ≡ sessions_made L.start store.entries) }
     ensures missing { IfErr result (λ refused. refused.why ≡ CloseFault.SessionsMissing → AtSome L.start (λ s. parts_of sessions.items < sessions_made L.start s.entries)) }
     ensures too_few { parts_of sessions.items < length (subjects_at L.start) → IsErrAnd result (λ refused. refused.why ≡ CloseFault.SessionsMissing) }
@@ -175,6 +180,7 @@ pub fn close_with<L: Round, P: Payload>(
     ensures count { IfOk result (λ store. length store.entries ≡ length L.start.entries + keeper.old.entered + handed_of sessions.items + count_of sessions.items) }
     ensures whole { L.start.in_parts ≡ false → keeper.old.entered ≡ 0 → IfOk result (λ store. AreSharedOut (drop (length L.start.entries) store.entries) sessions.items) }
     ensures held_from { IfOk result (λ store. store.handed ≡ keeper.old.next) }
+    ensures single { L.start.may_end ≡ false → IfOk result (λ store. All (HasAll (since L.start store)) sessions.items) }
     ensures all { IfOk result (λ store. parts_of sessions.items ≡ sessions_made L.start store.entries) }
     ensures missing { IfErr result (λ refused. refused.why ≡ CloseFault.SessionsMissing → AtSome L.start (λ s. parts_of sessions.items < sessions_made L.start s.entries)) }
     ensures too_few { parts_of sessions.items < length (subjects_at L.start) → IsErrAnd result (λ refused. refused.why ≡ CloseFault.SessionsMissing) }
@@ -211,6 +217,7 @@ pub fn reclaim<L: Round, P: Payload>(
     ensures within { IfOk result (λ store. parts_of sessions.items ≤ sessions_made L.start store.entries) }
     ensures count { L.start.may_end ≡ false → IfOk result (λ store. parts_of sessions.items ≡ sessions_made L.start store.entries →
         length store.entries ≡ length L.start.entries + handed_of sessions.items + count_of sessions.items) }
+    ensures single { L.start.may_end ≡ false → IfOk result (λ store. All (HasAll (since L.start store)) sessions.items) }
     ensures mismatch { IfErr result (λ refused. (refused.why ≡ CloseFault.ReceiptMismatch) × AtSome L.start (λ s.
         (length L.start.entries + count_of sessions.items ≤ length s.entries) × (¬ MayClose s.entries (held_from L.start s) sessions.items))) }
     ensures handed_back { IfErr result (λ refused. IsPermutation sessions.items refused.sessions.items) }

@@ -1,5 +1,5 @@
 //! Who has a session and pays for its calls.
-ghost use Rattle.std.specs.Prelude.{◌≡◌, ◌≢◌, ◌<◌, ◌+◌, Err, IfErr, IfOk, IsErrAnd, OnErr, OnOk, true};
+ghost use Rattle.std.specs.Prelude.{◌≡◌, ◌≢◌, ◌<◌, ◌+◌, Err, IfErr, IfOk, IsErrAnd, OnErr, OnOk, true, false};
 ghost use Rattle.tg_model.specs.Graph.{IsSubject};
 ghost use Rattle.tg_model.specs.Rules.{IsAllowed};
 ghost use Rattle.tg_model.specs.declared.command.Deed.TheVariants.{Create, Plain, Spawn};
@@ -9,7 +9,7 @@ ghost use Rattle.tg_rules.specs.Effect.{AddsEdge, LacksCellsToServe};
 ghost use Rattle.tg_store.specs.Held.{IsHeldOver};
 ghost use Rattle.tg_store.specs.Room.{LacksRoomToCollect};
 ghost use Rattle.tg_store.specs.Store.{graph_of_store};
-ghost use Rattle.tg_shared.specs.Sessions.{AtSome, HasLeftAtSome, IsAnswered, IsFresh, KeepsReceipts, LeavesAtSome, MayRefuseAtSome};
+ghost use Rattle.tg_shared.specs.Sessions.{AtKnown, AtSome, HasLeftAtSome, IsAnswered, IsFresh, KeepsReceipts, LeavesAtSome, MayRefuseAtSome};
 ghost use Rattle.tg_shares.specs.declared.fault.ShareFault.{ShareFault as ShareFaultOf};
 ghost use Rattle.tg_shares.specs.Shares.{CanPayForVertex, IsAnsweredSomehow, LacksToLeaveAtSome, Pays, PaysFor, PaysForSpawn, entries_alone, one_entry, one_vertex};
 
@@ -49,8 +49,8 @@ impl<L: Round, V: Ledger> Client<L, V> {
         ensures receipt { OnOk result (IsAnsweredSomehow L.start self.old.session self.new.session (Plain command)) }
         ensures refused { OnErr result (KeepsReceipts self.old.session self.new.session) }
         ensures paid { PaysFor one_entry self.old.purse self.new.purse result }
-        ensures no_such_worker { IfErr result (λ why. why ≡ ApplyFault.NoSuchWorker → AtSome L.start (λ s. ¬ IsSubject (graph_of_store s) self.old.session.worker)) }
-        ensures full { IfErr result (λ why. why ≡ ApplyFault.HeapFull → AtSome L.start (λ s.
+        ensures no_such_worker { IfErr result (λ why. why ≡ ApplyFault.NoSuchWorker → AtKnown L.start self.old.session (λ s. ¬ IsSubject (graph_of_store s) self.old.session.worker)) }
+        ensures full { IfErr result (λ why. why ≡ ApplyFault.HeapFull → AtKnown L.start self.old.session (λ s.
             IsAllowed (graph_of_store s) self.old.session.worker (Plain command) × AddsEdge command × LacksCellsToServe s.heap.table (nursery_of s.heap self.old.session.worker) self.old.session.worker command)) }
         ensures retired { self.old.session.retired ≡ true → IsErrAnd result (λ why. why ≡ ApplyFault.NoSuchWorker) }
     {
@@ -59,7 +59,8 @@ impl<L: Round, V: Ledger> Client<L, V> {
         }
         self.session.make_room(&[])?;
         let mut metered = store.metered.lock(rt);
-        // for what is told of it: the shared store, gone on
+        // for what is told of it: the shared store, gone on, of which the session knows what it does
+        metered.look(self);
         let _ = metered.store();
         let answered = metered.apply(self, command);
         // and that the new entry is legal
@@ -93,7 +94,8 @@ impl<L: Round, V: Ledger> Client<L, V> {
             return Err(CreateRefused { draft, why });
         }
         let mut metered = store.metered.lock(rt);
-        // for what is told of it: the shared store, gone on
+        // for what is told of it: the shared store, gone on, of which the session knows what it does
+        metered.look(self);
         let _ = metered.store();
         let created = metered.create(self, label, draft);
         // and of the one that is left
@@ -121,6 +123,7 @@ impl<L: Round, V: Ledger> Client<L, V> {
         requires share { CanPayForVertex self.old.purse }
         ensures receipt { IfOk result (λ fresh. IsAnswered L.start self.old.session self.new.session (Spawn label draft.law draft.state) (Name fresh.worker)) }
         ensures fresh { IfOk result IsFresh }
+        ensures fresh_seen { L.start.may_end ≡ false → IfOk result (λ fresh. fresh.seen ≡ self.new.session.seen) }
         ensures refusals { MayRefuseAtSome L.start (Spawn label draft.law draft.state) draft self.old.session self.new.session result }
         ensures never_full { IfErr result (λ refused. refused.why ≢ CreateFault.VerticesFull) }
         ensures workers_full { IfErr result (λ refused. refused.why ≡ CreateFault.WorkersFull → IsAnswered L.start self.old.session self.new.session (Spawn label draft.law draft.state) WorkersFull) }
@@ -132,7 +135,8 @@ impl<L: Round, V: Ledger> Client<L, V> {
             return Err(CreateRefused { draft, why });
         }
         let mut metered = store.metered.lock(rt);
-        // for what is told of it: the shared store, gone on
+        // for what is told of it: the shared store, gone on, of which the session knows what it does
+        metered.look(self);
         let _ = metered.store();
         let spawned = metered.spawn(self, label, draft);
         // and of the one that is left
@@ -156,8 +160,8 @@ impl<L: Round, V: Ledger> Client<L, V> {
         ensures left { IfOk result (HasLeftAtSome L.start self.old.session self.new.session) }
         ensures paid { IfOk result (λ count. Pays (entries_alone (count + 1)) self.old.purse self.new.purse) }
         ensures refused { OnErr result (KeepsReceipts self.old.session self.new.session × (self.new.purse ≡ self.old.purse)) }
-        ensures lacks { IfErr result (λ why. (fault : ShareFaultOf) → why ≡ LeaveFault.Share fault → LacksToLeaveAtSome L.start self.old.session.worker self.old.purse fault) }
-        ensures no_such_worker { IfErr result (λ why. why ≡ LeaveFault.Store ApplyFault.NoSuchWorker → AtSome L.start (λ s. ¬ IsSubject (graph_of_store s) self.old.session.worker)) }
+        ensures lacks { IfErr result (λ why. (fault : ShareFaultOf) → why ≡ LeaveFault.Share fault → LacksToLeaveAtSome L.start self.old.session self.old.purse fault) }
+        ensures no_such_worker { IfErr result (λ why. why ≡ LeaveFault.Store ApplyFault.NoSuchWorker → AtKnown L.start self.old.session (λ s. ¬ IsSubject (graph_of_store s) self.old.session.worker)) }
         ensures never_full { result ≢ Err (LeaveFault.Store ApplyFault.HeapFull) }
         ensures retired { self.old.session.retired ≡ true → IsErrAnd result (λ why. why ≡ LeaveFault.Store ApplyFault.NoSuchWorker) }
     {
@@ -165,7 +169,8 @@ impl<L: Round, V: Ledger> Client<L, V> {
             return Err(LeaveFault::Store(ApplyFault::NoSuchWorker));
         }
         let mut metered = store.metered.lock(rt);
-        // for what is told of it: the shared store, gone on
+        // for what is told of it: the shared store, gone on, of which the session knows what it does
+        metered.look(self);
         let _ = metered.store();
         let left = metered.leave(self);
         // and that the new entries are legal

@@ -43,7 +43,7 @@ impl<L: Round, V: Ledger, P: Payload> Metered<L, V, P> {
     ghost use Rattle.tg_store.specs.Room.{LacksRoomToCollect};
     ghost use Rattle.tg_store.specs.Store.{IsFaithful, StandsFor};
     ghost use Rattle.tg_shared.specs.Serving.{Collects, EndsWorker, IsMadeAndNoted, KeepsNumbers, KeepsRound, ServesCommand};
-    ghost use Rattle.tg_shared.specs.Sessions.{AreFresh, GoesOn, IsFresh, MayNote, MayShare, Records, RecordsNothing, sessions_made, subjects_at};
+    ghost use Rattle.tg_shared.specs.Sessions.{AreFresh, GoesOn, HasSeen, IsFresh, IsKnown, MayNote, MayShare, Records, RecordsNothing, knowledge, sessions_made, since, subjects_at};
     ghost use Rattle.tg_shares.specs.Shares.{CanPayForVertex, LeavesPaying, MayShareOut, PaysFor, PaysForSpawn, one_entry, one_vertex};
 
     /// Shares a store as [`Locked::open`] does, and hands out a purse with so many vertices and entries, which all are
@@ -102,6 +102,16 @@ impl<L: Round, V: Ledger, P: Payload> Metered<L, V, P> {
         self.locked.store()
     }
 
+    /// Changes nothing, and tells what the session knows of the store, by one call of [`Locked::look`].
+    pub(crate) fn look(&mut self, client: &mut Client<L, V>)
+        ensures known { IsKnown L.start (knowledge client.new.session) self.new.locked.store }
+        ensures same { self.new.locked ≡ self.old.locked }
+        ensures same_session { client.new.session ≡ client.old.session }
+        ensures same_purse { client.new.purse ≡ client.old.purse }
+    {
+        self.locked.look(&mut client.session);
+    }
+
     /// Takes a command of the session's subject, by one call of [`Locked::apply`]. An entry is paid for, and nothing
     /// where it is refused.
     pub(crate) fn apply(
@@ -114,6 +124,7 @@ impl<L: Round, V: Ledger, P: Payload> Metered<L, V, P> {
         ensures served { ServesCommand command self.old.locked.store self.new.locked.store client.old.session client.new.session result }
         ensures paid { PaysFor one_entry client.old.purse client.new.purse result }
         ensures kept { KeepsRound self.old.locked self.new.locked }
+        ensures seen { HasSeen L.start self.new.locked.store client.old.session client.new.session }
     {
         match self.locked.apply(&mut client.session, command) {
             Ok(()) => {
@@ -142,6 +153,7 @@ impl<L: Round, V: Ledger, P: Payload> Metered<L, V, P> {
         ensures refused { OnErr result (RecordsNothing self.old.locked.store self.new.locked.store client.old.session client.new.session) }
         ensures paid { PaysFor one_vertex client.old.purse client.new.purse result }
         ensures numbers { KeepsNumbers self.old.locked self.new.locked }
+        ensures seen { HasSeen L.start self.new.locked.store client.old.session client.new.session }
     {
         // It tells that what is in the purse is left.
         client.purse.tell(&mut self.till);
@@ -173,6 +185,8 @@ impl<L: Round, V: Ledger, P: Payload> Metered<L, V, P> {
             Records self.old.locked.store self.new.locked.store client.old.session client.new.session (Spawn label draft.law draft.state) WorkersFull) }
         ensures refused { IfErr result (λ refused. refused.why ≢ CreateFault.WorkersFull → RecordsNothing self.old.locked.store self.new.locked.store client.old.session client.new.session) }
         ensures paid { PaysForSpawn client.old.purse client.new.purse result }
+        ensures seen { HasSeen L.start self.new.locked.store client.old.session client.new.session }
+        ensures fresh_seen { L.start.may_end ≡ false → IfOk result (λ fresh. fresh.seen ≡ since L.start self.new.locked.store) }
     {
         // It tells that what is in the purse is left.
         client.purse.tell(&mut self.till);
@@ -195,7 +209,8 @@ impl<L: Round, V: Ledger, P: Payload> Metered<L, V, P> {
     /// where the session's subject is none any more; `Share` only where the purse has too few entries; else
     /// `OutOfMemory` alone.
     pub(crate) fn leave(&mut self, client: &mut Client<L, V>) -> Result<u64, LeaveFault>
-        ensures { LeavesPaying self.old.locked.store self.new.locked.store client.old.session client.new.session client.old.purse client.new.purse result }
+        ensures leaves { LeavesPaying self.old.locked.store self.new.locked.store client.old.session client.new.session client.old.purse client.new.purse result }
+        ensures seen { HasSeen L.start self.new.locked.store client.old.session client.new.session }
     {
         let worker = client.session.worker();
         let edges = match self.locked.store().row(worker) {

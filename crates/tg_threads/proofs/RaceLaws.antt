@@ -119,6 +119,13 @@ race_told (Err fault.WriteFailed) race_text start shared bytes before left lines
     (lines, h.1, h.2, whole, subst (λ text. IsRaceOutput race_text start lines text) h.3 (raced_output race_text start shared lines s ts new opening raced h.0), h.4)
 race_told r race_text start shared bytes before left lines s ts after whole new opening raced h = (lines, whole, h)
 
+-- where there was no memory for what a round is opened with, nothing is written
+pub unshared : {T : Type 0} (r : Result T RaceFault) (race_text : RaceText) (start : Start) (bytes before left : List ℕ) (lines : List Line) (after : Option (List ℕ)) → r ≡ Err fault.OutOfMemory → IsWhole start bytes lines left → after ≡ Some before
+    → HasRaced race_text start bytes before r left after
+unshared {T} r race_text start bytes before left lines after is whole kept =
+    let P : Result T RaceFault → Type 0 = λ x. HasRaced race_text start bytes before x left after in
+    subst P (sym is) (lines, whole, kept)
+
 -- the audit of a store that gave no entry up is refused for want of memory alone
 pub own_audit_fault : {A : Type 0} (handed : ℕ) (r : Result A StoreAuditFault) (f : StoreAuditFault) → r ≡ Err f → handed ≡ 0 → (r ≡ Err audit.NotWhole → 0 < handed) → (f ≡ audit.NotWhole) ⊎ (f ≡ audit.OutOfMemory) → f ≡ audit.OutOfMemory
 own_audit_fault handed r f was none gave (inl not_whole) =

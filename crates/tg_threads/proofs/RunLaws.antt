@@ -22,13 +22,14 @@ use Rattle.tg_text.specs.declared.answer.Answer.{Answer}
 use Rattle.tg_text.specs.declared.answer.Answer.TheVariants as answer
 use Rattle.tg_text.specs.declared.answer.Refusal.{Refusal}
 use Rattle.tg_text.specs.declared.answer.Refusal.TheVariants as refusal
+use Rattle.tg_store.specs.Store.{StoreState}
 use Rattle.tg_shared.specs.declared.receipt.Receipt.{Receipt}
 use Rattle.tg_shared.specs.Receipts.{receipt_of}
 use Rattle.tg_store.specs.declared.fault.CreateFault.{CreateFault}
 use Rattle.tg_store.specs.declared.fault.CreateFault.TheVariants as create
 use Rattle.tg_script.specs.Refusals.{create_answer}
 use Rattle.tg_script.specs.Script.{create_of}
-use Rattle.tg_shared.specs.Sessions.{AddsReceipt, AreFresh, IsAnswered, IsFresh, SessionState, SharedStart, KeepsReceipts}
+use Rattle.tg_shared.specs.Sessions.{AddsReceipt, AreFresh, AtKnown, AtSome, IsAnswered, IsFresh, KeepsReceipts, SessionState, SharedStart}
 use Rattle.tg_shared.proofs.Fresh.{fresh_push}
 use Rattle.tg_threads.specs.declared.threads.ThreadsFault.{ThreadsFault}
 use Rattle.tg_threads.specs.declared.threads.ThreadsFault.TheVariants as threads
@@ -52,11 +53,15 @@ pub never_collected : (why : CreateFault) (kept : Option ℕ) → answer.Collect
 never_collected create.NoSuchWorker kept is = cc
 never_collected why kept is = cc
 
+-- what holds of a store of which the session knows what it does holds of one that may have been behind the lock
+pub of_some : {A : Type 0} (start : SharedStart) (session : SessionState) (P : StoreState → Type 0) → (A → AtKnown start session P) → A → AtSome start P
+of_some start session P told is = let held = told is in (held.0, held.1, held.2, held.3.0)
+
 -- what is told of an answer, with its place
 told_of_answer : (start : SharedStart) (old new : SessionState) (d : Deed) (r : Reply) (t : Told) → IsAnswered start old new d r → ((front : List Receipt) (last : Receipt) → new.receipts ≡ front ++ last ∷ [] → t ≡ came.Entered last.at) → HasAsked start d t old new
 told_of_answer start old new d r t h entered =
     let e : Entry = record { worker = old.worker; deed = d; reply = r } in
-    subst (λ (a : Told). HasAsked start d a old new) (sym (entered old.receipts (receipt_of (length h.0.entries) e) h.3.0.1)) (r, h.3.0)
+    subst (λ (a : Told). HasAsked start d a old new) (sym (entered old.receipts (receipt_of (length h.0.entries) e) h.3.0.0.1)) (r, h.3.0.0)
 
 -- What a deed comes to that made no vertex, of a worker that is a subject: what a script is told, and no receipt, or the entry.
 pub vertex_not_made : (start : SharedStart) (d : Deed) (why : CreateFault) (t : Told) (old new : SessionState) → (why ≡ create.HeapFull → IsOfStore start old.worker d refusal.Heap) → why ≢ create.NoSuchWorker →
@@ -113,8 +118,8 @@ made_none start making none (Some value) t old new h = asked_none start (making 
 -- a spawn that made no subject leaves them
 pub not_spawned : (start : SharedStart) (d : Deed) (why : CreateFault) (old new : SessionState) → (why ≡ create.VerticesFull → IsAnswered start old new d reply.VerticesFull) → (why ≡ create.WorkersFull → IsAnswered start old new d reply.WorkersFull) →
     (why ≢ create.VerticesFull → why ≢ create.WorkersFull → KeepsReceipts old new) → subjects_spawned new.receipts ≡ subjects_spawned old.receipts
-not_spawned start d create.VerticesFull old new full crowded kept = let h = full refl in no_subject old new _ d reply.VerticesFull (full_none d) h.3.0
-not_spawned start d create.WorkersFull old new full crowded kept = let h = crowded refl in no_subject old new _ d reply.WorkersFull (crowded_none d) h.3.0
+not_spawned start d create.VerticesFull old new full crowded kept = let h = full refl in no_subject old new _ d reply.VerticesFull (full_none d) h.3.0.0
+not_spawned start d create.WorkersFull old new full crowded kept = let h = crowded refl in no_subject old new _ d reply.WorkersFull (crowded_none d) h.3.0.0
 not_spawned start d why old new full crowded kept = ap subjects_spawned (kept (λ e. let no : ⊥ = cc in no) (λ e. let no : ⊥ = cc in no)).1
 
 pub ok_where : {T E : Type 0} (r : Result T E) (Q : Type 0) → Q → IfOk r (λ _. Q)

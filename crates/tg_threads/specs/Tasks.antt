@@ -18,7 +18,7 @@ use Rattle.tg_text.specs.declared.answer.Answer.TheVariants as answer
 use Rattle.tg_text.specs.declared.answer.Refusal.TheVariants as refusal
 use Rattle.tg_shared.specs.declared.receipt.Receipt.{Receipt}
 use Rattle.tg_shared.specs.Receipts.{receipt_of}
-use Rattle.tg_shared.specs.Sessions.{SessionState, SharedStart, AreFresh, AddsReceipt, AtSome, KeepsReceipts}
+use Rattle.tg_shared.specs.Sessions.{AddsReceipt, AreFresh, AtKnown, KeepsReceipts, SessionState, SharedStart}
 use Rattle.std.specs.declared.thread.PromisedHandle.{PromisedHandle}
 use Rattle.tg_threads.specs.declared.threads.Assigned.{Assigned}
 use Rattle.tg_threads.specs.declared.threads.ThreadsFault.{ThreadsFault}
@@ -96,10 +96,10 @@ abbrev pub IsRunBy : ℕ → ℕ → Boxed → Type 0
 IsRunBy workers x b = runner_of workers b.line ≡ Some x
 
 -- What is told of a line of a session's worker is this; or else there is a fault, and the worker is no subject of a store that may have
--- been behind the lock.
+-- been behind the lock, and of which the session knows what it does.
 pub record IsToldOrGone (start : SharedStart) (session : SessionState) (IsTold : Told → Type 0) (result : Result Told ThreadsFault) : Type 0 where
   pub asked : IfOk result IsTold
-  pub gone : IfErr result (λ why. (why ≡ threads.NoSuchWorker) × AtSome start (λ s. ¬ IsSubject (graph_of_store s) session.worker))
+  pub gone : IfErr result (λ why. (why ≡ threads.NoSuchWorker) × AtKnown start session (λ s. ¬ IsSubject (graph_of_store s) session.worker))
 
 -- the session never had a receipt
 abbrev pub HadNone : SessionState → Type 0

@@ -133,7 +133,7 @@ fn race<
     let helpers = settings.helpers;
     let opened = open_race(alloc, source, sink, settings, workers)?;
     let Opened { store, lines } = opened;
-    let blanks = Blanks::new(store.opening().max_vertices() + 1);
+    let blanks = Blanks::new(alloc, store.opening().max_vertices() + 1)?;
     let raced = share::<Brand, P, G, R>(
         rt,
         alloc,

@@ -9,7 +9,7 @@ ghost use Rattle.tg_store.specs.Room.{LacksRoomToCollect};
 ghost use Rattle.tg_store.specs.Store.{graph_of_store};
 ghost use Rattle.tg_script.specs.Refusals.{create_answer};
 ghost use Rattle.tg_script.specs.Script.{MayWant, create_of, spawn_of};
-ghost use Rattle.tg_shared.specs.Sessions.{AtSome, LeavesAtSome};
+ghost use Rattle.tg_shared.specs.Sessions.{AtKnown, AtSome, LeavesAtSome};
 ghost use Rattle.tg_shared.specs.declared.receipt.Receipt.{Receipt as ReceiptOf};
 ghost use Rattle.tg_text.specs.declared.answer.Refusal.{Refusal as RefusalOf};
 ghost use Rattle.tg_threads.specs.Output.{arena_of, is_retire_of};
@@ -128,7 +128,7 @@ fn run_task<L: Round, P: Payload, R: Threads + Wait + Sync>(
     ensures run { (workers : ℕ) (before : ℕ → Bool) → before session.old.worker ≡ served → IsRunBy workers session.old.worker (boxed_of task) →
         IfOk result (λ told. HasRun (arena_of L.start helpers) before (boxed_of task) told session.old session.new) }
     ensures spawned { KeepsSpawned (if may_make_subject task then 1 else 0) session.old session.new spawned.old spawned.new result }
-    ensures gone { IfErr result (λ why. (why ≡ ThreadsFault.NoSuchWorker) × AtSome L.start (λ s. ¬ IsSubject (graph_of_store s) session.old.worker)) }
+    ensures gone { IfErr result (λ why. (why ≡ ThreadsFault.NoSuchWorker) × AtKnown L.start session.old (λ s. ¬ IsSubject (graph_of_store s) session.old.worker)) }
 {
     let Task { line, draft } = task;
     if is_refused(served, &line) {

@@ -25,7 +25,7 @@ pub fn run_round<R: Threads + Wait + Sync>(
 ) -> Result<(Ending, u64), StoryFault> {
     let store = open_store(alloc, label("g")?)?;
     let parts = store.opening().max_vertices() + 1;
-    share::<Brand, R>(rt, alloc, Blanks::new(parts), store)
+    share::<Brand, R>(rt, alloc, Blanks::new(alloc, parts)?, store)
 }
 
 // Shares the store, tells the story, closes and audits.

@@ -23,7 +23,7 @@ use tg_store::{Kind, Store, StoreFault};
 pub fn run_story<R: Threads + Wait + Sync + Print + AllocGlobal>(rt: &R) -> Result<(), StoryFault> {
     let store = open_store(rt.alloc())?;
     let parts = store.opening().max_vertices() + 1;
-    share::<Brand, R>(rt, Blanks::new(parts), store)
+    share::<Brand, R>(rt, Blanks::new(rt.alloc(), parts)?, store)
 }
 
 // A store with the service alone, in which at most 12 vertices may ever be made.

@@ -1,8 +1,9 @@
 use Rattle.std.proofs.Common.{◌≡◌, ◌<◌, ◌≤◌, ◌+◌, ◌∙◌, ℕ, List, ap, length, drop, arith, sym, subst}
+use Rattle.std.specs.List.{All}
 use Rattle.std.specs.List.Sorted.{IsPermutation}
 use Rattle.tg_store.specs.Store.{StoreState}
 use Rattle.tg_shared.specs.Closing.{IsGivenBack}
-use Rattle.tg_shared.specs.Sessions.{AreSharedOut, SessionState, count_of, handed_of, parts_of, sessions_made}
+use Rattle.tg_shared.specs.Sessions.{AreSharedOut, HasAll, SessionState, count_of, handed_of, parts_of, sessions_made}
 use Rattle.tg_shared.proofs.Sharing.{among}
 use Rattle.tg_shared.proofs.shared.close_with.Goals as goal
 
@@ -26,6 +27,7 @@ returns-in-Ok g c =
         gone_on = ends.gone_on;
       });
       count = subst (λ (s : StoreState). length s.entries ≡ start + c.args.keeper.now.entered + handed_of items + count_of items) same (c.in-Ok.ensures.count ∙ ap (λ (n : ℕ). start + n + handed_of items + count_of items) entered);
+      single = λ never. subst (λ (s : StoreState). All (HasAll (drop start s.entries)) items) same (c.in-Ok.ensures.single never);
       whole = λ is none. subst (λ (s : StoreState). AreSharedOut (drop start s.entries) items) same (c.in-Ok.ensures.whole is (entered ∙ none));
       held_from = subst (λ (s : StoreState). s.handed ≡ c.args.keeper.now.next) same c.into_locked_with-locked.ensures.held_from;
       same = c.into_locked_with-locked.ensures.same;
@@ -43,6 +45,7 @@ returns-in-Err g c =
     record {
       back = tt;
       count = tt;
+      single = λ _. tt;
       whole = λ _ _. tt;
       held_from = tt;
       same = c.into_locked_with-locked.ensures.same;

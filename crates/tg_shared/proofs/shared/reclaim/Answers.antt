@@ -1,8 +1,9 @@
-use Rattle.std.proofs.Common.{◌≡◌, ◌≤◌, ◌+◌, ◌∙◌, ℕ, List, length, refl, sym, subst}
+use Rattle.std.proofs.Common.{◌≡◌, ◌≤◌, ◌+◌, ◌∙◌, ℕ, List, drop, length, refl, sym, subst}
+use Rattle.std.specs.List.{All}
 use Rattle.std.specs.List.Sorted.{IsPermutation}
 use Rattle.tg_store.specs.Store.{StoreState}
 use Rattle.tg_shared.specs.Closing.{IsGivenBack}
-use Rattle.tg_shared.specs.Sessions.{SessionState, count_of, handed_of, parts_of, sessions_made}
+use Rattle.tg_shared.specs.Sessions.{HasAll, SessionState, count_of, handed_of, parts_of, sessions_made}
 use Rattle.tg_shared.proofs.Sharing.{among, as_counted, still_among}
 use Rattle.tg_shared.proofs.shared.reclaim.Goals as goal
 
@@ -26,6 +27,7 @@ returns-in-Ok g c =
       count = λ no.
           subst (λ (s : StoreState). parts_of items ≡ sessions_made g.L.Round.start s.entries → length s.entries ≡ start + handed_of items + count_of items) same
           (λ all. as_counted start locked.entered (handed_of items) (count_of items) (length locked.store.entries) (sums.count (all ∙ sym made)) (c.into_locked-locked.ensures.none_ended no));
+      single = λ never. subst (λ (s : StoreState). All (HasAll (drop start s.entries)) items) same (c.in-Ok.ensures.single never);
       mismatch = tt;
       handed_back = tt;
     }
@@ -37,6 +39,7 @@ returns-in-Err g c =
       back = tt;
       within = tt;
       count = λ _. tt;
+      single = λ _. tt;
       mismatch = (
         c.back_behind_its_lock.ensures.1 ∙ c.in-Err.ensures.only,
         (

@@ -1,4 +1,4 @@
-use Rattle.std.proofs.Common.{◌∙◌, List, ap, subst, sym, arith}
+use Rattle.std.proofs.Common.{◌∙◌, Err, List, ap, subst, sym, arith}
 use Rattle.std.proofs.lemmas.Result.{err_from_is_err_and}
 use Rattle.std.specs.List.{All}
 use Rattle.tg_text.specs.declared.line.Line.{Line}
@@ -8,7 +8,7 @@ use Rattle.tg_script.proofs.LinesLaws.{keeps_known}
 use Rattle.tg_space.specs.SpaceTable.{BlockLimits}
 use Rattle.tg_script.specs.Entering.{plan_of}
 use Rattle.tg_threads.specs.Output.{IsNewStore, arena_of}
-use Rattle.tg_threads.proofs.RaceLaws.{race_told, raced_same, telling_due}
+use Rattle.tg_threads.proofs.RaceLaws.{race_told, raced_same, telling_due, unshared}
 use Rattle.tg_threads.proofs.race.race.Goals as goal
 
 pub returns-clause-output : goal.returns-clause-output
@@ -33,6 +33,18 @@ returns-clause-output g c = λ bytes before known taken.
       opens.1,
       race_told c.tell-told.result g.T.RaceTelling.race_text start shared bytes before opens.0 lines store ts (s.taken c.tell-told.new.sink) whole.1 new (came.2 ∙ whole.3) same
           (c.tell-told.ensures.told before (keeps_known (s.taken c.args.sink.now) (s.taken c.open_race.new.sink) before taken c.in_ok-opened.ensures.silent.keeps)),
+    )
+
+pub returns-in_err-blanks-clause-output : goal.returns-in_err-blanks-clause-output
+returns-in_err-blanks-clause-output g c = λ bytes before known taken.
+    let start = start_with c.args.settings c.args.workers.items c.args.stock.items in
+    let s = g.K.Sink in
+    let opens = c.in_ok-opened.ensures.output bytes known in
+    let given = err_from_is_err_and c.from_residual-in_err-blanks.result c.from_residual-in_err-blanks.ensures.1 in (
+      opens.0,
+      opens.1,
+      unshared c.from_residual-in_err-blanks.result g.T.RaceTelling.race_text start bytes before opens.0 opens.2.0 (s.taken c.open_race.new.sink) (given.1 ∙ ap Err given.2) opens.2.1
+          (keeps_known (s.taken c.args.sink.now) (s.taken c.open_race.new.sink) before taken c.in_ok-opened.ensures.silent.keeps),
     )
 
 pub returns-clause-due : goal.returns-clause-due

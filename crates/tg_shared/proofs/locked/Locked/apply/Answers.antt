@@ -1,19 +1,26 @@
-use Rattle.std.proofs.Common.{◌≡◌, ◌∙◌, ℕ, List, length, Err, Ok, ap, refl, subst, sym}
+use Rattle.std.proofs.Common.{◌≡◌, ◌∙◌, ℕ, ◌++◌, ◌∷◌, [], List, length, Err, Ok, ap, refl, subst, sym}
 use Rattle.std.proofs.lemmas.Result.{err_from_is_err_and}
 use Rattle.tg_model.specs.Graph.{IsSubject}
 use Rattle.tg_model.specs.declared.command.Deed.{Deed}
 use Rattle.tg_journal.specs.declared.entry.Entry.{Entry}
-use Rattle.tg_store.specs.Store.{graph_of_store}
+use Rattle.tg_model.specs.declared.reply.Reply.{Reply}
+use Rattle.tg_passes.specs.Passes.{RollState}
+use Rattle.tg_store.specs.declared.fault.ApplyFault.TheVariants.{NoSuchWorker}
+use Rattle.tg_store.specs.Store.{StoreState, Enters, graph_of_store}
 use Rattle.tg_shared.specs.Serving.{KeepsRound, ServesCommand}
-use Rattle.tg_shared.specs.Sessions.{AddsReceipt, LockedState}
+use Rattle.tg_shared.specs.Sessions.{AddsReceipt, LockedState, SharedStart}
 use Rattle.tg_shared.proofs.Balances.{goes_on_more, locked_as, locked_entered, locked_same}
+use Rattle.tg_shared.proofs.Calls.{ok_not_err}
+use Rattle.tg_shared.proofs.Knowing.{known_with, or_may_end, own_one, rolled_more, rolled_same, seen_with, stays_out}
 use Rattle.tg_shared.proofs.Replies.{gone_behind, refuses, serves}
 use Rattle.tg_shared.proofs.locked.Locked.apply.Goals as goal
 
 pub invariant_of-self : goal.invariant_of-self
 invariant_of-self g c =
-    let kept = c.in_err-reply.ensures.refused in
-    locked_same g.L.Round.start c.self.inside.store c.apply.new.self _ _ _ _ _ c.self.invariant kept.entries kept.opening c.apply.ensures.limits c.apply.ensures.handed
+    let kept = c.in_err-reply.ensures.refused in (
+      locked_same g.L.Round.start c.self.inside.store c.apply.new.self _ _ _ _ _ c.self.invariant.0 kept.entries kept.opening c.apply.ensures.limits c.apply.ensures.handed,
+      rolled_same g.L.Round.start c.self.inside.store c.apply.new.self c.self.inside.register.roll c.self.invariant.1 kept.entries kept.opening,
+    )
 
 pub returns-in_err-reply-clause-served : goal.returns-in_err-reply-clause-served
 returns-in_err-reply-clause-served g c =
@@ -23,19 +30,35 @@ returns-in_err-reply-clause-served g c =
     (subst (λ (b : LockedState). ServesCommand c.args.command b.store c.apply.new.self c.args.session.now c.args.session.now (Err c.in_err-reply.field-0.0)) c.self.view_is
     (refuses c.args.command c.self.inside.store c.apply.new.self c.in_err-reply.field-0.0 c.worker-worker.result c.args.session.now c.worker-worker.ensures (told.no_such_worker, told.full) told.refused))
 
+-- the entry that was made
+entered_as : (old new : StoreState) (worker : ℕ) (deed given : Deed) (reply : Reply) → Enters old new worker deed reply → given ≡ deed → Enters old new worker given reply
+entered_as old new worker deed given reply entry is = entry ∙ (λ i. old.entries ++ (record { worker = worker; deed = sym is i; reply = reply }) ∷ [])
+
 pub note-requires : goal.note-requires
 note-requires g c =
+    let start : SharedStart = g.L.Round.start in
+    let old : StoreState = c.self.inside.store in
+    let new : StoreState = c.apply.new.self in
+    let told = c.in_ok-reply.ensures in
     record {
       room = c.requires.room;
       own = c.worker-worker.ensures;
-      gone = λ is. (
-        c.apply.new.self,
-        goes_on_more c.self.inside.store c.apply.new.self _ c.in_ok-reply.ensures.entry c.apply.ensures.opening g.L.Round.start c.self.invariant.3 c.apply.ensures.limits (λ _. c.apply.ensures.handed),
-        c.journal-2.ensures.faithful,
-        subst (λ (w : ℕ). ¬ IsSubject (graph_of_store c.apply.new.self) w) c.worker-worker.ensures
-            (gone_behind (graph_of_store c.self.inside.store) (graph_of_store c.apply.new.self) c.worker-worker.result c.args.command (sym c.deed_of-deed.ensures ∙ is) (c.in_ok-reply.ensures.step (graph_of_store c.self.inside.store) refl)),
-      );
+      still = λ sees entered retired. or_may_end start.may_end (λ no.
+          ok_not_err c.in_ok-reply.reply NoSuchWorker ((told.no_such_worker (graph_of_store old) refl).1
+          (subst (λ (w : ℕ). ¬ IsSubject (graph_of_store old) w) (sym c.worker-worker.ensures)
+          (stays_out start old c.self.inside.register.roll c.args.session.now c.self.invariant.0.3 c.journal.ensures.faithful c.self.invariant.1 sees entered retired no))));
+      gone = λ sees is. known_with start old new c.self.inside.register.roll c.args.session.now _ (λ s. ¬ IsSubject (graph_of_store s) c.args.session.now.worker) c.self.invariant.1 sees
+          (entered_as old new c.worker-worker.result (Deed.Plain c.args.command) c.deed_of-deed.result c.in_ok-reply.reply told.entry c.deed_of-deed.ensures) (own_one c.args.session.now.worker _ c.worker-worker.ensures) c.self.invariant.0.3
+          (goes_on_more old new _ told.entry c.apply.ensures.opening start c.self.invariant.0.3 c.apply.ensures.limits (λ _. c.apply.ensures.handed)) c.journal-2.ensures.faithful
+          (subst (λ (w : ℕ). ¬ IsSubject (graph_of_store new) w) c.worker-worker.ensures
+          (gone_behind (graph_of_store old) (graph_of_store new) c.worker-worker.result c.args.command (sym c.deed_of-deed.ensures ∙ is) (told.step (graph_of_store old) refl)));
     }
+
+pub returns-clause-seen : goal.returns-clause-seen
+returns-clause-seen g c =
+    seen_with g.L.Round.start c.self.inside.store c.apply.new.self c.self.inside.register.roll c.note.new.register.roll c.args.session.now c.note.new.self _ c.self.invariant.1 c.self.invariant.0.3
+    (entered_as c.self.inside.store c.apply.new.self c.worker-worker.result (Deed.Plain c.args.command) c.deed_of-deed.result c.in_ok-reply.reply c.in_ok-reply.ensures.entry c.deed_of-deed.ensures)
+    (ap (λ (r : RollState). r.entries) c.note.ensures.roll) c.note.ensures.seen
 
 pub returns-clause-served : goal.returns-clause-served
 returns-clause-served g c =
@@ -55,5 +78,8 @@ returns-clause-kept g c =
 
 pub invariant_of-self-2 : goal.invariant_of-self-2
 invariant_of-self-2 g c =
-    let told = c.in_ok-reply.ensures in
-    locked_entered g.L.Round.start c.self.inside.store c.apply.new.self _ _ _ _ _ _ c.worker-worker.result (Deed.Plain c.args.command) c.in_ok-reply.reply refl c.self.invariant told.entry c.apply.ensures.opening c.apply.ensures.limits c.apply.ensures.handed c.note.ensures.book
+    let told = c.in_ok-reply.ensures in (
+      locked_entered g.L.Round.start c.self.inside.store c.apply.new.self _ _ _ _ _ _ c.worker-worker.result (Deed.Plain c.args.command) c.in_ok-reply.reply refl c.self.invariant.0 told.entry c.apply.ensures.opening c.apply.ensures.limits c.apply.ensures.handed c.note.ensures.book,
+      rolled_more g.L.Round.start c.self.inside.store c.apply.new.self c.self.inside.register.roll c.note.new.register.roll _ c.self.invariant.1
+          (entered_as c.self.inside.store c.apply.new.self c.worker-worker.result (Deed.Plain c.args.command) c.deed_of-deed.result c.in_ok-reply.reply told.entry c.deed_of-deed.ensures) c.apply.ensures.opening c.note.ensures.roll,
+    )

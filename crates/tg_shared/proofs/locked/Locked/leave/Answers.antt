@@ -1,14 +1,18 @@
 -- What a leave leaves behind the lock, and what its session knows then.
-use Rattle.std.proofs.Common.{◌≡◌, ◌∙◌, ◌+◌, ◌<◌, ◌≤◌, ◌^◌, ℕ, List, length, Err, Ok, ap, arith, refl, subst, sym}
+use Rattle.std.proofs.Common.{◌≡◌, ◌∙◌, ◌+◌, ◌<◌, ◌≤◌, ◌^◌, ◌++◌, ◌∷◌, [], ℕ, List, map, length, Err, Ok, ap, arith, refl, subst, sym}
 use Rattle.std.proofs.lemmas.Result.{err_from_is_err_and}
 use Rattle.tg_rights.specs.RightSet.{RightSet}
 use Rattle.tg_model.specs.Graph.{ProtectionGraph, IsSubject, listing_of}
 use Rattle.tg_journal.specs.declared.entry.Entry.{Entry}
-use Rattle.tg_store.specs.Leaving.{HasLeft}
-use Rattle.tg_store.specs.Store.{graph_of_store}
+use Rattle.tg_passes.specs.Passes.{RollState}
+use Rattle.tg_store.specs.declared.fault.ApplyFault.TheVariants.{NoSuchWorker}
+use Rattle.tg_store.specs.Leaving.{HasLeft, removal, retiring}
+use Rattle.tg_store.specs.Store.{StoreState, graph_of_store}
 use Rattle.tg_shared.specs.Serving.{EndsWorker}
-use Rattle.tg_shared.specs.Sessions.{LockedState}
+use Rattle.tg_shared.specs.Sessions.{LockedState, SessionState}
 use Rattle.tg_shared.proofs.Balances.{goes_on_more}
+use Rattle.tg_shared.proofs.Calls.{ok_not_err}
+use Rattle.tg_shared.proofs.Knowing.{known_with, or_may_end, own_leaving, rolled_more, seen_with, stays_out}
 use Rattle.tg_shared.proofs.Leavings.{entries_fit, gone_left, locked_left}
 use Rattle.tg_shared.proofs.Replies.{ends}
 use Rattle.tg_shared.proofs.locked.Locked.leave.Goals as goal
@@ -48,18 +52,42 @@ note_leaving-requires-clause-places g c =
 pub returns-clause-numbers : goal.returns-clause-numbers
 returns-clause-numbers g c = record { sessions = ap (λ (b : LockedState). b.sessions) c.self.view_is; entered = ap (λ (b : LockedState). b.entered) c.self.view_is }
 
+-- the entries of the leave, by the row that was read and by the session's name
+left_as : (old new : StoreState) (x y : ℕ) (row : List (ℕ × RightSet)) → HasLeft x old new → x ≡ y → row ≡ listing_of (graph_of_store old).label (graph_of_store old).made x → new.entries ≡ old.entries ++ (map (removal y) row ++ retiring y ∷ [])
+left_as old new x y row left named is = left.entries ∙ (λ i. old.entries ++ (map (removal (named i)) (sym is i) ++ retiring (named i) ∷ []))
+
+pub note_leaving-requires-clause-still : goal.note_leaving-requires-clause-still
+note_leaving-requires-clause-still g c = λ sees entered retired. or_may_end g.L.Round.start.may_end (λ no.
+    ok_not_err c.in_ok-count.count NoSuchWorker ((c.in_ok-count.ensures.no_such_worker (graph_of_store c.self.inside.store) refl).1
+    (subst (λ (w : ℕ). ¬ IsSubject (graph_of_store c.self.inside.store) w) (c.in_ok-make_room_for.ensures.receipts.0 ∙ sym c.worker-worker.ensures)
+    (stays_out g.L.Round.start c.self.inside.store c.self.inside.register.roll c.make_room_for.new.self c.self.invariant.0.3 c.journal.ensures.faithful c.self.invariant.1 sees entered retired no))))
+
 pub note_leaving-requires-clause-gone : goal.note_leaving-requires-clause-gone
-note_leaving-requires-clause-gone g c =
-    let left : HasLeft c.worker-worker.result c.self.inside.store c.leave.new.self = c.in_ok-count.ensures.left in (
-      c.leave.new.self,
-      goes_on_more c.self.inside.store c.leave.new.self _ left.entries left.opening g.L.Round.start c.self.invariant.3 left.limits (λ _. left.handed),
-      c.journal-2.ensures.faithful,
-      subst (λ (x : ℕ). ¬ IsSubject (graph_of_store c.leave.new.self) x) (c.worker-worker.ensures ∙ sym c.in_ok-make_room_for.ensures.receipts.0) (gone_left c.self.inside.store c.leave.new.self c.worker-worker.result left),
-    )
+note_leaving-requires-clause-gone g c = λ sees.
+    let left : HasLeft c.worker-worker.result c.self.inside.store c.leave.new.self = c.in_ok-count.ensures.left in
+    let ready : SessionState = c.make_room_for.new.self in
+    let named : c.worker-worker.result ≡ ready.worker = c.worker-worker.ensures ∙ sym c.in_ok-make_room_for.ensures.receipts.0 in
+    known_with g.L.Round.start c.self.inside.store c.leave.new.self c.self.inside.register.roll ready _ (λ s. ¬ IsSubject (graph_of_store s) ready.worker) c.self.invariant.1 sees
+    (left_as c.self.inside.store c.leave.new.self c.worker-worker.result ready.worker c.in_ok-row.row left named (c.in_ok-row.ensures.edges (graph_of_store c.self.inside.store) refl)) (own_leaving ready.worker c.in_ok-row.row) c.self.invariant.0.3
+    (goes_on_more c.self.inside.store c.leave.new.self _ left.entries left.opening g.L.Round.start c.self.invariant.0.3 left.limits (λ _. left.handed)) c.journal-2.ensures.faithful
+    (subst (λ (x : ℕ). ¬ IsSubject (graph_of_store c.leave.new.self) x) named (gone_left c.self.inside.store c.leave.new.self c.worker-worker.result left))
+
+pub returns-clause-seen : goal.returns-clause-seen
+returns-clause-seen g c =
+    let ready : SessionState = c.make_room_for.new.self in
+    let named : c.worker-worker.result ≡ ready.worker = c.worker-worker.ensures ∙ sym c.in_ok-make_room_for.ensures.receipts.0 in
+    seen_with g.L.Round.start c.self.inside.store c.leave.new.self c.self.inside.register.roll c.note_leaving.new.register.roll c.args.session.now c.note_leaving.new.self _ c.self.invariant.1 c.self.invariant.0.3
+    (left_as c.self.inside.store c.leave.new.self c.worker-worker.result ready.worker c.in_ok-row.row c.in_ok-count.ensures.left named (c.in_ok-row.ensures.edges (graph_of_store c.self.inside.store) refl))
+    (ap (λ (r : RollState). r.entries) c.note_leaving.ensures.roll) c.note_leaving.ensures.seen
 
 pub invariant_of-self-2 : goal.invariant_of-self-2
 invariant_of-self-2 g c =
     let graph : ProtectionGraph = graph_of_store c.self.inside.store in
     let row : c.in_ok-row.row ≡ listing_of graph.label graph.made c.worker-worker.result = c.in_ok-row.ensures.edges graph refl in
-    locked_left c.self.inside.store c.leave.new.self c.worker-worker.result c.in_ok-count.ensures.left g.L.Round.start (length g.L.Round.start.entries) c.self.inside.sessions c.self.inside.book.total c.note_leaving.new.book.total c.self.inside.rest.parts g.L.Ledger.parts c.self.invariant
-    (c.note_leaving.ensures.book ∙ ap (λ (es : List (ℕ × RightSet)). c.self.inside.book.total + (length es + 1)) row) (c.self.invariant.2.0, c.self.invariant.2.1 ∙ sym c.in_ok-count.ensures.left.handed)
+    let ready : SessionState = c.make_room_for.new.self in
+    let named : c.worker-worker.result ≡ ready.worker = c.worker-worker.ensures ∙ sym c.in_ok-make_room_for.ensures.receipts.0 in (
+      locked_left c.self.inside.store c.leave.new.self c.worker-worker.result c.in_ok-count.ensures.left g.L.Round.start (length g.L.Round.start.entries) c.self.inside.sessions c.self.inside.register.book.total c.note_leaving.new.register.book.total c.self.inside.rest.parts g.L.Ledger.parts c.self.invariant.0
+          (c.note_leaving.ensures.book ∙ ap (λ (es : List (ℕ × RightSet)). c.self.inside.register.book.total + (length es + 1)) row) (c.self.invariant.0.2.0, c.self.invariant.0.2.1 ∙ sym c.in_ok-count.ensures.left.handed),
+      rolled_more g.L.Round.start c.self.inside.store c.leave.new.self c.self.inside.register.roll c.note_leaving.new.register.roll _ c.self.invariant.1
+          (left_as c.self.inside.store c.leave.new.self c.worker-worker.result ready.worker c.in_ok-row.row c.in_ok-count.ensures.left named row) c.in_ok-count.ensures.left.opening c.note_leaving.ensures.roll,
+    )

@@ -6,7 +6,13 @@ use Rattle.std.proofs.lemmas.List.Sums.{sum_by-append, sum_by-cons}
 use Rattle.std.proofs.Common.{max, ◌-◌}
 use Rattle.std.proofs.Math.Nat.{le-max_left, le-max_right, max-le}
 use Rattle.tg_journal.specs.declared.entry.Entry.{Entry}
-use Rattle.tg_shared.specs.Sessions.{AreSharedOut, GoesOn, IsBalanced, LockedState, MayClose, SessionState, count_of, handed_of, held_from, parts_of}
+use Rattle.std.specs.List.{All}
+use Rattle.std.proofs.lemmas.List.Elements.{All-nil, All-push, All-weaker}
+use Rattle.std.proofs.lemmas.List.Sorted.{All-permutation}
+use Rattle.tg_passes.specs.Passes.{RollState, Sees}
+use Rattle.tg_store.specs.Store.{StoreState}
+use Rattle.tg_shared.specs.Sessions.{AreSharedOut, GoesOn, HasAll, HasMade, IsBalanced, IsRolled, LockedState, MayClose, SessionState, SharedStart, count_of, handed_of, held_from, knowledge, parts_of}
+use Rattle.tg_shared.proofs.Knowing.{has_all}
 use Rattle.tg_shared.proofs.Balances.{not_both}
 use Rattle.tg_shared.proofs.Orders.{may_close_shuffled}
 use Rattle.tg_shared.proofs.Sharing.{as_counted, held_at_most, shared_out}
@@ -74,8 +80,8 @@ its_receipts xs x start before now held more =
 pub entries_since-entries-requires : goal.entries_since-entries-requires
 entries_since-entries-requires g c =
     let start : ℕ = length g.L.Round.start.entries in
-    let within : start + c.self.inside.entered ≤ length c.self.inside.store.entries = entered_within (length c.self.inside.store.entries) start c.self.inside.book.total c.self.inside.rest.amount c.self.inside.entered c.self.invariant.0.counted c.audit.ensures.bound c.self.invariant.2.0.0 in
-    first_within (length c.journal-journal.result.now.entries) (length c.self.inside.store.entries) c.self.inside.start start c.number.result c.self.inside.entered (ap (λ (es : List Entry). length es) c.journal-journal.ensures.entries) c.self.invariant.1 c.number.ensures within
+    let within : start + c.self.inside.entered ≤ length c.self.inside.store.entries = entered_within (length c.self.inside.store.entries) start c.self.inside.register.book.total c.self.inside.rest.amount c.self.inside.entered c.self.invariant.0.0.counted c.audit.ensures.bound c.self.invariant.0.2.0.0 in
+    first_within (length c.journal-journal.result.now.entries) (length c.self.inside.store.entries) c.self.inside.start start c.number.result c.self.inside.entered (ap (λ (es : List Entry). length es) c.journal-journal.ensures.entries) c.self.invariant.0.1 c.number.ensures within
 
 pub are_refused-requires : goal.are_refused-requires
 are_refused-requires g c = record {
@@ -92,20 +98,20 @@ returns-then-are_refused g c =
     let here : ℕ = length c.args.self.store.entries in
     let entries : c.journal-journal.result.now.entries ≡ c.args.self.store.entries = c.journal-journal.ensures.entries ∙ ap (λ (b : LockedState). b.store.entries) c.self.view_is in
     let out : c.start.result ≡ c.args.self.store.handed = c.start.ensures.start ∙ c.journal-journal.ensures.start ∙ ap (λ (b : LockedState). b.store.handed) c.self.view_is in
-    let since : c.max-since.result ≡ held_from g.L.Round.start c.args.self.store = c.max-since.ensures ∙ (λ i. max (c.self.invariant.1 i) (out i)) in
+    let since : c.max-since.result ≡ held_from g.L.Round.start c.args.self.store = c.max-since.ensures ∙ (λ i. max (c.self.invariant.0.1 i) (out i)) in
     let refused = c.are_refused.ensures.refused c.if-are_refused.true in
     let none : ¬ MayClose c.args.self.store.entries (held_from g.L.Round.start c.args.self.store) items =
     λ may.
     refused.0 (closes c.args.self.store.entries c.journal-journal.result.now.entries (held_from g.L.Round.start c.args.self.store) c.max-since.result sorted c.as_slice.result.now
     (sym entries) (sym since) (sym c.as_slice.ensures.value) (may_close_shuffled c.args.self.store.entries (held_from g.L.Round.start c.args.self.store) items sorted moved may)) in
-    let counted : here ≡ start + c.self.inside.book.total = sym (ap (λ (b : LockedState). length b.store.entries) c.self.view_is) ∙ c.self.invariant.0.counted in
+    let counted : here ≡ start + c.self.inside.register.book.total = sym (ap (λ (b : LockedState). length b.store.entries) c.self.view_is) ∙ c.self.invariant.0.0.counted in
     let entered : c.number.result ≡ c.args.self.entered = c.number.ensures ∙ ap (λ (b : LockedState). b.entered) c.self.view_is in
-    let within : start + c.args.self.entered ≤ here = entered_within here start c.self.inside.book.total c.self.inside.rest.amount c.args.self.entered counted c.audit.ensures.bound (c.self.invariant.2.0.0 ∙ ap (λ (b : LockedState). b.entered) c.self.view_is) in
+    let within : start + c.args.self.entered ≤ here = entered_within here start c.self.inside.register.book.total c.self.inside.rest.amount c.args.self.entered counted c.audit.ensures.bound (c.self.invariant.0.2.0.0 ∙ ap (λ (b : LockedState). b.entered) c.self.view_is) in
     let few : count_of items ≤ c.entries_since-entries.result =
     subst (λ (n : ℕ). n ≤ c.entries_since-entries.result) (ap count_of c.as_slice.ensures.value ∙ sum_by-IsPermutation (λ (s : SessionState). length s.receipts) items sorted moved) refused.1 in
     record {
       ends = record {
-        gone_on = subst (λ (b : LockedState). GoesOn g.L.Round.start b.store) c.self.view_is c.self.invariant.3;
+        gone_on = subst (λ (b : LockedState). GoesOn g.L.Round.start b.store) c.self.view_is c.self.invariant.0.3;
         store = tt;
         matching = tt;
         handed_back = (c.self.view_is, moved);
@@ -116,28 +122,42 @@ returns-then-are_refused g c =
       whole = λ _ _. tt;
       mismatch = ((λ _. none), (λ _. refl));
       only = refl;
-      counted = (made_since c.entries_since-entries.result (length c.journal-journal.result.now.entries) here c.self.inside.start start c.number.result c.args.self.entered (count_of items) c.entries_since-entries.ensures (ap (λ (es : List Entry). length es) entries) c.self.invariant.1 entered within).0 few;
+      single = λ _. tt;
+      counted = (made_since c.entries_since-entries.result (length c.journal-journal.result.now.entries) here c.self.inside.start start c.number.result c.args.self.entered (count_of items) c.entries_since-entries.ensures (ap (λ (es : List Entry). length es) entries) c.self.invariant.0.1 entered within).0 few;
     }
 
 pub invariant_of-self : goal.invariant_of-self
 invariant_of-self g c =
     let start : ℕ = length g.L.Round.start.entries in
-    let rest : IsBalanced c.self.inside.store start c.self.inside.sessions c.self.inside.book.total c.audit.new.share.parts g.L.Ledger.parts =
-    subst (λ (n : ℕ). IsBalanced c.self.inside.store start c.self.inside.sessions c.self.inside.book.total n g.L.Ledger.parts) (sym c.audit.ensures.parts) c.self.invariant.0 in (
-      subst (λ (n : ℕ). IsBalanced c.self.inside.store start c.self.inside.sessions n c.audit.new.share.parts g.L.Ledger.parts) (sym c.audit.ensures.total) rest,
+    let rest : IsBalanced c.self.inside.store start c.self.inside.sessions c.self.inside.register.book.total c.audit.new.share.parts g.L.Ledger.parts =
+    subst (λ (n : ℕ). IsBalanced c.self.inside.store start c.self.inside.sessions c.self.inside.register.book.total n g.L.Ledger.parts) (sym c.audit.ensures.parts) c.self.invariant.0.0 in (
+      (
+        subst (λ (n : ℕ). IsBalanced c.self.inside.store start c.self.inside.sessions n c.audit.new.share.parts g.L.Ledger.parts) (sym c.audit.ensures.total) rest,
+        c.self.invariant.0.1,
+        ((c.audit.ensures.amount ∙ c.self.invariant.0.2.0.0, c.self.invariant.0.2.0.1), c.self.invariant.0.2.1),
+        c.self.invariant.0.3,
+        c.self.invariant.0.4,
+      ),
       c.self.invariant.1,
-      ((c.audit.ensures.amount ∙ c.self.invariant.2.0.0, c.self.invariant.2.0.1), c.self.invariant.2.1),
-      c.self.invariant.3,
-      c.self.invariant.4,
     )
+
+-- each session's receipts are all entries of its worker, in whatever order the sessions stand
+singles : (start : SharedStart) (s t : StoreState) (roll : RollState) (sorted items : List SessionState) → s ≡ t → IsRolled start s roll → start.may_end ≡ false → IsPermutation sorted items → All (λ x. Sees roll.entries (knowledge x) × HasMade x) sorted
+    → All (HasAll (drop (length start.entries) t.entries)) items
+singles start s t roll sorted items same held never moved each =
+    let here : All (HasAll (drop (length start.entries) t.entries)) sorted =
+    All-weaker (λ x. Sees roll.entries (knowledge x) × HasMade x) (HasAll (drop (length start.entries) t.entries)) (λ x told. has_all start t roll x (subst (λ (b : StoreState). IsRolled start b roll) same held) never told.0 told.1) sorted each in
+    All-permutation (HasAll (drop (length start.entries) t.entries)) sorted items moved here
 
 pub loop-session-init : goal.loop-session-init
 loop-session-init g c = record {
   left = refl;
   parts = sym (add-zero c.audit.new.share.parts);
   amount = sym (add-zero (c.audit.new.share.amount + 0) ∙ add-zero c.audit.new.share.amount);
-  fits = rest_fits c.self.inside.sessions c.audit.new.share.parts g.L.Ledger.parts (ap (λ (n : ℕ). c.self.inside.sessions + n) c.audit.ensures.parts ∙ c.self.invariant.0.cut);
+  fits = rest_fits c.self.inside.sessions c.audit.new.share.parts g.L.Ledger.parts (ap (λ (n : ℕ). c.self.inside.sessions + n) c.audit.ensures.parts ∙ c.self.invariant.0.0.cut);
   none_handed = λ _. refl;
+  same_roll = refl;
+  single = All-nil (λ (s : SessionState). Sees c.self.inside.register.roll.entries (knowledge s) × HasMade s);
 }
 
 pub loop-session-preserved : goal.loop-session-preserved
@@ -150,6 +170,9 @@ loop-session-preserved g c =
       amount = its_receipts xs x c.audit.new.share.amount c.loop-session.whole.amount c.give_up.new.whole.amount c.loop-session.invariant.amount c.give_up.ensures.amount;
       fits = c.give_up.ensures.fits;
       none_handed = λ is. none_more xs x (c.loop-session.invariant.none_handed is) (c.give_up.ensures.none_handed is);
+      same_roll = c.give_up.ensures.same_roll ∙ c.loop-session.invariant.same_roll;
+      single = All-push (λ (s : SessionState). Sees c.self.inside.register.roll.entries (knowledge s) × HasMade s) xs x c.loop-session.invariant.single
+          (subst (λ (r : RollState). Sees r.entries (knowledge x)) (c.give_up.ensures.same_roll ∙ c.loop-session.invariant.same_roll) c.give_up.ensures.sees, c.give_up.ensures.own);
     }
 
 pub returns : goal.returns
@@ -162,7 +185,7 @@ returns g c =
     let here : ℕ = length c.args.self.store.entries in
     let entries : c.self.inside.store.entries ≡ c.args.self.store.entries = ap (λ (b : LockedState). b.store.entries) c.self.view_is in
     let made : c.self.inside.sessions ≡ c.args.self.sessions = ap (λ (b : LockedState). b.sessions) c.self.view_is in
-    let amount : c.audit.new.share.amount ≡ c.args.self.entered = c.audit.ensures.amount ∙ c.self.invariant.2.0.0 ∙ ap (λ (b : LockedState). b.entered) c.self.view_is in
+    let amount : c.audit.new.share.amount ≡ c.args.self.entered = c.audit.ensures.amount ∙ c.self.invariant.0.2.0.0 ∙ ap (λ (b : LockedState). b.entered) c.self.view_is in
     let rest : List SessionState = c.loop-session.session-iterator.rest.items in
     let done : rest ≡ [] = nil_from_length rest (sym c.loop-session.session-iterator.rest.ok.0 ∙ c.in-None.ensures.steps.0) in
     let all : c.loop-session.yielded ≡ sorted = sym (append-nil c.loop-session.yielded) ∙ (ap (λ (l : List SessionState). c.loop-session.yielded ++ l) (sym done) ∙ c.loop-session.invariant.left ∙ c.into_iter-session-iterator.ensures.into_iter_gives.0) in
@@ -174,17 +197,17 @@ returns g c =
     let had : c.loop-session.whole.amount ≡ c.audit.new.share.amount + handed_of items + count_of items =
     subst (λ (l : List SessionState). c.loop-session.whole.amount ≡ c.audit.new.share.amount + handed_of l + count_of l) all c.loop-session.invariant.amount ∙ (λ i. c.audit.new.share.amount + handed_same i + count_same i) in
     let none_out : g.L.Round.start.in_parts ≡ false → handed_of items ≡ 0 = λ is. sym handed_same ∙ ap handed_of (sym all) ∙ c.loop-session.invariant.none_handed is in
-    let counted : here ≡ start + c.audit.new.self.total = sym (ap (λ (es : List Entry). length es) entries) ∙ c.self.invariant.0.counted ∙ ap (λ (n : ℕ). start + n) (sym c.audit.ensures.total) in
-    let given = given_back c.self.inside.sessions c.audit.new.share.parts g.L.Ledger.parts c.loop-session.whole.parts parts (ap (λ (n : ℕ). c.self.inside.sessions + n) c.audit.ensures.parts ∙ c.self.invariant.0.cut) whole in
+    let counted : here ≡ start + c.audit.new.self.total = sym (ap (λ (es : List Entry). length es) entries) ∙ c.self.invariant.0.0.counted ∙ ap (λ (n : ℕ). start + n) (sym c.audit.ensures.total) in
+    let given = given_back c.self.inside.sessions c.audit.new.share.parts g.L.Ledger.parts c.loop-session.whole.parts parts (ap (λ (n : ℕ). c.self.inside.sessions + n) c.audit.ensures.parts ∙ c.self.invariant.0.0.cut) whole in
     let once = counted_once here start c.audit.new.self.total c.loop-session.whole.amount c.audit.new.share.amount c.args.self.entered (handed_of items) (count_of items) counted had amount in
     let least : start + c.args.self.entered + handed_of items + count_of items ≤ here = once.0 c.audit-2.ensures.bound in
     let out : c.start.result ≡ c.args.self.store.handed = c.start.ensures.start ∙ c.journal-journal.ensures.start ∙ ap (λ (b : LockedState). b.store.handed) c.self.view_is in
-    let since : c.max-since.result ≡ held_from g.L.Round.start c.args.self.store = c.max-since.ensures ∙ (λ i. max (c.self.invariant.1 i) (out i)) in
+    let since : c.max-since.result ≡ held_from g.L.Round.start c.args.self.store = c.max-since.ensures ∙ (λ i. max (c.self.invariant.0.1 i) (out i)) in
     let entered : c.number.result ≡ c.args.self.entered = c.number.ensures ∙ ap (λ (b : LockedState). b.entered) c.self.view_is in
     let within : start + c.args.self.entered ≤ here = entered_within here start c.audit.new.self.total c.audit.new.share.amount c.args.self.entered counted (subst (λ (n : ℕ). n ≤ c.audit.new.self.total) (sym c.audit.ensures.amount) (subst (λ (n : ℕ). c.self.inside.rest.amount ≤ n) (sym c.audit.ensures.total) c.audit.ensures.bound)) amount in
     let few : count_of c.as_slice.result.now ≤ c.entries_since-entries.result =
     subst (λ (n : ℕ). n ≤ c.entries_since-entries.result) (sym (ap count_of c.as_slice.ensures.value ∙ count_same))
-    ((made_since c.entries_since-entries.result (length c.journal-journal.result.now.entries) here c.self.inside.start start c.number.result c.args.self.entered (count_of items) c.entries_since-entries.ensures (ap (λ (es : List Entry). length es) (c.journal-journal.ensures.entries ∙ entries)) c.self.invariant.1 entered within).1
+    ((made_since c.entries_since-entries.result (length c.journal-journal.result.now.entries) here c.self.inside.start start c.number.result c.args.self.entered (count_of items) c.entries_since-entries.ensures (ap (λ (es : List Entry). length es) (c.journal-journal.ensures.entries ∙ entries)) c.self.invariant.0.1 entered within).1
     (fewer start c.args.self.entered (handed_of items) (count_of items) here least)) in
     let may : MayClose c.args.self.store.entries (held_from g.L.Round.start c.args.self.store) items =
     may_close_shuffled c.args.self.store.entries (held_from g.L.Round.start c.args.self.store) sorted items (IsPermutation-sym items sorted moved_to)
@@ -203,7 +226,7 @@ returns g c =
     none_gone here start c.args.self.store.handed (handed_of items) (count_of items) since_then (own_count none as_many) (held_at_most c.args.self.store.entries since_then items may) not_one refl inside in
     record {
       ends = record {
-        gone_on = subst (λ (b : LockedState). GoesOn g.L.Round.start b.store) c.self.view_is c.self.invariant.3;
+        gone_on = subst (λ (b : LockedState). GoesOn g.L.Round.start b.store) c.self.view_is c.self.invariant.0.3;
         store = ap (λ (b : LockedState). b.store) c.self.view_is;
         matching = may;
         handed_back = tt;
@@ -218,6 +241,8 @@ returns g c =
       whole = λ is none as_many.
           let held = from_start none as_many (none_out is) in
           subst (λ (n : ℕ). AreSharedOut (drop n c.args.self.store.entries) items) held (out_to none as_many (gone_none start (handed_of items) since_then (none_out is) held));
+      single = λ never. singles g.L.Round.start c.self.inside.store c.args.self.store c.self.inside.register.roll sorted items (ap (λ (b : LockedState). b.store) c.self.view_is) c.self.invariant.1 never (IsPermutation-sym items sorted moved_to)
+          (subst (All (λ s. Sees c.self.inside.register.roll.entries (knowledge s) × HasMade s)) all c.loop-session.invariant.single);
       mismatch = ((λ none. absurd (not_both false none refl)), (λ no. absurd (no may)));
       only = tt;
       counted = tt;

@@ -1,4 +1,4 @@
-use Rattle.std.proofs.Common.{◌≡◌, ◌∙◌, ◌+◌, ℕ, false, length, Err, add-zero, ap, arith, refl, subst, sym}
+use Rattle.std.proofs.Common.{◌≡◌, ◌≤◌, ◌∙◌, ◌+◌, ℕ, false, length, Err, add-zero, ap, arith, refl, subst, sym}
 use Rattle.std.proofs.lemmas.Result.{err_from_is_err_and}
 use Rattle.tg_model.specs.declared.command.Deed.{Deed}
 use Rattle.tg_model.specs.declared.reply.Reply.{Reply}
@@ -8,11 +8,16 @@ use Rattle.tg_store.specs.Store.{Enters, StoreState, graph_of_store}
 use Rattle.tg_shared.specs.declared.session.Session.{Session}
 use Rattle.tg_shared.specs.Serving.{IsMadeAndNoted, NotesRefusal}
 use Rattle.tg_shared.specs.Sessions.{LockedState, made_subject}
-use Rattle.tg_shared.proofs.Balances.{balanced_spawned, goes_on_more, grown, made_more, part_left, parts_left, within_word}
+use Rattle.tg_passes.specs.Passes.{PassState, RollState}
+use Rattle.tg_shared.proofs.Balances.{balanced_spawned, goes_on_more, grown, made_more, made_named, named_next, part_left, parts_left, within_word}
 use Rattle.tg_shared.proofs.Calls.{err_here}
-use Rattle.tg_shared.proofs.Makings.{entered_as, locked_noted, refused_noted}
+use Rattle.tg_shared.proofs.Knowing.{rolled_issued, rolled_more, seen_with, since_rolled, stays_out}
+use Rattle.tg_shared.proofs.Makings.{entered_as, locked_noted, refused_noted, rolled_noted, seen_noted}
 use Rattle.tg_shared.proofs.Replies.{refusals_made, refusals_none, refusals_same}
 use Rattle.tg_shared.proofs.locked.Locked.spawn.Goals as goal
+
+bound_next : (now before name made : ℕ) → now ≡ before → before ≤ made → name ≡ made → now ≤ name
+bound_next now before name made same low is = omega arith
 
 one_more : (sessions made next : ℕ) → sessions ≡ made → next ≡ made + 1 → sessions + 1 ≡ next
 one_more sessions made next is more = omega arith
@@ -20,25 +25,63 @@ one_more sessions made next is more = omega arith
 pub invariant_of-self : goal.invariant_of-self
 invariant_of-self g c =
     let deed : Deed = Deed.Spawn c.args.label c.args.draft.law c.args.draft.state in
+    let told = c.in_err-name.ensures in (
+      locked_noted g.L.Round.start c.self.inside.store c.make.new.store c.args.session.now c.make.new.session _ _ _ _ _ _ deed _ told.noted
+          (λ none. let same = told.nothing none in (same.0, ap (λ b. b.book.total) same.1)) (λ reply is. entered_as (λ r. made_subject deed r ≡ false) _ reply is (λ _. refl) (λ _. refl))
+          told.refusals.opening told.refusals.limits told.refusals.handed c.self.invariant.0,
+      rolled_noted g.L.Round.start c.self.inside.store c.make.new.store c.args.session.now c.make.new.session c.self.inside.register.roll c.make.new.register.roll deed _ c.self.invariant.1 told.refusals.opening
+          (λ reply is. (told.noted reply is).0.entry) told.rolled (λ none. let same = told.nothing none in (same.0.0.entries, ap (λ b. b.roll) same.1)),
+    )
+
+pub make-requires-clause-out : goal.make-requires-clause-out
+make-requires-clause-out g c = stays_out g.L.Round.start c.self.inside.store c.self.inside.register.roll c.args.session.now c.self.invariant.0.3 c.journal.ensures.faithful c.self.invariant.1
+
+pub returns-in_err-name-clause-seen : goal.returns-in_err-name-clause-seen
+returns-in_err-name-clause-seen g c =
+    let deed : Deed = Deed.Spawn c.args.label c.args.draft.law c.args.draft.state in
     let told = c.in_err-name.ensures in
-    locked_noted g.L.Round.start c.self.inside.store c.make.new.store c.args.session.now c.make.new.session _ _ _ _ _ _ deed _ told.noted
-    (λ none. let same = told.nothing none in (same.0, ap (λ b. b.total) same.1)) (λ reply is. entered_as (λ r. made_subject deed r ≡ false) _ reply is (λ _. refl) (λ _. refl))
-    told.refusals.opening told.refusals.limits told.refusals.handed c.self.invariant
+    seen_noted g.L.Round.start c.self.inside.store c.make.new.store c.args.session.now c.make.new.session c.self.inside.register.roll c.make.new.register.roll deed _ c.self.invariant.1 c.self.invariant.0.3
+    (λ reply is. (told.noted reply is).0.entry) told.rolled (λ none. (told.nothing none).0.1.5)
+
+pub returns-clause-seen : goal.returns-clause-seen
+returns-clause-seen g c =
+    let told = c.in_ok-name.ensures in
+    let rolled = told.rolled (Reply.Name c.in_ok-name.name) refl in
+    seen_with g.L.Round.start c.self.inside.store c.make.new.store c.self.inside.register.roll c.make.new.register.roll c.args.session.now c.make.new.session _ c.self.invariant.1 c.self.invariant.0.3
+    (told.noted (Reply.Name c.in_ok-name.name) refl).0.entry (ap (λ (r : RollState). r.entries) rolled.1) rolled.0
+
+pub issue-pass-requires : goal.issue-pass-requires
+issue-pass-requires g c =
+    let told = c.in_ok-name.ensures in
+    let noted = told.noted (Reply.Name c.in_ok-name.name) refl in
+    let rolled = told.rolled (Reply.Name c.in_ok-name.name) refl in
+    let next = named_next c.self.inside.store c.make.new.store (length g.L.Round.start.entries) c.self.inside.sessions c.self.inside.register.book.total c.self.inside.rest.parts g.L.Ledger.parts _ _ c.args.label c.args.draft.law c.args.draft.state c.self.invariant.0.0 noted.0.entry (told.made.name (graph_of_store c.self.inside.store) refl) told.refusals.opening in
+    bound_next c.make.new.register.roll.below c.self.inside.register.roll.below c.in_ok-name.name (graph_of_store c.self.inside.store).made (ap (λ (r : RollState). r.below) rolled.1) c.self.invariant.1.below next
+
+pub returns-clause-fresh_seen : goal.returns-clause-fresh_seen
+returns-clause-fresh_seen g c = λ no.
+    let told = c.in_ok-name.ensures in
+    let rolled = told.rolled (Reply.Name c.in_ok-name.name) refl in
+    let held = rolled_more g.L.Round.start c.self.inside.store c.make.new.store c.self.inside.register.roll c.make.new.register.roll _ c.self.invariant.1 (told.noted (Reply.Name c.in_ok-name.name) refl).0.entry told.refusals.opening rolled.1 in
+    c.new.ensures.seen ∙ ap (λ (p : PassState). p.seen) c.issue-pass.ensures.pass ∙ sym (since_rolled g.L.Round.start c.make.new.store c.make.new.register.roll held no)
 
 pub split_off-share-requires-clause-has_parts : goal.split_off-share-requires-clause-has_parts
 split_off-share-requires-clause-has_parts g c =
-    part_left c.self.inside.store (length g.L.Round.start.entries) c.self.inside.sessions c.self.inside.book.total c.self.inside.rest.parts g.L.Ledger.parts c.self.invariant.0 c.journal.ensures.faithful
+    part_left c.self.inside.store (length g.L.Round.start.entries) c.self.inside.sessions c.self.inside.register.book.total c.self.inside.rest.parts g.L.Ledger.parts c.self.invariant.0.0 c.journal.ensures.faithful
 
 pub split_off-share-requires-clause-left_backed : goal.split_off-share-requires-clause-left_backed
 split_off-share-requires-clause-left_backed g c = λ last.
     let told = c.in_ok-name.ensures in
     absurd
-    (parts_left c.self.inside.store c.make.new.store _ _ _ _ _ _ _ c.args.label c.args.draft.law c.args.draft.state c.self.invariant.0 (told.noted (Reply.Name c.in_ok-name.name) refl).0.entry (told.made.name (graph_of_store c.self.inside.store) refl) told.refusals.opening c.journal.ensures.faithful last)
+    (parts_left c.self.inside.store c.make.new.store _ _ _ _ _ _ _ c.args.label c.args.draft.law c.args.draft.state c.self.invariant.0.0 (told.noted (Reply.Name c.in_ok-name.name) refl).0.entry (told.made.name (graph_of_store c.self.inside.store) refl) told.refusals.opening c.journal.ensures.faithful last)
 
 pub new-requires : goal.new-requires
 new-requires g c =
     let limit = c.journal.ensures.faithful.plan.limits.1 in
-    (c.split_off-share.ensures.parts, c.split_off-share.ensures.amount, within_word c.self.inside.store.opening.limit g.L.Ledger.parts limit c.self.invariant.0.enough)
+    record {
+      share = (c.split_off-share.ensures.parts, c.split_off-share.ensures.amount, within_word c.self.inside.store.opening.limit g.L.Ledger.parts limit c.self.invariant.0.0.enough);
+      pass = (ap (λ (p : PassState). p.worker) c.issue-pass.ensures.pass, ap (λ (p : PassState). p.made) c.issue-pass.ensures.pass);
+    }
 
 pub invariant_of-self-2 : goal.invariant_of-self-2
 invariant_of-self-2 g c =
@@ -46,11 +89,17 @@ invariant_of-self-2 g c =
     let deed : Deed = Deed.Spawn c.args.label c.args.draft.law c.args.draft.state in
     let noted = told.noted (Reply.Name c.in_ok-name.name) refl in
     let entry : Enters c.self.inside.store c.make.new.store c.args.session.now.worker deed (Reply.Name c.in_ok-name.name) = noted.0.entry in (
-      balanced_spawned c.self.inside.store c.make.new.store _ _ _ _ _ _ _ c.args.label c.args.draft.law c.args.draft.state c.self.invariant.0 entry (told.made.name (graph_of_store c.self.inside.store) refl) told.refusals.opening _ _ noted.1 c.split_off-share.ensures.parts_left,
-      c.self.invariant.1,
-      ((sym (add-zero c.split_off-share.new.self.amount) ∙ c.split_off-share.ensures.amount_left ∙ c.self.invariant.2.0.0, c.self.invariant.2.0.1), c.self.invariant.2.1 ∙ sym told.refusals.handed),
-      goes_on_more c.self.inside.store c.make.new.store _ entry told.refusals.opening g.L.Round.start c.self.invariant.3 told.refusals.limits (λ _. told.refusals.handed),
-      one_more c.self.inside.sessions _ _ c.self.invariant.4 (made_more g.L.Round.start c.self.inside.store c.make.new.store c.args.session.now.worker deed (Reply.Name c.in_ok-name.name) entry (grown g.L.Round.start c.self.inside.store c.self.invariant.3)),
+      (
+        balanced_spawned c.self.inside.store c.make.new.store _ _ _ _ _ _ _ c.args.label c.args.draft.law c.args.draft.state c.self.invariant.0.0 entry (told.made.name (graph_of_store c.self.inside.store) refl) told.refusals.opening _ _ noted.1 c.split_off-share.ensures.parts_left,
+        c.self.invariant.0.1,
+        ((sym (add-zero c.split_off-share.new.self.amount) ∙ c.split_off-share.ensures.amount_left ∙ c.self.invariant.0.2.0.0, c.self.invariant.0.2.0.1), c.self.invariant.0.2.1 ∙ sym told.refusals.handed),
+        goes_on_more c.self.inside.store c.make.new.store _ entry told.refusals.opening g.L.Round.start c.self.invariant.0.3 told.refusals.limits (λ _. told.refusals.handed),
+        one_more c.self.inside.sessions _ _ c.self.invariant.0.4 (made_more g.L.Round.start c.self.inside.store c.make.new.store c.args.session.now.worker deed (Reply.Name c.in_ok-name.name) entry (grown g.L.Round.start c.self.inside.store c.self.invariant.0.3)),
+      ),
+      rolled_issued g.L.Round.start c.make.new.store c.make.new.register.roll c.issue-pass.new.self c.in_ok-name.name
+          (rolled_more g.L.Round.start c.self.inside.store c.make.new.store c.self.inside.register.roll c.make.new.register.roll _ c.self.invariant.1 entry told.refusals.opening (told.rolled (Reply.Name c.in_ok-name.name) refl).1)
+          c.issue-pass.ensures.entries c.issue-pass.ensures.below
+          (made_named c.self.inside.store c.make.new.store (length g.L.Round.start.entries) c.self.inside.sessions c.self.inside.register.book.total c.self.inside.rest.parts g.L.Ledger.parts _ _ c.args.label c.args.draft.law c.args.draft.state c.self.invariant.0.0 entry (told.made.name (graph_of_store c.self.inside.store) refl) told.refusals.opening),
     )
 
 pub returns-clause-entered : goal.returns-clause-entered
@@ -89,8 +138,8 @@ returns-clause-served g c =
     let deed : Deed = Deed.Spawn c.args.label c.args.draft.law c.args.draft.state in
     let told = c.in_ok-name.ensures in
     let served : StoreState → ℕ → Type 0 = λ s name. IsMadeAndNoted deed c.args.label c.args.draft s c.make.new.store c.args.session.now c.make.new.session name in (
-      (c.new.ensures.1, c.new.ensures.2, c.new.ensures.3, c.new.ensures.4),
-      subst (served c.args.self.now.store) (sym c.new.ensures.0)
+      c.new.ensures.fresh,
+      subst (served c.args.self.now.store) (sym c.new.ensures.worker)
           (subst (λ (b : LockedState). served b.store c.in_ok-name.name) c.self.view_is (record { entry = (told.noted (Reply.Name c.in_ok-name.name) refl).0; made = told.made })),
     )
 

@@ -4,6 +4,7 @@ use Rattle.tg_graph.specs.Heap.{HeapState}
 use Rattle.tg_journal.specs.declared.entry.Entry.{Entry}
 use Rattle.tg_shared.specs.Sessions.{KeeperState, LockedState}
 use Rattle.tg_shared.proofs.Balances.{keeper_as, locked_as, locked_taken, not_both}
+use Rattle.tg_shared.proofs.Knowing.{rolled_same}
 use Rattle.tg_shared.proofs.locked.Locked.take_journal.Goals as goal
 
 -- what was handed out before and what is handed out now are all entries
@@ -16,7 +17,7 @@ fits before more end all few = omega arith
 pub raise-requires : goal.raise-requires
 raise-requires g c =
     let entries : c.len.result ≡ length c.take_journal-journal.result.entries = c.len.ensures in
-    let at : c.self.inside.handed ≡ c.start.result = c.self.invariant.2.1 ∙ sym (c.start.ensures.start ∙ c.take_journal-journal.ensures.start) in
+    let at : c.self.inside.handed ≡ c.start.result = c.self.invariant.0.2.1 ∙ sym (c.start.ensures.start ∙ c.take_journal-journal.ensures.start) in
     let within : c.start.result ≤ c.len.result = subst (λ (n : ℕ). n ≤ c.len.result) (sym c.start.ensures.start) (subst (λ (n : ℕ). c.take_journal-journal.result.start ≤ n) (sym entries) c.start.ensures.within) in
     fits c.self.inside.handed (c.len.result - c.start.result) c.len.result (all_out c.self.inside.handed (c.len.result - c.start.result) c.start.result c.len.result at refl within) c.len.type_inv
 
@@ -24,20 +25,22 @@ pub invariant_of-self : goal.invariant_of-self
 invariant_of-self g c =
     let out = c.take_journal-journal.ensures.handed_out in
     let entries : c.len.result ≡ length c.take_journal-journal.result.entries = c.len.ensures in
-    let at : c.self.inside.handed ≡ c.start.result = c.self.invariant.2.1 ∙ sym (c.start.ensures.start ∙ c.take_journal-journal.ensures.start) in
+    let at : c.self.inside.handed ≡ c.start.result = c.self.invariant.0.2.1 ∙ sym (c.start.ensures.start ∙ c.take_journal-journal.ensures.start) in
     let within : c.start.result ≤ c.len.result = subst (λ (n : ℕ). n ≤ c.len.result) (sym c.start.ensures.start) (subst (λ (n : ℕ). c.take_journal-journal.result.start ≤ n) (sym entries) c.start.ensures.within) in
-    let end : c.len.result ≡ length c.self.inside.store.entries = entries ∙ ap (λ (es : List Entry). length es) c.take_journal-journal.ensures.entries in
-    locked_taken g.L.Round.start c.self.inside.store c.take_journal-journal.new.self _ _ _ _ _ c.self.invariant out.entries out.opening (ap (λ (h : HeapState). h.table.limits) out.heap)
-    (λ is_whole. absurd (not_both g.L.Round.start.in_parts c.requires.in_parts is_whole))
-    (c.self.invariant.2.0, c.raise.ensures.number ∙ all_out c.self.inside.handed (c.len.result - c.start.result) c.start.result c.len.result at refl within ∙ end ∙ sym out.handed)
+    let end : c.len.result ≡ length c.self.inside.store.entries = entries ∙ ap (λ (es : List Entry). length es) c.take_journal-journal.ensures.entries in (
+      locked_taken g.L.Round.start c.self.inside.store c.take_journal-journal.new.self _ _ _ _ _ c.self.invariant.0 out.entries out.opening (ap (λ (h : HeapState). h.table.limits) out.heap)
+          (λ is_whole. absurd (not_both g.L.Round.start.in_parts c.requires.in_parts is_whole))
+          (c.self.invariant.0.2.0, c.raise.ensures.number ∙ all_out c.self.inside.handed (c.len.result - c.start.result) c.start.result c.len.result at refl within ∙ end ∙ sym out.handed),
+      rolled_same g.L.Round.start c.self.inside.store c.take_journal-journal.new.self c.self.inside.register.roll c.self.invariant.1 out.entries out.opening,
+    )
 
 pub returns-clause-joined : goal.returns-clause-joined
-returns-clause-joined g c = c.take_journal-journal.ensures.start ∙ sym c.self.invariant.2.1 ∙ sym c.raise.ensures.equal ∙ ap (λ (k : KeeperState). k.next) c.keeper.view_is
+returns-clause-joined g c = c.take_journal-journal.ensures.start ∙ sym c.self.invariant.0.2.1 ∙ sym c.raise.ensures.equal ∙ ap (λ (k : KeeperState). k.next) c.keeper.view_is
 
 pub returns-clause-next : goal.returns-clause-next
 returns-clause-next g c =
     let entries : c.len.result ≡ length c.take_journal-journal.result.entries = c.len.ensures in
-    let at : c.keeper.inside.next ≡ c.start.result = c.raise.ensures.equal ∙ c.self.invariant.2.1 ∙ sym (c.start.ensures.start ∙ c.take_journal-journal.ensures.start) in
+    let at : c.keeper.inside.next ≡ c.start.result = c.raise.ensures.equal ∙ c.self.invariant.0.2.1 ∙ sym (c.start.ensures.start ∙ c.take_journal-journal.ensures.start) in
     let within : c.start.result ≤ c.len.result = subst (λ (n : ℕ). n ≤ c.len.result) (sym c.start.ensures.start) (subst (λ (n : ℕ). c.take_journal-journal.result.start ≤ n) (sym entries) c.start.ensures.within) in
     let end : c.raise.new.mirror ≡ length c.take_journal-journal.result.entries = c.raise.ensures.mirror ∙ all_out c.keeper.inside.next (c.len.result - c.start.result) c.start.result c.len.result at refl within ∙ entries in
     subst (λ (k : KeeperState). keeper_as c.raise.new.mirror c.keeper.inside.entered ≡ record k { next = length c.take_journal-journal.result.entries }) c.keeper.view_is

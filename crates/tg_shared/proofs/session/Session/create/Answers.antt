@@ -1,8 +1,8 @@
 use Rattle.std.proofs.Common.{◌∙◌, refl, sym, subst}
 use Rattle.std.proofs.lemmas.Result.{IfOk-weaker}
 use Rattle.tg_store.specs.Store.{StoreState, IsFaithful}
-use Rattle.tg_shared.specs.Sessions.{LockedState}
-use Rattle.tg_shared.proofs.Calls.{found}
+use Rattle.tg_shared.specs.Sessions.{IsKnown, KeepsReceipts, LockedState, SessionState, knowledge}
+use Rattle.tg_shared.proofs.Calls.{found, kept_as}
 use Rattle.tg_shared.proofs.Replies.{answered, kept_unless, refusals_at_some, refusals_unasked}
 use Rattle.tg_shared.proofs.session.Session.create.Goals as goal
 
@@ -11,17 +11,19 @@ returns-in-Err-clause-refusals g c = refusals_unasked g.L.Round.start _ c.args.d
 
 pub returns : goal.returns
 returns g c =
-    let s : StoreState = c.deref_mut.result.now.store in
+    let s : StoreState = c.deref_mut-2.result.now.store in
+    let ready : SessionState = c.look.new.session in
     let next : StoreState = c.create-created.new.self.store in
     let told = c.create-created.ensures in
     let opening = told.refusals.opening in
-    let keeps = c.make_ready.ensures.receipts in
-    let held = found g.L.Round.start c.deref.result.now c.deref_mut.result.now (c.deref.ensures ∙ sym c.deref_mut.ensures.value) c.store.ensures.gone_on c.store.ensures.faithful in
+    let keeps : KeepsReceipts c.args.self.now ready = kept_as c.args.self.now c.make_ready.new.self ready c.make_ready.ensures.receipts c.look.ensures.same_session in
+    let known : IsKnown g.L.Round.start (knowledge ready) s = subst (λ (b : LockedState). IsKnown g.L.Round.start (knowledge ready) b.store) (sym c.deref_mut-2.ensures.value) c.look.ensures.known in
+    let held = found g.L.Round.start c.deref.result.now c.deref_mut-2.result.now (c.deref.ensures ∙ sym c.deref_mut-2.ensures.value) c.store.ensures.gone_on c.store.ensures.faithful in
     let after : IsFaithful next = subst (λ (b : LockedState). IsFaithful b.store) c.deref-2.ensures c.store-2.ensures.faithful in
     record {
-      receipt = IfOk-weaker c.create-created.result _ _ (λ name made. answered g.L.Round.start s next c.args.self.now c.make_ready.new.self c.create-created.new.session _ _ _ held.0 held.1 keeps made.entry opening after refl) told.served;
-      refusals = refusals_at_some g.L.Round.start s next c.args.self.now c.make_ready.new.self c.create-created.new.session _ _ c.create-created.result held.0 held.1 keeps after told.noted.no_more_entry told.refusals;
-      refused = kept_unless c.create-created.result _ _ c.args.self.now c.make_ready.new.self c.create-created.new.session keeps told.noted.refused told.no_workers_full;
+      receipt = IfOk-weaker c.create-created.result _ _ (λ name made. answered g.L.Round.start s next c.args.self.now ready c.create-created.new.session _ _ _ held.0 held.1 keeps known told.seen made.entry opening after refl) told.served;
+      refusals = refusals_at_some g.L.Round.start s next c.args.self.now ready c.create-created.new.session _ _ c.create-created.result held.0 held.1 keeps known told.seen after told.noted.no_more_entry told.refusals;
+      refused = kept_unless c.create-created.result _ _ c.args.self.now ready c.create-created.new.session keeps told.noted.refused told.no_workers_full;
       no_workers_full = told.no_workers_full;
       retired = λ is. absurd (c.in_default.not-Err _ (c.make_ready.ensures.retired is));
     }
