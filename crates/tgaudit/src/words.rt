@@ -8,7 +8,7 @@ Reads from standard input which form the text has, an opening, a line for each e
 the entries on the plain graph of the opening, and compares each reply. Writes 'audit ok, N entries' where all is as the
 rules have it. Else standard error names the first line at fault, counted from 1; an entry by its place, from 0.
 
-It takes memory by the longest line, and by what the subjects reach, and not by the entries.
+It takes memory by what the subjects reach and by the edges of the opening, and not by the lines or the entries.
 
 Usage: tgaudit
 
