@@ -158,7 +158,10 @@ fn share<R: Wait>(
     store: Store<CellPayload>,
     way: Way,
 ) -> Option<Store<CellPayload>> {
-    let blanks = Blanks::new(store.opening().max_vertices() + 1);
+    let Ok(blanks) = Blanks::new(alloc, store.opening().max_vertices() + 1) else {
+        store.let_go();
+        return None;
+    };
     share_by::<Brand, R>(rt, alloc, blanks, store, way)
 }
 
