@@ -9,11 +9,11 @@ use crate::opened::{draft, open_store};
 use std::alloc::Global;
 use std::marker::Brand;
 use std::sync::Wait;
-use std::sync::ledger::{Blank, Ledger};
+use std::sync::ledger::Ledger;
 use tg_payload::CellPayload;
 use tg_rights::Label;
 use tg_shared::{Blanks, Round, Session};
-use tg_shares::{Client, Lack, MeteredStore, Portion, Purse, SharedOut};
+use tg_shares::{Client, Lack, MeteredStore, Portion, Purse, PurseBlanks, SharedOut};
 use tg_store::Store;
 
 // All that is shared out.
@@ -51,11 +51,11 @@ struct Seen {
 }
 
 // Lets a client make a vertex, if it can pay for it.
-fn makes<L: Round, V: Ledger, R: Wait>(
+fn makes<L: Round, V: Ledger, E: Ledger, R: Wait>(
     rt: &R,
     alloc: Global,
-    store: &MeteredStore<L, V, CellPayload>,
-    client: &mut Client<L, V>,
+    store: &MeteredStore<L, V, E, CellPayload>,
+    client: &mut Client<L, V, E>,
 ) -> bool {
     if client.purse.may_make(0, Portion::none()).is_err() {
         return false;
@@ -67,7 +67,7 @@ fn makes<L: Round, V: Ledger, R: Wait>(
 }
 
 // What a client lacks to make a vertex.
-fn lacks<L: Round, V: Ledger>(client: &Client<L, V>) -> Option<Lack> {
+fn lacks<L: Round, V: Ledger, E: Ledger>(client: &Client<L, V, E>) -> Option<Lack> {
     match client.purse.may_make(0, Portion::none()) {
         Ok(()) => None,
         Err(fault) => Some(fault.lacks),
@@ -75,11 +75,11 @@ fn lacks<L: Round, V: Ledger>(client: &Client<L, V>) -> Option<Lack> {
 }
 
 // Lets the first leave with what it has, and then with what the second one gives it.
-fn leaves<L: Round, V: Ledger, R: Wait>(
+fn leaves<L: Round, V: Ledger, E: Ledger, R: Wait>(
     rt: &R,
-    store: &MeteredStore<L, V, CellPayload>,
-    first: &mut Client<L, V>,
-    second: &mut Client<L, V>,
+    store: &MeteredStore<L, V, E, CellPayload>,
+    first: &mut Client<L, V, E>,
+    second: &mut Client<L, V, E>,
 ) -> [Option<u64>; 2] {
     let before = first.leave(rt, store).ok();
     if let Ok(more) = second.purse.split_off(TWO_ENTRIES) {
@@ -88,12 +88,12 @@ fn leaves<L: Round, V: Ledger, R: Wait>(
     [before, first.leave(rt, store).ok()]
 }
 
-fn see<L: Round, V: Ledger, R: Wait>(
+fn see<L: Round, V: Ledger, E: Ledger, R: Wait>(
     rt: &R,
     alloc: Global,
-    store: &MeteredStore<L, V, CellPayload>,
-    first: &mut Client<L, V>,
-    second: &mut Client<L, V>,
+    store: &MeteredStore<L, V, E, CellPayload>,
+    first: &mut Client<L, V, E>,
+    second: &mut Client<L, V, E>,
 ) -> Seen {
     let made = [
         makes(rt, alloc, store, first),
@@ -113,10 +113,10 @@ fn see<L: Round, V: Ledger, R: Wait>(
 }
 
 // The two clients, by their sessions and the purse that has all.
-fn clients_of<L: Round, V: Ledger>(
+fn clients_of<L: Round, V: Ledger, E: Ledger>(
     mut sessions: Vec<Session<L>>,
-    mut purse: Purse<V>,
-) -> Option<(Client<L, V>, Client<L, V>)> {
+    mut purse: Purse<V, E>,
+) -> Option<(Client<L, V, E>, Client<L, V, E>)> {
     let second = sessions.pop()?;
     let first = sessions.pop()?;
     let part = purse.split_off(SECOND).ok()?;
@@ -131,10 +131,10 @@ fn clients_of<L: Round, V: Ledger>(
     Some((first, second))
 }
 
-fn seen_of<L: Round, V: Ledger, R: Wait>(
+fn seen_of<L: Round, V: Ledger, E: Ledger, R: Wait>(
     rt: &R,
     alloc: Global,
-    shared: SharedOut<L, V, CellPayload>,
+    shared: SharedOut<L, V, E, CellPayload>,
 ) -> Option<Seen> {
     let SharedOut {
         store,
@@ -154,17 +154,17 @@ fn seen_of<L: Round, V: Ledger, R: Wait>(
     Some(Seen { entries, ..seen })
 }
 
-fn share<L: Round, V: Ledger, R: Wait>(
+fn share<L: Round, V: Ledger, E: Ledger, R: Wait>(
     rt: &R,
     alloc: Global,
     blanks: Blanks,
-    vertices: Blank,
+    parts: PurseBlanks,
     store: Store<CellPayload>,
 ) -> Option<Seen>
     requires shareable { MayShare L.name L.parts L.keeper L.start blanks store }
-    requires shares { MayShareOut V.name V.parts vertices WHOLE.vertices store }
+    requires shares { MayShareOut V.name V.parts E.name E.parts parts WHOLE store }
 {
-    match MeteredStore::<L, V, CellPayload>::new(alloc, blanks, vertices, WHOLE, store) {
+    match MeteredStore::<L, V, E, CellPayload>::new(alloc, blanks, parts, WHOLE, store) {
         Ok(shared) => seen_of(rt, alloc, shared),
         Err(store) => {
             store.let_go();
@@ -178,8 +178,7 @@ fn share_out<R: Wait>(rt: &R, alloc: Global, store: Store<CellPayload>) -> Optio
     requires { (graph_of_store store).made + 3 ≤ store.opening.limit }
 {
     let blanks = Blanks::new(store.opening().max_vertices() + 1);
-    let vertices = Blank::new(WHOLE.vertices);
-    share::<Brand, Brand, R>(rt, alloc, blanks, vertices, store)
+    share::<Brand, Brand, Brand, R>(rt, alloc, blanks, PurseBlanks::new(WHOLE), store)
 }
 
 fn story<R: Wait>(rt: &R, alloc: Global) -> Option<Seen> {

@@ -1,6 +1,5 @@
 -- What is paid out of a purse, and what holds behind the lock of a store whose vertices are shared out.
 use Rattle.std.specs.Prelude.{◌≡◌, ◌≢◌, ◌↔◌, ◌<◌, ◌≤◌, ◌+◌, ℕ, Result, Err, IfErr, IfOk, OnErr, OnOk, length}
-use Rattle.std.specs.declared.sync.ledger.Blank.{Blank}
 use Rattle.tg_model.specs.Graph.{ProtectionGraph, IsSubject, listing_of}
 use Rattle.tg_model.specs.declared.command.Deed.{Deed}
 use Rattle.tg_model.specs.declared.reply.Reply.{Reply}
@@ -16,6 +15,7 @@ use Rattle.tg_shares.specs.declared.fault.ShareFault.{ShareFault}
 use Rattle.tg_shares.specs.declared.fault.Lack.{Lack}
 use Rattle.tg_shares.specs.declared.fault.Lack.TheVariants.{Entries, Vertices}
 use Rattle.tg_shares.specs.declared.purse.Portion.{Portion}
+use Rattle.tg_shares.specs.declared.purse.PurseBlanks.{PurseBlanks}
 
 -- ---- purses
 
@@ -74,12 +74,12 @@ pub record LeavesPaying (old new : StoreState) (before after : SessionState) (fu
   pub never_full : result ≢ Err (Store HeapFull)
   pub refused : OnErr result (RecordsNothing old new before after × (rest ≡ full))
 
--- So many vertices may be shared out of a store with a blank, by the ledger that has this name and so many parts: the blank is the
--- ledger's, there is a part for each vertex, and no more than may still be made.
-pub record MayShareOut (ledger whole : ℕ) (blank : Blank) (vertices : ℕ) (store : StoreState) : Type 0 where
-  pub name : blank.name ≡ ledger
-  pub parts : (blank.parts ≡ whole) × (blank.parts ≡ vertices)
-  pub within : (graph_of_store store).made + vertices ≤ store.opening.limit
+-- So many vertices and entries may be shared out of a store with these blanks, by the ledgers that have these names and so many parts:
+-- the blanks are the ledgers', there is a part for each vertex and each entry, and no more vertices than may still be made.
+pub record MayShareOut (vertices vertex_parts entries entry_parts : ℕ) (blanks : PurseBlanks) (whole : Portion) (store : StoreState) : Type 0 where
+  pub of_vertices : (blanks.vertices.name ≡ vertices) × (blanks.vertices.parts ≡ vertex_parts) × (blanks.vertices.parts ≡ whole.vertices)
+  pub of_entries : (blanks.entries.name ≡ entries) × (blanks.entries.parts ≡ entry_parts) × (blanks.entries.parts ≡ whole.entries)
+  pub within : (graph_of_store store).made + whole.vertices ≤ store.opening.limit
 
 -- so many vertices, which are left in all purses, may still be made
 abbrev pub IsCovered : ℕ → StoreState → Type 0

@@ -27,12 +27,12 @@ use tg_store::{ApplyFault, CreateFault, CreateRefused, Kind, RoomFault};
 /// A session with the purse that pays for its calls. Its holder reaches the store by the calls below, and by no other:
 /// a session alone wants a store without shares.
 #[derive(Drop)]
-pub struct Client<L: Round, V: Ledger> {
+pub struct Client<L: Round, V: Ledger, E: Ledger> {
     pub session: Session<L>,
-    pub purse: Purse<V>,
+    pub purse: Purse<V, E>,
 }
 
-impl<L: Round, V: Ledger> Client<L, V> {
+impl<L: Round, V: Ledger, E: Ledger> Client<L, V, E> {
     /// Takes a command of the session's subject, under the lock. A served or denied command adds exactly one receipt,
     /// the last of the session's, which has the reply of the rules; the purse pays one entry for it. A refused command
     /// adds none and costs nothing.
@@ -42,7 +42,7 @@ impl<L: Round, V: Ledger> Client<L, V> {
     pub fn call<P: Payload, R: Wait>(
         &mut self,
         rt: &R,
-        store: &MeteredStore<L, V, P>,
+        store: &MeteredStore<L, V, E, P>,
         command: Command,
     ) -> Result<(), ApplyFault>
         requires share { 0 < self.old.purse.entries }
@@ -76,7 +76,7 @@ impl<L: Round, V: Ledger> Client<L, V> {
     pub fn create<P: Payload, R: Wait>(
         &mut self,
         rt: &R,
-        store: &MeteredStore<L, V, P>,
+        store: &MeteredStore<L, V, E, P>,
         label: Label,
         draft: Draft<P>,
     ) -> Result<u64, CreateRefused<P>>
@@ -114,7 +114,7 @@ impl<L: Round, V: Ledger> Client<L, V> {
     pub fn spawn<P: Payload, R: Wait>(
         &mut self,
         rt: &R,
-        store: &MeteredStore<L, V, P>,
+        store: &MeteredStore<L, V, E, P>,
         label: Label,
         draft: Draft<P>,
     ) -> Result<Session<L>, CreateRefused<P>>
@@ -151,7 +151,7 @@ impl<L: Round, V: Ledger> Client<L, V> {
     pub fn leave<P: Payload, R: Wait>(
         &mut self,
         rt: &R,
-        store: &MeteredStore<L, V, P>,
+        store: &MeteredStore<L, V, E, P>,
     ) -> Result<u64, LeaveFault>
         ensures left { IfOk result (HasLeftAtSome L.start self.old.session self.new.session) }
         ensures paid { IfOk result (λ count. Pays (entries_alone (count + 1)) self.old.purse self.new.purse) }
@@ -178,7 +178,7 @@ impl<L: Round, V: Ledger> Client<L, V> {
     pub fn label<P: Payload, R: Wait>(
         &self,
         rt: &R,
-        store: &MeteredStore<L, V, P>,
+        store: &MeteredStore<L, V, E, P>,
         target: u64,
     ) -> Option<Label>
         ensures held { AtSome L.start (λ s. IsHeldOver (graph_of_store s) self.now.session.worker target result) }
@@ -194,7 +194,7 @@ impl<L: Round, V: Ledger> Client<L, V> {
     pub fn collect<P: Payload, R: Wait>(
         &self,
         rt: &R,
-        store: &MeteredStore<L, V, P>,
+        store: &MeteredStore<L, V, E, P>,
         kind: Kind,
     ) -> Result<u64, RoomFault>
         ensures number { IfOk result (LeavesAtSome L.start kind) }

@@ -20,17 +20,18 @@
 //! leave is the test itself, since the worker's row may grow until the lock is taken.
 //!
 //! **The law.** No create and no spawn that is paid for is answered that no more vertices may be made (`never_full` of
-//! [`Client::create`], [`Client::spawn`]), whatever was done in between, by whomever. And no call changes a purse but
+//! [`Client::create`], [`Client::spawn`]), whatever was done in between, by whomever. All clients together never make
+//! more entries than the first purse had (`within` of [`MeteredStore::into_locked`]). And no call changes a purse but
 //! its own: a purse is its holder's alone.
 //!
 //! **Who may do what.** A client reaches the store by its own calls. The store's lock, its locked value and the till
 //! are private to this crate. The one [`Keeper`](tg_shared::Keeper) takes the journal and ends workers, and nobody pays
 //! for that.
 //!
-//! A purse is a share of a ledger ([`std::sync::ledger`]) with a part for each vertex. In the [`Till`] are the parts
-//! of those that were made. So all purses together have no more vertices than may still be made, though nothing counts
-//! them. Entries have no ledger: a purse is never copied, so all purses together never have more entries than the first
-//! one had.
+//! A purse is a share of two ledgers ([`std::sync::ledger`]): with a part of the first for each vertex, and a part of
+//! the second for each entry. In the [`Till`] are the parts of those that were made. So all purses together have no
+//! more vertices than may still be made, and no more entries than the first purse had without those that clients made.
+//! Nothing counts them, and parts take no bytes.
 #![tactic(auto)]
 
 mod client;
@@ -41,5 +42,5 @@ mod store;
 
 pub use client::Client;
 pub use fault::{Lack, LeaveFault, ShareFault};
-pub use purse::{Portion, Purse, Till};
+pub use purse::{Portion, Purse, PurseBlanks, Till};
 pub use store::{MeteredStore, SharedOut};

@@ -1,12 +1,13 @@
 //! What is behind the lock, and what each call does to it.
 ghost use Rattle.std.specs.Prelude.{◌≡◌, ◌≢◌, ◌<◌, ◌≤◌, ◌+◌, Err, IfOk, IfErr, OnErr, false, length, true};
 ghost use Rattle.tg_shares.specs.Shares.{IsCovered};
+ghost use Rattle.tg_shares.specs.Tills.{ArePaid};
 
 use crate::client::Client;
 use crate::fault::{Lack, LeaveFault, ShareFault};
-use crate::purse::{Portion, Purse, Till};
+use crate::purse::{Portion, Purse, PurseBlanks, Till};
 use std::alloc::Global;
-use std::sync::ledger::{Blank, Ledger};
+use std::sync::ledger::Ledger;
 use tg_journal::Journal;
 use tg_model::Command;
 use tg_payload::{Draft, Payload};
@@ -15,26 +16,28 @@ use tg_shared::{Blanks, Keeper, Locked, Round, Session};
 use tg_store::{ApplyFault, CreateFault, CreateRefused, Kind, RoomFault, Store};
 
 /// What is behind the lock of a store with shares: the locked store, and the till, into which the purses pay. All
-/// vertices that are left in purses may still be made. Each call is one call of [`Locked`], with its contract, and is
-/// paid for. It never leaves this crate, so nobody reaches the locked store by another call.
+/// vertices that are left in purses may still be made (`covered`). Each entry that was made since is the keeper's or
+/// was paid for (`paid`). Each call is one call of [`Locked`], with its contract, and is paid for. It never leaves this
+/// crate, so nobody reaches the locked store by another call.
 #[derive(Drop)]
-pub(crate) struct Metered<L: Round, V: Ledger, P: Payload> {
+pub(crate) struct Metered<L: Round, V: Ledger, E: Ledger, P: Payload> {
     pub(crate) locked: Locked<L, P>,
-    pub(crate) till: Till<V>,
-    ghost covered: { IsCovered till locked.store },
+    pub(crate) till: Till<L, V, E>,
+    ghost covered: { IsCovered till.left.vertices locked.store },
+    ghost paid: { ArePaid till locked },
 }
 
 /// What is to be put behind a lock, a session for each active subject, by rising name, its one keeper, and the purse
 /// that has all shares.
 #[derive(Drop)]
-pub(crate) struct Opened<L: Round, V: Ledger, P: Payload> {
-    pub(crate) metered: Metered<L, V, P>,
+pub(crate) struct Opened<L: Round, V: Ledger, E: Ledger, P: Payload> {
+    pub(crate) metered: Metered<L, V, E, P>,
     pub(crate) sessions: Vec<Session<L>>,
     pub(crate) keeper: Keeper<L>,
-    pub(crate) purse: Purse<V>,
+    pub(crate) purse: Purse<V, E>,
 }
 
-impl<L: Round, V: Ledger, P: Payload> Metered<L, V, P> {
+impl<L: Round, V: Ledger, E: Ledger, P: Payload> Metered<L, V, E, P> {
     ghost use Rattle.tg_model.specs.declared.command.Deed.TheVariants.{Create, Spawn};
     ghost use Rattle.tg_model.specs.declared.reply.Reply.TheVariants.{WorkersFull};
     ghost use Rattle.tg_model.specs.Graph.{ProtectionGraph};
@@ -47,18 +50,18 @@ impl<L: Round, V: Ledger, P: Payload> Metered<L, V, P> {
     ghost use Rattle.tg_shares.specs.Shares.{CanPayForVertex, LeavesPaying, MayShareOut, PaysFor, PaysForSpawn, one_entry, one_vertex};
 
     /// Shares a store as [`Locked::open`] does, and hands out a purse with so many vertices and entries, which all are
-    /// made out of from then on. The first blanks are those of the round; the other one has as many parts as the purse
-    /// has vertices, and these are no more than may still be made. All are spent. Fails only when out of memory, and
-    /// hands the store back.
+    /// made out of from then on. The first blanks are those of the round. The others have as many parts as the purse
+    /// has vertices and entries, and so many vertices may still be made. All are spent. Fails only when out of memory,
+    /// and hands the store back.
     pub(crate) fn open(
         alloc: Global,
         blanks: Blanks,
-        vertices: Blank,
+        parts: PurseBlanks,
         whole: Portion,
         store: Store<P>,
-    ) -> Result<Opened<L, V, P>, Store<P>>
+    ) -> Result<Opened<L, V, E, P>, Store<P>>
         requires shareable { MayShare L.name L.parts L.keeper L.start blanks store }
-        requires shares { MayShareOut V.name V.parts vertices whole.vertices store }
+        requires shares { MayShareOut V.name V.parts E.name E.parts parts whole store }
         ensures store { IfOk result (λ opened. opened.metered.locked.store ≡ store) }
         ensures sessions { (g : ProtectionGraph) → StandsFor store g → IfOk result (λ opened. AreFresh g.subjects opened.sessions.items) }
         ensures purse { IfOk result (λ opened. opened.purse ≡ whole) }
@@ -66,7 +69,7 @@ impl<L: Round, V: Ledger, P: Payload> Metered<L, V, P> {
     {
         match Locked::open(alloc, blanks, store) {
             Ok((locked, sessions, keeper)) => {
-                let (till, purse) = Till::open(vertices, whole);
+                let (till, purse) = Till::open(parts, whole);
                 Ok(Opened {
                     metered: Metered { locked, till },
                     sessions,
@@ -86,10 +89,12 @@ impl<L: Round, V: Ledger, P: Payload> Metered<L, V, P> {
         ensures sessions { result.sessions ≡ sessions_made L.start result.store.entries }
         ensures started { length (subjects_at L.start) ≤ result.sessions }
         ensures none_ended { L.start.may_end ≡ false → result.entered ≡ 0 }
+        ensures within { length result.store.entries ≤ length L.start.entries + result.entered + E.parts }
     {
-        let Metered { locked, till: _ } = self;
-        // It tells what holds of all that is behind a lock.
+        let Metered { locked, till } = self;
+        // They tell what holds of all that is behind a lock.
         let _ = locked.store();
+        till.tell();
         locked
     }
 
@@ -106,7 +111,7 @@ impl<L: Round, V: Ledger, P: Payload> Metered<L, V, P> {
     /// where it is refused.
     pub(crate) fn apply(
         &mut self,
-        client: &mut Client<L, V>,
+        client: &mut Client<L, V, E>,
         command: Command,
     ) -> Result<(), ApplyFault>
         requires room { 0 < client.old.session.spare }
@@ -117,7 +122,7 @@ impl<L: Round, V: Ledger, P: Payload> Metered<L, V, P> {
     {
         match self.locked.apply(&mut client.session, command) {
             Ok(()) => {
-                client.purse.pay_entries(1);
+                client.purse.pay_entries(1, &mut self.till);
                 Ok(())
             }
             Err(why) => Err(why),
@@ -129,7 +134,7 @@ impl<L: Round, V: Ledger, P: Payload> Metered<L, V, P> {
     /// refused.
     pub(crate) fn create(
         &mut self,
-        client: &mut Client<L, V>,
+        client: &mut Client<L, V, E>,
         label: Label,
         draft: Draft<P>,
     ) -> Result<u64, CreateRefused<P>>
@@ -160,7 +165,7 @@ impl<L: Round, V: Ledger, P: Payload> Metered<L, V, P> {
     /// maker then splits off.
     pub(crate) fn spawn(
         &mut self,
-        client: &mut Client<L, V>,
+        client: &mut Client<L, V, E>,
         label: Label,
         draft: Draft<P>,
     ) -> Result<Session<L>, CreateRefused<P>>
@@ -182,7 +187,7 @@ impl<L: Round, V: Ledger, P: Payload> Metered<L, V, P> {
                 Ok(fresh)
             }
             Err(refused) => {
-                client.purse.pay_refused_spawn(refused.why);
+                client.purse.pay_refused_spawn(refused.why, &mut self.till);
                 Err(refused)
             }
         }
@@ -194,7 +199,7 @@ impl<L: Round, V: Ledger, P: Payload> Metered<L, V, P> {
     /// Where it is refused nothing is changed and nothing is paid. `Store` with `NoSuchWorker` is answered exactly
     /// where the session's subject is none any more; `Share` only where the purse has too few entries; else
     /// `OutOfMemory` alone.
-    pub(crate) fn leave(&mut self, client: &mut Client<L, V>) -> Result<u64, LeaveFault>
+    pub(crate) fn leave(&mut self, client: &mut Client<L, V, E>) -> Result<u64, LeaveFault>
         ensures { LeavesPaying self.old.locked.store self.new.locked.store client.old.session client.new.session client.old.purse client.new.purse result }
     {
         let worker = client.session.worker();
@@ -208,7 +213,7 @@ impl<L: Round, V: Ledger, P: Payload> Metered<L, V, P> {
         }
         match self.locked.leave(&mut client.session) {
             Ok(count) => {
-                client.purse.pay_entries(count + 1);
+                client.purse.pay_entries(count + 1, &mut self.till);
                 Ok(count)
             }
             Err(why) => Err(LeaveFault::Store(why)),
@@ -217,7 +222,7 @@ impl<L: Round, V: Ledger, P: Payload> Metered<L, V, P> {
 
     /// The rights that the session's subject holds over a vertex, by one call of [`Locked::label`]. Nothing is paid
     /// for.
-    pub(crate) fn label(&self, client: &Client<L, V>, target: u64) -> Option<Label>
+    pub(crate) fn label(&self, client: &Client<L, V, E>, target: u64) -> Option<Label>
         ensures held { (g : ProtectionGraph) → StandsFor self.now.locked.store g → IsHeldOver g client.now.session.worker target result }
     {
         self.locked.label(&client.session, target)

@@ -6,9 +6,9 @@ ghost use Rattle.tg_shared.specs.Sessions.{AreFresh, AtSome, EndsAtSome, GoesOn,
 ghost use Rattle.tg_shares.specs.Shares.{MayShareOut};
 
 use crate::metered::{Metered, Opened};
-use crate::purse::{Portion, Purse};
+use crate::purse::{Portion, Purse, PurseBlanks};
 use std::alloc::Global;
-use std::sync::ledger::{Blank, Ledger};
+use std::sync::ledger::Ledger;
 use std::sync::{Mutex, Wait};
 use tg_journal::Journal;
 use tg_payload::Payload;
@@ -19,36 +19,37 @@ use tg_store::{ApplyFault, Store};
 /// [`Client`](crate::Client), each of which is paid for. Its keeper takes the journal and ends workers, which nobody
 /// pays for. Nobody else has the lock.
 #[derive(Drop)]
-pub struct MeteredStore<L: Round, V: Ledger, P: Payload> {
-    pub(crate) metered: Mutex<Metered<L, V, P>>,
+pub struct MeteredStore<L: Round, V: Ledger, E: Ledger, P: Payload> {
+    pub(crate) metered: Mutex<Metered<L, V, E, P>>,
 }
 
 /// A store with shares; a session for each active subject, by rising name; the purse that has all shares; and the one
 /// keeper.
 #[derive(Drop)]
-pub struct SharedOut<L: Round, V: Ledger, P: Payload> {
-    pub store: MeteredStore<L, V, P>,
+pub struct SharedOut<L: Round, V: Ledger, E: Ledger, P: Payload> {
+    pub store: MeteredStore<L, V, E, P>,
     pub sessions: Vec<Session<L>>,
-    pub purse: Purse<V>,
+    pub purse: Purse<V, E>,
     pub keeper: Keeper<L>,
 }
 
-impl<L: Round, V: Ledger, P: Payload> MeteredStore<L, V, P> {
+impl<L: Round, V: Ledger, E: Ledger, P: Payload> MeteredStore<L, V, E, P> {
     /// Shares a store as [`SharedStore::new`](tg_shared::SharedStore::new) does, and hands out a purse with so many
     /// vertices and entries. Each vertex that a client makes is paid out of this purse or of a part of it, and so is
     /// each entry of a client's call.
     ///
-    /// The first blanks are those of the round. The other one has as many parts as the purse has vertices, and so many
-    /// vertices may still be made. All are spent. Fails only when out of memory, and hands the store back.
+    /// The first blanks are those of the round. The others have as many parts as the purse has vertices and entries
+    /// ([`PurseBlanks::new`]), and so many vertices may still be made. All are spent. Fails only when out of memory,
+    /// and hands the store back.
     pub fn new(
         alloc: Global,
         blanks: Blanks,
-        vertices: Blank,
+        parts: PurseBlanks,
         whole: Portion,
         store: Store<P>,
-    ) -> Result<SharedOut<L, V, P>, Store<P>>
+    ) -> Result<SharedOut<L, V, E, P>, Store<P>>
         requires shareable { MayShare L.name L.parts L.keeper L.start blanks store }
-        requires shares { MayShareOut V.name V.parts vertices whole.vertices store }
+        requires shares { MayShareOut V.name V.parts E.name E.parts parts whole store }
         ensures sessions { (g : ProtectionGraph) → StandsFor store g → IfOk result (λ opened. AreFresh g.subjects opened.sessions.items) }
         ensures purse { IfOk result (λ opened. opened.purse ≡ whole) }
         ensures handed_back { IfErr result (λ refused. refused ≡ store) }
@@ -58,7 +59,7 @@ impl<L: Round, V: Ledger, P: Payload> MeteredStore<L, V, P> {
             sessions,
             keeper,
             purse,
-        } = Metered::open(alloc, blanks, vertices, whole, store)?;
+        } = Metered::open(alloc, blanks, parts, whole, store)?;
         Ok(SharedOut {
             store: MeteredStore {
                 metered: Mutex::new(metered),
@@ -113,14 +114,15 @@ impl<L: Round, V: Ledger, P: Payload> MeteredStore<L, V, P> {
 
     /// What was behind the lock, without the shares: the store that was shared, gone on.
     /// [`Locked::close`](tg_shared::Locked::close) ends the round with the clients' sessions, and
-    /// [`Locked::reclaim`](tg_shared::Locked::reclaim) ends it if some are lost. Takes no memory, and no lock is waited
-    /// for.
+    /// [`Locked::reclaim`](tg_shared::Locked::reclaim) ends it if some are lost. All clients together have made no more
+    /// entries than the first purse had (`within`). Takes no memory, and no lock is waited for.
     pub fn into_locked(self) -> Locked<L, P>
         ensures faithful { IsFaithful result.store }
         ensures gone_on { GoesOn L.start result.store }
         ensures sessions { result.sessions ≡ sessions_made L.start result.store.entries }
         ensures started { length (subjects_at L.start) ≤ result.sessions }
         ensures none_ended { L.start.may_end ≡ false → result.entered ≡ 0 }
+        ensures within { length result.store.entries ≤ length L.start.entries + result.entered + E.parts }
     {
         let MeteredStore { metered } = self;
         metered.into_inner().into_locked()

@@ -9,11 +9,11 @@ use crate::fault::StoryFault;
 use crate::opening::{cell, label};
 use std::marker::Brand;
 use std::sync::Wait;
-use std::sync::ledger::{Blank, Ledger};
+use std::sync::ledger::Ledger;
 use tg_model::Command;
 use tg_payload::CellPayload;
 use tg_shared::{Blanks, Round, Session};
-use tg_shares::{Client, MeteredStore, Portion, Purse, SharedOut};
+use tg_shares::{Client, MeteredStore, Portion, Purse, PurseBlanks, SharedOut};
 use tg_store::{Store, StoreFault};
 
 // What both tenants may make together.
@@ -47,20 +47,19 @@ fn share_out<R: Wait + Print + AllocGlobal>(
     requires { (graph_of_store store).made + 2 ≤ store.opening.limit }
 {
     let blanks = Blanks::new(store.opening().max_vertices() + 1);
-    let vertices = Blank::new(WHOLE.vertices);
-    share::<Brand, Brand, R>(rt, blanks, vertices, store)
+    share::<Brand, Brand, Brand, R>(rt, blanks, PurseBlanks::new(WHOLE), store)
 }
 
-fn share<L: Round, V: Ledger, R: Wait + Print + AllocGlobal>(
+fn share<L: Round, V: Ledger, E: Ledger, R: Wait + Print + AllocGlobal>(
     rt: &R,
     blanks: Blanks,
-    vertices: Blank,
+    parts: PurseBlanks,
     store: Store<CellPayload>,
 ) -> Result<(), StoryFault>
     requires shareable { MayShare L.name L.parts L.keeper L.start blanks store }
-    requires shares { MayShareOut V.name V.parts vertices WHOLE.vertices store }
+    requires shares { MayShareOut V.name V.parts E.name E.parts parts WHOLE store }
 {
-    match MeteredStore::<L, V, CellPayload>::new(rt.alloc(), blanks, vertices, WHOLE, store) {
+    match MeteredStore::<L, V, E, CellPayload>::new(rt.alloc(), blanks, parts, WHOLE, store) {
         Ok(shared) => work_in_turn(rt, shared),
         Err(store) => {
             store.let_go();
@@ -70,9 +69,9 @@ fn share<L: Round, V: Ledger, R: Wait + Print + AllocGlobal>(
 }
 
 // Lets one tenant work with too short a share, and then the other one. The store is let go.
-fn work_in_turn<L: Round, V: Ledger, R: Wait + Print + AllocGlobal>(
+fn work_in_turn<L: Round, V: Ledger, E: Ledger, R: Wait + Print + AllocGlobal>(
     rt: &R,
-    shared: SharedOut<L, V, CellPayload>,
+    shared: SharedOut<L, V, E, CellPayload>,
 ) -> Result<(), StoryFault> {
     let SharedOut {
         store,
@@ -90,11 +89,11 @@ fn work_in_turn<L: Round, V: Ledger, R: Wait + Print + AllocGlobal>(
 }
 
 // Lets the next tenant work, with this share.
-fn work_with<L: Round, V: Ledger, R: Wait + Print + AllocGlobal>(
+fn work_with<L: Round, V: Ledger, E: Ledger, R: Wait + Print + AllocGlobal>(
     rt: &R,
-    store: &MeteredStore<L, V, CellPayload>,
+    store: &MeteredStore<L, V, E, CellPayload>,
     sessions: &mut Vec<Session<L>>,
-    purse: &mut Purse<V>,
+    purse: &mut Purse<V, E>,
     share: Portion,
 ) -> Result<(), StoryFault> {
     match tenant_of(sessions, purse, share) {
@@ -104,11 +103,11 @@ fn work_with<L: Round, V: Ledger, R: Wait + Print + AllocGlobal>(
 }
 
 // The next tenant: the last of these sessions, and this share of the purse.
-fn tenant_of<L: Round, V: Ledger>(
+fn tenant_of<L: Round, V: Ledger, E: Ledger>(
     sessions: &mut Vec<Session<L>>,
-    purse: &mut Purse<V>,
+    purse: &mut Purse<V, E>,
     share: Portion,
-) -> Option<Client<L, V>> {
+) -> Option<Client<L, V, E>> {
     match (sessions.pop(), purse.split_off(share)) {
         (Some(session), Ok(purse)) => Some(Client { session, purse }),
         _ => None,
@@ -116,10 +115,10 @@ fn tenant_of<L: Round, V: Ledger>(
 }
 
 // Makes a document and writes to it three times.
-fn work<L: Round, V: Ledger, R: Wait + Print + AllocGlobal>(
+fn work<L: Round, V: Ledger, E: Ledger, R: Wait + Print + AllocGlobal>(
     rt: &R,
-    store: &MeteredStore<L, V, CellPayload>,
-    tenant: &mut Client<L, V>,
+    store: &MeteredStore<L, V, E, CellPayload>,
+    tenant: &mut Client<L, V, E>,
 ) -> Result<(), StoryFault> {
     let worker = tenant.session.worker();
     let document = make(rt, store, tenant)?;
@@ -134,10 +133,10 @@ fn work<L: Round, V: Ledger, R: Wait + Print + AllocGlobal>(
 }
 
 // Makes a document, if the purse can pay for a vertex and an entry. Answers its name.
-fn make<L: Round, V: Ledger, R: Wait + AllocGlobal>(
+fn make<L: Round, V: Ledger, E: Ledger, R: Wait + AllocGlobal>(
     rt: &R,
-    store: &MeteredStore<L, V, CellPayload>,
-    tenant: &mut Client<L, V>,
+    store: &MeteredStore<L, V, E, CellPayload>,
+    tenant: &mut Client<L, V, E>,
 ) -> Result<u64, StoryFault> {
     let rights = label("rw")?;
     let draft = cell(rt.alloc(), 0)?;
@@ -152,10 +151,10 @@ fn make<L: Round, V: Ledger, R: Wait + AllocGlobal>(
 }
 
 // Writes a number to the document, if the purse can pay for an entry.
-fn write<L: Round, V: Ledger, R: Wait>(
+fn write<L: Round, V: Ledger, E: Ledger, R: Wait>(
     rt: &R,
-    store: &MeteredStore<L, V, CellPayload>,
-    tenant: &mut Client<L, V>,
+    store: &MeteredStore<L, V, E, CellPayload>,
+    tenant: &mut Client<L, V, E>,
     target: u64,
     value: u64,
 ) -> Result<(), StoryFault> {

@@ -8,4 +8,7 @@ abbrev pub ghosts-share-L-Round : goal.ghosts-share-L-Round
 ghosts-share-L-Round g a = record { start = start_of_store a.store; keeper = names_of a.blanks }
 
 abbrev pub ghosts-share-V-Ledger : goal.ghosts-share-V-Ledger
-ghosts-share-V-Ledger g a = record { name = a.vertices.name; parts = a.vertices.parts }
+ghosts-share-V-Ledger g a = record { name = a.parts.vertices.name; parts = a.parts.vertices.parts }
+
+abbrev pub ghosts-share-E-Ledger : goal.ghosts-share-E-Ledger
+ghosts-share-E-Ledger g a = record { name = a.parts.entries.name; parts = a.parts.entries.parts }
