@@ -42,6 +42,10 @@ PLACES = {
         ["match Locked::open Ok((locked, sessions, keeper)) Err(store)"],
         "there was no memory for the sessions: the store comes back alone",
     ),
+    ("examples/src/tenants/story.rt", "share"): (
+        ["match MeteredStore::<L, V, E, CellPayload>::new Ok(shared) Err(store)"],
+        "there was no memory for the sessions: the store comes back alone",
+    ),
     ("tg_program/src/program.rt", "words_of"): (
         [
             "match env::args Ok(words) Err(error)if error.kind()==io::ErrorKind::InvalidData Err(_)",
