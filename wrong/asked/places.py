@@ -46,6 +46,10 @@ PLACES = {
         ["match Locked::open Ok((locked, sessions, keeper)) Err(store)"],
         "there was no memory for the sessions: the store comes back alone",
     ),
+    ("examples/src/tenants/story.rt", "share"): (
+        ["match MeteredStore::<L, V, E, CellPayload>::new Ok(shared) Err(store)"],
+        "there was no memory for the sessions: the store comes back alone",
+    ),
     ("tg_program/src/program.rt", "words_of"): (
         [
             "match env::args Ok(words) Err(error)if error.kind()==io::ErrorKind::InvalidData Err(_)",
@@ -61,10 +65,6 @@ PLACES = {
     ("tg_plain/src/program.rt", "words_of"): (
         ["match env::args Ok(words) Err(error)if error.kind()==io::ErrorKind::InvalidData Err(_)"] * 2,
         "the words of the command line, for which the system's error says so",
-    ),
-    ("examples/src/tenants/story.rt", "share"): (
-        ["match MeteredStore::<L, V, E, CellPayload>::new Ok(shared) Err(store)"],
-        "a store comes back that can't be shared out for lack of memory alone",
     ),
     ("tgcould/src/answers.rt", "print"): (["if self.notes.is_short"] * 2, "a growth was refused before, and noted"),
     **{

@@ -108,7 +108,7 @@ impl<L: Round, V: Ledger, E: Ledger, P: Payload> Metered<L, V, E, P> {
     }
 
     /// Changes nothing, and tells what the session knows of the store, by one call of [`Locked::look`].
-    pub(crate) fn look(&mut self, client: &mut Client<L, V>)
+    pub(crate) fn look(&mut self, client: &mut Client<L, V, E>)
         ensures known { IsKnown L.start (knowledge client.new.session) self.new.locked.store }
         ensures same { self.new.locked ≡ self.old.locked }
         ensures same_session { client.new.session ≡ client.old.session }

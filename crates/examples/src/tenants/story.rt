@@ -124,22 +124,11 @@ fn work<L: Round, V: Ledger, E: Ledger, R: Wait + Print + AllocGlobal>(
     let worker = tenant.session.worker();
     let document = make(rt, store, tenant)?;
     println!(rt; "tenant {worker} makes document {document}")?;
-    tell_write(rt, store, tenant, document, 1)?;
-    tell_write(rt, store, tenant, document, 2)?;
-    tell_write(rt, store, tenant, document, 3)
-}
-
-// Writes a number to the document, and prints whether that was done.
-fn tell_write<L: Round, V: Ledger, E: Ledger, R: Wait + Print>(
-    rt: &R,
-    store: &MeteredStore<L, V, E, CellPayload>,
-    tenant: &mut Client<L, V, E>,
-    document: u64,
-    number: u64,
-) -> Result<(), StoryFault> {
-    match put_number(rt, store, tenant, document, number) {
-        Ok(()) => println!(rt; "it writes {number}")?,
-        Err(fault) => println!(rt; "it doesn't write {number}: {fault}")?,
+    for number in 1..4 {
+        match write(rt, store, tenant, document, number) {
+            Ok(()) => println!(rt; "it writes {number}")?,
+            Err(fault) => println!(rt; "it doesn't write {number}: {fault}")?,
+        }
     }
     Ok(())
 }
@@ -163,7 +152,7 @@ fn make<L: Round, V: Ledger, E: Ledger, R: Wait + AllocGlobal>(
 }
 
 // Writes a number to the document, if the purse can pay for an entry.
-fn put_number<L: Round, V: Ledger, E: Ledger, R: Wait>(
+fn write<L: Round, V: Ledger, E: Ledger, R: Wait>(
     rt: &R,
     store: &MeteredStore<L, V, E, CellPayload>,
     tenant: &mut Client<L, V, E>,
