@@ -107,12 +107,6 @@ def fulls():
     return Script("--workers 1 --stock c3200", lines, (1, 2, 8))
 
 
-def fulls_of_64_rows():
-    """Rows of 64 workers, of which each helper moves some, again and again."""
-    lines = [line for worker in range(64) for line in creates(500, worker=worker)]
-    return Script("--workers 64 --stock c32000", lines + ["full"] * 20, (2,))
-
-
 def fulls_of_a_heap_that_grows():
     lines = []
     for turn in range(40):
@@ -282,8 +276,7 @@ SCRIPTS = {
     it.__name__: it
     for it in (
         edges_lost_and_got_again, long_rows_that_die, hundreds_of_long_rows, spawns_and_retires, sixty_four_subjects,
-        minors, minors_by_helpers, minors_of_nothing, fulls, fulls_of_64_rows, fulls_of_a_heap_that_grows,
-        a_heap_that_shrinks,
+        minors, minors_by_helpers, minors_of_nothing, fulls, fulls_of_a_heap_that_grows, a_heap_that_shrinks,
         boxes_that_die, old_cells_that_are_remembered, commands_on_a_small_graph, lists_of_a_row_of_2000,
         lists_of_a_row_of_70000, takes_of_a_row_of_70000, a_heap_of_5000_blocks, old_cells_of_1100000_places,
         sixty_four_blocks,
