@@ -6,7 +6,7 @@ use Rattle.std.proofs.lemmas.List.Elements.{All-nil, All-head, All-tail, All-con
 use Rattle.std.specs.List.{Contains}
 use Rattle.std.proofs.Common.{Option, Some, None}
 use Rattle.tg_rights.specs.RightSet.{RightSet, has, no_rights, only, union, is_none_held}
-use Rattle.tg_rights.specs.RightLaws.{has-holds_all, has-none_held}
+use Rattle.tg_rights.proofs.RightLaws.{has-holds_all, has-none_held}
 use Rattle.tg_rights.specs.declared.Right.{Right}
 use Rattle.tg_rights.specs.declared.Right.TheVariants.{T, W, A}
 use Rattle.tg_model.specs.declared.edge.Edge.{Edge}

@@ -2,7 +2,7 @@
 use Rattle.std.proofs.Common.{◌≡◌, ◌⊎◌, inl, inr, true, false, refl, sym, ap}
 use Rattle.std.proofs.lemmas.Bool.{cases_Bool}
 use Rattle.tg_rights.specs.RightSet.{RightSet, bits_of, is_none_held, label_of}
-use Rattle.tg_rights.specs.RightLaws.{none_held-same}
+use Rattle.tg_rights.proofs.RightLaws.{none_held-same}
 use Rattle.tg_c.specs.Forms.{rights_out}
 
 -- the bits of a set's label are those of the set

@@ -5,7 +5,7 @@ use Rattle.std.proofs.lemmas.Bool.{true_from_ne_false}
 use Rattle.std.proofs.lemmas.Option.{none-some}
 use Rattle.std.proofs.lemmas.Bool.Decides.{eqb_tells}
 use Rattle.tg_rights.specs.RightSet.{has, holds_all}
-use Rattle.tg_rights.specs.RightLaws.{has-holds_all}
+use Rattle.tg_rights.proofs.RightLaws.{has-holds_all}
 use Rattle.tg_rights.specs.declared.Right.{Right}
 use Rattle.tg_model.specs.declared.edge.Edge.{Edge}
 use Rattle.tg_model.specs.Graph.{ProtectionGraph}

@@ -2,7 +2,7 @@
 use Rattle.std.proofs.Common.{◌≡◌, ◌≢◌, inl, ℕ, ◌+◌, ◌<◌, ◌≤◌, true, List, [], ◌∷◌, ◌++◌, refl, sym, ap, ◌∙◌, subst, arith}
 use Rattle.std.specs.List.{Contains}
 use Rattle.tg_rights.specs.RightSet.{RightSet, has, only, union}
-use Rattle.tg_rights.specs.RightLaws.{holds_all-each, holds_all-only}
+use Rattle.tg_rights.proofs.RightLaws.{holds_all-each, holds_all-only}
 use Rattle.tg_rights.specs.declared.Right.{Right}
 use Rattle.tg_rights.specs.declared.Right.TheVariants.{T, G}
 use Rattle.tg_model.specs.declared.law.Law.TheVariants.{Cell}

@@ -5,7 +5,7 @@ use Rattle.std.proofs.lemmas.Bool.{cases_lt, false≢true}
 use Rattle.std.proofs.lemmas.Bool.Decides.{same_from_decides}
 use Rattle.std.proofs.lemmas.List.Elements.{Contains-push_cases}
 use Rattle.tg_rights.specs.RightSet.{RightSet, has, no_rights, union, is_none_held}
-use Rattle.tg_rights.specs.RightLaws.{same_rights}
+use Rattle.tg_rights.proofs.RightLaws.{same_rights}
 use Rattle.tg_rights.specs.declared.Right.{Right}
 use Rattle.tg_model.specs.declared.opening.TheConstants.{MAX_WORKERS}
 use Rattle.tg_model.specs.declared.edge.Edge.{Edge}

@@ -3,7 +3,7 @@ use Rattle.std.proofs.Common.{◌≡◌, ⊎_elim, ℕ, ◌+◌, ◌<◌, ◌≤
 use Rattle.std.proofs.lemmas.Bool.{ne_eqb, cond-false, cond-true}
 use Rattle.std.proofs.lemmas.List.Elements.{Contains-push_cases}
 use Rattle.tg_rights.specs.RightSet.{RightSet, has, only, minus}
-use Rattle.tg_rights.specs.RightLaws.{has-minus, has-holds_all}
+use Rattle.tg_rights.proofs.RightLaws.{has-minus, has-holds_all}
 use Rattle.tg_rights.specs.declared.Right.{Right}
 use Rattle.tg_rights.specs.declared.Right.TheVariants.{T, G}
 use Rattle.tg_model.specs.declared.value.Value.{Value}

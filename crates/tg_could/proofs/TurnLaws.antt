@@ -7,7 +7,7 @@ use Rattle.std.proofs.lemmas.Result.{IfOk-weaker}
 use Rattle.std.proofs.lemmas.Bool.{false≢true, false_from_ne_true}
 use Rattle.std.proofs.lemmas.List.Elements.{Contains-append_right}
 use Rattle.tg_rights.specs.RightSet.{RightSet, has, union, no_rights, is_none_held}
-use Rattle.tg_rights.specs.RightLaws.{has-union, has-no_rights, has-none_held, has-holds_all, holds_all-each, union_comm}
+use Rattle.tg_rights.proofs.RightLaws.{has-union, has-no_rights, has-none_held, has-holds_all, holds_all-each, union_comm}
 use Rattle.tg_rights.specs.declared.Right.{Right}
 use Rattle.tg_model.specs.declared.edge.Edge.{Edge}
 use Rattle.tg_model.specs.Graph.{ProtectionGraph, with_rights}

@@ -8,7 +8,7 @@ use Rattle.std.proofs.lemmas.List.{get_or-replicate, get_or-set_same, get_or-set
 use Rattle.std.proofs.lemmas.List.Sums.{sum_by-cons}
 use Rattle.std.proofs.lemmas.Option.{get_or_from_slice_get, slice_get-get_or, slice_get_within}
 use Rattle.tg_rights.specs.RightSet.{RightSet, is_none_held, no_rights, union}
-use Rattle.tg_rights.specs.RightLaws.{none_held-same, union_assoc}
+use Rattle.tg_rights.proofs.RightLaws.{none_held-same, union_assoc}
 use Rattle.tg_model.specs.declared.edge.Edge.{Edge}
 use Rattle.tg_model.specs.declared.value.Value.{Value}
 use Rattle.tg_model.specs.Graph.{with_rights}

@@ -4,7 +4,7 @@ use Rattle.std.specs.Prelude.{nat_lt}
 use Rattle.std.specs.List.{Contains}
 use Rattle.std.proofs.lemmas.Bool.{eq-eqb}
 use Rattle.tg_rights.specs.RightSet.{RightSet, no_rights, union, is_none_held}
-use Rattle.tg_rights.specs.RightLaws.{none_held-same}
+use Rattle.tg_rights.proofs.RightLaws.{none_held-same}
 use Rattle.tg_model.specs.declared.value.Value.{Value}
 use Rattle.tg_model.specs.declared.command.Command.{Command}
 use Rattle.tg_model.specs.declared.command.Deed.{Deed}

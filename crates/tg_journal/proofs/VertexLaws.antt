@@ -13,7 +13,7 @@ use Rattle.std.proofs.lemmas.List.{get_or_default}
 use Rattle.std.proofs.lemmas.Option.{get_or_from_slice_get, none-some, slice_get-get_or, slice_get_within}
 use Rattle.std.proofs.lemmas.List.Sorted.{IsNonDecreasingBy-from_default}
 use Rattle.tg_rights.specs.RightSet.{RightSet, no_rights, is_none_held}
-use Rattle.tg_rights.specs.RightLaws.{none_held-same}
+use Rattle.tg_rights.proofs.RightLaws.{none_held-same}
 use Rattle.tg_model.specs.declared.value.Value.{Value}
 use Rattle.tg_model.specs.Graph.{HasEdge, listing_of}
 use Rattle.tg_model.specs.Plain.{Edges, rights_in_row, IsRisingRow, RisesFrom}

@@ -4,7 +4,7 @@ use Rattle.std.specs.List.{All, AllWithin, filter, range_with_len}
 use Rattle.std.proofs.lemmas.Bool.{false≢true, true≢false, cases_Bool, cases_eq, eqb-true, and_parts}
 use Rattle.std.proofs.lemmas.List.Elements.{All-head, All-tail, All-cons, All-filter, AllWithin-more, at_read}
 use Rattle.tg_rights.specs.RightSet.{RightSet, has, union, is_none_held}
-use Rattle.tg_rights.specs.RightLaws.{has-union, has-none_held, same_rights}
+use Rattle.tg_rights.proofs.RightLaws.{has-union, has-none_held, same_rights}
 use Rattle.tg_rights.specs.declared.Right.{Right}
 use Rattle.tg_model.specs.declared.edge.Edge.{Edge}
 use Rattle.tg_model.specs.Graph.{ProtectionGraph, HasEdge, listing_of, with_rights}

@@ -1,1 +1,4 @@
+pub mod RightLaws
+pub mod RightBits
 pub mod RightNames
+pub mod RightText

@@ -7,7 +7,7 @@ use Rattle.std.proofs.lemmas.Bool.Decides.{eqb_tells}
 use Rattle.std.proofs.lemmas.List.Elements.{All-contains}
 use Rattle.tg_rights.specs.declared.Right.{Right}
 use Rattle.tg_rights.specs.RightSet.{RightSet, has, is_none_held, minus, no_rights, union}
-use Rattle.tg_rights.specs.RightLaws.{has-none_held, has-no_rights, has-union, none_held-same, same-none_held, same_rights}
+use Rattle.tg_rights.proofs.RightLaws.{has-none_held, has-no_rights, has-union, none_held-same, same-none_held, same_rights}
 use Rattle.tg_model.specs.declared.value.Value.{Value}
 use Rattle.tg_model.specs.Graph.{with_rights, without_rights}
 use Rattle.tg_word.specs.declared.Place.{Place}

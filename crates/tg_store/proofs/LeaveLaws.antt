@@ -11,7 +11,7 @@ use Rattle.tg_rules.proofs.DecisionLaws.{answer-served}
 use Rattle.tg_store.specs.Store.{StoreState, IsFaithful, IsStore, graph_of_store}
 use Rattle.std.proofs.lemmas.Bool.{eqb-true, eqb-false, eq-eqb, ne_eqb, ltb-true, ltb-false}
 use Rattle.tg_rights.specs.RightSet.{RightSet, no_rights, is_none_held, minus, holds_all}
-use Rattle.tg_rights.specs.RightLaws.{none_held-same}
+use Rattle.tg_rights.proofs.RightLaws.{none_held-same}
 use Rattle.tg_model.specs.declared.command.Command.TheVariants.{List as Listing, Remove, Retire}
 use Rattle.tg_model.specs.declared.command.Deed.TheVariants.{Plain}
 use Rattle.tg_model.specs.declared.reply.Reply.TheVariants.{Done, Edges}

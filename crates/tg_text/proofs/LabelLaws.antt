@@ -2,7 +2,8 @@
 use Rattle.std.proofs.Common.{◌≡◌, ℕ, Bool, true, false, List, Option, option_and_then, Some, None, IfSome, if◌then◌else◌, refl, sym, ap, ◌∙◌}
 use Rattle.std.proofs.lemmas.Option.{option_and_then_some}
 use Rattle.tg_rights.specs.RightSet.{RightSet, text_of, is_none_held, label_of as some_label}
-use Rattle.tg_rights.specs.Inner.RightText.{read_of, read_of-text_of, text_of-read_of}
+use Rattle.tg_rights.specs.Inner.RightText.{read_of}
+use Rattle.tg_rights.proofs.RightText.{read_of-text_of, text_of-read_of}
 use Rattle.tg_text.specs.Inner.Words.{label_read}
 
 labelled : (s : RightSet) → is_none_held s ≡ false → some_label s ≡ Some s

@@ -3,7 +3,7 @@ use Rattle.std.proofs.Common.{◌≡◌, ◌∙◌, ℕ, ◌+◌, ◌<◌, ◌�
 use Rattle.std.specs.List.{All, AllZip}
 use Rattle.std.proofs.lemmas.List.{take_all, take_more}
 use Rattle.tg_rights.specs.RightSet.{RightSet, union}
-use Rattle.tg_rights.specs.RightLaws.{union_assoc, union_none}
+use Rattle.tg_rights.proofs.RightLaws.{union_assoc, union_none}
 use Rattle.tg_model.specs.declared.edge.Edge.{Edge}
 use Rattle.tg_model.specs.Graph.{ProtectionGraph}
 use Rattle.tg_model.specs.Opened.{label_in}

@@ -1,6 +1,6 @@
 use Rattle.std.proofs.Common.{ap₂, ◌∙◌}
 use Rattle.tg_rights.specs.RightSet.{holds_all}
-use Rattle.tg_rights.specs.RightLaws.{holds_all-only}
+use Rattle.tg_rights.proofs.RightLaws.{holds_all-only}
 use Rattle.tg_could.proofs.separation.has.Goals as goal
 
 pub returns : goal.returns

@@ -1,7 +1,7 @@
 use Rattle.std.proofs.Common.{◌≡◌, ◌∙◌, ℕ, true, refl, sym, ap, subst}
 use Rattle.std.proofs.lemmas.Bool.{cond_both}
 use Rattle.tg_rights.specs.RightSet.{RightSet, is_none_held, union}
-use Rattle.tg_rights.specs.RightLaws.{none_held-same, union_none}
+use Rattle.tg_rights.proofs.RightLaws.{none_held-same, union_none}
 use Rattle.tg_model.specs.Graph.{with_rights}
 use Rattle.tg_graph.specs.Opened.{labels_in}
 use Rattle.tg_graph.proofs.Openings.{relabels_none}

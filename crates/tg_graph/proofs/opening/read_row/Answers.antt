@@ -8,7 +8,7 @@ use Rattle.tg_graph.proofs.opening.read_row.Goals as goal
 use Rattle.tg_graph.proofs.opening.read_row.Goals.{then-edge-from, else-edge-from}
 use Rattle.tg_model.specs.declared.edge.Edge.{Edge}
 use Rattle.std.proofs.lemmas.List.{drop_all}
-use Rattle.tg_rights.specs.RightLaws.{union_none}
+use Rattle.tg_rights.proofs.RightLaws.{union_none}
 
 pub loop-edge-preserved : goal.loop-edge-preserved
 loop-edge-preserved c =

@@ -1,6 +1,6 @@
 use Rattle.std.proofs.Common.{◌∙◌, ap}
 use Rattle.tg_rights.specs.RightSet.{bits_of}
-use Rattle.tg_rights.specs.RightBits.{bits_of-only}
+use Rattle.tg_rights.proofs.RightBits.{bits_of-only}
 use Rattle.tg_rights.proofs.Right.bit.Goals as goal
 
 pub returns : goal.returns

@@ -1,7 +1,7 @@
 use Rattle.std.proofs.Common.{◌≡◌, ◌∙◌, ℕ, Bool, false, Some, None, refl, sym, ap, subst}
 use Rattle.std.specs.Prelude.{if◌then◌else◌}
 use Rattle.tg_rights.specs.RightSet.{RightSet, holds_all, is_none_held, minus, no_rights}
-use Rattle.tg_rights.specs.RightLaws.{minus-no_rights}
+use Rattle.tg_rights.proofs.RightLaws.{minus-no_rights}
 use Rattle.tg_model.specs.Rules.{unless_held}
 use Rattle.tg_model.specs.declared.reply.Denial.{Denial}
 use Rattle.tg_model.specs.declared.reply.Rule.{Rule}

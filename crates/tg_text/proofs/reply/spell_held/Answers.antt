@@ -1,7 +1,7 @@
 use Rattle.std.proofs.Common.{◌≡◌, ◌∙◌, ◌∷◌, ◌++◌, ◌+◌, ◌-◌, Bool, ℕ, false, true, arith, ap, drop, sym}
 use Rattle.std.proofs.lemmas.List.{drop-set}
 use Rattle.tg_rights.specs.RightSet.{has, holds_all, letter_if, letter_of}
-use Rattle.tg_rights.specs.RightLaws.{holds_all-only}
+use Rattle.tg_rights.proofs.RightLaws.{holds_all-only}
 use Rattle.tg_text.proofs.reply.spell_held.Goals as goal
 
 pub returns-then-not-contains-clause-spelt : goal.returns-then-not-contains-clause-spelt

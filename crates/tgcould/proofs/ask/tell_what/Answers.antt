@@ -1,6 +1,6 @@
 use Rattle.std.proofs.Common.{◌∙◌, sym, ⊎_elim, arith}
 use Rattle.std.proofs.lemmas.Bool.{false≢true}
-use Rattle.tg_rights.specs.RightLaws.{has-none_held}
+use Rattle.tg_rights.proofs.RightLaws.{has-none_held}
 use Rattle.tgcould.proofs.ask.tell_what.Goals as goal
 
 pub returns-in-Ok : goal.returns-in-Ok

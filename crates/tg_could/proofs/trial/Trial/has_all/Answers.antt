@@ -1,6 +1,6 @@
 use Rattle.std.proofs.Common.{◌≡◌, true, sym, ◌∙◌}
 use Rattle.tg_rights.specs.RightSet.{holds_all}
-use Rattle.tg_rights.specs.RightLaws.{has-holds_all, holds_all-each}
+use Rattle.tg_rights.proofs.RightLaws.{has-holds_all, holds_all-each}
 use Rattle.tg_could.proofs.TurnLaws.{found_more}
 use Rattle.tg_could.proofs.trial.Trial.has_all.Goals as goal
 

@@ -1,7 +1,7 @@
 use Rattle.std.proofs.Common.{◌∙◌, ap, sym, refl}
 use Rattle.std.proofs.lemmas.Bool.{false≢true}
 use Rattle.tg_rights.specs.RightSet.{holds_all}
-use Rattle.tg_rights.specs.RightLaws.{holds_all-only}
+use Rattle.tg_rights.proofs.RightLaws.{holds_all-only}
 use Rattle.tg_could.proofs.what.What.of.Goals as goal
 
 pub returns-else-contains : goal.returns-else-contains

@@ -11,7 +11,7 @@ use Rattle.std.specs.List.{dedup}
 use Rattle.std.specs.Prelude.{◌↔◌, true, false}
 use Rattle.std.proofs.Common.{nat_eq, refl}
 use Rattle.tg_rights.specs.RightSet.{RightSet, has, is_none_held}
-use Rattle.tg_rights.specs.RightLaws.{has-none_held}
+use Rattle.tg_rights.proofs.RightLaws.{has-none_held}
 use Rattle.tg_rights.specs.declared.Right.{Right}
 use Rattle.tg_model.specs.declared.edge.Edge.{Edge}
 use Rattle.tg_model.specs.Graph.{ProtectionGraph, IsReachable}

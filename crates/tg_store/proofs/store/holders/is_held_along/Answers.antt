@@ -1,6 +1,6 @@
 use Rattle.std.proofs.Common.{ap₂, ◌∙◌, sym}
 use Rattle.tg_rights.specs.RightSet.{holds_all}
-use Rattle.tg_rights.specs.RightLaws.{holds_all-only}
+use Rattle.tg_rights.proofs.RightLaws.{holds_all-only}
 use Rattle.tg_store.proofs.store.holders.is_held_along.Goals as goal
 
 pub returns-then-edge-name : goal.returns-then-edge-name
