@@ -1,8 +1,8 @@
 //! What the helpers of a collection share, and what one of them does.
-ghost use Rattle.std.specs.Prelude.{◌≡◌, ◌<◌, ◌≤◌, IfOk, Ok, vec_capacity};
-ghost use Rattle.tg_parallel.specs.Parts.{AreOnce, IsOpenedFor};
-ghost use Rattle.tg_parallel.specs.Helping.{IsHelped, IsNew};
-ghost use Rattle.tg_parallel.specs.Jobs.{HasHelped, MayHelp};
+ghost use Rattle.std.specs.Prelude.{◌≡◌, ◌<◌, ◌≤◌, ⊤, IfOk, Ok, vec_capacity};
+ghost use Rattle.tg_parallel.specs.Parts.{AreOnce};
+ghost use Rattle.tg_parallel.specs.Helping.{IsNew};
+ghost use Rattle.tg_parallel.specs.Jobs.{HasHelped, IsDone, IsOpen, MayHelp};
 ghost use Rattle.tg_parallel.specs.Seats.{AreEmptyLists, AreSmallLists};
 
 use crate::gate::Gate;
@@ -30,6 +30,19 @@ pub struct Task<'a, G> {
     pub gate: &'a G,
 }
 
+// By hand: a derived `Copy` would ask that the gate is one.
+impl<'a, G> Copy for Task<'a, G> {}
+
+impl<'a, G> Clone for Task<'a, G> {
+    ghost is_clone = { λ x y. y ≡ x };
+
+    ghost is_infallible = { λ _. ⊤ };
+
+    fn clone(&self) -> Result<Self, AllocError> {
+        Ok(*self)
+    }
+}
+
 /// A task, and the table at which its helpers claim cells.
 #[derive(Drop)]
 pub struct Job<'a, G> {
@@ -37,6 +50,18 @@ pub struct Job<'a, G> {
     pub table: &'a RaceTable,
     /// The task.
     pub task: Task<'a, G>,
+}
+
+impl<'a, G> Copy for Job<'a, G> {}
+
+impl<'a, G> Clone for Job<'a, G> {
+    ghost is_clone = { λ x y. y ≡ x };
+
+    ghost is_infallible = { λ _. ⊤ };
+
+    fn clone(&self) -> Result<Self, AllocError> {
+        Ok(*self)
+    }
 }
 
 /// A helper that has done nothing yet, its number, and the spare blocks and the room that it has for itself.
@@ -68,10 +93,19 @@ impl<'a, G: Gate> Task<'a, G> {
 }
 
 impl<'a, G: Gate> Job<'a, G> {
-    /// What `help` says.
+    /// Claims roots until there are none left, wins the cells that they lead to and that no other helper has won, and
+    /// copies each to its place: one of several that collect together, as the collectors of Halstead's Multilisp do. No
+    /// call of it waits, but that of the gate may. Copies go to the spare blocks first, and its list of won cells stands
+    /// in the spare room.
+    ///
+    /// The record of the helper tells what it has won and seen, and its part has the copies of what it has won. It
+    /// claims no block number twice. A helper that is refused memory, or room, says so and leaves what it has claimed
+    /// claimed: the collection is then refused.
     pub fn help(&self, alloc: Global, newcomer: Newcomer) -> Helped
-        requires { MayHelp self.now self.now.task.kind newcomer }
-        ensures { HasHelped self.now result }
+        requires table { IsOpen self.now }
+        requires new { IsNew self.now.table.now newcomer.helper }
+        ensures helped { IsDone self.now 1 result }
+        ensures once { AreOnce result.helper.done.aged_blocks × AreOnce result.helper.done.old_blocks }
     {
         match self.task.kind {
             Kind::Full => match self.task.reads {
@@ -149,50 +183,13 @@ impl<'a, G: Gate> Job<'a, G> {
         requires { kind ≡ self.now.task.kind }
         ensures { result ≡ record self.now { task = record self.now.task { reads = reads } } }
     {
-        Job {
-            table: self.table,
-            task: Task {
-                spaces: self.task.spaces,
-                roots: self.task.roots,
-                kind,
-                reads,
-                gate: self.task.gate,
-            },
-        }
+        let task = Task {
+            kind,
+            reads,
+            ..self.task
+        };
+        Job { task, ..*self }
     }
-}
-
-/// Claims roots until there are none left, wins the cells that they lead to and that no other helper has won, and
-/// copies each to its place: one of several that collect together, as the collectors of Halstead's Multilisp do. No
-/// call of it waits, but that of the gate may. Copies go to the spare blocks first, and its list of won cells stands in
-/// the spare room.
-///
-/// The record of the helper tells what it has won and seen, and its part has the copies of what it has won. It claims
-/// no block number twice. A helper that is refused memory, or room, says so and leaves what it has claimed claimed: the
-/// collection is then refused.
-pub fn help<G: Gate>(
-    alloc: Global,
-    table: &RaceTable,
-    helper: Helper,
-    number: u32,
-    spaces: &Spaces,
-    roots: &[Root],
-    kind: Kind,
-    gate: &G,
-    spare: Spare,
-) -> Helped
-    requires table { IsOpenedFor kind spaces.now.spaces roots.now table.now.counts }
-    requires new { IsNew table.now helper }
-    ensures helped { IsHelped kind spaces.now roots.now table.now 1 result }
-    ensures once { AreOnce result.helper.done.aged_blocks × AreOnce result.helper.done.old_blocks }
-{
-    let newcomer = Newcomer {
-        helper,
-        number,
-        spare,
-    };
-    let task = Task::new(spaces, roots, kind, gate);
-    Job { table, task }.help(alloc, newcomer)
 }
 
 // The lists of a helper at a table of so many words that has done nothing yet. That of what it will have won stands in

@@ -1,25 +1,19 @@
 //! The laws of joining, each the contract of a function that does nothing.
-ghost use Rattle.std.specs.Prelude.{ℕ, List, ◌+◌, ◌++◌, ◌<◌, ◌≤◌, ◌^◌, ◌↔◌, ◌⊎◌};
-ghost use Rattle.std.specs.List.{Contains};
+ghost use Rattle.std.specs.Prelude.{ℕ, List, ◌+◌, ◌++◌, ◌<◌, ◌≤◌, ◌^◌};
 ghost use Rattle.tg_word.specs.declared.TheConstants.{MOST_SPACE_BLOCKS};
-ghost use Rattle.tg_word.specs.declared.Place.{Place};
 ghost use Rattle.tg_space.specs.Collection.{AreFewBlocks, Collected, IsCollection, MayLackRoom, copies_in, used_cells};
-ghost use Rattle.tg_space.specs.Generations.{NamesYoung};
 ghost use Rattle.tg_space.specs.Soundness.{AreSound};
 ghost use Rattle.tg_space.specs.SpaceList.{SpaceList};
 ghost use Rattle.tg_space.specs.SpaceTable.{SpaceTable, IsSpaceTable, kept_blocks};
 ghost use Rattle.tg_space.specs.declared.kind.Kind.{Kind};
 ghost use Rattle.tg_space.specs.declared.root.Root.{Root};
-ghost use Rattle.tg_space.specs.declared.root.Root.TheVariants.{Remembered};
 ghost use Rattle.tg_race.specs.declared.record.Counts.{Counts};
 ghost use Rattle.tg_race.specs.declared.record.Record.{Record};
 ghost use Rattle.tg_race.specs.Board.{IsClosedTable};
 ghost use Rattle.tg_race.specs.Race.{both};
-ghost use Rattle.tg_evac.specs.Copies.{IsPlaceIn, moved_cell, new_cell};
 ghost use Rattle.tg_evac.specs.Room.{IsReachedFrom, LacksRoomFor};
-ghost use Rattle.tg_parallel.specs.Merged.{AreMerged};
 ghost use Rattle.tg_parallel.specs.Parts.{AreCountsOf, AreEarned, IsPart, IsPastLimit, Numbered};
-ghost use Rattle.tg_parallel.specs.Whole.{IsWholePart};
+ghost use Rattle.tg_parallel.specs.Whole.{AreNoted, IsHandedOver};
 
 /// Where two records become one, its wins are earned, and what both hand over is what it asks for.
 pub fn parts_become_one()
@@ -36,7 +30,8 @@ pub fn a_block_past_the_limit_tells_of_want_of_room()
 /// Where one record stands for all helpers, the blocks that they have handed over are within the limit, and as many as
 /// the copies need, but for one a helper.
 pub fn helpers_blocks_are_few()
-    ensures { (kind : Kind) (t : SpaceTable) (roots : List Root) (k : Counts) (done : Record) (aged old : Numbered) (made : Collected) → IsWholePart kind t roots k made.forward done aged old → AreMerged kind (kept_blocks kind t.spaces) aged old made.aged made.old → AreFewBlocks t.limits.space_blocks (kept_blocks kind t.spaces) k.helpers made }
+    ensures { (kind : Kind) (t : SpaceTable) (roots : List Root) (made : Collected) → (handed : IsHandedOver kind t roots made) →
+        AreFewBlocks t.limits.space_blocks (kept_blocks kind t.spaces) handed.counts.helpers made }
 {}
 
 /// Where one record stands for all helpers and its wins were earned, no more cells are copied than are in use.
@@ -48,7 +43,9 @@ pub fn helpers_copy_cells_in_use()
 /// collection, with the words of the closed table. The notes are those of the remembered roots, and of the new blocks
 /// of Old.
 pub fn what_helpers_made_is_a_collection()
-    ensures { (kind : Kind) (t : SpaceTable) (roots : List Root) (k : Counts) (done : Record) (aged old : Numbered) (made : Collected) → IsSpaceTable t → t.limits.space_blocks ≤ MOST_SPACE_BLOCKS → IsWholePart kind t roots k made.forward done aged old → AreMerged kind (kept_blocks kind t.spaces) aged old made.aged made.old → ((p : Place) → Contains made.notes p ↔ ((Contains roots (Remembered p) × NamesYoung (moved_cell kind t.spaces made.forward p)) ⊎ (IsPlaceIn 0 (kept_blocks kind t.spaces) made.old p × NamesYoung (new_cell (kept_blocks kind t.spaces) made.old p)))) → IsCollection kind t.spaces roots made }
+    ensures { (kind : Kind) (t : SpaceTable) (roots : List Root) (made : Collected) →
+        IsSpaceTable t → t.limits.space_blocks ≤ MOST_SPACE_BLOCKS → IsHandedOver kind t roots made →
+        AreNoted kind t.spaces roots made.forward made.old made.notes → IsCollection kind t.spaces roots made }
 {}
 
 /// A reached cell is a cell in use: so where a collection may lack room for what is reached, it may for the cells in

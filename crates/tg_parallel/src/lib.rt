@@ -13,7 +13,7 @@
 //!    blocks   0  3    1  2                         numbers are claimed too, when a cell needs a place
 //! ```
 //!
-//! *Work.* A helper ([`help`]) passes the gate, claims eight roots, and walks on from them as `tg_evac` does: it claims
+//! *Work.* A helper ([`Job::help`]) passes the gate, claims eight roots, and walks on from them as `tg_evac` does: it claims
 //! what a cell names, and copies the cell once all of that has places. To claim a cell is to see its place, or to win
 //! it for the next place in one's own blocks; a loser of the exchange sees the winner's place. Places never change, so
 //! a copy is right when it is made. When no roots are left the helper hands over its record and its blocks, each with
@@ -39,7 +39,7 @@
 
 pub use fault::HelpersFault;
 pub use gate::{Gate, NoGate};
-pub use job::help;
+pub use job::{Job, Newcomer, Task};
 pub use many::{MOST_HELPERS, collect_many, collect_seated};
 pub use part::{Helped, Part};
 

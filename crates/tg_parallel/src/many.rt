@@ -1,18 +1,14 @@
 //! Collections by a helper at a table, and by several on threads.
-ghost use Rattle.std.specs.Prelude.{◌≡◌, ◌≢◌, ℕ, ◌+◌, ◌-◌, ◌≤◌, ◌^◌, ◌↔◌, ◌⊎◌, All, Contains, Err, IfErr, IfOk, List, OnOk, length};
+ghost use Rattle.std.specs.Prelude.{◌≡◌, ◌≢◌, ℕ, ◌+◌, ◌-◌, ◌≤◌, ◌^◌, All, Err, IfErr, IfOk, List, OnOk, length};
 ghost use Rattle.tg_word.specs.declared.TheConstants.{MOST_SPACE_BLOCKS};
-ghost use Rattle.tg_word.specs.declared.Place.{Place as PlaceOf};
-ghost use Rattle.tg_space.specs.Generations.{NamesYoung};
 ghost use Rattle.tg_space.specs.Soundness.{AreSound};
 ghost use Rattle.tg_space.specs.SpaceTable.{SpaceTable, kept_blocks};
 ghost use Rattle.tg_space.specs.declared.kind.Kind.{Kind as KindOf};
 ghost use Rattle.tg_space.specs.declared.root.Root.{Root as RootOf};
-ghost use Rattle.tg_space.specs.declared.root.Root.TheVariants.{Remembered as RememberedAt};
 ghost use Rattle.tg_race.specs.declared.record.Counts.{Counts};
 ghost use Rattle.tg_race.specs.declared.record.Record.{Record};
 ghost use Rattle.tg_race.specs.Race.{empty};
 ghost use Rattle.tg_evac.specs.Collects.{Collects};
-ghost use Rattle.tg_evac.specs.Copies.{IsPlaceIn, moved_cell, new_cell};
 ghost use Rattle.tg_parallel.specs.declared.many.TheConstants.{MOST_HELPERS};
 ghost use Rattle.tg_parallel.specs.Faults.{IsNotStarted};
 ghost use Rattle.tg_parallel.specs.Inner.Tasks.{MayCollectBy, MayStartAll, StandsFor};
@@ -21,11 +17,11 @@ ghost use Rattle.tg_parallel.specs.Jobs.{AllDone, IsCollected, IsDone, IsOpen, M
 ghost use Rattle.tg_parallel.specs.Merged.{AreMerged};
 ghost use Rattle.tg_parallel.specs.Parts.{AreCountsOf, IsOpenedFor};
 ghost use Rattle.tg_parallel.specs.Shares.{IsMostFilled, MayFill};
-ghost use Rattle.tg_parallel.specs.Whole.{IsWholePart, MayFinish};
+ghost use Rattle.tg_parallel.specs.Whole.{AreNoted, IsWholePart, MayFinish};
 
 use crate::fault::HelpersFault;
 use crate::gate::{Gate, NoGate};
-use crate::job::{Job, Newcomer, Task, help};
+use crate::job::{Job, Newcomer, Task};
 use crate::merge::{joined, merged};
 use crate::part::{Helped, Part};
 use std::alloc::{AllocError, Global};
@@ -77,21 +73,19 @@ fn collect_alone<G: Gate>(
         helper,
         room,
     } = RaceTable::open(alloc, cells, task.roots.len() as u64, plan.kept, 1, words)?;
-    let spare = Spare {
-        blocks,
-        words: room,
-    };
-    let helped = help(
-        alloc,
-        &table,
+    let newcomer = Newcomer {
         helper,
-        0,
-        task.spaces,
-        task.roots,
-        task.kind,
-        task.gate,
-        spare,
-    );
+        number: 0,
+        spare: Spare {
+            blocks,
+            words: room,
+        },
+    };
+    let job = Job {
+        table: &table,
+        task: *task,
+    };
+    let helped = job.help(alloc, newcomer);
     finish(alloc, table, task, plan, helped)
 }
 
@@ -168,13 +162,7 @@ impl<'a, G: Gate> Task<'a, G> {
         };
         let job = Job {
             table: &table,
-            task: Task {
-                spaces: self.spaces,
-                roots: self.roots,
-                kind: self.kind,
-                reads: self.reads,
-                gate: self.gate,
-            },
+            task: *self,
         };
         let helped = work_all(rt, alloc, &job, helpers, newcomer)?;
         Ok(finish(alloc, table, self, plan, helped)?)
@@ -218,6 +206,9 @@ fn work_all<R: Threads + Wait + Sync, G: Gate>(
 }
 
 // A helper here, and each other on a thread of its own.
+//
+// The job is taken apart for the closure and put together in it, and so it is in `start`: what a closure ensures is
+// known where it is handed on only if each reference is captured by itself.
 fn work_in_scope<R: Threads + Wait, G: Gate>(
     rt: &R,
     alloc: Global,
@@ -230,12 +221,14 @@ fn work_in_scope<R: Threads + Wait, G: Gate>(
     ensures made { IfOk result (λ x. AllDone job.now (length others.items) x.0 x.1.items) }
     ensures refused { IfErr result (IsNotStarted (length others.items)) }
 {
-    let table = job.table;
-    let spaces = job.task.spaces;
-    let roots = job.task.roots;
-    let kind = job.task.kind;
-    let reads = job.task.reads;
-    let gate = job.task.gate;
+    let Job { table, task } = *job;
+    let Task {
+        spaces,
+        roots,
+        kind,
+        reads,
+        gate,
+    } = task;
     let Newcomer {
         helper,
         number,
@@ -248,16 +241,14 @@ fn work_in_scope<R: Threads + Wait, G: Gate>(
             requires { IsOpenedFor kind spaces.now.spaces roots.now table.now.counts × IsNew table.now helper × All (IsNew table.now) others.items }
             ensures { IfOk result (λ x. AllHelped kind spaces.entry.now roots.entry.now table.entry.now (length others.items) x.0 x.1.items) × IfErr result (IsNotStarted (length others.items)) }
         {
-            let job = Job {
-                table,
-                task: Task {
-                    spaces,
-                    roots,
-                    kind,
-                    reads,
-                    gate,
-                },
+            let task = Task {
+                spaces,
+                roots,
+                kind,
+                reads,
+                gate,
             };
+            let job = Job { table, task };
             let children = start_all(alloc, scope, &job, others, &mut spare)?;
             let first = Newcomer {
                 helper,
@@ -327,36 +318,28 @@ fn start<'s, E, G: Gate>(
     ensures promise { IfOk result (λ child. child.promise ≡ job.now) }
     ensures refused { IfErr result (λ fault. fault ≡ HelpersFault.NoThread) }
 {
-    let table = job.table;
-    let spaces = job.task.spaces;
-    let roots = job.task.roots;
-    let kind = job.task.kind;
-    let reads = job.task.reads;
-    let gate = job.task.gate;
-    let promise = Job {
-        table,
-        task: Task {
-            spaces,
-            roots,
-            kind,
-            reads,
-            gate,
-        },
-    };
-    let Newcomer {
-        helper,
-        number,
-        spare,
-    } = other;
+    let Job { table, task } = *job;
+    let Task {
+        spaces,
+        roots,
+        kind,
+        reads,
+        gate,
+    } = task;
     let Ok(child) = scope.spawn_with(
-        promise,
+        *job,
         move || -> Helped
-            requires { IsOpenedFor kind spaces.now.spaces roots.now table.now.counts × IsNew table.now helper }
+            requires { IsOpenedFor kind spaces.now.spaces roots.now table.now.counts × IsNew table.now other.helper }
             ensures { IsHelped kind spaces.entry.now roots.entry.now table.entry.now 1 result }
         {
-            help(
-                alloc, table, helper, number, spaces, roots, kind, gate, spare,
-            )
+            let task = Task {
+                spaces,
+                roots,
+                kind,
+                reads,
+                gate,
+            };
+            Job { table, task }.help(alloc, other)
         },
     ) else {
         return Err(HelpersFault::NoThread);
@@ -442,7 +425,7 @@ fn put_together<G: Gate>(
     requires made { (k : Counts) × (done : Record) × IsWholePart plan.kind task.now.spaces.now task.now.roots.now k forward.words done part.aged.items part.old.items }
     ensures words { IfOk result (λ copied. copied.forward.words ≡ forward.words) }
     ensures merged { IfOk result (λ copied. AreMerged plan.kind (kept_blocks plan.kind task.now.spaces.now.spaces) part.aged.items part.old.items copied.adoption.aged copied.adoption.old) }
-    ensures noted { IfOk result (λ copied. (p : PlaceOf) → Contains copied.remembered.places p ↔ ((Contains task.now.roots.now (RememberedAt p) × NamesYoung (moved_cell plan.kind task.now.spaces.now.spaces forward.words p)) ⊎ (IsPlaceIn 0 (kept_blocks plan.kind task.now.spaces.now.spaces) copied.adoption.old p × NamesYoung (new_cell (kept_blocks plan.kind task.now.spaces.now.spaces) copied.adoption.old p)))) }
+    ensures noted { IfOk result (λ copied. AreNoted plan.kind task.now.spaces.now.spaces task.now.roots.now forward.words copied.adoption.old copied.remembered.places) }
 {
     let adoption = merged(alloc, plan.kind, part)?;
     let numbering = Numbering::of(task.spaces);
