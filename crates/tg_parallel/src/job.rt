@@ -94,9 +94,9 @@ impl<'a, G: Gate> Task<'a, G> {
 
 impl<'a, G: Gate> Job<'a, G> {
     /// Claims roots until there are none left, wins the cells that they lead to and that no other helper has won, and
-    /// copies each to its place: one of several that collect together, as the collectors of Halstead's Multilisp do. No
-    /// call of it waits, but that of the gate may. Copies go to the spare blocks first, and its list of won cells stands
-    /// in the spare room.
+    /// copies each to its place: one of several that collect together, as the collectors of Halstead's Multilisp do.
+    /// No call of it waits, but that of the gate may. Copies go to the spare blocks first, and its list of won cells
+    /// stands in the spare room.
     ///
     /// The record of the helper tells what it has won and seen, and its part has the copies of what it has won. It
     /// claims no block number twice. A helper that is refused memory, or room, says so and leaves what it has claimed

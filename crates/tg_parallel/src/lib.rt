@@ -13,11 +13,11 @@
 //!    blocks   0  3    1  2                         numbers are claimed too, when a cell needs a place
 //! ```
 //!
-//! *Work.* A helper ([`Job::help`]) passes the gate, claims eight roots, and walks on from them as `tg_evac` does: it claims
-//! what a cell names, and copies the cell once all of that has places. To claim a cell is to see its place, or to win
-//! it for the next place in one's own blocks; a loser of the exchange sees the winner's place. Places never change, so
-//! a copy is right when it is made. When no roots are left the helper hands over its record and its blocks, each with
-//! its number ([`Part`]).
+//! *Work.* A helper ([`Job::help`]) passes the gate, claims eight roots, and walks on from them as `tg_evac` does: it
+//! claims what a cell names, and copies the cell once all of that has places. To claim a cell is to see its place, or
+//! to win it for the next place in one's own blocks; a loser of the exchange sees the winner's place. Places never
+//! change, so a copy is right when it is made. When no roots are left the helper hands over its record and its blocks,
+//! each with its number ([`Part`]).
 //!
 //! A helper's lists don't grow: there is room for a word of each cell that has one in the table, which is what it may
 //! win at most. So no call in the walk refers to what a helper has at its seat, and the compiler keeps that in

@@ -130,14 +130,7 @@ fn right_of(word: &str) -> Option<Right>
     ensures { IfSome result (λ right. word.now ≡ letter_of right ∷ []) }
 {
     match word.as_bytes() {
-        [b'r'] => Some(Right::R),
-        [b'w'] => Some(Right::W),
-        [b't'] => Some(Right::T),
-        [b'g'] => Some(Right::G),
-        [b'a'] => Some(Right::A),
-        [b'l'] => Some(Right::L),
-        [b'u'] => Some(Right::U),
-        [b'v'] => Some(Right::V),
+        [letter] => Right::of_letter(*letter),
         _ => None,
     }
 }
