@@ -63,8 +63,7 @@ pub record LeavesHeap {T E : Type 0} (command : Command) (old new : HeapState) (
   pub refused : OnErr result (IsUnchangedHeap old new)
 
 -- It is done, and the places are as they were; or it is refused, and so is all of the heap.
-pub record IsDoneInPlace {E : Type 0} (old new : HeapState) (result : Result Reply E) : Type 0 where
-  pub reply : IfOk result (λ reply. reply ≡ Done)
+pub record IsDoneInPlace {T E : Type 0} (old new : HeapState) (result : Result T E) : Type 0 where
   pub kept : OnOk result (KeepsPlaces old new)
   pub refused : OnErr result (IsUnchangedHeap old new)
 

@@ -42,7 +42,10 @@ pub fn perform<P: Payload>(
     let subject = subject_of(heap, worker);
     match find_parties(heap, subject, command) {
         Ok(parties) if only_looks(command) => look_between(heap, subject, command, parties),
-        Ok(parties) => change_between(heap, subject, command, parties),
+        Ok(parties) => {
+            change_between(heap, subject, command, parties)?;
+            Ok(Reply::Done)
+        }
         Err(_) => unreachable!(),
     }
 }
@@ -80,18 +83,18 @@ pub fn look_between<P: Payload>(
 }
 
 /// Performs a command of a subject that changes something, between the vertices that its checks met: what [`perform`]
-/// does, without looking anything up again.
+/// does, without looking anything up again. The reply to such a command is that it is done.
 #[inline(always)]
 pub fn change_between<P: Payload>(
     heap: &mut Heap<P>,
     subject: Subject,
     command: &Command,
     parties: Parties,
-) -> Result<Reply, RoomFault>
+) -> Result<(), RoomFault>
     requires changes { ¬ OnlyLooks command.now }
     requires subject { HasSubject heap.old subject }
     requires parties { AreParties heap.old subject.name command.now parties }
-    ensures reply { IfOk result (λ reply. IsReplyOn (content_of heap.old) subject.name command.now reply) }
+    ensures reply { OnOk result (IsReplyOn (content_of heap.old) subject.name command.now Reply.Done) }
     ensures content { OnOk result (IsContentAfter (content_of heap.old) (content_of heap.new) subject.name command.now) }
     ensures subjects { OnOk result (subject_names heap.new ≡ subjects_after (subject_names heap.old) subject.name command.now) }
     ensures indexed { OnOk result (IndexesAfter heap.old heap.new subject.name command.now) }
@@ -108,15 +111,15 @@ pub fn change_between<P: Payload>(
             rights,
         } => {
             heap.drop_rights(from.place, name, rights);
-            Ok(Reply::Done)
+            Ok(())
         }
         Command::Write { value, .. } | Command::Append { value, .. } => {
             heap.write(target.place, value)?;
-            Ok(Reply::Done)
+            Ok(())
         }
         Command::Retire => {
             heap.retire(subject.name);
-            Ok(Reply::Done)
+            Ok(())
         }
         _ => unreachable!(),
     }
@@ -144,7 +147,7 @@ fn add<P: Payload>(
     from: Vertex,
     target: Vertex,
     rights: Label,
-) -> Result<Reply, RoomFault>
+) -> Result<(), RoomFault>
     requires subject { HasSubject heap.old subject }
     requires from { HasVertex heap.old from }
     requires target { HasVertex heap.old target }
@@ -155,5 +158,5 @@ fn add<P: Payload>(
     ensures full { result ≡ Err RoomFault.HeapFull → LacksCellsFor heap.old.table (nursery_space subject.nursery) 0 from.name target.name }
 {
     heap.add_edge_as(subject, from.place, target.place, rights)?;
-    Ok(Reply::Done)
+    Ok(())
 }

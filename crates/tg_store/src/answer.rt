@@ -99,7 +99,7 @@ fn change<P: Payload>(
     ensures done { IfOk result (λ reply. reply ≡ Reply.Done) }
     ensures full { result ≡ Err ApplyFault.HeapFull → AddsEdge command.now × LacksCellsToServe heap.old.table subject.nursery subject.name command.now }
 {
-    let _done = change_between(heap, subject, command, parties)?;
+    change_between(heap, subject, command, parties)?;
     journal.push(entry_of(subject, command, Reply::Done));
     Ok(Reply::Done)
 }

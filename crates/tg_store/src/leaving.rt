@@ -15,6 +15,7 @@ use tg_graph::Heap;
 use tg_journal::Entry;
 use tg_model::{Command, Deed, EdgeList, Reply};
 use tg_payload::Payload;
+use tg_rights::Label;
 use tg_subjects::Subject;
 
 /// A subject gives up the edges of its row, in the order of the list, and retires; each deed has its entry, for which
@@ -36,19 +37,30 @@ pub(crate) fn leave_heap<P: Payload>(
 {
     for edge in row.as_slice() {
         heap.drop_rights(subject.place, edge.0, edge.1);
-        journal.push(Entry {
-            worker: subject.name,
-            deed: Deed::Plain(Command::Remove {
-                target: edge.0,
-                rights: edge.1,
-            }),
-            reply: Reply::Done,
-        });
+        journal.push(removal(subject.name, edge.0, edge.1));
     }
     heap.retire(subject.name);
-    journal.push(Entry {
-        worker: subject.name,
+    journal.push(retiring(subject.name));
+}
+
+/// The entry by which a worker gives up an edge when it leaves.
+pub fn removal(worker: u64, target: u64, rights: Label) -> Entry
+    ensures { result ≡ removal worker (target, rights) }
+{
+    Entry {
+        worker,
+        deed: Deed::Plain(Command::Remove { target, rights }),
+        reply: Reply::Done,
+    }
+}
+
+/// The entry by which a worker retires.
+pub fn retiring(worker: u64) -> Entry
+    ensures { result ≡ retiring worker }
+{
+    Entry {
+        worker,
         deed: Deed::Plain(Command::Retire),
         reply: Reply::Done,
-    });
+    }
 }

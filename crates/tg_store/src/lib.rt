@@ -46,6 +46,7 @@ mod tallied;
 
 pub use census::{Census, Collections, Refusals};
 pub use fault::{ApplyFault, CreateFault, CreateRefused, OpenFault, OpenRefused, StoreAuditFault};
+pub use leaving::{removal, retiring};
 pub use store::Store;
 pub use store_fault::StoreFault;
 pub use tg_space::{Kind, Limits, RoomFault};

@@ -8,8 +8,8 @@ use Rattle.tg_store.proofs.answer.change.Goals as goal
 
 pub returns-clause-answered : goal.returns-clause-answered
 returns-clause-answered g c = record {
-  replied = replied-changed c.args.heap.now c.change_between.new.heap c.args.subject.name c.args.command.now c.requires.to_serve.served c.requires.changes c.in_ok-_done.ensures.content c.in_ok-_done.ensures.subjects;
-  kept = record { limits = c.in_ok-_done.ensures.left.kept.limits; refused = tt; worker = λ e. ok_not_err e };
+  replied = replied-changed c.args.heap.now c.change_between.new.heap c.args.subject.name c.args.command.now c.requires.to_serve.served c.requires.changes c.in_ok-change_between.ensures.content c.in_ok-change_between.ensures.subjects;
+  kept = record { limits = c.in_ok-change_between.ensures.left.kept.limits; refused = tt; worker = λ e. ok_not_err e };
 }
 
 pub push-requires : goal.push-requires

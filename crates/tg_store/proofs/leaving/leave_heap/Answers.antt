@@ -15,6 +15,7 @@ use Rattle.tg_graph.proofs.StandingLaws.{IsSameContent-self, StandsFor-served, d
 use Rattle.tg_subjects.specs.Subjects.{names_of, without}
 use Rattle.tg_subjects.specs.declared.subject.Subject.{Subject}
 use Rattle.tg_rules.proofs.SubjectNames.{names_without}
+use Rattle.tg_store.specs.Counts.{refusal_told}
 use Rattle.tg_store.specs.Leaving.{removal}
 use Rattle.tg_store.proofs.LeaveLaws.{served, still_subject}
 use Rattle.tg_store.proofs.leaving.leave_heap.Goals as goal
@@ -37,7 +38,7 @@ loop-edge-preserved g c =
     let old = c.args.journal.now.entries in
     let there = invariant.kept.vertices x c.args.subject.place c.requires.subject.vertex in
     record {
-      entries = c.push.ensures.entries ∙ one_more old c.loop-edge.journal.entries done (removal x e) invariant.entries ∙ ap (λ xs. old ++ xs) (sym more);
+      entries = c.push.ensures.entries ∙ ap (λ (n : Entry). c.loop-edge.journal.entries ++ n ∷ []) c.removal.ensures ∙ one_more old c.loop-edge.journal.entries done (removal x e) invariant.entries ∙ ap (λ xs. old ++ xs) (sym more);
       start = c.push.ensures.start ∙ invariant.start;
       spare = omega (arith, c.push.ensures.spare, invariant.spare);
       kept = record {
@@ -60,7 +61,7 @@ loop-edge-preserved g c =
 pub push-requires : goal.push-requires
 push-requires g c =
     let same = ap (λ es. length es) c.as_slice-edge-items.ensures in
-    record { room = omega (arith, c.requires.room, c.loop-edge.invariant.spare, c.loop-edge-test.true, same); told = refl }
+    record { room = omega (arith, c.requires.room, c.loop-edge.invariant.spare, c.loop-edge-test.true, same); told = ap (λ (n : Entry). refusal_told n.reply) c.removal.ensures }
 
 pub returns-clause-subjects : goal.returns-clause-subjects
 returns-clause-subjects g c =
