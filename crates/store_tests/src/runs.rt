@@ -12,7 +12,7 @@ use tg_payload::{CellPayload, Draft};
 use tg_script::{
     Bytes, Count, Helpers, Limits, OneThread, ScriptFault, Settings, Written, run_in_memory,
 };
-use tg_threads::{RaceFault, Turnstile, run_race};
+use tg_threads::{RaceFault, Replies, Turnstile, run_race};
 
 // The settings of a run of two workers, who make no vertex.
 fn settings() -> Option<Settings> {
@@ -83,7 +83,7 @@ fn race_counted<A: Ledger, F: Ledger, G: Turnstile + Sync, R: Threads + Wait + S
     let mut source = Bytes::new(script, Count::<A>::new(asked));
     let mut sink = Written::new(alloc, Count::<F>::new(failures));
     let stock = Vec::new(alloc);
-    Some(run_race(
+    Some(run_race::<_, Replies, _, _, G, R>(
         rt,
         alloc,
         &mut source,

@@ -17,7 +17,7 @@ use tg_payload::{Draft, Payload};
 use tg_script::{
     Collector, ScriptFault, Sink, Source, drafts_of, run_script_entries, run_script_with,
 };
-use tg_threads::{NoTurnstile, RaceFault, run_race, run_race_entries};
+use tg_threads::{Entries, NoTurnstile, RaceFault, Replies, run_race};
 
 /// The payloads of a run.
 #[derive(Drop)]
@@ -30,8 +30,8 @@ pub struct RunPayloads<P: Payload> {
 
 /// Runs the source's script from the start with these payloads, and puts the replies into the sink, as
 /// `run_script_with` does with the start's settings, or, where the start says so, as `run_race` does, and then entries
-/// in the place of replies, as `run_script_entries` and `run_race_entries` do. Memory may be wanting for drafts of what
-/// the workers store; then nothing is read or written.
+/// in the place of replies, as `run_script_entries` and `run_race` with `Entries` do. Memory may be wanting for drafts
+/// of what the workers store; then nothing is read or written.
 #[inline(always)]
 pub fn serve<P: Payload + Send, R: Threads + Wait + Sync, C: Collector, S: Source, K: Sink>(
     rt: &R,
@@ -101,7 +101,7 @@ fn race<P: Payload + Send, R: Threads + Wait + Sync, S: Source, K: Sink>(
 {
     let settings = start.settings;
     if start.entries {
-        run_race_entries(
+        run_race::<P, Entries, S, K, NoTurnstile, R>(
             rt,
             alloc,
             source,
@@ -112,7 +112,7 @@ fn race<P: Payload + Send, R: Threads + Wait + Sync, S: Source, K: Sink>(
             stock,
         )
     } else {
-        run_race(
+        run_race::<P, Replies, S, K, NoTurnstile, R>(
             rt,
             alloc,
             source,

@@ -4,9 +4,9 @@
 //! its lines, and [`run_threads`] runs them on threads and brings the sessions back with what each line came to: the
 //! place of its entry in the journal, a collection ([`collect_by`]), or a refusal. With them come the sessions of the
 //! subjects that spawn lines made, whose lines nobody runs. [`in_script_order`] puts what the lines came to together
-//! again, the store is closed and audited, and [`tell_all`] writes the reply to each line, and behind them the number
-//! of entries; [`run_race_entries`] writes the text of the history in their place. [`runner`] says whose thread runs a
-//! line. What needs no thread of this stands in `tg_weave`, and is offered here again.
+//! again, and the store is closed and audited. What is written then is a [`RaceTelling`]: [`Replies`] writes the reply
+//! to each line, and behind them the number of entries, and [`Entries`] the text of the history. [`runner`] says whose
+//! thread runs a line. What needs no thread of this stands in `tg_weave`, and is offered here again.
 //!
 //! What may be written for a whole script stands in `specs/Output`, as a relation between its lines and a legal
 //! history: the order between workers is open, it is that in which the lock was taken. The law of one worker says that
@@ -23,7 +23,8 @@ mod turnstile;
 mod worker;
 
 pub use fault::RaceFault;
-pub use race::{run_race, run_race_entries};
+pub use race::run_race;
+pub use telling::{Entries, RaceTelling, Replies};
 pub use tg_weave::{Task, Told, in_script_order, runner, sessions_of, share_out, tell_all};
 pub use threads::{ThreadsFault, Work, run_threads};
 pub use turnstile::{NoTurnstile, Turnstile};

@@ -5,11 +5,10 @@ ghost use Rattle.tg_model.specs.declared.value.Value.{Value};
 ghost use Rattle.tg_script.specs.Opening.{IsCommand};
 ghost use Rattle.tg_script.specs.Script.{MayStart, start_with};
 ghost use Rattle.tg_shared.specs.Sessions.{AreFresh, AtSome, MayClose, MayShare, count_of, held_from, parts_of, sessions_made};
-ghost use Rattle.tg_threads.specs.Output.{entry_race, reply_race};
 ghost use Rattle.tg_threads.specs.Race.{CountsRace, FinishesRace, HasFinished, HasRaced, IsClosedRace, IsRaceDue, MayCloseRace, MayRace, OpensRace, OpensSilently, RacesFrom, RunsRace};
 
 use crate::fault::RaceFault;
-use crate::telling::{Entries, RaceTelling, Replies};
+use crate::telling::RaceTelling;
 use crate::threads::run_threads;
 use crate::turnstile::Turnstile;
 use std::alloc::Global;
@@ -31,7 +30,8 @@ use tg_weave::{Told, in_script_order, sessions_of, share_out};
 /// each by as many helpers as the settings say. Behind a worker's own retire that was entered, its lines are told that
 /// there is no such worker; so is each line of anybody who is no worker of the opening, also of a subject that a spawn
 /// line made, whose session runs no line. Once all have ended the store is closed and audited, and only then anything
-/// is written: the reply to each line in script order, and the line with the number of entries. In what order lines of
+/// is written, in the way T. [`Replies`](crate::Replies) writes the reply to each line in script order, and the line
+/// with the number of entries. [`Entries`](crate::Entries) writes the text of the history. In what order lines of
 /// different workers are run is open, and who waits for whom. A line is refused for room in the heap only where a store
 /// that may have been behind the lock lacked it.
 ///
@@ -41,6 +41,7 @@ use tg_weave::{Told, in_script_order, sessions_of, share_out};
 /// is finished at the end, after a fault too, which then stands.
 pub fn run_race<
     P: Payload + Send,
+    T: RaceTelling,
     S: Source,
     K: Sink,
     G: Turnstile + Sync,
@@ -56,38 +57,10 @@ pub fn run_race<
     stock: Vec<Draft<P>>,
 ) -> Result<(), RaceFault>
     requires startable { MayStart settings workers.items }
-    ensures raced { RacesFrom S.left S.asked S.failures K.taken source.old source.new sink.old sink.new reply_race (start_with settings workers.items stock.items) result }
+    ensures raced { RacesFrom S.left S.asked S.failures K.taken source.old source.new sink.old sink.new T.race_text (start_with settings workers.items stock.items) result }
     ensures finish { FinishesRace K.failures K.finished sink.old sink.new result }
 {
-    let outcome = race::<P, Replies, S, K, G, R>(
-        rt, alloc, source, sink, turnstile, settings, workers, stock,
-    );
-    finish(sink, outcome)
-}
-
-/// Runs the script as [`run_race`] does, and writes the text of its history, as `tg_entries` has it, in the place of
-/// replies: its opening, all entries in the order of the lock, and their number. None is given up.
-pub fn run_race_entries<
-    P: Payload + Send,
-    S: Source,
-    K: Sink,
-    G: Turnstile + Sync,
-    R: Threads + Wait + Sync,
->(
-    rt: &R,
-    alloc: Global,
-    source: &mut S,
-    sink: &mut K,
-    turnstile: &G,
-    settings: Settings,
-    workers: Vec<Draft<P>>,
-    stock: Vec<Draft<P>>,
-) -> Result<(), RaceFault>
-    requires startable { MayStart settings workers.items }
-    ensures raced { RacesFrom S.left S.asked S.failures K.taken source.old source.new sink.old sink.new entry_race (start_with settings workers.items stock.items) result }
-    ensures finish { FinishesRace K.failures K.finished sink.old sink.new result }
-{
-    let outcome = race::<P, Entries, S, K, G, R>(
+    let outcome = race::<P, T, S, K, G, R>(
         rt, alloc, source, sink, turnstile, settings, workers, stock,
     );
     finish(sink, outcome)

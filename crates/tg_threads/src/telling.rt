@@ -11,7 +11,7 @@ use tg_text::{Sink, WriteFailed};
 use tg_weave::{Told, tell_all};
 
 /// What is written of a race in the end.
-pub(crate) trait RaceTelling {
+pub trait RaceTelling {
     ghost use Rattle.tg_text.specs.Sinks.{Writes};
     ghost use Rattle.tg_threads.specs.Output.{RaceText};
     ghost use Rattle.tg_threads.specs.Tasks.{MayTell};
@@ -36,7 +36,7 @@ pub(crate) trait RaceTelling {
 }
 
 /// The reply to each line, in script order, and behind them the number of entries.
-pub(crate) struct Replies;
+pub struct Replies;
 
 impl RaceTelling for Replies {
     ghost race_text = { reply_race };
@@ -53,7 +53,7 @@ impl RaceTelling for Replies {
 }
 
 /// The text of the history, whose entries stand in the order of the lock.
-pub(crate) struct Entries;
+pub struct Entries;
 
 impl RaceTelling for Entries {
     ghost race_text = { entry_race };
