@@ -12,11 +12,12 @@ ghost use Rattle.tg_could.specs.Answered.{IsDecided};
 ghost use Rattle.tg_could.specs.Led.{Led, IsBrought};
 ghost use Rattle.tg_could.specs.LedNames.{AreLed, IsPut, ActsIn, IsTurned, TurnsTo, way_of, is_in, LeadsOn, sides_led, number_led};
 
+use crate::question::{Question, Scene};
 use crate::search::Step;
 use crate::separation::{Place, comes_later, has, is_alone, is_silent, lacks};
 use indexmap::IndexSet;
 use std::alloc::{AllocError, Global};
-use tg_model::{Edge, Picture};
+use tg_model::Edge;
 use tg_rights::Right;
 
 /// The names that walks lead to, forward and back.
@@ -39,45 +40,36 @@ impl Drop for LedNames {
 /// as often as something is new. Fails only when out of memory.
 pub(crate) fn may_come_about(
     alloc: Global,
-    picture: &Picture,
-    silent: &[u64],
-    x: u64,
-    right: Right,
-    y: u64,
+    scene: &Scene,
+    question: Question,
 ) -> Result<bool, AllocError>
-    ensures { IfOk result (λ may. (g : ProtectionGraph) → IsPictureOf picture.now g → IsDecided silent.now g x right y may) }
+    ensures { IfOk result (λ may. (g : ProtectionGraph) → IsPictureOf scene.now.picture.now g → IsDecided scene.now.silent.now g question.x question.right question.y may) }
 {
-    if !lacks(picture.edges(), x, right, y) {
+    if !lacks(scene.picture.edges(), question) {
         return Ok(true);
     }
-    if x == y {
+    if question.x == question.y {
         return Ok(false);
     }
-    if is_alone(picture, silent, y) {
+    if is_alone(scene, question.y) {
         return Ok(false);
     }
-    let led = led_from(alloc, picture, silent, right, y)?;
-    Ok(led.lead_to(picture, silent, x))
+    let led = led_from(alloc, scene, question.right, question.y)?;
+    Ok(led.lead_to(scene, question.x))
 }
 
 // All names that walks lead to from those who hold a right over y. Fails only when out of memory.
-fn led_from(
-    alloc: Global,
-    picture: &Picture,
-    silent: &[u64],
-    right: Right,
-    y: u64,
-) -> Result<LedNames, AllocError>
-    ensures led { IfOk result (λ led. (g : ProtectionGraph) → IsPictureOf picture.now g →
-        AreLed (IsSilent silent.now g) right y g (sides_led led)) }
-    ensures edges { IfOk result (λ led. All (λ e. Keeps (sides_led led) right y (λ a b. e.label) e.from e.to) picture.now.edges) }
-    ensures actors { IfOk result (λ led. (v : ℕ) → ActsIn silent.now picture.now v → IsTurned (sides_led led) picture.now y v) }
+fn led_from(alloc: Global, scene: &Scene, right: Right, y: u64) -> Result<LedNames, AllocError>
+    ensures led { IfOk result (λ led. (g : ProtectionGraph) → IsPictureOf scene.now.picture.now g →
+        AreLed (IsSilent scene.now.silent.now g) right y g (sides_led led)) }
+    ensures edges { IfOk result (λ led. All (λ e. Keeps (sides_led led) right y (λ a b. e.label) e.from e.to) scene.now.picture.now.edges) }
+    ensures actors { IfOk result (λ led. (v : ℕ) → ActsIn scene.now.silent.now scene.now.picture.now v → IsTurned (sides_led led) scene.now.picture.now y v) }
 {
     let mut led = LedNames {
         forward: IndexSet::new(alloc),
         back: IndexSet::new(alloc),
     };
-    while led.goes_on(picture, silent, right, y)? {}
+    while led.goes_on(scene, right, y)? {}
     Ok(led)
 }
 
@@ -182,15 +174,15 @@ impl LedNames {
     }
 
     // Puts whoever acts and is in one set into the other, and into the second where y may yet be made.
-    fn turn(&mut self, picture: &Picture, silent: &[u64], y: u64) -> Result<(), AllocError>
-        ensures led { OnOk result ((right : Right) (g : ProtectionGraph) → IsPictureOf picture.now g →
-            AreLed (IsSilent silent.now g) right y g (sides_led self.old) → AreLed (IsSilent silent.now g) right y g (sides_led self.new)) }
+    fn turn(&mut self, scene: &Scene, y: u64) -> Result<(), AllocError>
+        ensures led { OnOk result ((right : Right) (g : ProtectionGraph) → IsPictureOf scene.now.picture.now g →
+            AreLed (IsSilent scene.now.silent.now g) right y g (sides_led self.old) → AreLed (IsSilent scene.now.silent.now g) right y g (sides_led self.new)) }
         ensures more { OnOk result (number_led self.old ≤ number_led self.new) }
         ensures still { OnOk result (number_led self.new ≡ number_led self.old → (sides_led self.new ≡ sides_led self.old) ×
-            ((v : ℕ) → ActsIn silent.now picture.now v → IsTurned (sides_led self.new) picture.now y v)) }
+            ((v : ℕ) → ActsIn scene.now.silent.now scene.now.picture.now v → IsTurned (sides_led self.new) scene.now.picture.now y v)) }
     {
-        for subject in picture.subjects() {
-            let Some(forward) = self.turned(picture, silent, y, *subject) else {
+        for subject in scene.picture.subjects() {
+            let Some(forward) = self.turned(scene, y, *subject) else {
                 continue;
             };
             let vertex = *subject;
@@ -200,20 +192,20 @@ impl LedNames {
     }
 
     // The set in which a subject that acts isn't yet and is to be: the first one or the second.
-    fn turned(&self, picture: &Picture, silent: &[u64], y: u64, subject: u64) -> Option<bool>
-        ensures acts { IfSome result (λ forward. ¬ (Contains silent.now subject × (subject < picture.now.made))) }
-        ensures leads { IfSome result (λ forward. TurnsTo (sides_led self.now) picture.now y forward subject) }
+    fn turned(&self, scene: &Scene, y: u64, subject: u64) -> Option<bool>
+        ensures acts { IfSome result (λ forward. ¬ (Contains scene.now.silent.now subject × (subject < scene.now.picture.now.made))) }
+        ensures leads { IfSome result (λ forward. TurnsTo (sides_led self.now) scene.now.picture.now y forward subject) }
         ensures new { IfSome result (λ forward. is_in (sides_led self.now) forward subject ≡ false) }
-        ensures turned { IfNone result (¬ (Contains silent.now subject × (subject < picture.now.made)) → IsTurned (sides_led self.now) picture.now y subject) }
+        ensures turned { IfNone result (¬ (Contains scene.now.silent.now subject × (subject < scene.now.picture.now.made)) → IsTurned (sides_led self.now) scene.now.picture.now y subject) }
     {
-        if is_silent(silent, picture.made(), subject) {
+        if is_silent(scene.silent, scene.picture.made(), subject) {
             return None;
         }
         let at = self.place(subject);
         if !at.back && at.forward {
             return Some(false);
         }
-        if !at.back && comes_later(picture, y) {
+        if !at.back && comes_later(scene.picture, y) {
             return Some(false);
         }
         if at.back && !at.forward {
@@ -223,44 +215,38 @@ impl LedNames {
     }
 
     // Goes over all edges and subjects once. Whether something was new.
-    fn goes_on(
-        &mut self,
-        picture: &Picture,
-        silent: &[u64],
-        right: Right,
-        y: u64,
-    ) -> Result<bool, AllocError>
-        ensures led { OnOk result ((g : ProtectionGraph) → IsPictureOf picture.now g →
-            AreLed (IsSilent silent.now g) right y g (sides_led self.old) → AreLed (IsSilent silent.now g) right y g (sides_led self.new)) }
+    fn goes_on(&mut self, scene: &Scene, right: Right, y: u64) -> Result<bool, AllocError>
+        ensures led { OnOk result ((g : ProtectionGraph) → IsPictureOf scene.now.picture.now g →
+            AreLed (IsSilent scene.now.silent.now g) right y g (sides_led self.old) → AreLed (IsSilent scene.now.silent.now g) right y g (sides_led self.new)) }
         ensures more { IfOk result (λ more. more ≡ true → number_led self.old < number_led self.new) }
         ensures few { OnOk result (number_led self.new < 2 ^ 64) }
-        ensures edges { IfOk result (λ more. more ≡ false → All (λ e. Keeps (sides_led self.new) right y (λ a b. e.label) e.from e.to) picture.now.edges) }
-        ensures actors { IfOk result (λ more. more ≡ false → (v : ℕ) → ActsIn silent.now picture.now v → IsTurned (sides_led self.new) picture.now y v) }
+        ensures edges { IfOk result (λ more. more ≡ false → All (λ e. Keeps (sides_led self.new) right y (λ a b. e.label) e.from e.to) scene.now.picture.now.edges) }
+        ensures actors { IfOk result (λ more. more ≡ false → (v : ℕ) → ActsIn scene.now.silent.now scene.now.picture.now v → IsTurned (sides_led self.new) scene.now.picture.now y v) }
     {
         let before = self.len();
-        self.go_along(picture.edges(), right, y)?;
-        self.turn(picture, silent, y)?;
+        self.go_along(scene.picture.edges(), right, y)?;
+        self.turn(scene, y)?;
         Ok(self.len() > before)
     }
 
     // Whether the right is led to x, who doesn't hold it: x acts and may get it, or may yet be made by one who may, or
     // is granted to.
-    fn lead_to(&self, picture: &Picture, silent: &[u64], x: u64) -> bool
-        ensures brought { IsTrue result → (right : Right) (y : ℕ) (g : ProtectionGraph) → IsPictureOf picture.now g →
-            AreLed (IsSilent silent.now g) right y g (sides_led self.now) → IsBrought (IsSilent silent.now g) right y g x }
-        ensures not_taken { result ≡ false → (v : ℕ) → ActsIn silent.now picture.now v → (v ≡ x) ⊎ ComesLater picture.now x → (sides_led self.now).back v ≡ false }
-        ensures not_given { result ≡ false → (a : ℕ) → Holds (label_in picture.now.edges) a G x → ¬ ((sides_led self.now).forward a ≡ true) }
+    fn lead_to(&self, scene: &Scene, x: u64) -> bool
+        ensures brought { IsTrue result → (right : Right) (y : ℕ) (g : ProtectionGraph) → IsPictureOf scene.now.picture.now g →
+            AreLed (IsSilent scene.now.silent.now g) right y g (sides_led self.now) → IsBrought (IsSilent scene.now.silent.now g) right y g x }
+        ensures not_taken { result ≡ false → (v : ℕ) → ActsIn scene.now.silent.now scene.now.picture.now v → (v ≡ x) ⊎ ComesLater scene.now.picture.now x → (sides_led self.now).back v ≡ false }
+        ensures not_given { result ≡ false → (a : ℕ) → Holds (label_in scene.now.picture.now.edges) a G x → ¬ ((sides_led self.now).forward a ≡ true) }
     {
-        self.reach(picture, silent, x) || self.grant_to(picture.edges(), x)
+        self.reach(scene, x) || self.grant_to(scene.picture.edges(), x)
     }
 
     // Whether one who acts is in the second set, and is x, or may make x.
-    fn reach(&self, picture: &Picture, silent: &[u64], x: u64) -> bool
-        ensures reached { IsTrue result → (v : ℕ) × ActsIn silent.now picture.now v × ((v ≡ x) ⊎ ComesLater picture.now x) × ((sides_led self.now).back v ≡ true) }
-        ensures not_taken { result ≡ false → (v : ℕ) → ActsIn silent.now picture.now v → (v ≡ x) ⊎ ComesLater picture.now x → (sides_led self.now).back v ≡ false }
+    fn reach(&self, scene: &Scene, x: u64) -> bool
+        ensures reached { IsTrue result → (v : ℕ) × ActsIn scene.now.silent.now scene.now.picture.now v × ((v ≡ x) ⊎ ComesLater scene.now.picture.now x) × ((sides_led self.now).back v ≡ true) }
+        ensures not_taken { result ≡ false → (v : ℕ) → ActsIn scene.now.silent.now scene.now.picture.now v → (v ≡ x) ⊎ ComesLater scene.now.picture.now x → (sides_led self.now).back v ≡ false }
     {
-        for subject in picture.subjects() {
-            if self.reaches_by(picture, silent, x, *subject) {
+        for subject in scene.picture.subjects() {
+            if self.reaches_by(scene, x, *subject) {
                 return true;
             }
         }
@@ -268,14 +254,14 @@ impl LedNames {
     }
 
     // Whether a subject acts, is in the second set, and is x, or may make x.
-    fn reaches_by(&self, picture: &Picture, silent: &[u64], x: u64, subject: u64) -> bool
-        ensures reached { IsTrue result → ¬ (Contains silent.now subject × (subject < picture.now.made)) × ((subject ≡ x) ⊎ ComesLater picture.now x) × ((sides_led self.now).back subject ≡ true) }
-        ensures not_taken { result ≡ false → ¬ (Contains silent.now subject × (subject < picture.now.made)) → (subject ≡ x) ⊎ ComesLater picture.now x → (sides_led self.now).back subject ≡ false }
+    fn reaches_by(&self, scene: &Scene, x: u64, subject: u64) -> bool
+        ensures reached { IsTrue result → ¬ (Contains scene.now.silent.now subject × (subject < scene.now.picture.now.made)) × ((subject ≡ x) ⊎ ComesLater scene.now.picture.now x) × ((sides_led self.now).back subject ≡ true) }
+        ensures not_taken { result ≡ false → ¬ (Contains scene.now.silent.now subject × (subject < scene.now.picture.now.made)) → (subject ≡ x) ⊎ ComesLater scene.now.picture.now x → (sides_led self.now).back subject ≡ false }
     {
-        if is_silent(silent, picture.made(), subject) {
+        if is_silent(scene.silent, scene.picture.made(), subject) {
             return false;
         }
-        if subject != x && !comes_later(picture, x) {
+        if subject != x && !comes_later(scene.picture, x) {
             return false;
         }
         self.place(subject).back

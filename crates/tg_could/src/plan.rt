@@ -2,6 +2,7 @@
 //! replayed.
 use crate::chains::Chains;
 use crate::growth::{note, push};
+use crate::question::Question;
 use crate::search::{Found, Step};
 use crate::separation::{comes_later, has, single};
 use crate::trial::Trial;
@@ -26,6 +27,22 @@ struct Goal {
     grant: Label,
     both: Label,
     all: Label,
+}
+
+impl Goal {
+    // The goal of a question. Whose right it is first isn't known yet.
+    fn of(question: Question) -> Goal {
+        let Question { right, y, .. } = question;
+        Goal {
+            asked: single(right),
+            over: y,
+            source: y,
+            take: single(Right::T),
+            grant: single(Right::G),
+            both: both_and(Right::T),
+            all: both_and(right),
+        }
+    }
 }
 
 /// Turns, how many vertices are made behind them, and the edges from each vertex as they were before.
@@ -72,8 +89,7 @@ impl<'a> Plan<'a> {
         picture: &'a Picture,
         found: &'a Found,
         rows: Chains,
-        right: Right,
-        y: u64,
+        question: Question,
     ) -> Plan<'a> {
         let mut trial = Trial::new(alloc, picture, rows);
         trial.limit = u64::MAX;
@@ -81,20 +97,25 @@ impl<'a> Plan<'a> {
         Plan {
             picture,
             found,
-            goal: Goal {
-                asked: single(right),
-                over: y,
-                source: y,
-                take: single(Right::T),
-                grant: single(Right::G),
-                both: both_and(Right::T),
-                all: both_and(right),
-            },
+            goal: Goal::of(question),
             late: None,
             trial,
             turns: Vec::new(alloc),
             taken,
         }
+    }
+
+    // The turns that lead the right to x: with as few names as will do, or so that the names that are asked about are
+    // made first.
+    fn lead_to(self, alloc: Global, x: u64, is_sparing: bool) -> Planned {
+        let mut plan = self;
+        let path = plan.path(alloc, x);
+        if is_sparing {
+            plan.lead_sparingly(path.as_slice(), x);
+        } else {
+            plan.lead(path.as_slice(), x);
+        }
+        plan.planned()
     }
 
     // What was planned.
@@ -552,34 +573,13 @@ pub(crate) fn turns_to<'a>(
     picture: &'a Picture,
     found: &'a Found,
     rows: Chains,
-    x: u64,
-    right: Right,
-    y: u64,
+    question: Question,
 ) -> Planned {
-    let planned = turns_by(alloc, picture, found, rows, x, right, y, false);
+    let plan = Plan::new(alloc, picture, found, rows, question);
+    let planned = plan.lead_to(alloc, question.x, false);
     if planned.made <= picture.limit() {
         return planned;
     }
-    turns_by(alloc, picture, found, planned.rows, x, right, y, true)
-}
-
-// The turns of one plan, which spares names or makes those that are asked about first.
-fn turns_by<'a>(
-    alloc: Global,
-    picture: &'a Picture,
-    found: &'a Found,
-    rows: Chains,
-    x: u64,
-    right: Right,
-    y: u64,
-    is_sparing: bool,
-) -> Planned {
-    let mut plan = Plan::new(alloc, picture, found, rows, right, y);
-    let path = plan.path(alloc, x);
-    if is_sparing {
-        plan.lead_sparingly(path.as_slice(), x);
-    } else {
-        plan.lead(path.as_slice(), x);
-    }
-    plan.planned()
+    let sparing = Plan::new(alloc, picture, found, planned.rows, question);
+    sparing.lead_to(alloc, question.x, true)
 }

@@ -10,10 +10,10 @@ ghost use Rattle.tg_could.specs.Turns.{NeverHolds, IsSilent, Turn, AreTurns, Lea
 ghost use Rattle.tg_could.specs.Reached.{HaveSameReach, HoldsWhatItHolds, IsLedTo, IsReachedPicture, IsToldOf};
 
 use crate::answer::{Answer, could_hold};
+use crate::question::{Question, Scene};
 use crate::separation::is_among;
 use std::alloc::{AllocError, Global};
 use tg_model::{Edge, Picture};
-use tg_rights::Right;
 
 /// What comes of the question on a picture of what the active subjects reach.
 #[derive(Drop)]
@@ -56,19 +56,16 @@ fn is_led_to(edges: &[Edge], name: u64) -> bool
 /// graph; but `Unreached` exactly where x was made and no active subject reaches it. Fails only when out of memory.
 pub fn could_hold_reached(
     alloc: Global,
-    picture: &Picture,
-    silent: &[u64],
-    x: u64,
-    right: Right,
-    y: u64,
+    scene: &Scene,
+    question: Question,
 ) -> Result<Told, AllocError>
-    ensures { IfOk result (λ told. (g : ProtectionGraph) → IsSound g → IsReachedPicture picture.now g →
-        IsToldOf silent.now g x right y told) }
+    ensures { IfOk result (λ told. (g : ProtectionGraph) → IsSound g → IsReachedPicture scene.now.picture.now g →
+        IsToldOf scene.now.silent.now g question.x question.right question.y told) }
 {
-    if x < picture.made() && !is_reached(picture, x) {
+    if question.x < scene.picture.made() && !is_reached(scene.picture, question.x) {
         return Ok(Told::Unreached);
     }
-    let answer = could_hold(alloc, picture, silent, x, right, y)?;
+    let answer = could_hold(alloc, scene, question)?;
     Ok(Told::Of(answer))
 }
 

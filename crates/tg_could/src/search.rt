@@ -6,6 +6,7 @@ use crate::growth::push;
 use crate::links::{Links, number_of};
 use crate::marks::{Pairs, is_in_second};
 use crate::names::Names;
+use crate::question::Scene;
 use crate::separation::{Separation, comes_later, has, is_silent};
 use std::alloc::{AllocError, Global};
 use tg_model::{Edge, Picture};
@@ -81,33 +82,26 @@ impl Kept {
 /// Where the vertex may yet be made, who acts is taken for one who has the right. Where `back`, the same walks go back
 /// from the vertex: the first set has those whose rights it may get, the second those who may hand it what they get,
 /// and where it may yet be made, who acts is taken for it. Tells whether memory was wanting.
-pub(crate) fn search(
-    alloc: Global,
-    picture: &Picture,
-    silent: &[u64],
-    right: Right,
-    over: u64,
-    back: bool,
-) -> Found {
-    let mut found = Found::start(alloc, picture, silent);
-    if comes_later(picture, over) {
-        found.put_actors(picture, back);
+pub(crate) fn search(alloc: Global, scene: &Scene, right: Right, over: u64, back: bool) -> Found {
+    let mut found = Found::start(alloc, scene);
+    if comes_later(scene.picture, over) {
+        found.put_actors(scene.picture, back);
     }
     if back && found.acts(over) {
         found.put_name(over, true);
     }
-    found.search(alloc, picture.edges(), right, over);
+    found.search(alloc, scene.picture.edges(), right, over);
     found
 }
 
 impl Found {
     // No vertex is in a set.
-    fn start(alloc: Global, picture: &Picture, silent: &[u64]) -> Found {
+    fn start(alloc: Global, scene: &Scene) -> Found {
         let mut grown = Ok(());
-        let names = Names::of(alloc, picture, &mut grown);
+        let names = Names::of(alloc, scene.picture, &mut grown);
         let mut acting = Pairs::none(alloc, names.len(), &mut grown);
-        for subject in picture.subjects() {
-            if !is_silent(silent, picture.made(), *subject) {
+        for subject in scene.picture.subjects() {
+            if !is_silent(scene.silent, scene.picture.made(), *subject) {
                 acting.put(names.number(*subject), false);
             }
         }

@@ -15,6 +15,7 @@ ghost use Rattle.tg_could.specs.Inner.Trial.{Stands};
 
 use crate::chains::{Chains, NONE};
 use crate::growth::copied;
+use crate::question::{Question, Scene, Witness};
 use crate::separation::is_silent;
 use std::alloc::{AllocError, Global};
 use tg_model::{Command, Deed, Edge, Making, Picture};
@@ -28,6 +29,19 @@ pub(crate) struct Trial {
     pub(crate) subjects: Vec<u64>,
     pub(crate) made: u64,
     pub(crate) limit: u64,
+}
+
+// A take or a grant: the worker has the right `by` over `via`, and the taker gets rights over the target that the giver
+// has. For a take the giver is `via` and the taker is the worker, for a grant the other way round.
+#[derive(Clone, Copy, Drop)]
+struct Transfer {
+    worker: u64,
+    via: u64,
+    target: u64,
+    rights: Label,
+    by: Right,
+    giver: u64,
+    taker: u64,
 }
 
 // Whether three vertices differ.
@@ -84,33 +98,29 @@ impl Trial {
         }
     }
 
-    /// Whether these turns lead to x's holding a right over y, where so many more vertices may be made. Fails only when
-    /// out of memory.
+    /// Whether the turns of a witness lead to x's holding a right over y, where so many more vertices may be made. Fails
+    /// only when out of memory.
     pub(crate) fn lead_there(
         &mut self,
-        picture: &Picture,
-        silent: &[u64],
-        names: u64,
-        turns: &[(u64, Deed)],
-        x: u64,
-        right: Right,
-        y: u64,
+        scene: &Scene,
+        question: Question,
+        witness: &Witness,
     ) -> Result<bool, AllocError>
-        ensures { IfOk result (λ lead. IsTrue lead → (g : ProtectionGraph) → IsPictureOf picture.now g → (IsOk self.old.rows.grown → Stands picture.now.edges self.old g) →
-            LeadThere silent.now (with_names g names) turns.now x right y) }
+        ensures { IfOk result (λ lead. IsTrue lead → (g : ProtectionGraph) → IsPictureOf scene.now.picture.now g → (IsOk self.old.rows.grown → Stands scene.now.picture.now.edges self.old g) →
+            LeadThere scene.now.silent.now (with_names g witness.now.names) witness.now.turns.now question.x question.right question.y) }
     {
         self.rows.grown?;
-        let Some(limit) = limit_with(picture, names) else {
+        let Some(limit) = limit_with(scene.picture, witness.names) else {
             return Ok(false);
         };
-        let first = picture.made();
-        let edges = picture.edges();
+        let first = scene.picture.made();
+        let edges = scene.picture.edges();
         self.limit = limit;
-        let taken = self.take_turns(edges, silent, first, turns)?;
+        let taken = self.take_turns(edges, scene.silent, first, witness.turns)?;
         if !taken {
             return Ok(false);
         }
-        Ok(self.has_all(edges, x, y, Rights::of(right)))
+        Ok(self.has_all(edges, question.x, question.y, Rights::of(question.right)))
     }
 
     /// Whether one vertex has these rights over another, all on one edge of the list or of those that came since.
@@ -215,7 +225,7 @@ impl Trial {
         }
     }
 
-    // The same of a command.
+    // Does what a command asks for, where it is allowed and adds rights or retires.
     fn take_command(
         &mut self,
         edges: &[Edge],
@@ -230,30 +240,34 @@ impl Trial {
                 rights,
                 via,
                 target,
-            } => self.hand_on(
-                edges,
-                worker,
-                *via,
-                *target,
-                *rights,
-                Right::T,
-                *via,
-                worker,
-            ),
+            } => {
+                let transfer = Transfer {
+                    worker,
+                    via: *via,
+                    target: *target,
+                    rights: *rights,
+                    by: Right::T,
+                    giver: *via,
+                    taker: worker,
+                };
+                self.hand_on(edges, transfer)
+            }
             Command::Grant {
                 rights,
                 via,
                 target,
-            } => self.hand_on(
-                edges,
-                worker,
-                *via,
-                *target,
-                *rights,
-                Right::G,
-                worker,
-                *via,
-            ),
+            } => {
+                let transfer = Transfer {
+                    worker,
+                    via: *via,
+                    target: *target,
+                    rights: *rights,
+                    by: Right::G,
+                    giver: worker,
+                    taker: *via,
+                };
+                self.hand_on(edges, transfer)
+            }
             Command::Retire => {
                 leave_out(&mut self.subjects, worker);
                 Ok(true)
@@ -263,22 +277,21 @@ impl Trial {
     }
 
     // Hands on rights over a target to another vertex, where the worker and a giver have the rights for that.
-    fn hand_on(
-        &mut self,
-        edges: &[Edge],
-        worker: u64,
-        via: u64,
-        target: u64,
-        rights: Label,
-        by: Right,
-        giver: u64,
-        taker: u64,
-    ) -> Result<bool, AllocError>
+    fn hand_on(&mut self, edges: &[Edge], transfer: Transfer) -> Result<bool, AllocError>
         ensures { IfOk result (λ taken. IsTrue taken → (g : ProtectionGraph) → Stands edges.now self.old g →
-            (worker ≢ via) × (via ≢ target) × (worker ≢ target) ×
-            HoldsOver g.label worker via (only by) × HoldsOver g.label giver target rights ×
-            Stands edges.now self.new (record g { label = with_rights g.label taker target rights })) }
+            (transfer.worker ≢ transfer.via) × (transfer.via ≢ transfer.target) × (transfer.worker ≢ transfer.target) ×
+            HoldsOver g.label transfer.worker transfer.via (only transfer.by) × HoldsOver g.label transfer.giver transfer.target transfer.rights ×
+            Stands edges.now self.new (record g { label = with_rights g.label transfer.taker transfer.target transfer.rights })) }
     {
+        let Transfer {
+            worker,
+            via,
+            target,
+            rights,
+            by,
+            giver,
+            taker,
+        } = transfer;
         let three = are_three(worker, via, target);
         let may = self.has_all(edges, worker, via, Rights::of(by));
         let has = self.has_all(edges, giver, target, rights.rights());

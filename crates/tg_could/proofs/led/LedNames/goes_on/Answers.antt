@@ -9,7 +9,7 @@ use Rattle.tg_could.proofs.led.LedNames.goes_on.Goals as goal
 pub returns-clause-led : goal.returns-clause-led
 returns-clause-led c g picture led =
     c.in_ok-turn.ensures.led c.args.right g picture
-    (c.in_ok-go_along.ensures.led c.args.silent.now g (pictured-among c.args.picture.now g picture c.edges.result.now c.edges.ensures) led)
+    (c.in_ok-go_along.ensures.led c.args.scene.now.silent.now g (pictured-among c.args.scene.now.picture.now g picture c.edges.result.now c.edges.ensures) led)
 
 pub returns-clause-more : goal.returns-clause-more
 returns-clause-more c more =
@@ -21,7 +21,7 @@ returns-clause-edges c none =
     let same =
     none_new c.len-before.result c.len.result (number_led c.args.self.now) (number_led mid) (number_led c.turn.new.self) c.len-before.ensures c.len.ensures none
     c.in_ok-go_along.ensures.more c.in_ok-turn.ensures.more in
-    subst (λ (s : Sides). All (KeepsAt s c.args.right c.args.y) c.args.picture.now.edges) (sym (c.in_ok-turn.ensures.still same.1).0)
+    subst (λ (s : Sides). All (KeepsAt s c.args.right c.args.y) c.args.scene.now.picture.now.edges) (sym (c.in_ok-turn.ensures.still same.1).0)
     (subst (λ (es : List Edge). All (KeepsAt (sides_led mid) c.args.right c.args.y) es) c.edges.ensures (c.in_ok-go_along.ensures.still same.0).1)
 
 pub returns-clause-actors : goal.returns-clause-actors

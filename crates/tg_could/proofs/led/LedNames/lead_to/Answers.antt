@@ -17,4 +17,4 @@ returns-else-reach-clause-brought c t right y g picture led =
 pub returns-then-reach-clause-brought : goal.returns-then-reach-clause-brought
 returns-then-reach-clause-brought c t right y g picture led =
     let (v, acts, which, inside) = c.reach.ensures.reached t in
-    reached_brings c.args.silent.now c.args.picture.now g picture c.args.x right y c.args.self.now led v acts which inside
+    reached_brings c.args.scene.now.silent.now c.args.scene.now.picture.now g picture c.args.x right y c.args.self.now led v acts which inside

@@ -8,8 +8,8 @@ use Rattle.tg_could.proofs.led.LedNames.reach.Goals as goal
 
 pub loop-subject-preserved : goal.loop-subject-preserved
 loop-subject-preserved c =
-    let p = c.args.picture.now in
-    let P : ℕ → Type 0 = λ v. ¬ (Contains c.args.silent.now v × (v < p.made)) → (v ≡ c.args.x) ⊎ ComesLater p c.args.x → (sides_led c.args.self.now).back v ≡ false in
+    let p = c.args.scene.now.picture.now in
+    let P : ℕ → Type 0 = λ v. ¬ (Contains c.args.scene.now.silent.now v × (v < p.made)) → (v ≡ c.args.x) ⊎ ComesLater p c.args.x → (sides_led c.args.self.now).back v ≡ false in
     one-more P c.subjects-subject-items.result.now p.subjects c.loop-subject.subject-index 0 c.subjects-subject-items.ensures c.loop-subject-test.true
     c.loop-subject.invariant (c.reaches_by.ensures.not_taken c.if-reaches_by.false)
 

@@ -7,4 +7,4 @@ use Rattle.tg_could.proofs.led.LedNames.reach.Given as goal
 -- nobody before this place reaches
 abbrev pub invariant-loop-subject : goal.invariant-loop-subject
 invariant-loop-subject l =
-    AllWithin (λ v. ¬ (Contains l.silent v × (v < l.picture.made)) → (v ≡ l.x) ⊎ ComesLater l.picture l.x → (sides_led l.self).back v ≡ false) l.picture.subjects 0 l.subject-index
+    AllWithin (λ v. ¬ (Contains l.scene.silent.now v × (v < l.scene.picture.now.made)) → (v ≡ l.x) ⊎ ComesLater l.scene.picture.now l.x → (sides_led l.self).back v ≡ false) l.scene.picture.now.subjects 0 l.subject-index

@@ -19,14 +19,14 @@ loop-subject-preserved c =
     let v = get_or seen i 0 in
     let inside = c.loop-subject-test.true in
     let here : v ≡ get_or seen i v = get_or_default seen i 0 v inside in
-    turns_more c.args.silent.now c.args.picture.now c.args.y c.args.self.now c.loop-subject.self c.put.new.self i v c.in-Some.forward c.loop-subject.invariant
+    turns_more c.args.scene.now.silent.now c.args.scene.now.picture.now c.args.y c.args.self.now c.loop-subject.self c.put.new.self i v c.in-Some.forward c.loop-subject.invariant
     (subst (λ (l : List ℕ). i < length l) c.subjects-subject-items.ensures inside)
     (subst (λ (l : List ℕ). v ≡ get_or l i v) c.subjects-subject-items.ensures here)
     c.in-Some.ensures.acts c.in-Some.ensures.leads c.in_ok-put.ensures.put (c.in_ok-put.ensures.more c.in-Some.ensures.new)
 
 pub loop-subject-preserved-in_default : goal.loop-subject-preserved-in_default
 loop-subject-preserved-in_default c =
-    let p = c.args.picture.now in
+    let p = c.args.scene.now.picture.now in
     let was = c.loop-subject.invariant in
     record {
       led = was.led;
@@ -34,7 +34,7 @@ loop-subject-preserved-in_default c =
       still = λ same.
           let so_far = was.still same in (
             so_far.0,
-            one-more (IsTurnedAt c.args.silent.now p c.args.y (sides_led c.loop-subject.self)) c.subjects-subject-items.result.now p.subjects c.loop-subject.subject-index 0
+            one-more (IsTurnedAt c.args.scene.now.silent.now p c.args.y (sides_led c.loop-subject.self)) c.subjects-subject-items.result.now p.subjects c.loop-subject.subject-index 0
                 c.subjects-subject-items.ensures c.loop-subject-test.true so_far.1 c.in_default.ensures.turned,
           );
     }

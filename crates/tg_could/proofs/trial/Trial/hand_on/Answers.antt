@@ -12,7 +12,7 @@ returns-then-are_all c t g stands =
       three.0,
       three.1,
       three.2,
-      subst (λ (s : RightSet). HoldsOver g.label c.args.worker c.args.via s) c.of.ensures (c.has_all-may.ensures all.1 g.label stands.first stands.later),
-      subst (λ (s : RightSet). HoldsOver g.label c.args.giver c.args.target s) c.rights.ensures.same (c.has_all-has.ensures all.2 g.label stands.first stands.later),
-      stands-added c.args.edges.now c.args.self.now c.add.new.self g (record { from = c.args.taker; to = c.args.target; label = c.args.rights }) added.added added.subjects added.made added.limit stands,
+      subst (λ (s : RightSet). HoldsOver g.label c.args.transfer.worker c.args.transfer.via s) c.of.ensures (c.has_all-may.ensures all.1 g.label stands.first stands.later),
+      subst (λ (s : RightSet). HoldsOver g.label c.args.transfer.giver c.args.transfer.target s) c.rights.ensures.same (c.has_all-has.ensures all.2 g.label stands.first stands.later),
+      stands-added c.args.edges.now c.args.self.now c.add.new.self g (record { from = c.args.transfer.taker; to = c.args.transfer.target; label = c.args.transfer.rights }) added.added added.subjects added.made added.limit stands,
     )

@@ -14,25 +14,25 @@ use Rattle.tg_could.proofs.trial.Trial.lead_there.Goals as goal
 pub returns : goal.returns
 returns c t g picture if_ok =
     let stands = if_ok (ap is_ok c.in_ok-self.was) in
-    let x = c.args.x in
-    let y = c.args.y in
-    let turns = c.args.turns.now in
-    let h : ProtectionGraph = with_names g c.args.names in
+    let x = c.args.question.x in
+    let y = c.args.question.y in
+    let turns = c.args.witness.now.turns.now in
+    let h : ProtectionGraph = with_names g c.args.witness.now.names in
     let first : c.made-first.result ≡ g.made = c.made-first.ensures ∙ sym picture.made in
-    let start : Stands c.args.picture.now.edges (record c.args.self.now { limit = c.in-Some.limit }) h = record {
+    let start : Stands c.args.scene.now.picture.now.edges (record c.args.self.now { limit = c.in-Some.limit }) h = record {
       subjects = stands.subjects;
       made = stands.made;
-      limit = ap (λ (n : ℕ). n + c.args.names) picture.limit ∙ sym c.in-Some.ensures;
+      limit = ap (λ (n : ℕ). n + c.args.witness.now.names) picture.limit ∙ sym c.in-Some.ensures;
       first = stands.first;
       later = stands.later;
     } in
     let done = c.in_ok-taken.ensures c.if-not-taken.false h
     (subst (λ (es : List Edge). Stands es (record c.args.self.now { limit = c.in-Some.limit }) h) (sym c.edges-edges.ensures) start) in
     let label = (after h turns).label in
-    let over : HoldsOver label x y (only c.args.right) =
+    let over : HoldsOver label x y (only c.args.question.right) =
     subst (λ (s : RightSet). HoldsOver label x y s) c.of.ensures (c.has_all.ensures t label done.1.first done.1.later) in
-    let held : Holds label x c.args.right y = sym (holds_all-only (label x y) c.args.right) ∙ over in
-    (subst (λ (n : ℕ). AreTurns (λ (p : ℕ). Contains c.args.silent.now p × (p < n)) h turns) first done.0, held)
+    let held : Holds label x c.args.question.right y = sym (holds_all-only (label x y) c.args.question.right) ∙ over in
+    (subst (λ (n : ℕ). AreTurns (λ (p : ℕ). Contains c.args.scene.now.silent.now p × (p < n)) h turns) first done.0, held)
 
 pub returns-in_default : goal.returns-in_default
 returns-in_default c t = absurd (false≢true t)

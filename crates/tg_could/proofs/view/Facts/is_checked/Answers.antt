@@ -8,11 +8,11 @@ use Rattle.tg_could.proofs.view.Facts.is_checked.Goals as goal
 pub returns : goal.returns
 returns c t =
     let f = c.args.self.now in
-    let p = c.args.picture.now in
+    let p = c.args.scene.now.picture.now in
     let same = c.are_same.ensures c.if-not-are_same.false in
     record {
       actors =
-          subst (λ (l : List ℕ). All (λ v. ¬ (Contains c.args.silent.now v × (v < p.made)) → IsListed l v) p.subjects) c.as_slice-actors.ensures.value
+          subst (λ (l : List ℕ). All (λ v. ¬ (Contains c.args.scene.now.silent.now v × (v < p.made)) → IsListed l v) p.subjects) c.as_slice-actors.ensures.value
           (c.are_listed.ensures c.if-not-are_listed.false);
       single =
           subst (λ (l : List ℕ). All (IsOfOne f.names f.islands) l) c.as_slice-actors.ensures.value

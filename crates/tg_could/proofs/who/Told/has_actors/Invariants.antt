@@ -7,4 +7,4 @@ use Rattle.tg_could.proofs.who.Told.has_actors.Given as goal
 -- who acts before this place is told where it is in the sets
 abbrev pub invariant-loop-subject : goal.invariant-loop-subject
 invariant-loop-subject l =
-    AllWithin (OfActor l.silent l.picture (TellsActor (sides_of l.sides) l.self l.picture l.y)) l.picture.subjects 0 l.subject-index
+    AllWithin (OfActor l.scene.silent.now l.scene.picture.now (TellsActor (sides_of l.sides) l.self l.scene.picture.now l.y)) l.scene.picture.now.subjects 0 l.subject-index
