@@ -1,8 +1,7 @@
 //! The question and its answers.
-ghost use Rattle.std.specs.Prelude.{◌≡◌, ◌+◌, ◌<◌, ◌⊎◌, IfNone, IfOk, IfSome, IsTrue};
+ghost use Rattle.std.specs.Prelude.{◌≡◌, ◌<◌, IfNone, IfOk, IfSome, IsTrue};
 ghost use Rattle.tg_model.specs.Graph.{ProtectionGraph};
 ghost use Rattle.tg_model.specs.Picture.{IsPictureOf};
-ghost use Rattle.tg_could.specs.Separation.{ComesLater};
 ghost use Rattle.tg_could.specs.Turns.{NeverHolds};
 ghost use Rattle.tg_could.specs.Answered.{IsAnswer, IsFar, IsShort};
 
@@ -40,6 +39,21 @@ pub enum Answer {
     /// make all of them: ask about the next name in its place. No other name is known to get this answer. It would say
     /// that x could, after turns that aren't told, where 64 names are left besides x or y isn't made yet.
     Open,
+}
+
+impl Answer {
+    ghost use Rattle.std.specs.Prelude.{◌≡◌};
+    ghost use Rattle.tg_could.specs.Answered.{turns_of};
+
+    /// The turns of the answer, in order. `Never` and `Open` have none.
+    pub fn turns(&self) -> &[(u64, Deed)]
+        ensures { result.now ≡ turns_of self.now }
+    {
+        match self {
+            Answer::Could(turns) | Answer::WantsNames { turns, .. } => turns.as_slice(),
+            Answer::Never(_) | Answer::Open => &[],
+        }
+    }
 }
 
 /// Whether x could ever come to hold a right over y, by any turns of the active subjects but the silent ones, on the

@@ -1,6 +1,6 @@
 //! To whom a right is led, by going over all edges until nothing is new. The search (`search`) is quick, and nothing of
 //! it has to be believed; this is slow and believed, and only asked where the turns that the search found lead nowhere.
-ghost use Rattle.std.specs.Prelude.{◌≡◌, ◌⊎◌, ◌≤◌, ◌<◌, ◌^◌, ℕ, List, true, false, not, IsTrue, IfSome, IfNone, IfOk, OnOk};
+ghost use Rattle.std.specs.Prelude.{◌≡◌, ◌⊎◌, ◌≤◌, ◌<◌, ◌^◌, ℕ, List, true, false, IsTrue, IfSome, IfNone, IfOk, OnOk};
 ghost use Rattle.std.specs.List.{All, Contains};
 ghost use Rattle.tg_rights.specs.declared.Right.TheVariants.{G};
 ghost use Rattle.tg_model.specs.Graph.{ProtectionGraph};
@@ -9,8 +9,8 @@ ghost use Rattle.tg_model.specs.Picture.{Holds, IsPictureOf, AreAmong};
 ghost use Rattle.tg_could.specs.Turns.{IsSilent};
 ghost use Rattle.tg_could.specs.Separation.{Keeps, ComesLater, place_in};
 ghost use Rattle.tg_could.specs.Answered.{IsDecided};
-ghost use Rattle.tg_could.specs.Led.{Led, IsBrought};
-ghost use Rattle.tg_could.specs.LedNames.{AreLed, IsPut, ActsIn, IsTurned, TurnsTo, way_of, is_in, LeadsOn, sides_led, number_led};
+ghost use Rattle.tg_could.specs.Led.{IsBrought};
+ghost use Rattle.tg_could.specs.LedNames.{AreLed, IsPut, ActsIn, IsTurned, TurnsTo, is_in, LeadsOn, sides_led, number_led};
 
 use crate::question::{Question, Scene};
 use crate::search::Step;

@@ -62,7 +62,7 @@ pub use answer::{Answer, could_hold};
 pub use chance::Chance;
 pub use enough::needs;
 pub use question::{Question, Scene, Witness};
-pub use reached::{Told, could_hold_reached, is_reached};
+pub use reached::{ReachedAnswer, could_hold_reached, is_reached, join_reached, supposing};
 pub use separation::Separation;
 pub use view::View;
 pub use what::{What, what_could};

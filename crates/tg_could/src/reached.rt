@@ -1,13 +1,13 @@
 //! What the active subjects of a graph reach, and the question on a picture of that part alone. Of a heap that was
 //! collected it is all that there is.
-ghost use Rattle.std.specs.Prelude.{◌≡◌, ◌↔◌, ◌⊎◌, ◌<◌, ◌≤◌, ℕ, List, IfOk, IsTrue};
+ghost use Rattle.std.specs.Prelude.{◌≡◌, ◌↔◌, ◌⊎◌, ◌++◌, ◌<◌, ◌≤◌, ℕ, List, IfOk, IsTrue};
 ghost use Rattle.std.specs.List.{Contains};
 ghost use Rattle.tg_rights.specs.declared.Right.{Right as RightOf};
 ghost use Rattle.tg_model.specs.Graph.{ProtectionGraph, IsReachable, IsSound};
 ghost use Rattle.tg_model.specs.Opened.{label_in};
 ghost use Rattle.tg_model.specs.Picture.{Shown};
-ghost use Rattle.tg_could.specs.Turns.{NeverHolds, IsSilent, Turn, AreTurns, LeadThere, after};
-ghost use Rattle.tg_could.specs.Reached.{HaveSameReach, HoldsWhatItHolds, IsLedTo, IsReachedPicture, IsToldOf};
+ghost use Rattle.tg_could.specs.Turns.{NeverHolds, Turn, LeadThere};
+ghost use Rattle.tg_could.specs.Reached.{HaveSameReach, HoldsWhatItHolds, IsLedTo, IsReachedPicture, IsToldOf, JoinReached, JoinsReached, with_edges};
 
 use crate::answer::{Answer, could_hold};
 use crate::question::{Question, Scene};
@@ -17,7 +17,7 @@ use tg_model::{Edge, Picture};
 
 /// What comes of the question on a picture of what the active subjects reach.
 #[derive(Drop)]
-pub enum Told {
+pub enum ReachedAnswer {
     /// No active subject reaches x, which was made: it holds what it holds, and no turns of anybody change that. The
     /// picture doesn't show what this is.
     Unreached,
@@ -52,21 +52,60 @@ fn is_led_to(edges: &[Edge], name: u64) -> bool
     false
 }
 
-/// What [`could_hold`] answers, on a picture of what the active subjects of a graph reach, and so true of the whole
-/// graph; but `Unreached` exactly where x was made and no active subject reaches it. Fails only when out of memory.
+/// What [`could_hold`] answers on the graph with these edges too, by a picture of what the active subjects of the graph
+/// reach without them, and so true of the whole graph; but `Unreached` exactly where x was made and no active subject
+/// reaches it. Each of the edges has to join two different vertices that active subjects reach ([`join_reached`]): else
+/// the answer says nothing. Fails only when out of memory.
 pub fn could_hold_reached(
     alloc: Global,
     scene: &Scene,
+    supposed: &[Edge],
     question: Question,
-) -> Result<Told, AllocError>
+) -> Result<ReachedAnswer, AllocError>
     ensures { IfOk result (λ told. (g : ProtectionGraph) → IsSound g → IsReachedPicture scene.now.picture.now g →
-        IsToldOf scene.now.silent.now g question.x question.right question.y told) }
+        JoinReached g supposed.now →
+        IsToldOf scene.now.silent.now (with_edges g supposed.now) question.x question.right question.y told) }
 {
     if question.x < scene.picture.made() && !is_reached(scene.picture, question.x) {
-        return Ok(Told::Unreached);
+        return Ok(ReachedAnswer::Unreached);
     }
-    let answer = could_hold(alloc, scene, question)?;
-    Ok(Told::Of(answer))
+    let picture = supposing(alloc, scene.picture, supposed)?;
+    let wider = Scene {
+        picture: &picture,
+        silent: scene.silent,
+    };
+    let answer = could_hold(alloc, &wider, question)?;
+    Ok(ReachedAnswer::Of(answer))
+}
+
+/// Whether each edge joins two different vertices that active subjects reach, on the graph of whose reached part this
+/// is a picture. Looks at each edge of the picture once at most for each end. Takes no memory.
+pub fn join_reached(picture: &Picture, edges: &[Edge]) -> bool
+    ensures { (g : ProtectionGraph) → IsReachedPicture picture.now g → IsTrue result ↔ JoinReached g edges.now }
+{
+    for edge in edges {
+        if !joins_reached(picture, edge) {
+            return false;
+        }
+    }
+    true
+}
+
+// Whether an edge joins two different vertices that active subjects reach.
+fn joins_reached(picture: &Picture, edge: &Edge) -> bool
+    ensures { (g : ProtectionGraph) → IsReachedPicture picture.now g → IsTrue result ↔ JoinsReached g edge.now }
+{
+    edge.from != edge.to && is_reached(picture, edge.from) && is_reached(picture, edge.to)
+}
+
+/// The picture with these edges too. Fails only when out of memory.
+pub fn supposing(alloc: Global, picture: &Picture, edges: &[Edge]) -> Result<Picture, AllocError>
+    ensures { IfOk result (λ supposed. supposed ≡ record picture.now { edges = picture.now.edges ++ edges.now }) }
+{
+    let subjects = Vec::from_slice(alloc, picture.subjects())?;
+    let mut all = Vec::from_slice(alloc, picture.edges())?;
+    all.extend_from_slice(edges)?;
+    Ok(Picture::new(subjects, all, picture.made(), picture.limit()))
 }
 
 /// On the graph with the labels that a picture of its reached part shows, whoever is reached or isn't made yet could
