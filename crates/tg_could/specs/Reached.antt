@@ -4,11 +4,13 @@ use Rattle.std.specs.List.{All, Contains}
 use Rattle.tg_rights.specs.RightSet.{union}
 use Rattle.tg_rights.specs.declared.Right.{Right}
 use Rattle.tg_model.specs.declared.edge.Edge.{Edge}
-use Rattle.tg_model.specs.Graph.{ProtectionGraph, HasEdge, IsReachable}
+use Rattle.tg_model.specs.Graph.{ProtectionGraph, HasEdge, IsReachable, IsSound}
 use Rattle.tg_model.specs.Opened.{label_in}
 use Rattle.tg_model.specs.Picture.{Shown}
 use Rattle.tg_could.specs.Turns.{Turn, AreTurns, after}
 use Rattle.tg_could.specs.Answered.{IsAnswer}
+use Rattle.tg_could.specs.declared.question.Question.{Question}
+use Rattle.tg_could.specs.declared.question.Scene.{Scene}
 use Rattle.tg_could.specs.declared.reached.ReachedAnswer.{ReachedAnswer}
 use Rattle.tg_could.specs.declared.reached.ReachedAnswer.TheVariants.{Unreached, Of}
 
@@ -42,10 +44,26 @@ pub record HaveSameReach (g h : ProtectionGraph) : Type 0 where
 abbrev pub HoldsWhatItHolds : ProtectionGraph → ℕ → Type 0
 HoldsWhatItHolds g x = (turns : List Turn) → AreTurns (λ p. ⊥) g turns → (y : ℕ) → (after g turns).label x y ≡ g.label x y
 
+-- an active subject reaches x, or it isn't made yet
+abbrev pub IsKnown : ProtectionGraph → ℕ → Type 0
+IsKnown g x = IsReachable g x ⊎ (g.made ≤ x)
+
+-- the graph with the labels that a picture shows
+abbrev pub as_shown : Shown → ProtectionGraph → ProtectionGraph
+as_shown p g = record g { label = label_in p.edges }
+
 -- What is told of a graph. `Unreached`: x was made, no active subject reaches it, and it holds what it holds. Else the answer.
 abbrev pub IsToldOf : List ℕ → ProtectionGraph → ℕ → Right → ℕ → ReachedAnswer → Type 0
 IsToldOf silent g x right y Unreached = (x < g.made) × (¬ IsReachable g x) × HoldsWhatItHolds g x
 IsToldOf silent g x right y (Of answer) = (IsReachable g x ⊎ (g.made ≤ x)) × IsAnswer silent g x right y answer
+
+-- it holds of each sound graph of whose reached part the scene has the picture
+abbrev pub OnReached : Scene → (ProtectionGraph → Type 0) → Type 0
+OnReached scene holds = (g : ProtectionGraph) → IsSound g → IsReachedPicture scene.picture.now g → holds g
+
+-- what is told of the question is so of the graph
+abbrev pub ReachedAnswerOf : Scene → Question → ReachedAnswer → ProtectionGraph → Type 0
+ReachedAnswerOf scene q told g = IsToldOf scene.silent.now g q.x q.right q.y told
 
 -- ---- edges that are supposed
 

@@ -2,13 +2,13 @@
 ghost use Rattle.std.specs.Prelude.{◌≡◌, ◌<◌, IfNone, IfOk, IfSome, IsTrue};
 ghost use Rattle.tg_model.specs.Graph.{ProtectionGraph};
 ghost use Rattle.tg_model.specs.Picture.{IsPictureOf};
-ghost use Rattle.tg_could.specs.Turns.{NeverHolds};
-ghost use Rattle.tg_could.specs.Answered.{IsAnswer, IsFar, IsShort};
+ghost use Rattle.tg_could.specs.Answered.{IsFar, IsShort};
+ghost use Rattle.tg_could.specs.Scenes.{AnswerOf, NeverOf, OnGraphs};
 
 use crate::led::may_come_about;
 use crate::plan::turns_to;
 use crate::question::{Question, Scene, Witness};
-use crate::search::{Found, search};
+use crate::search::{Findings, search};
 use crate::separation::{Separation, comes_later};
 use crate::witness::replay;
 use std::alloc::{AllocError, Global};
@@ -63,7 +63,7 @@ impl Answer {
 /// answer is `Never` or `Open`. Takes time and memory in proportion to the picture and to these. Fails only when out of
 /// memory.
 pub fn could_hold(alloc: Global, scene: &Scene, question: Question) -> Result<Answer, AllocError>
-    ensures { IfOk result (λ answer. (g : ProtectionGraph) → IsPictureOf scene.now.picture.now g → IsAnswer scene.now.silent.now g question.x question.right question.y answer) }
+    ensures { IfOk result (λ answer. OnGraphs scene.now (AnswerOf scene.now question answer)) }
 {
     let found = search(alloc, scene, question.right, question.y, false);
     match settle(alloc, scene, &found, question) {
@@ -77,11 +77,11 @@ pub fn could_hold(alloc: Global, scene: &Scene, question: Question) -> Result<An
 fn settle(
     alloc: Global,
     scene: &Scene,
-    found: &Found,
+    found: &Findings,
     question: Question,
 ) -> Result<Option<Answer>, AllocError>
-    ensures told { IfOk result (λ told. (g : ProtectionGraph) → IsPictureOf scene.now.picture.now g → IfSome told (IsAnswer scene.now.silent.now g question.x question.right question.y)) }
-    ensures never { IfOk result (λ told. (g : ProtectionGraph) → IsPictureOf scene.now.picture.now g → IfNone told (NeverHolds scene.now.silent.now g question.x question.right question.y)) }
+    ensures told { IfOk result (λ told. OnGraphs scene.now (λ g. IfSome told (λ answer. AnswerOf scene.now question answer g))) }
+    ensures never { IfOk result (λ told. OnGraphs scene.now (λ g. IfNone told (NeverOf scene.now question g))) }
 {
     found.grown?;
     if found.sides.parts(scene, question) {
@@ -104,10 +104,10 @@ fn settle(
 fn tell_turns(
     alloc: Global,
     scene: &Scene,
-    found: &Found,
+    found: &Findings,
     question: Question,
 ) -> Result<Option<Answer>, AllocError>
-    ensures { IfOk result (λ told. (g : ProtectionGraph) → IsPictureOf scene.now.picture.now g → IfSome told (IsAnswer scene.now.silent.now g question.x question.right question.y)) }
+    ensures { IfOk result (λ told. OnGraphs scene.now (λ g. IfSome told (λ answer. AnswerOf scene.now question answer g))) }
 {
     let rows = found.rows(alloc, scene.picture, question.x);
     let planned = turns_to(alloc, scene.picture, found, rows, question);

@@ -1,9 +1,7 @@
 //! Whose turns would be enough.
 ghost use Rattle.std.specs.Prelude.{◌≡◌, false, ℕ, IfOk};
 ghost use Rattle.std.specs.List.{Contains};
-ghost use Rattle.tg_model.specs.Graph.{ProtectionGraph, without_subject};
-ghost use Rattle.tg_model.specs.Picture.{IsPictureOf};
-ghost use Rattle.tg_could.specs.Turns.{NeverHolds};
+ghost use Rattle.tg_could.specs.Scenes.{NeverWithout, OnGraphs};
 
 use crate::question::{Question, Scene};
 use crate::search::search;
@@ -14,8 +12,8 @@ use std::alloc::{AllocError, Global};
 /// `Never` when it alone is taken out of the silent ones. Of each one left out it is proved that x never holds the
 /// right over y then. One search for each. Fails only when out of memory.
 pub fn needs(alloc: Global, scene: &Scene, question: Question) -> Result<Vec<u64>, AllocError>
-    ensures { IfOk result (λ enough. (g : ProtectionGraph) → IsPictureOf scene.now.picture.now g → (host : ℕ) → Contains scene.now.silent.now host →
-        ¬ Contains enough.items host → NeverHolds (without_subject scene.now.silent.now host) g question.x question.right question.y) }
+    ensures { IfOk result (λ enough. OnGraphs scene.now (λ g. (p : ℕ) → Contains scene.now.silent.now p →
+        ¬ Contains enough.items p → NeverWithout scene.now question p g)) }
 {
     let mut enough = Vec::new(alloc);
     for host in scene.silent {
@@ -35,8 +33,7 @@ fn is_enough(
     host: u64,
     question: Question,
 ) -> Result<bool, AllocError>
-    ensures { IfOk result (λ enough. enough ≡ false → (g : ProtectionGraph) → IsPictureOf scene.now.picture.now g →
-        NeverHolds (without_subject scene.now.silent.now host) g question.x question.right question.y) }
+    ensures { IfOk result (λ enough. enough ≡ false → OnGraphs scene.now (NeverWithout scene.now question host)) }
 {
     let mut others = Vec::from_slice(alloc, scene.silent)?;
     leave_out(&mut others, host);

@@ -3,10 +3,11 @@ ghost use Rattle.std.specs.Prelude.{◌≡◌, IsTrue};
 ghost use Rattle.std.specs.List.{All};
 ghost use Rattle.tg_could.specs.View.{JoinsEntry, IsOfOne, word_of as word_in};
 
-use crate::entries::Entry;
+use crate::conditions::both_imply;
+use crate::entries::PackedEdge;
 use crate::growth::table;
 use crate::names::Names;
-use crate::separation::{has, leads};
+use crate::separation::has;
 use crate::walks::{bit_of, walks};
 use crate::words::{add, are_bridged, is_single, is_within, meets, word_of};
 use std::alloc::{AllocError, Global};
@@ -25,7 +26,7 @@ impl Islands {
     pub(crate) fn of(
         alloc: Global,
         names: &Names,
-        entries: &[Entry],
+        entries: &[PackedEdge],
         actors: &[u64],
         grown: &mut Result<(), AllocError>,
     ) -> Islands {
@@ -73,7 +74,7 @@ impl Islands {
     }
 
     /// Whether the words count each of these edges, and none joins two islands.
-    pub(crate) fn are_joined(&self, entries: &[Entry]) -> bool
+    pub(crate) fn are_joined(&self, entries: &[PackedEdge]) -> bool
         ensures { IsTrue result → All (JoinsEntry self.now) entries.now }
     {
         for entry in entries {
@@ -85,7 +86,7 @@ impl Islands {
     }
 
     // The same of one edge.
-    fn is_joined(&self, entry: &Entry) -> bool
+    fn is_joined(&self, entry: &PackedEdge) -> bool
         ensures { IsTrue result → JoinsEntry self.now entry.now }
     {
         let take = has(entry.label, Right::T);
@@ -99,13 +100,13 @@ impl Islands {
         }
         let to = self.word(entry.to as u64);
         let granted = self.granted(entry.to as u64);
-        if !leads(take, true, is_within(from, to)) {
+        if !both_imply(take, true, is_within(from, to)) {
             return false;
         }
-        if !leads(grant, true, is_within(from, granted)) {
+        if !both_imply(grant, true, is_within(from, granted)) {
             return false;
         }
-        leads(grant, true, are_bridged(from, to))
+        both_imply(grant, true, are_bridged(from, to))
     }
 }
 
@@ -119,7 +120,7 @@ fn tell_islands(joined: &[u64], reached: &mut [u64]) {
 }
 
 // Adds to each number's word the islands of which one has grant over its vertex.
-fn add_granted(granted: &mut [u64], entries: &[Entry], reached: &[u64]) {
+fn add_granted(granted: &mut [u64], entries: &[PackedEdge], reached: &[u64]) {
     for entry in entries {
         if has(entry.label, Right::G) {
             let word = word_of(reached, entry.from as u64);
@@ -141,7 +142,7 @@ fn join_actors(joined: &mut [u64], names: &Names, actors: &[u64], reached: &[u64
 }
 
 // Those who walk to either end of a grant edge are of one island.
-fn join_entries(joined: &mut [u64], entries: &[Entry], reached: &[u64]) {
+fn join_entries(joined: &mut [u64], entries: &[PackedEdge], reached: &[u64]) {
     for entry in entries {
         if !has(entry.label, Right::G) {
             continue;

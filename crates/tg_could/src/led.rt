@@ -1,20 +1,20 @@
 //! To whom a right is led, by going over all edges until nothing is new. The search (`search`) is quick, and nothing of
 //! it has to be believed; this is slow and believed, and only asked where the turns that the search found lead nowhere.
-ghost use Rattle.std.specs.Prelude.{◌≡◌, ◌⊎◌, ◌≤◌, ◌<◌, ◌^◌, ℕ, List, true, false, IsTrue, IfSome, IfNone, IfOk, OnOk};
-ghost use Rattle.std.specs.List.{All, Contains};
+ghost use Rattle.std.specs.Prelude.{◌≡◌, ◌≤◌, ◌<◌, ◌^◌, ℕ, true, false, IsTrue, IfSome, IfNone, IfOk, OnOk};
 ghost use Rattle.tg_rights.specs.declared.Right.TheVariants.{G};
-ghost use Rattle.tg_model.specs.Graph.{ProtectionGraph};
 ghost use Rattle.tg_model.specs.Opened.{label_in};
-ghost use Rattle.tg_model.specs.Picture.{Holds, IsPictureOf, AreAmong};
+ghost use Rattle.tg_model.specs.Picture.{Holds};
 ghost use Rattle.tg_could.specs.Turns.{IsSilent};
-ghost use Rattle.tg_could.specs.Separation.{Keeps, ComesLater, place_in};
+ghost use Rattle.tg_could.specs.Separation.{Keeps, place_in};
 ghost use Rattle.tg_could.specs.Answered.{IsDecided};
-ghost use Rattle.tg_could.specs.Led.{IsBrought};
-ghost use Rattle.tg_could.specs.LedNames.{AreLed, IsPut, ActsIn, IsTurned, TurnsTo, is_in, LeadsOn, sides_led, number_led};
+ghost use Rattle.tg_could.specs.LedNames.{AreLed, IsPut, IsTurned, TurnsTo, is_in, LeadsOn, sides_led, number_led};
+ghost use Rattle.tg_could.specs.LedNames.{ActsOn, AreTurned, BringsTo, IsOrMakes, KeepsEach, NobodyGets, StaysLed, StaysLedAlong};
+ghost use Rattle.tg_could.specs.Scenes.{OnGraphs, TakesTurns};
 
+use crate::conditions::both_but_not;
 use crate::question::{Question, Scene};
-use crate::search::Step;
-use crate::separation::{Place, comes_later, has, is_alone, is_silent, lacks};
+use crate::search::Hop;
+use crate::separation::{Membership, comes_later, has, is_alone, is_silent, lacks};
 use indexmap::IndexSet;
 use std::alloc::{AllocError, Global};
 use tg_model::Edge;
@@ -43,7 +43,7 @@ pub(crate) fn may_come_about(
     scene: &Scene,
     question: Question,
 ) -> Result<bool, AllocError>
-    ensures { IfOk result (λ may. (g : ProtectionGraph) → IsPictureOf scene.now.picture.now g → IsDecided scene.now.silent.now g question.x question.right question.y may) }
+    ensures { IfOk result (λ may. OnGraphs scene.now (λ g. IsDecided scene.now.silent.now g question.x question.right question.y may)) }
 {
     if !lacks(scene.picture.edges(), question) {
         return Ok(true);
@@ -60,10 +60,9 @@ pub(crate) fn may_come_about(
 
 // All names that walks lead to from those who hold a right over y. Fails only when out of memory.
 fn led_from(alloc: Global, scene: &Scene, right: Right, y: u64) -> Result<LedNames, AllocError>
-    ensures led { IfOk result (λ led. (g : ProtectionGraph) → IsPictureOf scene.now.picture.now g →
-        AreLed (IsSilent scene.now.silent.now g) right y g (sides_led led)) }
-    ensures edges { IfOk result (λ led. All (λ e. Keeps (sides_led led) right y (λ a b. e.label) e.from e.to) scene.now.picture.now.edges) }
-    ensures actors { IfOk result (λ led. (v : ℕ) → ActsIn scene.now.silent.now scene.now.picture.now v → IsTurned (sides_led led) scene.now.picture.now y v) }
+    ensures led { IfOk result (λ led. OnGraphs scene.now (λ g. AreLed (IsSilent scene.now.silent.now g) right y g (sides_led led))) }
+    ensures edges { IfOk result (λ led. KeepsEach (sides_led led) right y scene.now.picture.now.edges) }
+    ensures actors { IfOk result (λ led. AreTurned scene.now (sides_led led) y) }
 {
     let mut led = LedNames {
         forward: IndexSet::new(alloc),
@@ -73,20 +72,12 @@ fn led_from(alloc: Global, scene: &Scene, right: Right, y: u64) -> Result<LedNam
     Ok(led)
 }
 
-// Whether two things hold, and a third doesn't.
-fn leads_out(one: bool, two: bool, third: bool) -> bool
-    ensures yes { IsTrue result → IsTrue one × IsTrue two × (third ≡ false) }
-    ensures no { result ≡ false → IsTrue one → IsTrue two → IsTrue third }
-{
-    one && two && !third
-}
-
 impl LedNames {
     // Whether a name is in the sets.
-    fn place(&self, name: u64) -> Place
+    fn place(&self, name: u64) -> Membership
         ensures { result ≡ place_in (sides_led self.now) name }
     {
-        Place {
+        Membership {
             forward: self.forward.contains(&name),
             back: self.back.contains(&name),
         }
@@ -100,7 +91,7 @@ impl LedNames {
     }
 
     // Puts a vertex into a set.
-    fn put(&mut self, step: Step) -> Result<(), AllocError>
+    fn put(&mut self, step: Hop) -> Result<(), AllocError>
         ensures put { OnOk result (IsPut (sides_led self.old) step.forward step.vertex (sides_led self.new)) }
         ensures more { OnOk result (is_in (sides_led self.old) step.forward step.vertex ≡ false → number_led self.old < number_led self.new) }
     {
@@ -113,7 +104,7 @@ impl LedNames {
     }
 
     // Where an edge leads to that isn't in the sets yet.
-    fn led_on(&self, edge: &Edge, right: Right, y: u64) -> Option<Step>
+    fn led_on(&self, edge: &Edge, right: Right, y: u64) -> Option<Hop>
         ensures leads { IfSome result (λ step. LeadsOn (sides_led self.now) right y edge.now step.forward step.vertex) }
         ensures new { IfSome result (λ step. is_in (sides_led self.now) step.forward step.vertex ≡ false) }
         ensures keeps { IfNone result (Keeps (sides_led self.now) right y (λ a b. edge.now.label) edge.now.from edge.now.to) }
@@ -123,32 +114,32 @@ impl LedNames {
         let take = has(edge.label, Right::T);
         let grant = has(edge.label, Right::G);
         let held = has(edge.label, right);
-        if leads_out(edge.to == y, held, from.back) {
-            return Some(Step {
+        if both_but_not(edge.to == y, held, from.back) {
+            return Some(Hop {
                 vertex: edge.from,
                 forward: false,
             });
         }
-        if leads_out(take, to.back, from.back) {
-            return Some(Step {
+        if both_but_not(take, to.back, from.back) {
+            return Some(Hop {
                 vertex: edge.from,
                 forward: false,
             });
         }
-        if leads_out(grant, to.forward, from.back) {
-            return Some(Step {
+        if both_but_not(grant, to.forward, from.back) {
+            return Some(Hop {
                 vertex: edge.from,
                 forward: false,
             });
         }
-        if leads_out(grant, from.forward, to.back) {
-            return Some(Step {
+        if both_but_not(grant, from.forward, to.back) {
+            return Some(Hop {
                 vertex: edge.to,
                 forward: false,
             });
         }
-        if leads_out(take, from.forward, to.forward) {
-            return Some(Step {
+        if both_but_not(take, from.forward, to.forward) {
+            return Some(Hop {
                 vertex: edge.to,
                 forward: true,
             });
@@ -158,11 +149,10 @@ impl LedNames {
 
     // Puts whatever each edge leads to.
     fn go_along(&mut self, edges: &[Edge], right: Right, y: u64) -> Result<(), AllocError>
-        ensures led { OnOk result ((silent : List ℕ) (g : ProtectionGraph) → AreAmong edges.now g.label →
-            AreLed (IsSilent silent g) right y g (sides_led self.old) → AreLed (IsSilent silent g) right y g (sides_led self.new)) }
+        ensures led { OnOk result (StaysLedAlong edges.now right y (sides_led self.old) (sides_led self.new)) }
         ensures more { OnOk result (number_led self.old ≤ number_led self.new) }
         ensures still { OnOk result (number_led self.new ≡ number_led self.old → (sides_led self.new ≡ sides_led self.old) ×
-            All (λ e. Keeps (sides_led self.new) right y (λ a b. e.label) e.from e.to) edges.now) }
+            KeepsEach (sides_led self.new) right y edges.now) }
     {
         for edge in edges {
             let Some(step) = self.led_on(edge, right, y) else {
@@ -175,28 +165,27 @@ impl LedNames {
 
     // Puts whoever acts and is in one set into the other, and into the second where y may yet be made.
     fn turn(&mut self, scene: &Scene, y: u64) -> Result<(), AllocError>
-        ensures led { OnOk result ((right : Right) (g : ProtectionGraph) → IsPictureOf scene.now.picture.now g →
-            AreLed (IsSilent scene.now.silent.now g) right y g (sides_led self.old) → AreLed (IsSilent scene.now.silent.now g) right y g (sides_led self.new)) }
+        ensures led { OnOk result ((right : Right) → StaysLed scene.now right y (sides_led self.old) (sides_led self.new)) }
         ensures more { OnOk result (number_led self.old ≤ number_led self.new) }
         ensures still { OnOk result (number_led self.new ≡ number_led self.old → (sides_led self.new ≡ sides_led self.old) ×
-            ((v : ℕ) → ActsIn scene.now.silent.now scene.now.picture.now v → IsTurned (sides_led self.new) scene.now.picture.now y v)) }
+            AreTurned scene.now (sides_led self.new) y) }
     {
         for subject in scene.picture.subjects() {
             let Some(forward) = self.turned(scene, y, *subject) else {
                 continue;
             };
             let vertex = *subject;
-            self.put(Step { vertex, forward })?;
+            self.put(Hop { vertex, forward })?;
         }
         Ok(())
     }
 
     // The set in which a subject that acts isn't yet and is to be: the first one or the second.
     fn turned(&self, scene: &Scene, y: u64, subject: u64) -> Option<bool>
-        ensures acts { IfSome result (λ forward. ¬ (Contains scene.now.silent.now subject × (subject < scene.now.picture.now.made))) }
+        ensures acts { IfSome result (λ forward. TakesTurns scene.now subject) }
         ensures leads { IfSome result (λ forward. TurnsTo (sides_led self.now) scene.now.picture.now y forward subject) }
         ensures new { IfSome result (λ forward. is_in (sides_led self.now) forward subject ≡ false) }
-        ensures turned { IfNone result (¬ (Contains scene.now.silent.now subject × (subject < scene.now.picture.now.made)) → IsTurned (sides_led self.now) scene.now.picture.now y subject) }
+        ensures turned { IfNone result (TakesTurns scene.now subject → IsTurned (sides_led self.now) scene.now.picture.now y subject) }
     {
         if is_silent(scene.silent, scene.picture.made(), subject) {
             return None;
@@ -216,12 +205,11 @@ impl LedNames {
 
     // Goes over all edges and subjects once. Whether something was new.
     fn goes_on(&mut self, scene: &Scene, right: Right, y: u64) -> Result<bool, AllocError>
-        ensures led { OnOk result ((g : ProtectionGraph) → IsPictureOf scene.now.picture.now g →
-            AreLed (IsSilent scene.now.silent.now g) right y g (sides_led self.old) → AreLed (IsSilent scene.now.silent.now g) right y g (sides_led self.new)) }
+        ensures led { OnOk result (StaysLed scene.now right y (sides_led self.old) (sides_led self.new)) }
         ensures more { IfOk result (λ more. more ≡ true → number_led self.old < number_led self.new) }
         ensures few { OnOk result (number_led self.new < 2 ^ 64) }
-        ensures edges { IfOk result (λ more. more ≡ false → All (λ e. Keeps (sides_led self.new) right y (λ a b. e.label) e.from e.to) scene.now.picture.now.edges) }
-        ensures actors { IfOk result (λ more. more ≡ false → (v : ℕ) → ActsIn scene.now.silent.now scene.now.picture.now v → IsTurned (sides_led self.new) scene.now.picture.now y v) }
+        ensures edges { IfOk result (λ more. more ≡ false → KeepsEach (sides_led self.new) right y scene.now.picture.now.edges) }
+        ensures actors { IfOk result (λ more. more ≡ false → AreTurned scene.now (sides_led self.new) y) }
     {
         let before = self.len();
         self.go_along(scene.picture.edges(), right, y)?;
@@ -232,9 +220,8 @@ impl LedNames {
     // Whether the right is led to x, who doesn't hold it: x acts and may get it, or may yet be made by one who may, or
     // is granted to.
     fn lead_to(&self, scene: &Scene, x: u64) -> bool
-        ensures brought { IsTrue result → (right : Right) (y : ℕ) (g : ProtectionGraph) → IsPictureOf scene.now.picture.now g →
-            AreLed (IsSilent scene.now.silent.now g) right y g (sides_led self.now) → IsBrought (IsSilent scene.now.silent.now g) right y g x }
-        ensures not_taken { result ≡ false → (v : ℕ) → ActsIn scene.now.silent.now scene.now.picture.now v → (v ≡ x) ⊎ ComesLater scene.now.picture.now x → (sides_led self.now).back v ≡ false }
+        ensures brought { IsTrue result → BringsTo scene.now (sides_led self.now) x }
+        ensures not_taken { result ≡ false → NobodyGets scene.now (sides_led self.now) x }
         ensures not_given { result ≡ false → (a : ℕ) → Holds (label_in scene.now.picture.now.edges) a G x → ¬ ((sides_led self.now).forward a ≡ true) }
     {
         self.reach(scene, x) || self.grant_to(scene.picture.edges(), x)
@@ -242,8 +229,8 @@ impl LedNames {
 
     // Whether one who acts is in the second set, and is x, or may make x.
     fn reach(&self, scene: &Scene, x: u64) -> bool
-        ensures reached { IsTrue result → (v : ℕ) × ActsIn scene.now.silent.now scene.now.picture.now v × ((v ≡ x) ⊎ ComesLater scene.now.picture.now x) × ((sides_led self.now).back v ≡ true) }
-        ensures not_taken { result ≡ false → (v : ℕ) → ActsIn scene.now.silent.now scene.now.picture.now v → (v ≡ x) ⊎ ComesLater scene.now.picture.now x → (sides_led self.now).back v ≡ false }
+        ensures reached { IsTrue result → (v : ℕ) × ActsOn scene.now v × IsOrMakes scene.now x v × ((sides_led self.now).back v ≡ true) }
+        ensures not_taken { result ≡ false → NobodyGets scene.now (sides_led self.now) x }
     {
         for subject in scene.picture.subjects() {
             if self.reaches_by(scene, x, *subject) {
@@ -255,8 +242,8 @@ impl LedNames {
 
     // Whether a subject acts, is in the second set, and is x, or may make x.
     fn reaches_by(&self, scene: &Scene, x: u64, subject: u64) -> bool
-        ensures reached { IsTrue result → ¬ (Contains scene.now.silent.now subject × (subject < scene.now.picture.now.made)) × ((subject ≡ x) ⊎ ComesLater scene.now.picture.now x) × ((sides_led self.now).back subject ≡ true) }
-        ensures not_taken { result ≡ false → ¬ (Contains scene.now.silent.now subject × (subject < scene.now.picture.now.made)) → (subject ≡ x) ⊎ ComesLater scene.now.picture.now x → (sides_led self.now).back subject ≡ false }
+        ensures reached { IsTrue result → TakesTurns scene.now subject × IsOrMakes scene.now x subject × ((sides_led self.now).back subject ≡ true) }
+        ensures not_taken { result ≡ false → TakesTurns scene.now subject → IsOrMakes scene.now x subject → (sides_led self.now).back subject ≡ false }
     {
         if is_silent(scene.silent, scene.picture.made(), subject) {
             return false;

@@ -1,10 +1,10 @@
 //! Could x ever come to hold a right over y, by any turns of those whom one doesn't trust?
 //!
-//! A reference monitor says what is allowed now. Who builds a capability system asks the other question before each
-//! grant: could this plug-in ever come to write that document? [`could_hold`] answers it for a graph of `tg_model`, of
-//! which it is shown a `Picture`: the active subjects, the edges, and how many vertices were made and may be. Whom the
-//! host trusts it names as silent, itself foremost: these take no turns. All other active subjects act, and so does
-//! whoever is spawned later.
+//! A reference monitor says what is allowed now. A host asks another question before each grant: could this plug-in
+//! ever come to write that document? [`could_hold`] answers a [`Question`] on a [`Scene`]. The scene has the picture of
+//! a graph of `tg_model`: the active subjects, the edges, and how many vertices were made and may be. It also has the
+//! names of those who take no turns: a host names whom it trusts, itself first. All other active subjects act, and so
+//! does whoever is spawned later.
 //!
 //! - `Never`: after no list of turns of those who act does x hold the right over y, whatever they create or give up,
 //!   and whoever retires. With it comes a [`Separation`], which [`Separation::parts`] checks in one pass over the
@@ -20,8 +20,8 @@
 //!
 //! A question about a grant is asked before it is made, on the picture with the new edge (`Picture::with`).
 //!
-//! Of a store there is a picture of what its active subjects reach. On it [`could_hold_reached`] asks: whom nobody
-//! reaches is told as `Unreached`, and all else as it is on the whole graph.
+//! Of a store there is a picture of what its active subjects reach. [`could_hold_reached`] asks on it, with the edges
+//! that are supposed. If nobody reaches x, the answer is `Unreached`. Every other answer is that of the whole graph.
 //!
 //! What a reader has to believe stands in `specs/`: `Turns` (turns, `NeverHolds`, `LeadThere`), `Answered` (what an
 //! answer says) and `Reached`; of `Separation`, `Led`, `Told`, `Listed` and `View` no more than that a law or a later
@@ -34,6 +34,7 @@
 mod answer;
 mod chains;
 mod chance;
+mod conditions;
 mod enough;
 mod entries;
 mod growth;

@@ -3,7 +3,7 @@
 use crate::chains::Chains;
 use crate::growth::{note, push};
 use crate::question::Question;
-use crate::search::{Found, Step};
+use crate::search::{Findings, Hop};
 use crate::separation::{comes_later, has, single};
 use crate::trial::Trial;
 use std::alloc::{AllocError, Global};
@@ -62,7 +62,7 @@ struct Late {
 
 // How far a way was gone: the place of the last who acts on it, who acted before, and the mailbox that is handed on.
 #[derive(Drop)]
-struct Way {
+struct Progress {
     place: usize,
     before: Option<u64>,
     last: Option<u64>,
@@ -72,9 +72,9 @@ struct Way {
 // The turns so far, and the graph behind them. Where memory was wanting once, no turn is taken any more, and the end
 // tells it.
 #[derive(Drop)]
-struct Plan<'a> {
+struct Planner<'a> {
     picture: &'a Picture,
-    found: &'a Found,
+    found: &'a Findings,
     goal: Goal,
     late: Option<Late>,
     trial: Trial,
@@ -82,19 +82,19 @@ struct Plan<'a> {
     taken: Result<(), AllocError>,
 }
 
-impl<'a> Plan<'a> {
+impl<'a> Planner<'a> {
     // A plan without turns.
     fn new(
         alloc: Global,
         picture: &'a Picture,
-        found: &'a Found,
+        found: &'a Findings,
         rows: Chains,
         question: Question,
-    ) -> Plan<'a> {
+    ) -> Planner<'a> {
         let mut trial = Trial::new(alloc, picture, rows);
         trial.limit = u64::MAX;
         let taken = trial.rows.grown;
-        Plan {
+        Planner {
             picture,
             found,
             goal: Goal::of(question),
@@ -266,7 +266,7 @@ impl<'a> Plan<'a> {
 
     // Who stands at an end of a walk takes the take right over each of its vertices in turn: from the first one on, or
     // back from the last.
-    fn walk(&mut self, first: u64, walk: &[Step], back: bool) {
+    fn walk(&mut self, first: u64, walk: &[Hop], back: bool) {
         let mut via = first;
         for at in 0..walk.len() {
             let place = if back { walk.len() - 1 - at } else { at };
@@ -278,7 +278,7 @@ impl<'a> Plan<'a> {
 
     // The first who acts, at the end of a stretch, takes the right, or else take over who has it, and puts it into a
     // new mailbox.
-    fn begin(&mut self, stretch: &[Step], first: u64) -> u64 {
+    fn begin(&mut self, stretch: &[Hop], first: u64) -> u64 {
         let goal = self.goal;
         self.walk(first, stretch, true);
         let mailbox = self.create(first, goal.both);
@@ -292,7 +292,7 @@ impl<'a> Plan<'a> {
     }
 
     // Hands take and grant over the mailbox on from the first of a stretch to the last.
-    fn hand_on(&mut self, stretch: &[Step], first: u64, last: u64, mailbox: u64) {
+    fn hand_on(&mut self, stretch: &[Hop], first: u64, last: u64, mailbox: u64) {
         let between = self.mailbox(stretch, first, last);
         self.grant(first, between, mailbox, self.goal.both);
         self.take(last, between, mailbox, self.goal.both);
@@ -312,7 +312,7 @@ impl<'a> Plan<'a> {
     }
 
     // A new vertex over which both ends of a stretch have take and grant.
-    fn mailbox(&mut self, stretch: &[Step], p: u64, q: u64) -> u64 {
+    fn mailbox(&mut self, stretch: &[Hop], p: u64, q: u64) -> u64 {
         let turn = turn_of(stretch);
         if turn < stretch.len() {
             return self.mailbox_between(
@@ -327,7 +327,7 @@ impl<'a> Plan<'a> {
     }
 
     // The same, where p walks down the steps forward, and q up the steps back.
-    fn mailbox_between(&mut self, down: &[Step], up: &[Step], p: u64, q: u64) -> u64 {
+    fn mailbox_between(&mut self, down: &[Hop], up: &[Hop], p: u64, q: u64) -> u64 {
         let a = vertex_of(down.last(), p);
         let b = vertex_of(up.first(), q);
         self.walk(p, down, false);
@@ -366,7 +366,7 @@ impl<'a> Plan<'a> {
     }
 
     // The last who acts walks to one that has grant over x, and the right is granted to x.
-    fn end(&mut self, walk: &[Step], last: u64, way: &Way, x: u64) {
+    fn end(&mut self, walk: &[Hop], last: u64, way: &Progress, x: u64) {
         let goal = self.goal;
         self.walk(last, walk, false);
         let giver = vertex_of(walk.last(), last);
@@ -383,7 +383,7 @@ impl<'a> Plan<'a> {
     }
 
     // The right is over the last who acts, who can't hold it: the one before it grants it to x, or one that it spawns.
-    fn end_behind(&mut self, last: u64, way: &Way, x: u64) {
+    fn end_behind(&mut self, last: u64, way: &Progress, x: u64) {
         let goal = self.goal;
         let mailbox = way.mailbox;
         let holder = match way.before {
@@ -406,7 +406,7 @@ impl<'a> Plan<'a> {
     }
 
     // The path that the search found to x, unless x holds the right; the one with whom it begins is the source.
-    fn path(&mut self, alloc: Global, x: u64) -> Vec<Step> {
+    fn path(&mut self, alloc: Global, x: u64) -> Vec<Hop> {
         let mut path = Vec::new(alloc);
         if let Some(end) = end_of(self.picture, self.found, x)
             && !self.has_all(x, self.goal.over, self.goal.asked)
@@ -418,7 +418,7 @@ impl<'a> Plan<'a> {
     }
 
     // Leads the right to x along a path. The names that are asked about are made first.
-    fn lead(&mut self, path: &[Step], x: u64) {
+    fn lead(&mut self, path: &[Hop], x: u64) {
         if path.is_empty() {
             return;
         }
@@ -436,7 +436,7 @@ impl<'a> Plan<'a> {
 
     // Leads the right to x along a path with as few names as will do. Whoever makes y has the right over it, so the
     // last who acts makes it. Else x is made only when it is the next name, or at the end.
-    fn lead_sparingly(&mut self, path: &[Step], x: u64) {
+    fn lead_sparingly(&mut self, path: &[Hop], x: u64) {
         if path.is_empty() {
             return;
         }
@@ -456,8 +456,8 @@ impl<'a> Plan<'a> {
     }
 
     // Goes along a path, from one who acts to the next.
-    fn go_along(&mut self, path: &[Step]) -> Way {
-        let mut way = Way::none();
+    fn go_along(&mut self, path: &[Hop]) -> Progress {
+        let mut way = Progress::none();
         for (at, step) in path.iter().enumerate() {
             self.go(&mut way, path, at, step.vertex);
         }
@@ -465,8 +465,8 @@ impl<'a> Plan<'a> {
     }
 
     // The way from the last who acts on a path.
-    fn last_way(&self, path: &[Step]) -> Way {
-        let mut way = Way::none();
+    fn last_way(&self, path: &[Hop]) -> Progress {
+        let mut way = Progress::none();
         for (at, step) in path.iter().enumerate() {
             if self.found.acts(step.vertex) {
                 way.last = Some(step.vertex);
@@ -477,7 +477,7 @@ impl<'a> Plan<'a> {
     }
 
     // Goes one step, from one who acts to the next, with one mailbox that is handed on.
-    fn go(&mut self, way: &mut Way, path: &[Step], at: usize, vertex: u64) {
+    fn go(&mut self, way: &mut Progress, path: &[Hop], at: usize, vertex: u64) {
         if !self.found.acts(vertex) {
             return;
         }
@@ -495,7 +495,7 @@ impl<'a> Plan<'a> {
     }
 
     // The last who acts hands the right to x, or is x.
-    fn arrive(&mut self, way: &Way, path: &[Step], x: u64) {
+    fn arrive(&mut self, way: &Progress, path: &[Hop], x: u64) {
         match way.last {
             Some(last) if last != x => self.end(part(path, way.place, path.len()), last, way, x),
             _ => self.take(x, way.mailbox, self.goal.over, self.goal.asked),
@@ -503,10 +503,10 @@ impl<'a> Plan<'a> {
     }
 }
 
-impl Way {
+impl Progress {
     // Nobody acted on it yet.
-    fn none() -> Way {
-        Way {
+    fn none() -> Progress {
+        Progress {
             place: 0,
             before: None,
             last: None,
@@ -516,7 +516,7 @@ impl Way {
 }
 
 // How many steps a stretch goes forward, the first counted with them.
-fn turn_of(stretch: &[Step]) -> usize {
+fn turn_of(stretch: &[Hop]) -> usize {
     for (at, step) in stretch.iter().enumerate() {
         if at > 0 && !step.forward {
             return at;
@@ -526,7 +526,7 @@ fn turn_of(stretch: &[Step]) -> usize {
 }
 
 // The vertex of a step, another one where there is none.
-fn vertex_of(step: Option<&Step>, other: u64) -> u64 {
+fn vertex_of(step: Option<&Hop>, other: u64) -> u64 {
     match step {
         Some(step) => step.vertex,
         None => other,
@@ -534,14 +534,14 @@ fn vertex_of(step: Option<&Step>, other: u64) -> u64 {
 }
 
 // Some of the steps, none past the last.
-fn part(steps: &[Step], from: usize, to: usize) -> &[Step] {
+fn part(steps: &[Hop], from: usize, to: usize) -> &[Hop] {
     steps.get(from..to).unwrap_or(&[])
 }
 
 // Where the search ends for x: at x itself, at one who may make it, or at one that has grant over it.
-fn end_of(picture: &Picture, found: &Found, x: u64) -> Option<Step> {
+fn end_of(picture: &Picture, found: &Findings, x: u64) -> Option<Hop> {
     if found.acts(x) && found.sides.is_back(x) {
-        return Some(Step {
+        return Some(Hop {
             vertex: x,
             forward: false,
         });
@@ -553,10 +553,10 @@ fn end_of(picture: &Picture, found: &Found, x: u64) -> Option<Step> {
 }
 
 // The first who has grant over x, and may be handed the right.
-fn giver_to(picture: &Picture, found: &Found, x: u64) -> Option<Step> {
+fn giver_to(picture: &Picture, found: &Findings, x: u64) -> Option<Hop> {
     for edge in picture.edges() {
         if edge.to == x && has(edge.label, Right::G) && found.sides.is_forward(edge.from) {
-            return Some(Step {
+            return Some(Hop {
                 vertex: edge.from,
                 forward: true,
             });
@@ -571,15 +571,15 @@ fn giver_to(picture: &Picture, found: &Found, x: u64) -> Option<Step> {
 pub(crate) fn turns_to<'a>(
     alloc: Global,
     picture: &'a Picture,
-    found: &'a Found,
+    found: &'a Findings,
     rows: Chains,
     question: Question,
 ) -> Planned {
-    let plan = Plan::new(alloc, picture, found, rows, question);
+    let plan = Planner::new(alloc, picture, found, rows, question);
     let planned = plan.lead_to(alloc, question.x, false);
     if planned.made <= picture.limit() {
         return planned;
     }
-    let sparing = Plan::new(alloc, picture, found, planned.rows, question);
+    let sparing = Planner::new(alloc, picture, found, planned.rows, question);
     sparing.lead_to(alloc, question.x, true)
 }

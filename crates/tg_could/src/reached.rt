@@ -1,13 +1,13 @@
 //! What the active subjects of a graph reach, and the question on a picture of that part alone. Of a heap that was
 //! collected it is all that there is.
-ghost use Rattle.std.specs.Prelude.{◌≡◌, ◌↔◌, ◌⊎◌, ◌++◌, ◌<◌, ◌≤◌, ℕ, List, IfOk, IsTrue};
+ghost use Rattle.std.specs.Prelude.{◌≡◌, ◌↔◌, ◌⊎◌, ◌++◌, ◌<◌, ℕ, List, IfOk, IsTrue};
 ghost use Rattle.std.specs.List.{Contains};
-ghost use Rattle.tg_rights.specs.declared.Right.{Right as RightOf};
+ghost use Rattle.tg_rights.specs.declared.Right.{Right};
 ghost use Rattle.tg_model.specs.Graph.{ProtectionGraph, IsReachable, IsSound};
-ghost use Rattle.tg_model.specs.Opened.{label_in};
 ghost use Rattle.tg_model.specs.Picture.{Shown};
 ghost use Rattle.tg_could.specs.Turns.{NeverHolds, Turn, LeadThere};
-ghost use Rattle.tg_could.specs.Reached.{HaveSameReach, HoldsWhatItHolds, IsLedTo, IsReachedPicture, IsToldOf, JoinReached, JoinsReached, with_edges};
+ghost use Rattle.tg_could.specs.Reached.{HaveSameReach, HoldsWhatItHolds, IsLedTo, IsReachedPicture, JoinReached, JoinsReached, with_edges};
+ghost use Rattle.tg_could.specs.Reached.{IsKnown, OnReached, ReachedAnswerOf, as_shown};
 
 use crate::answer::{Answer, could_hold};
 use crate::question::{Question, Scene};
@@ -62,9 +62,8 @@ pub fn could_hold_reached(
     supposed: &[Edge],
     question: Question,
 ) -> Result<ReachedAnswer, AllocError>
-    ensures { IfOk result (λ told. (g : ProtectionGraph) → IsSound g → IsReachedPicture scene.now.picture.now g →
-        JoinReached g supposed.now →
-        IsToldOf scene.now.silent.now (with_edges g supposed.now) question.x question.right question.y told) }
+    ensures { IfOk result (λ told. OnReached scene.now (λ g. JoinReached g supposed.now →
+        ReachedAnswerOf scene.now question told (with_edges g supposed.now))) }
 {
     if question.x < scene.picture.made() && !is_reached(scene.picture, question.x) {
         return Ok(ReachedAnswer::Unreached);
@@ -111,12 +110,12 @@ pub fn supposing(alloc: Global, picture: &Picture, edges: &[Edge]) -> Result<Pic
 /// On the graph with the labels that a picture of its reached part shows, whoever is reached or isn't made yet could
 /// hold exactly what it could on the whole graph: the same turns lead there, and where none do there, none do here.
 pub fn what_is_reached_says_it_all()
-    ensures never { (silent : List ℕ) (p : Shown) (g : ProtectionGraph) (x : ℕ) (right : RightOf) (y : ℕ) →
-        IsSound g → IsReachedPicture p g → IsReachable g x ⊎ (g.made ≤ x) →
-        NeverHolds silent (record g { label = label_in p.edges }) x right y → NeverHolds silent g x right y }
-    ensures could { (silent : List ℕ) (p : Shown) (g : ProtectionGraph) (x : ℕ) (right : RightOf) (y : ℕ) (turns : List Turn) →
-        IsSound g → IsReachedPicture p g → IsReachable g x ⊎ (g.made ≤ x) →
-        LeadThere silent (record g { label = label_in p.edges }) turns x right y → LeadThere silent g turns x right y }
+    ensures never { (silent : List ℕ) (p : Shown) (g : ProtectionGraph) (x : ℕ) (right : Right) (y : ℕ) →
+        IsSound g → IsReachedPicture p g → IsKnown g x →
+        NeverHolds silent (as_shown p g) x right y → NeverHolds silent g x right y }
+    ensures could { (silent : List ℕ) (p : Shown) (g : ProtectionGraph) (x : ℕ) (right : Right) (y : ℕ) (turns : List Turn) →
+        IsSound g → IsReachedPicture p g → IsKnown g x →
+        LeadThere silent (as_shown p g) turns x right y → LeadThere silent g turns x right y }
 {}
 
 /// Whoever was made and no active subject reaches holds what it holds: no turns of anybody change a label at it.

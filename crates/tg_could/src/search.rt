@@ -14,7 +14,7 @@ use tg_rights::Right;
 
 /// A vertex that was put into a set.
 #[derive(Clone, Copy, Drop)]
-pub(crate) struct Step {
+pub(crate) struct Hop {
     pub(crate) vertex: u64,
     pub(crate) forward: bool,
 }
@@ -22,7 +22,7 @@ pub(crate) struct Step {
 // A step as it is kept, in 8 bytes: the number of the vertex twice, and one more where it was put into the first set;
 // and the place of the step that led there, `NONE` where the search began.
 #[derive(Clone, Copy, Drop)]
-struct Kept {
+struct PackedHop {
     packed: u32,
     before: u32,
 }
@@ -30,9 +30,9 @@ struct Kept {
 /// What the search has found: the sets, its steps in order, and who acts, in the second of two sets. Where memory was
 /// wanting once, nothing of it may be told but that.
 #[derive(Drop)]
-pub(crate) struct Found {
+pub(crate) struct Findings {
     pub(crate) sides: Separation,
-    steps: Vec<Kept>,
+    steps: Vec<PackedHop>,
     acting: Pairs,
     pub(crate) grown: Result<(), AllocError>,
 }
@@ -62,11 +62,11 @@ impl Ways {
     }
 }
 
-impl Kept {
+impl PackedHop {
     // None for a number past the most that are kept.
-    fn of(number: u64, forward: bool, before: u32) -> Option<Kept> {
+    fn of(number: u64, forward: bool, before: u32) -> Option<PackedHop> {
         let number = number_of(number)?;
-        Some(Kept {
+        Some(PackedHop {
             packed: number << 1 | forward as u32,
             before,
         })
@@ -82,8 +82,14 @@ impl Kept {
 /// Where the vertex may yet be made, who acts is taken for one who has the right. Where `back`, the same walks go back
 /// from the vertex: the first set has those whose rights it may get, the second those who may hand it what they get,
 /// and where it may yet be made, who acts is taken for it. Tells whether memory was wanting.
-pub(crate) fn search(alloc: Global, scene: &Scene, right: Right, over: u64, back: bool) -> Found {
-    let mut found = Found::start(alloc, scene);
+pub(crate) fn search(
+    alloc: Global,
+    scene: &Scene,
+    right: Right,
+    over: u64,
+    back: bool,
+) -> Findings {
+    let mut found = Findings::start(alloc, scene);
     if comes_later(scene.picture, over) {
         found.put_actors(scene.picture, back);
     }
@@ -94,9 +100,9 @@ pub(crate) fn search(alloc: Global, scene: &Scene, right: Right, over: u64, back
     found
 }
 
-impl Found {
+impl Findings {
     // No vertex is in a set.
-    fn start(alloc: Global, scene: &Scene) -> Found {
+    fn start(alloc: Global, scene: &Scene) -> Findings {
         let mut grown = Ok(());
         let names = Names::of(alloc, scene.picture, &mut grown);
         let mut acting = Pairs::none(alloc, names.len(), &mut grown);
@@ -106,7 +112,7 @@ impl Found {
             }
         }
         let sides = Separation::none(alloc, names, &mut grown);
-        Found {
+        Findings {
             sides,
             steps: Vec::new(alloc),
             acting,
@@ -210,7 +216,7 @@ impl Found {
     // Puts the vertex with a number into a set.
     fn put(&mut self, number: u64, forward: bool, before: u32) {
         if self.sides.pairs.put(number, forward)
-            && let Some(kept) = Kept::of(number, forward, before)
+            && let Some(kept) = PackedHop::of(number, forward, before)
         {
             push(&mut self.steps, kept, &mut self.grown);
         }
@@ -245,12 +251,12 @@ impl Found {
     }
 
     /// The first who acts and is in the first set, or in the second.
-    pub(crate) fn first_actor(&self, picture: &Picture, forward: bool) -> Option<Step> {
+    pub(crate) fn first_actor(&self, picture: &Picture, forward: bool) -> Option<Hop> {
         for subject in picture.subjects() {
             let place = self.sides.place(*subject);
             let is_in = if forward { place.forward } else { place.back };
             if is_in && self.acts(*subject) {
-                return Some(Step {
+                return Some(Hop {
                     vertex: *subject,
                     forward,
                 });
@@ -279,9 +285,9 @@ impl Found {
     pub(crate) fn path(
         &self,
         alloc: Global,
-        last: Step,
+        last: Hop,
         grown: &mut Result<(), AllocError>,
-    ) -> Vec<Step> {
+    ) -> Vec<Hop> {
         let mut path = Vec::new(alloc);
         let mut next = self.place(last);
         for _ in 0..self.steps.len() {
@@ -290,7 +296,7 @@ impl Found {
             }
             let kept = self.steps[next as usize];
             let (number, forward) = kept.step();
-            let step = Step {
+            let step = Hop {
                 vertex: self.sides.names.name(number as u64),
                 forward,
             };
@@ -302,9 +308,9 @@ impl Found {
     }
 
     // The place of a step, `NONE` where it wasn't made.
-    fn place(&self, step: Step) -> u32 {
+    fn place(&self, step: Hop) -> u32 {
         let number = self.sides.names.number(step.vertex);
-        let Some(wanted) = Kept::of(number, step.forward, NONE) else {
+        let Some(wanted) = PackedHop::of(number, step.forward, NONE) else {
             return NONE;
         };
         for (at, kept) in self.steps.iter().enumerate() {

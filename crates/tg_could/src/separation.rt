@@ -1,15 +1,15 @@
 //! Separations: two sets of vertices, and whether they part someone from a right.
 ghost use Rattle.std.specs.Prelude.{◌≡◌, ◌≢◌, ◌⊎◌, ◌↔◌, ℕ, false, ◌<◌, ◌≤◌, IsTrue, length};
-ghost use Rattle.std.specs.List.{All, Contains};
+ghost use Rattle.std.specs.List.{Contains};
 ghost use Rattle.tg_rights.specs.RightSet.{has as has_right};
-ghost use Rattle.tg_model.specs.Graph.{ProtectionGraph};
 ghost use Rattle.tg_model.specs.Opened.{label_in};
 ghost use Rattle.tg_model.specs.declared.opening.TheConstants.{MAX_WORKERS};
-ghost use Rattle.tg_model.specs.Picture.{Holds, IsPictureOf};
-ghost use Rattle.tg_could.specs.Turns.{NeverHolds};
-ghost use Rattle.tg_could.specs.LedNames.{ActsIn};
+ghost use Rattle.tg_model.specs.Picture.{Holds};
 ghost use Rattle.tg_could.specs.Separation.{MayAdd, Parts, Stays, sides_of, sides_against, place_in, ComesLater, IsEven, IsIdle, AreApart, Suits};
+ghost use Rattle.tg_could.specs.LedNames.{ActsOn};
+ghost use Rattle.tg_could.specs.Scenes.{EachActor, NeverOf, OnGraphs, TakesTurns};
 
+use crate::conditions::{both_imply, not_all};
 use crate::marks::{Pairs, is_in_first, is_in_second};
 use crate::names::Names;
 use crate::question::{Question, Scene};
@@ -35,7 +35,7 @@ impl Drop for Separation {
 
 /// Where a vertex is: in the first set, and in the second.
 #[derive(Clone, Copy, Drop)]
-pub(crate) struct Place {
+pub(crate) struct Membership {
     pub(crate) forward: bool,
     pub(crate) back: bool,
 }
@@ -50,21 +50,6 @@ pub(crate) fn has(label: Label, right: Right) -> bool
 /// The label of one right.
 pub(crate) fn single(right: Right) -> Label {
     Label::new(Rights::of(right)).unwrap()
-}
-
-/// Whether a third thing holds where two others do.
-pub(crate) fn leads(one: bool, two: bool, third: bool) -> bool
-    ensures { IsTrue result → IsTrue one → IsTrue two → IsTrue third }
-{
-    !one || !two || third
-}
-
-/// Whether one of three things doesn't hold.
-pub(crate) fn are_not_all(one: bool, two: bool, third: bool) -> bool
-    ensures not_all { IsTrue result → IsTrue one → IsTrue two → ¬ IsTrue third }
-    ensures all { result ≡ false → IsTrue one × IsTrue two × IsTrue third }
-{
-    !one || !two || !third
 }
 
 /// Whether a name is in a list.
@@ -94,7 +79,7 @@ pub(crate) fn lacks(edges: &[Edge], question: Question) -> bool
     ensures held { result ≡ false → Holds (label_in edges.now) question.x question.right question.y }
 {
     for edge in edges {
-        if !are_not_all(
+        if !not_all(
             edge.from == question.x,
             edge.to == question.y,
             has(edge.label, question.right),
@@ -106,21 +91,21 @@ pub(crate) fn lacks(edges: &[Edge], question: Question) -> bool
 }
 
 /// Whether take and grant lead out of neither set, along an edge from a vertex to another.
-pub(crate) fn stays(label: Label, from: Place, to: Place) -> bool
+pub(crate) fn stays(label: Label, from: Membership, to: Membership) -> bool
     ensures { IsTrue result → Stays label from to }
 {
     let take = has(label, Right::T);
     let grant = has(label, Right::G);
-    if !leads(take, from.forward, to.forward) {
+    if !both_imply(take, from.forward, to.forward) {
         return false;
     }
-    if !leads(take, to.back, from.back) {
+    if !both_imply(take, to.back, from.back) {
         return false;
     }
-    if !leads(grant, from.forward, to.back) {
+    if !both_imply(grant, from.forward, to.back) {
         return false;
     }
-    leads(grant, to.forward, from.back)
+    both_imply(grant, to.forward, from.back)
 }
 
 // Whether an edge has neither take nor grant, nor the right over y.
@@ -134,14 +119,14 @@ fn is_idle(edge: &Edge, right: Right, y: u64) -> bool
 }
 
 // Whether neither of two vertices is in a set, and the name of the second isn't y.
-fn are_apart(from: Place, to: Place, name: u64, y: u64) -> bool
+fn are_apart(from: Membership, to: Membership, name: u64, y: u64) -> bool
     ensures { IsTrue result → AreApart from to × (name ≢ y) }
 {
     !from.forward && !from.back && !to.forward && !to.back && name != y
 }
 
 // Whether an edge between vertices in these sets leads out of neither, and x is neither its holder nor its gift.
-fn are_fit(edge: &Edge, from: Place, to: Place, question: Question) -> bool
+fn are_fit(edge: &Edge, from: Membership, to: Membership, question: Question) -> bool
     ensures { IsTrue result → Suits from to question.x question.right question.y edge.now }
 {
     let grant = has(edge.label, Right::G);
@@ -152,13 +137,13 @@ fn are_fit(edge: &Edge, from: Place, to: Place, question: Question) -> bool
     if !stays(edge.label, from, to) {
         return false;
     }
-    if !leads(held, to_y, from.back) {
+    if !both_imply(held, to_y, from.back) {
         return false;
     }
-    if !are_not_all(at_x, to_y, held) {
+    if !not_all(at_x, to_y, held) {
         return false;
     }
-    are_not_all(to_x, grant, from.forward)
+    not_all(to_x, grant, from.forward)
 }
 
 impl Separation {
@@ -192,22 +177,22 @@ impl Separation {
     }
 
     /// In which of the sets a name is.
-    pub(crate) fn place(&self, name: u64) -> Place
+    pub(crate) fn place(&self, name: u64) -> Membership
         ensures { result ≡ place_in (sides_of self.now) name }
     {
         let pair = self.pairs.pair(self.names.number(name));
-        Place {
+        Membership {
             forward: is_in_first(pair),
             back: is_in_second(pair),
         }
     }
 
     /// In which of the sets it is of those whom a search that went back from x didn't reach.
-    pub(crate) fn place_against(&self, name: u64) -> Place
+    pub(crate) fn place_against(&self, name: u64) -> Membership
         ensures { result ≡ place_in (sides_against self.now) name }
     {
         let pair = self.pairs.pair(self.names.number(name));
-        Place {
+        Membership {
             forward: !is_in_second(pair),
             back: !is_in_first(pair),
         }
@@ -243,7 +228,7 @@ impl Separation {
     // Whether a subject is silent, or in both sets or in none, and where it has to be.
     fn is_even(&self, scene: &Scene, question: Question, subject: u64) -> bool
         ensures { IsTrue result →
-            ¬ (Contains scene.now.silent.now subject × (subject < scene.now.picture.now.made)) → IsEven (sides_of self.now) scene.now.picture.now question.x question.y subject }
+            TakesTurns scene.now subject → IsEven (sides_of self.now) scene.now.picture.now question.x question.y subject }
     {
         if is_silent(scene.silent, scene.picture.made(), subject) {
             return true;
@@ -261,7 +246,7 @@ impl Separation {
     // Whether each who acts is in both sets or in none, and where it has to be.
     fn are_even(&self, scene: &Scene, question: Question) -> bool
         ensures { IsTrue result →
-            All (λ v. ¬ (Contains scene.now.silent.now v × (v < scene.now.picture.now.made)) → IsEven (sides_of self.now) scene.now.picture.now question.x question.y v) scene.now.picture.now.subjects }
+            EachActor scene.now (IsEven (sides_of self.now) scene.now.picture.now question.x question.y) }
     {
         for subject in scene.picture.subjects() {
             if !self.is_even(scene, question, *subject) {
@@ -276,7 +261,7 @@ impl Separation {
     /// nobody but y acts and as many subjects as may be are active, the sets play no part: who holds nothing then never
     /// does.
     pub fn parts(&self, scene: &Scene, question: Question) -> bool
-        ensures { IsTrue result → (g : ProtectionGraph) → IsPictureOf scene.now.picture.now g → NeverHolds scene.now.silent.now g question.x question.right question.y }
+        ensures { IsTrue result → OnGraphs scene.now (NeverOf scene.now question) }
     {
         if question.x == question.y {
             return lacks(scene.picture.edges(), question);
@@ -295,8 +280,8 @@ impl Separation {
 pub(crate) fn is_alone(scene: &Scene, y: u64) -> bool
     ensures many { IsTrue result → MAX_WORKERS ≤ length scene.now.picture.now.subjects }
     ensures alone { IsTrue result →
-        All (λ v. ¬ (Contains scene.now.silent.now v × (v < scene.now.picture.now.made)) → v ≡ y) scene.now.picture.now.subjects }
-    ensures helped { result ≡ false → (length scene.now.picture.now.subjects < MAX_WORKERS) ⊎ ((v : ℕ) × ActsIn scene.now.silent.now scene.now.picture.now v × (v ≢ y)) }
+        EachActor scene.now (λ v. v ≡ y) }
+    ensures helped { result ≡ false → (length scene.now.picture.now.subjects < MAX_WORKERS) ⊎ ((v : ℕ) × ActsOn scene.now v × (v ≢ y)) }
 {
     if (scene.picture.subjects().len() as u64) < MAX_WORKERS {
         return false;
@@ -311,8 +296,8 @@ pub(crate) fn is_alone(scene: &Scene, y: u64) -> bool
 
 // Whether a subject is silent, or is y.
 fn is_or_is_silent(scene: &Scene, subject: u64, y: u64) -> bool
-    ensures is { IsTrue result → ¬ (Contains scene.now.silent.now subject × (subject < scene.now.picture.now.made)) → subject ≡ y }
-    ensures other { result ≡ false → ¬ (Contains scene.now.silent.now subject × (subject < scene.now.picture.now.made)) × (subject ≢ y) }
+    ensures is { IsTrue result → TakesTurns scene.now subject → subject ≡ y }
+    ensures other { result ≡ false → TakesTurns scene.now subject × (subject ≢ y) }
 {
     is_silent(scene.silent, scene.picture.made(), subject) || subject == y
 }

@@ -1,19 +1,19 @@
 //! A graph that turns are tried on: a picture, and what came since.
-ghost use Rattle.std.specs.Prelude.{◌≡◌, ◌≢◌, ◌+◌, ◌<◌, true, ◌++◌, ◌∷◌, [], ℕ, List, IfOk, IsOk, OnOk, IfSome, IsTrue};
-ghost use Rattle.std.specs.List.{Contains};
-ghost use Rattle.tg_rights.specs.RightSet.{RightSet, has, only};
+ghost use Rattle.std.specs.Prelude.{◌≡◌, ◌+◌, ◌<◌, true, ◌++◌, ◌∷◌, [], List, IfOk, IsOk, OnOk, IfSome, IsTrue};
+ghost use Rattle.tg_rights.specs.RightSet.{has};
 ghost use Rattle.tg_rights.specs.declared.Right.{Right as TheRight};
-ghost use Rattle.tg_model.specs.Graph.{ProtectionGraph, with_rights, without_subject};
-ghost use Rattle.tg_model.specs.Picture.{IsPictureOf, AreAmong};
-ghost use Rattle.tg_model.specs.Making.{deed_making};
-ghost use Rattle.tg_model.specs.Rules.{HoldsOver, step};
+ghost use Rattle.tg_model.specs.Graph.{ProtectionGraph, without_subject};
+ghost use Rattle.tg_model.specs.Picture.{IsPictureOf};
+ghost use Rattle.tg_model.specs.Rules.{step};
 ghost use Rattle.tg_model.specs.declared.edge.Edge.{Edge as TheEdge};
-ghost use Rattle.tg_model.specs.declared.value.Value.{Value};
 ghost use Rattle.tg_model.specs.declared.command.Deed.TheVariants as deed;
-ghost use Rattle.tg_could.specs.Turns.{Acts, AreTurns, LeadThere, after, with_names};
+ghost use Rattle.tg_could.specs.Turns.{Acts};
 ghost use Rattle.tg_could.specs.Inner.Trial.{Stands};
+ghost use Rattle.tg_could.specs.Inner.Trial.{AreTaken, BeginsAt, HeldByEdges, IsHandedOn, SilentBelow, StandsAfterMaking};
+ghost use Rattle.tg_could.specs.Scenes.{OnGraphs, WitnessOf};
 
 use crate::chains::{Chains, NONE};
+use crate::conditions::{all_differ, all_hold};
 use crate::growth::copied;
 use crate::question::{Question, Scene, Witness};
 use crate::separation::is_silent;
@@ -42,20 +42,6 @@ struct Transfer {
     by: Right,
     giver: u64,
     taker: u64,
-}
-
-// Whether three vertices differ.
-fn are_three(x: u64, y: u64, z: u64) -> bool
-    ensures { IsTrue result → (x ≢ y) × (y ≢ z) × (x ≢ z) }
-{
-    x != y && y != z && x != z
-}
-
-// Whether three things hold.
-fn are_all(one: bool, two: bool, third: bool) -> bool
-    ensures { IsTrue result → IsTrue one × IsTrue two × IsTrue third }
-{
-    one && two && third
 }
 
 // The rights of an edge, where it is one from x to y.
@@ -98,16 +84,16 @@ impl Trial {
         }
     }
 
-    /// Whether the turns of a witness lead to x's holding a right over y, where so many more vertices may be made. Fails
-    /// only when out of memory.
+    /// Whether the turns of a witness lead to x's holding a right over y, where as many more vertices may be made as it
+    /// says. Fails only when out of memory.
     pub(crate) fn lead_there(
         &mut self,
         scene: &Scene,
         question: Question,
         witness: &Witness,
     ) -> Result<bool, AllocError>
-        ensures { IfOk result (λ lead. IsTrue lead → (g : ProtectionGraph) → IsPictureOf scene.now.picture.now g → (IsOk self.old.rows.grown → Stands scene.now.picture.now.edges self.old g) →
-            LeadThere scene.now.silent.now (with_names g witness.now.names) witness.now.turns.now question.x question.right question.y) }
+        ensures { IfOk result (λ lead. IsTrue lead → OnGraphs scene.now (λ g.
+            BeginsAt scene.now self.old g → WitnessOf scene.now question witness.now g)) }
     {
         self.rows.grown?;
         let Some(limit) = limit_with(scene.picture, witness.names) else {
@@ -125,8 +111,7 @@ impl Trial {
 
     /// Whether one vertex has these rights over another, all on one edge of the list or of those that came since.
     pub(crate) fn has_all(&self, edges: &[Edge], from: u64, to: u64, rights: Rights) -> bool
-        ensures { IsTrue result → (label : ℕ → ℕ → RightSet) → AreAmong edges.now label → AreAmong self.now.added.items label →
-            HoldsOver label from to rights }
+        ensures { IsTrue result → HeldByEdges edges.now self.now from to rights }
     {
         let mut found = Rights::empty();
         let mut next = self.rows.first(from);
@@ -148,8 +133,7 @@ impl Trial {
 
     // The edge at a place: first those of the list, then those that came since.
     fn edge(&self, edges: &[Edge], place: u32) -> Option<Edge>
-        ensures { IfSome result (λ edge. (label : ℕ → ℕ → RightSet) → AreAmong edges.now label → AreAmong self.now.added.items label →
-            HoldsOver label edge.from edge.to edge.label) }
+        ensures { IfSome result (λ edge. HeldByEdges edges.now self.now edge.from edge.to edge.label) }
     {
         let at = place as usize;
         if at < edges.len() {
@@ -166,7 +150,7 @@ impl Trial {
     // Whether somebody acts: an active subject that isn't silent.
     fn acts(&self, silent: &[u64], first: u64, worker: u64) -> bool
         ensures { IsTrue result → (edges : List TheEdge) (g : ProtectionGraph) → Stands edges self.now g →
-            Acts (λ p. Contains silent.now p × (p < first)) g worker }
+            Acts (SilentBelow silent.now first) g worker }
     {
         self.subjects.contains(&worker) && !is_silent(silent, first, worker)
     }
@@ -179,8 +163,8 @@ impl Trial {
         first: u64,
         turns: &[(u64, Deed)],
     ) -> Result<bool, AllocError>
-        ensures { IfOk result (λ taken. IsTrue taken → (g : ProtectionGraph) → Stands edges.now self.old g →
-            AreTurns (λ p. Contains silent.now p × (p < first)) g turns.now × Stands edges.now self.new (after g turns.now)) }
+        ensures { IfOk result (λ all. IsTrue all → (g : ProtectionGraph) → Stands edges.now self.old g →
+            AreTaken edges.now (SilentBelow silent.now first) g turns.now self.new) }
     {
         for turn in turns {
             let taken = self.take_turn(edges, silent, first, turn)?;
@@ -202,7 +186,7 @@ impl Trial {
         turn: &(u64, Deed),
     ) -> Result<bool, AllocError>
         ensures acts { IfOk result (λ taken. IsTrue taken → (g : ProtectionGraph) → Stands edges.now self.old g →
-            Acts (λ p. Contains silent.now p × (p < first)) g turn.now.0) }
+            Acts (SilentBelow silent.now first) g turn.now.0) }
         ensures step { IfOk result (λ taken. IsTrue taken → (g : ProtectionGraph) → Stands edges.now self.old g →
             Stands edges.now self.new (step g turn.now.0 turn.now.1)) }
     {
@@ -279,9 +263,7 @@ impl Trial {
     // Hands on rights over a target to another vertex, where the worker and a giver have the rights for that.
     fn hand_on(&mut self, edges: &[Edge], transfer: Transfer) -> Result<bool, AllocError>
         ensures { IfOk result (λ taken. IsTrue taken → (g : ProtectionGraph) → Stands edges.now self.old g →
-            (transfer.worker ≢ transfer.via) × (transfer.via ≢ transfer.target) × (transfer.worker ≢ transfer.target) ×
-            HoldsOver g.label transfer.worker transfer.via (only transfer.by) × HoldsOver g.label transfer.giver transfer.target transfer.rights ×
-            Stands edges.now self.new (record g { label = with_rights g.label transfer.taker transfer.target transfer.rights })) }
+            IsHandedOn edges.now transfer g self.new) }
     {
         let Transfer {
             worker,
@@ -292,10 +274,10 @@ impl Trial {
             giver,
             taker,
         } = transfer;
-        let three = are_three(worker, via, target);
+        let three = all_differ(worker, via, target);
         let may = self.has_all(edges, worker, via, Rights::of(by));
         let has = self.has_all(edges, giver, target, rights.rights());
-        if are_all(three, may, has) {
+        if all_hold(three, may, has) {
             self.add(taker, target, rights)?;
             return Ok(true);
         }
@@ -305,8 +287,7 @@ impl Trial {
     // Makes a vertex over which the worker has these rights, where there is a name left, and of a subject where fewer
     // than 64 are active.
     fn make(&mut self, worker: u64, making: Making, label: Label) -> Result<bool, AllocError>
-        ensures { IfOk result (λ made. IsTrue made → (edges : List TheEdge) (g : ProtectionGraph) (value : Value) → Stands edges self.old g →
-            Stands edges self.new (step g worker (deed_making making label value))) }
+        ensures { IfOk result (λ made. IsTrue made → StandsAfterMaking self.old self.new worker making label) }
     {
         let name = self.made;
         if name >= self.limit || making.is_one_too_many(self.subjects.len() as u64) {

@@ -1,15 +1,15 @@
 //! All questions of one picture at once.
-ghost use Rattle.std.specs.Prelude.{◌≡◌, ◌↔◌, ◌<◌, ◌≤◌, true, ℕ, List, length, IfOk, IsTrue};
-ghost use Rattle.std.specs.List.{All, Contains};
-ghost use Rattle.tg_model.specs.Graph.{ProtectionGraph};
+ghost use Rattle.std.specs.Prelude.{◌≡◌, ◌↔◌, ◌<◌, ◌≤◌, true, ℕ, length, IfOk, IsTrue};
+ghost use Rattle.std.specs.List.{All};
 ghost use Rattle.tg_model.specs.declared.opening.TheConstants.{MAX_WORKERS};
-ghost use Rattle.tg_model.specs.Picture.{Shown, IsPictureOf};
 ghost use Rattle.tg_could.specs.declared.chance.Chance.TheVariants.{Never};
-ghost use Rattle.tg_could.specs.Turns.{NeverHolds};
 ghost use Rattle.tg_could.specs.View.{IsViewOf, IsCheckedOn, IsPlaced, IsListed, Stands, is_within as within};
+ghost use Rattle.tg_could.specs.Scenes.{EachActor, TakesTurns};
+ghost use Rattle.tg_could.specs.View.{TellsNever};
 
 use crate::chance::Chance;
-use crate::entries::{Entries, Entry};
+use crate::conditions::pairs_match;
+use crate::entries::{PackedEdge, PackedEdges};
 use crate::growth::{push, table};
 use crate::incoming::Incoming;
 use crate::islands::Islands;
@@ -63,7 +63,7 @@ impl View {
     {
         let mut grown = Ok(());
         let names = Names::of(alloc, scene.picture, &mut grown);
-        let entries = Entries::of(alloc, &names, scene.picture.edges(), &mut grown);
+        let entries = PackedEdges::of(alloc, &names, scene.picture.edges(), &mut grown);
         let (facts, places) = Facts::of(alloc, scene, names, entries.list.as_slice(), &mut grown);
         grown?;
         let is_shown = facts.is_checked(scene, &entries, places.as_slice());
@@ -74,8 +74,7 @@ impl View {
     /// the moment of [`View::open`]: `Never` is proved, `Perhaps` says nothing. Takes no memory, and time in proportion
     /// to the edges to y.
     pub fn could(&self, question: Question) -> Chance
-        ensures { (silent : List ℕ) (shown : Shown) (g : ProtectionGraph) →
-            IsViewOf silent shown self.now → IsPictureOf shown g → result ≡ Never → NeverHolds silent g question.x question.right question.y }
+        ensures { TellsNever (λ silent shown. IsViewOf silent shown self.now) result question }
     {
         if !self.is_shown {
             return Chance::Perhaps;
@@ -91,7 +90,7 @@ impl Facts {
         alloc: Global,
         scene: &Scene,
         names: Names,
-        entries: &[Entry],
+        entries: &[PackedEdge],
         grown: &mut Result<(), AllocError>,
     ) -> (Facts, Vec<u32>) {
         let mut places = table(alloc, 0, entries.len(), grown);
@@ -112,8 +111,7 @@ impl Facts {
 
     // What a view tells, of facts that were checked.
     fn could(&self, question: Question) -> Chance
-        ensures { (silent : List ℕ) (shown : Shown) (g : ProtectionGraph) →
-            IsCheckedOn silent shown self.now → IsPictureOf shown g → result ≡ Never → NeverHolds silent g question.x question.right question.y }
+        ensures { TellsNever (λ silent shown. IsCheckedOn silent shown self.now) result question }
     {
         let number = self.names.number(question.x);
         let words = self.islands.reached.as_slice();
@@ -143,11 +141,11 @@ impl Facts {
     }
 
     // Whether the facts are those of a picture.
-    fn is_checked(&self, scene: &Scene, entries: &Entries, places: &[u32]) -> bool
+    fn is_checked(&self, scene: &Scene, entries: &PackedEdges, places: &[u32]) -> bool
         ensures { IsTrue result → IsCheckedOn scene.now.silent.now scene.now.picture.now self.now }
     {
         let actors = self.actors.as_slice();
-        if !are_same(
+        if !pairs_match(
             self.made,
             scene.picture.made(),
             self.limit,
@@ -168,7 +166,7 @@ impl Facts {
     }
 
     // Whether each of these edges has an entry, which the words count, and whose holder stands at its place.
-    fn have_all(&self, edges: &[Edge], entries: &Entries, places: &[u32]) -> bool
+    fn have_all(&self, edges: &[Edge], entries: &PackedEdges, places: &[u32]) -> bool
         ensures { IsTrue result → All (Stands self.now.names self.now.islands self.now.incoming) edges.now }
     {
         let list = entries.list.as_slice();
@@ -210,7 +208,7 @@ impl Facts {
     fn is_alone(&self, y: u64) -> bool
         ensures { IsTrue result → (self.now.is_full ≡ true) × All (λ v. v ≡ y) self.now.actors.items }
     {
-        self.is_full && are_all(self.actors.as_slice(), y)
+        self.is_full && are_each(self.actors.as_slice(), y)
     }
 
     // Whether each who acts is of the islands of a word or not, as x and y ask.
@@ -255,7 +253,7 @@ fn is_full(picture: &Picture) -> bool
 }
 
 // Whether each of these names is y.
-fn are_all(names: &[u64], y: u64) -> bool
+fn are_each(names: &[u64], y: u64) -> bool
     ensures { IsTrue result → All (λ v. v ≡ y) names.now }
 {
     for name in names {
@@ -269,7 +267,7 @@ fn are_all(names: &[u64], y: u64) -> bool
 // Whether each who acts is listed.
 fn are_listed(actors: &[u64], scene: &Scene) -> bool
     ensures { IsTrue result →
-        All (λ v. ¬ (Contains scene.now.silent.now v × (v < scene.now.picture.now.made)) → IsListed actors.now v) scene.now.picture.now.subjects }
+        EachActor scene.now (IsListed actors.now) }
 {
     for subject in scene.picture.subjects() {
         if !is_listed_or_silent(actors, scene, *subject) {
@@ -281,14 +279,7 @@ fn are_listed(actors: &[u64], scene: &Scene) -> bool
 
 // Whether a subject is silent, or listed.
 fn is_listed_or_silent(actors: &[u64], scene: &Scene, subject: u64) -> bool
-    ensures { IsTrue result → ¬ (Contains scene.now.silent.now subject × (subject < scene.now.picture.now.made)) → IsListed actors.now subject }
+    ensures { IsTrue result → TakesTurns scene.now subject → IsListed actors.now subject }
 {
     is_silent(scene.silent, scene.picture.made(), subject) || is_among(actors, subject)
-}
-
-// Whether the two and the other two are the same.
-fn are_same(one: u64, same: u64, two: u64, alike: u64) -> bool
-    ensures { IsTrue result → (one ≡ same) × (two ≡ alike) }
-{
-    one == same && two == alike
 }

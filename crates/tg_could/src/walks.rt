@@ -3,7 +3,7 @@
 //! back from the last one, each knot hands its bits on when it has all. Only what is walked to is looked at. Nothing is
 //! believed of it: what it finds is checked.
 use crate::chains::{NONE, number_at, put_number};
-use crate::entries::Entry;
+use crate::entries::PackedEdge;
 use crate::growth::{note, push, table};
 use crate::links::{Link, Links, number_of};
 use crate::names::Names;
@@ -17,7 +17,7 @@ use tg_rights::Right;
 pub(crate) fn walks(
     alloc: Global,
     names: &Names,
-    entries: &[Entry],
+    entries: &[PackedEdge],
     actors: &[u64],
     grown: &mut Result<(), AllocError>,
 ) -> Vec<u64> {
@@ -26,7 +26,7 @@ pub(crate) fn walks(
     add_takes(&mut takes, entries);
     takes.tie(grown);
     let mut words = table(alloc, 0, count, grown);
-    let mut walk = Walk::new(alloc, count, grown);
+    let mut walk = DepthFirst::new(alloc, count, grown);
     walk.walk_all(names, &takes, actors, words.as_mut_slice());
     note(grown, walk.grown);
     drop(walk);
@@ -43,7 +43,7 @@ pub(crate) fn bit_of(at: usize) -> u64 {
 }
 
 // Adds the take edges from each vertex, not tied yet.
-fn add_takes(takes: &mut Links, entries: &[Entry]) {
+fn add_takes(takes: &mut Links, entries: &[PackedEdge]) {
     for entry in entries {
         if has(entry.label, Right::T) {
             takes.add(entry.from as u64, entry.to as u64, true, false);
@@ -64,7 +64,7 @@ struct Visit {
 // left yet; left are the others, knot by knot, and where each knot starts. Where memory was wanting once, the end tells
 // it.
 #[derive(Drop)]
-struct Walk {
+struct DepthFirst {
     numbers: Vec<u32>,
     count: u32,
     path: Vec<Visit>,
@@ -74,10 +74,10 @@ struct Walk {
     grown: Result<(), AllocError>,
 }
 
-impl Walk {
+impl DepthFirst {
     // Nobody was come to. Notes whether memory was wanting.
-    fn new(alloc: Global, count: usize, grown: &mut Result<(), AllocError>) -> Walk {
-        Walk {
+    fn new(alloc: Global, count: usize, grown: &mut Result<(), AllocError>) -> DepthFirst {
+        DepthFirst {
             numbers: table(alloc, 0, count, grown),
             count: 0,
             path: Vec::new(alloc),

@@ -1,24 +1,22 @@
 //! What someone could ever come to hold.
 ghost use Rattle.std.specs.Prelude.{◌≡◌, ◌⊎◌, ◌↔◌, ◌<◌, ◌≤◌, ℕ, true, IfOk, IfSome, IsTrue};
-ghost use Rattle.std.specs.List.{All, Contains};
+ghost use Rattle.std.specs.List.{All};
 ghost use Rattle.tg_rights.specs.RightSet.{has as has_right};
 ghost use Rattle.tg_rights.specs.declared.Right.{Right as TheRight};
-ghost use Rattle.tg_model.specs.Graph.{ProtectionGraph};
-ghost use Rattle.tg_model.specs.Picture.{IsPictureOf};
 ghost use Rattle.tg_could.specs.declared.chance.Chance.TheVariants.{Never};
-ghost use Rattle.tg_could.specs.Turns.{NeverHolds};
 ghost use Rattle.tg_could.specs.Separation.{sides_against};
-ghost use Rattle.tg_could.specs.Listed.{IsUnlisted, IsLeftOut, IsOnlyActor, ListsEdge, ListsActor, TellsWhat, rights_over};
+ghost use Rattle.tg_could.specs.Listed.{IsLeftOut, IsOnlyActor, ListsEdge, ListsActor, TellsWhat, rights_over};
+ghost use Rattle.tg_could.specs.Listed.{NeverUnlisted};
+ghost use Rattle.tg_could.specs.Scenes.{EachActor, TakesTurns};
 
 use crate::chance::Chance;
+use crate::conditions::{both_imply, not_all};
 use crate::growth::table;
 use crate::later::first_later;
 use crate::names::Names;
 use crate::question::Scene;
-use crate::search::{Found, search};
-use crate::separation::{
-    Separation, are_not_all, comes_later, has, is_alone, is_silent, leads, stays,
-};
+use crate::search::{Findings, search};
+use crate::separation::{Separation, comes_later, has, is_alone, is_silent, stays};
 use std::alloc::{AllocError, Global};
 use tg_model::Edge;
 use tg_rights::{Right, Rights};
@@ -138,7 +136,7 @@ impl Listed {
     fn of(
         alloc: Global,
         scene: &Scene,
-        found: &Found,
+        found: &Findings,
         x: u64,
         grown: &mut Result<(), AllocError>,
     ) -> Listed {
@@ -156,7 +154,7 @@ impl Listed {
     }
 
     // Lists the rights of an edge, where it is one from x, or from somebody else whose rights x may get.
-    fn add(&mut self, found: &Found, edge: &Edge, x: u64) {
+    fn add(&mut self, found: &Findings, edge: &Edge, x: u64) {
         if edge.from != x && (self.is_kept(edge.to, x) || !found.sides.is_forward(edge.from)) {
             return;
         }
@@ -186,8 +184,7 @@ impl Listed {
 
     // Whether x never holds what isn't told, as far as the two sets show it.
     fn leaves_out(&self, sides: &Separation, scene: &Scene, x: u64) -> bool
-        ensures { IsTrue result → (g : ProtectionGraph) → IsPictureOf scene.now.picture.now g → (right : TheRight) (y : ℕ) →
-            IsUnlisted self.now x scene.now.picture.now.made scene.now.picture.now.limit right y → NeverHolds scene.now.silent.now g x right y }
+        ensures { IsTrue result → NeverUnlisted scene.now x self.now }
     {
         if !self.has_alone(scene) {
             return false;
@@ -229,19 +226,19 @@ impl Listed {
         if !stays(edge.label, from, sides.place_against(edge.to)) {
             return false;
         }
-        if !leads(edge.from == x, true, told) {
+        if !both_imply(edge.from == x, true, told) {
             return false;
         }
-        if !leads(!self.is_kept(edge.to, x), !from.back, told) {
+        if !both_imply(!self.is_kept(edge.to, x), !from.back, told) {
             return false;
         }
-        are_not_all(edge.to == x, has(edge.label, Right::G), from.forward)
+        not_all(edge.to == x, has(edge.label, Right::G), from.forward)
     }
 
     // Whether each who acts is in both sets or in none, and where it has to be.
     fn has_actors(&self, sides: &Separation, scene: &Scene, x: u64) -> bool
         ensures { IsTrue result →
-            All (λ v. ¬ (Contains scene.now.silent.now v × (v < scene.now.picture.now.made)) → ListsActor (sides_against sides.now) self.now scene.now.picture.now x v) scene.now.picture.now.subjects }
+            EachActor scene.now (ListsActor (sides_against sides.now) self.now scene.now.picture.now x) }
     {
         for subject in scene.picture.subjects() {
             if !self.has_actor(sides, scene, x, *subject) {
@@ -253,8 +250,7 @@ impl Listed {
 
     // The same of one subject.
     fn has_actor(&self, sides: &Separation, scene: &Scene, x: u64, subject: u64) -> bool
-        ensures { IsTrue result → ¬ (Contains scene.now.silent.now subject × (subject < scene.now.picture.now.made)) →
-            ListsActor (sides_against sides.now) self.now scene.now.picture.now x subject }
+        ensures { IsTrue result → TakesTurns scene.now subject → ListsActor (sides_against sides.now) self.now scene.now.picture.now x subject }
     {
         if is_silent(scene.silent, scene.picture.made(), subject) {
             return true;

@@ -1,19 +1,19 @@
 //! Who could ever come to hold a right over a vertex.
 ghost use Rattle.std.specs.Prelude.{◌≡◌, ◌↔◌, ◌<◌, ◌≤◌, ℕ, IfOk, IsTrue};
-ghost use Rattle.std.specs.List.{All, Contains};
-ghost use Rattle.tg_model.specs.Graph.{ProtectionGraph};
-ghost use Rattle.tg_model.specs.Picture.{IsPictureOf};
+ghost use Rattle.std.specs.List.{All};
 ghost use Rattle.tg_could.specs.declared.chance.Chance.TheVariants.{Never};
-ghost use Rattle.tg_could.specs.Turns.{NeverHolds};
 ghost use Rattle.tg_could.specs.Separation.{sides_of};
-ghost use Rattle.tg_could.specs.Told.{IsLeftOut, IsTold, IsUntold, TellsHolder, TellsOf, TellsActor, TellsWho, is_told};
+ghost use Rattle.tg_could.specs.Told.{IsLeftOut, IsTold, TellsHolder, TellsOf, TellsActor, TellsWho, is_told};
+ghost use Rattle.tg_could.specs.Scenes.{EachActor, TakesTurns};
+ghost use Rattle.tg_could.specs.Told.{NeverUntold};
 
 use crate::chance::Chance;
+use crate::conditions::both_imply;
 use crate::later::first_later;
 use crate::names::Names;
 use crate::question::Scene;
-use crate::search::{Found, search};
-use crate::separation::{Separation, comes_later, has, is_alone, is_silent, leads, stays};
+use crate::search::{Findings, search};
+use crate::separation::{Separation, comes_later, has, is_alone, is_silent, stays};
 use std::alloc::{AllocError, Global};
 use tg_model::{Edge, Picture};
 use tg_rights::Right;
@@ -21,7 +21,7 @@ use tg_rights::Right;
 /// Who could ever come to hold a right over a vertex, as [`who_could`] tells it.
 #[derive(Drop)]
 pub struct Who {
-    told: Told,
+    told: Candidates,
     is_shown: bool,
     over: u64,
     made: u64,
@@ -30,7 +30,7 @@ pub struct Who {
 
 /// Who is told, in the second of two sets, and whether those are who aren't made yet.
 #[derive(Drop)]
-struct Told {
+struct Candidates {
     marks: Separation,
     later: bool,
 }
@@ -81,7 +81,7 @@ pub fn who_could(alloc: Global, scene: &Scene, right: Right, y: u64) -> Result<W
     let found = search(alloc, scene, right, y, false);
     let mut grown = found.grown;
     let names = found.sides.names.copy(alloc, &mut grown);
-    let mut told = Told::none(alloc, names, &mut grown);
+    let mut told = Candidates::none(alloc, names, &mut grown);
     told.tell(scene, &found, right, y);
     grown?;
     let is_shown = told.leaves_out(&found.sides, scene, right, y);
@@ -94,10 +94,10 @@ pub fn who_could(alloc: Global, scene: &Scene, right: Right, y: u64) -> Result<W
     })
 }
 
-impl Told {
+impl Candidates {
     // Nobody is told. Notes whether memory was wanting.
-    fn none(alloc: Global, names: Names, grown: &mut Result<(), AllocError>) -> Told {
-        Told {
+    fn none(alloc: Global, names: Names, grown: &mut Result<(), AllocError>) -> Candidates {
+        Candidates {
             marks: Separation::none(alloc, names, grown),
             later: false,
         }
@@ -105,7 +105,7 @@ impl Told {
 
     // Adds who holds the right, who acts and may come to hold it, and to whom one who may can grant; but where y is
     // alone those who hold it.
-    fn tell(&mut self, scene: &Scene, found: &Found, right: Right, y: u64) {
+    fn tell(&mut self, scene: &Scene, found: &Findings, right: Right, y: u64) {
         let edges = scene.picture.edges();
         if is_alone(scene, y) {
             self.add_holders(edges, right, y);
@@ -125,7 +125,7 @@ impl Told {
     }
 
     // Adds each who holds the right, and each to whom one who may hold it can grant.
-    fn add_edges(&mut self, edges: &[Edge], found: &Found, right: Right, y: u64) {
+    fn add_edges(&mut self, edges: &[Edge], found: &Findings, right: Right, y: u64) {
         for edge in edges {
             if edge.to == y {
                 if has(edge.label, right) {
@@ -145,7 +145,7 @@ impl Told {
     }
 
     // Adds each who acts and may come to hold the right.
-    fn add_actors(&mut self, picture: &Picture, found: &Found, y: u64) {
+    fn add_actors(&mut self, picture: &Picture, found: &Findings, y: u64) {
         for subject in picture.subjects() {
             if !found.acts(*subject) || !found.sides.is_back(*subject) {
                 continue;
@@ -159,8 +159,7 @@ impl Told {
 
     // Whether whoever isn't told never holds the right, as far as the two sets show it.
     fn leaves_out(&self, sides: &Separation, scene: &Scene, right: Right, y: u64) -> bool
-        ensures { IsTrue result → (g : ProtectionGraph) → IsPictureOf scene.now.picture.now g → (x : ℕ) →
-            IsUntold self.now y scene.now.picture.now.made scene.now.picture.now.limit x → NeverHolds scene.now.silent.now g x right y }
+        ensures { IsTrue result → NeverUntold scene.now right y self.now }
     {
         if !self.has_holders(scene.picture.edges(), right, y) {
             return false;
@@ -179,7 +178,7 @@ impl Told {
         ensures { IsTrue result → All (TellsHolder self.now right y) edges.now }
     {
         for edge in edges {
-            if !leads(edge.to == y, has(edge.label, right), self.has(edge.from)) {
+            if !both_imply(edge.to == y, has(edge.label, right), self.has(edge.from)) {
                 return false;
             }
         }
@@ -208,16 +207,16 @@ impl Told {
         if !stays(edge.label, from, sides.place(edge.to)) {
             return false;
         }
-        if !leads(edge.to == y, has(edge.label, right), from.back) {
+        if !both_imply(edge.to == y, has(edge.label, right), from.back) {
             return false;
         }
-        leads(grant, from.forward, told)
+        both_imply(grant, from.forward, told)
     }
 
     // Whether each who acts is in both sets or in none, and is told where it may hold the right.
     fn has_actors(&self, sides: &Separation, scene: &Scene, y: u64) -> bool
         ensures { IsTrue result →
-            All (λ v. ¬ (Contains scene.now.silent.now v × (v < scene.now.picture.now.made)) → TellsActor (sides_of sides.now) self.now scene.now.picture.now y v) scene.now.picture.now.subjects }
+            EachActor scene.now (TellsActor (sides_of sides.now) self.now scene.now.picture.now y) }
     {
         for subject in scene.picture.subjects() {
             if !self.has_actor(sides, scene, y, *subject) {
@@ -229,8 +228,7 @@ impl Told {
 
     // The same of one subject.
     fn has_actor(&self, sides: &Separation, scene: &Scene, y: u64, subject: u64) -> bool
-        ensures { IsTrue result → ¬ (Contains scene.now.silent.now subject × (subject < scene.now.picture.now.made)) →
-            TellsActor (sides_of sides.now) self.now scene.now.picture.now y subject }
+        ensures { IsTrue result → TakesTurns scene.now subject → TellsActor (sides_of sides.now) self.now scene.now.picture.now y subject }
     {
         if is_silent(scene.silent, scene.picture.made(), subject) {
             return true;

@@ -1,8 +1,6 @@
 //! Witnesses: turns that lead there, replayed by the rules.
 ghost use Rattle.std.specs.Prelude.{IfOk, IsTrue};
-ghost use Rattle.tg_model.specs.Graph.{ProtectionGraph};
-ghost use Rattle.tg_model.specs.Picture.{IsPictureOf};
-ghost use Rattle.tg_could.specs.Turns.{LeadThere, with_names};
+ghost use Rattle.tg_could.specs.Scenes.{OnGraphs, WitnessOf};
 
 use crate::chains::Chains;
 use crate::question::{Question, Scene, Witness};
@@ -18,8 +16,7 @@ pub fn lead_there(
     question: Question,
     witness: &Witness,
 ) -> Result<bool, AllocError>
-    ensures { IfOk result (λ lead. IsTrue lead → (g : ProtectionGraph) → IsPictureOf scene.now.picture.now g →
-        LeadThere scene.now.silent.now (with_names g witness.now.names) witness.now.turns.now question.x question.right question.y) }
+    ensures { IfOk result (λ lead. IsTrue lead → OnGraphs scene.now (WitnessOf scene.now question witness.now)) }
 {
     let rows = Chains::of(alloc, scene.picture);
     replay(alloc, scene, rows, question, witness)
@@ -33,8 +30,7 @@ pub(crate) fn replay(
     question: Question,
     witness: &Witness,
 ) -> Result<bool, AllocError>
-    ensures { IfOk result (λ lead. IsTrue lead → (g : ProtectionGraph) → IsPictureOf scene.now.picture.now g →
-        LeadThere scene.now.silent.now (with_names g witness.now.names) witness.now.turns.now question.x question.right question.y) }
+    ensures { IfOk result (λ lead. IsTrue lead → OnGraphs scene.now (WitnessOf scene.now question witness.now)) }
 {
     let mut trial = Trial::new(alloc, scene.picture, rows);
     trial.lead_there(scene, question, witness)

@@ -3,7 +3,7 @@ use Rattle.tg_rights.specs.declared.Right.TheVariants.{G}
 use Rattle.tg_model.specs.Opened.{label_in}
 use Rattle.tg_model.specs.Picture.{Holds}
 use Rattle.tg_could.specs.LedNames.{sides_led}
-use Rattle.tg_could.specs.declared.separation.Place.{Place}
+use Rattle.tg_could.specs.declared.separation.Membership.{Membership}
 use Rattle.tg_could.proofs.TurnLaws.{Holds-member}
 use Rattle.tg_could.proofs.SettledLaws.{none_given}
 use Rattle.tg_could.proofs.led.LedNames.grant_to.Goals as goal
@@ -15,7 +15,7 @@ returns-then-place-clause-given c t =
     let there = Holds-member es c.loop-edge.edge-index e c.loop-edge-test.true c.edge-item.is G (sym c.has.ensures ∙ c.if-has.true) in (
       e.from,
       subst (λ (v : ℕ). Holds (label_in es) e.from G v) c.if-edge-x.true there,
-      ap (λ (p : Place). p.forward) (sym c.place.ensures) ∙ c.if-place.true,
+      ap (λ (p : Membership). p.forward) (sym c.place.ensures) ∙ c.if-place.true,
     )
 
 pub returns-clause-not_given : goal.returns-clause-not_given

@@ -4,10 +4,10 @@ use Rattle.tg_model.specs.Rules.{HoldsOver}
 use Rattle.tg_could.proofs.TurnLaws.{stands-added}
 use Rattle.tg_could.proofs.trial.Trial.hand_on.Goals as goal
 
-pub returns-then-are_all : goal.returns-then-are_all
-returns-then-are_all c t g stands =
-    let all = c.are_all.ensures c.if-are_all.true in
-    let three = c.are_three-three.ensures all.0 in
+pub returns-then-all_hold : goal.returns-then-all_hold
+returns-then-all_hold c t g stands =
+    let all = c.all_hold.ensures c.if-all_hold.true in
+    let three = c.all_differ-three.ensures all.0 in
     let added = c.in_ok-add.ensures in (
       three.0,
       three.1,

@@ -1,6 +1,6 @@
 use Rattle.std.proofs.Common.{◌≡◌, ℕ}
 use Rattle.std.specs.List.{AllWithin}
-use Rattle.tg_could.proofs.view.are_all.Given as goal
+use Rattle.tg_could.proofs.view.are_each.Given as goal
 
 -- each before this place is y
 abbrev pub invariant-loop-name : goal.invariant-loop-name

@@ -1,7 +1,7 @@
 use Rattle.tg_could.specs.Separation.{sides_of}
 use Rattle.tg_could.specs.Told.{TellsActor}
 use Rattle.tg_could.proofs.MarkLaws.{OfActor, one-more}
-use Rattle.tg_could.proofs.who.Told.has_actors.Goals as goal
+use Rattle.tg_could.proofs.who.Candidates.has_actors.Goals as goal
 
 pub loop-subject-preserved : goal.loop-subject-preserved
 loop-subject-preserved c =

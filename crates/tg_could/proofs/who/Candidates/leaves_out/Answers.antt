@@ -4,7 +4,7 @@ use Rattle.tg_model.specs.declared.edge.Edge.{Edge}
 use Rattle.tg_could.specs.Separation.{sides_of}
 use Rattle.tg_could.specs.Told.{TellsHolder, TellsOf}
 use Rattle.tg_could.proofs.ToldLaws.{left_out, alone-left_out}
-use Rattle.tg_could.proofs.who.Told.leaves_out.Goals as goal
+use Rattle.tg_could.proofs.who.Candidates.leaves_out.Goals as goal
 
 pub returns-then-is_alone : goal.returns-then-is_alone
 returns-then-is_alone c t g picture x untold =

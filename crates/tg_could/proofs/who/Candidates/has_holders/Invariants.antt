@@ -1,6 +1,6 @@
 use Rattle.std.specs.List.{AllWithin}
 use Rattle.tg_could.specs.Told.{TellsHolder}
-use Rattle.tg_could.proofs.who.Told.has_holders.Given as goal
+use Rattle.tg_could.proofs.who.Candidates.has_holders.Given as goal
 
 -- who holds the right by an edge before this place is told
 abbrev pub invariant-loop-edge : goal.invariant-loop-edge

@@ -2,7 +2,7 @@ use Rattle.std.proofs.lemmas.List.Elements.{AllWithin-more, at_read}
 use Rattle.tg_model.specs.declared.edge.Edge.{Edge}
 use Rattle.tg_could.specs.Separation.{sides_of}
 use Rattle.tg_could.specs.Told.{TellsOf}
-use Rattle.tg_could.proofs.who.Told.has_gifts.Goals as goal
+use Rattle.tg_could.proofs.who.Candidates.has_gifts.Goals as goal
 
 pub loop-edge-preserved : goal.loop-edge-preserved
 loop-edge-preserved c =
