@@ -2,7 +2,7 @@ use Rattle.std.proofs.Common.{Some, arith}
 use Rattle.std.proofs.lemmas.Result.{IfOk-weaker}
 use Rattle.std.proofs.lemmas.Str.Pattern.{split_parts}
 use Rattle.tgcould.specs.Policies.{IsQuestion, IsBehind}
-use Rattle.tgcould.proofs.question.read_question.Goals as goal
+use Rattle.tgcould.proofs.query.read_question.Goals as goal
 
 pub returns-in-Some : goal.returns-in-Some
 returns-in-Some c =

@@ -17,7 +17,7 @@ pub enum Vertex {
 
 /// What is asked.
 #[derive(Clone, Copy)]
-pub enum Question {
+pub enum Query {
     /// Could x come to hold the right over y? `3 r 7`
     Hold { x: Vertex, right: Right, y: Vertex },
     /// Who could come to hold the right over y? `* r 7`
@@ -33,7 +33,7 @@ const NO_RIGHT: &str = "one right is wanted, a letter out of r w t g a l u v";
 const BOTH_NEW: &str = "'new' is one vertex";
 
 /// The question that the text is, or why it is none: one sentence without its dot.
-pub fn read_question(text: &str) -> Result<Question, &'static str>
+pub fn read_question(text: &str) -> Result<Query, &'static str>
     ensures { IfOk result (IsQuestion text.now) }
 {
     match text.split_once(' ') {
@@ -43,7 +43,7 @@ pub fn read_question(text: &str) -> Result<Question, &'static str>
 }
 
 // The question that begins with this word.
-fn read_behind(holder: &str, rest: &str) -> Result<Question, &'static str>
+fn read_behind(holder: &str, rest: &str) -> Result<Query, &'static str>
     ensures { IfOk result (IsBehind holder.now rest.now) }
 {
     match rest.split_once(' ') {
@@ -53,7 +53,7 @@ fn read_behind(holder: &str, rest: &str) -> Result<Question, &'static str>
 }
 
 // The question of three words, by which of them are stars.
-fn question_of(holder: &str, right: &str, over: &str) -> Result<Question, &'static str>
+fn question_of(holder: &str, right: &str, over: &str) -> Result<Query, &'static str>
     ensures { IfOk result (AreWords holder.now right.now over.now) }
 {
     match (is_star(holder), is_star(right), is_star(over)) {
@@ -76,33 +76,33 @@ fn is_new(word: &str) -> bool
     word == "new"
 }
 
-fn what_question(x: &str) -> Result<Question, &'static str>
+fn what_question(x: &str) -> Result<Query, &'static str>
     ensures { IfOk result (AreWords x.now (codes "*") (codes "*")) }
 {
     match vertex_of(x) {
-        Ok(x) => Ok(Question::What { x }),
+        Ok(x) => Ok(Query::What { x }),
         Err(reason) => Err(reason),
     }
 }
 
-fn who_question(right: &str, y: &str) -> Result<Question, &'static str>
+fn who_question(right: &str, y: &str) -> Result<Query, &'static str>
     ensures { IfOk result (AreWords (codes "*") right.now y.now) }
 {
     match (right_of(right), vertex_of(y)) {
-        (Some(right), Ok(y)) => Ok(Question::Who { right, y }),
+        (Some(right), Ok(y)) => Ok(Query::Who { right, y }),
         (None, _) => Err(NO_RIGHT),
         (_, Err(reason)) => Err(reason),
     }
 }
 
-fn hold_question(x: &str, right: &str, y: &str) -> Result<Question, &'static str>
+fn hold_question(x: &str, right: &str, y: &str) -> Result<Query, &'static str>
     ensures { IfOk result (AreWords x.now right.now y.now) }
 {
     if is_new(x) && is_new(y) {
         return Err(BOTH_NEW);
     }
     match (vertex_of(x), right_of(right), vertex_of(y)) {
-        (Ok(x), Some(right), Ok(y)) => Ok(Question::Hold { x, right, y }),
+        (Ok(x), Some(right), Ok(y)) => Ok(Query::Hold { x, right, y }),
         (Err(reason), _, _) => Err(reason),
         (_, None, _) => Err(NO_RIGHT),
         (_, _, Err(reason)) => Err(reason),
