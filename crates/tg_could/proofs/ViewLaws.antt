@@ -14,10 +14,10 @@ use Rattle.tg_could.specs.Turns.{NeverHolds}
 use Rattle.tg_could.specs.Separation.{Sides, MayAdd, Walks, IsEven}
 use Rattle.tg_could.specs.Names.{number_in}
 use Rattle.tg_could.specs.View.{word_of, word_at, is_within, meets, IsOfOne, Joins, JoinsEntry, IsIn, IsEntered, Stands, IsGathered, AreGathered, IsPlaced, IsCheckedOn, sides_by, bound_of}
-use Rattle.tg_could.specs.declared.entries.PackedEdge.{PackedEdge}
-use Rattle.tg_could.specs.declared.incoming.Incoming.{Incoming}
-use Rattle.tg_could.specs.declared.islands.Islands.{Islands}
-use Rattle.tg_could.specs.declared.names.Names.{Names}
+use Rattle.tg_could.specs.declared.view.entries.PackedEdge.{PackedEdge}
+use Rattle.tg_could.specs.declared.view.incoming.Incoming.{Incoming}
+use Rattle.tg_could.specs.declared.view.islands.Islands.{Islands}
+use Rattle.tg_could.specs.declared.search.names.Names.{Names}
 use Rattle.tg_could.specs.declared.view.Facts.{Facts}
 use Rattle.tg_could.proofs.MarkLaws.{IsNot, keeps-walks, none_holds, Parts-edges, pictured-never, pictured-same, pictured-alone}
 use Rattle.tg_could.proofs.WordLaws.{within-trans, within-more, meets-down, meets-up, bridged-on, bridged-back, single-alike}

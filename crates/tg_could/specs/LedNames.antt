@@ -13,7 +13,7 @@ use Rattle.tg_could.specs.Led.{Way, Led, IsBrought}
 use Rattle.tg_could.specs.Led.Way.{back, forward}
 use Rattle.tg_could.specs.Scenes.{OnGraphs}
 use Rattle.tg_could.specs.Turns.{IsSilent}
-use Rattle.tg_could.specs.declared.led.LedNames.{LedNames}
+use Rattle.tg_could.specs.declared.separation.led.LedNames.{LedNames}
 use Rattle.tg_could.specs.declared.question.Scene.{Scene}
 
 -- whoever is in one of the two sets is led to

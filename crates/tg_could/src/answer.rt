@@ -5,11 +5,11 @@ ghost use Rattle.tg_model.specs.Picture.{IsPictureOf};
 ghost use Rattle.tg_could.specs.Answered.{IsFar, IsShort};
 ghost use Rattle.tg_could.specs.Scenes.{AnswerOf, NeverOf, OnGraphs};
 
-use crate::led::may_come_about;
-use crate::plan::turns_to;
 use crate::question::{Question, Scene, Witness};
 use crate::search::{Findings, search};
+use crate::separation::led::may_come_about;
 use crate::separation::{Separation, comes_later};
+use crate::witness::plan::turns_to;
 use crate::witness::replay;
 use std::alloc::{AllocError, Global};
 use tg_model::{Deed, Picture};

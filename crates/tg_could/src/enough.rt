@@ -5,7 +5,7 @@ ghost use Rattle.tg_could.specs.Scenes.{NeverWithout, OnGraphs};
 
 use crate::question::{Question, Scene};
 use crate::search::search;
-use crate::trial::leave_out;
+use crate::witness::trial::leave_out;
 use std::alloc::{AllocError, Global};
 
 /// Whose turns would be enough: each of the silent ones for whom [`could_hold`](crate::could_hold) answers other than

@@ -24,40 +24,28 @@
 //! that are supposed. If nobody reaches x, the answer is `Unreached`. Every other answer is that of the whole graph.
 //!
 //! What a reader has to believe stands in `specs/`: `Turns` (turns, `NeverHolds`, `LeadThere`), `Answered` (what an
-//! answer says) and `Reached`; of `Separation`, `Led`, `Told`, `Listed` and `View` no more than that a law or a later
-//! call speaks of them. The theorem is that of Jones, Lipton and Snyder ("A linear time algorithm for deciding
+//! answer says), `Scenes` and `Reached`; of `Separation`, `Led`, `Told`, `Listed` and `View` no more than that a law or
+//! a later call speaks of them. The theorem is that of Jones, Lipton and Snyder ("A linear time algorithm for deciding
 //! security", 1976) and of Lipton and Snyder ("A linear time algorithm for deciding subject security", Journal of the
 //! ACM 24(3), 1977). The search (`search`) and the turns that it leads to (`plan`) promise nothing: what they find is
 //! checked. [`laws`] has what holds of the definitions alone.
+//!
+//! The phases have a folder each: `search`, `separation`, `witness` and `view`.
 #![tactic(auto)]
 
 mod answer;
-mod chains;
 mod chance;
-mod conditions;
 mod enough;
-mod entries;
-mod growth;
-mod incoming;
-mod islands;
 mod later;
 pub mod laws;
-mod led;
-mod links;
-mod marks;
-mod names;
-mod plan;
 mod question;
 mod reached;
 mod search;
 mod separation;
-mod trial;
 mod view;
-mod walks;
 mod what;
 mod who;
 mod witness;
-mod words;
 
 pub use answer::{Answer, could_hold};
 pub use chance::Chance;

@@ -1,13 +1,18 @@
 //! The search: who may come to hold a right, and on which way. What it finds is checked (`Separation::parts`,
 //! `lead_there`), so that nothing has to be believed of it. It goes back along take edges first, and looks at all
 //! others only where this leads to one who acts.
-use crate::chains::{Chains, NONE, place};
-use crate::growth::push;
-use crate::links::{Links, number_of};
-use crate::marks::{Pairs, is_in_second};
-use crate::names::Names;
+pub(crate) mod growth;
+pub(crate) mod links;
+pub(crate) mod marks;
+pub(crate) mod names;
+
 use crate::question::Scene;
+use crate::search::growth::push;
+use crate::search::links::{Links, number_of};
+use crate::search::marks::{Pairs, is_in_second};
+use crate::search::names::Names;
 use crate::separation::{Separation, comes_later, has, is_silent};
+use crate::witness::chains::{Chains, NONE, place};
 use std::alloc::{AllocError, Global};
 use tg_model::{Edge, Picture};
 use tg_rights::Right;

@@ -9,10 +9,13 @@ ghost use Rattle.tg_could.specs.Separation.{MayAdd, Parts, Stays, sides_of, side
 ghost use Rattle.tg_could.specs.LedNames.{ActsOn};
 ghost use Rattle.tg_could.specs.Scenes.{EachActor, NeverOf, OnGraphs, TakesTurns};
 
-use crate::conditions::{both_imply, not_all};
-use crate::marks::{Pairs, is_in_first, is_in_second};
-use crate::names::Names;
+pub(crate) mod conditions;
+pub(crate) mod led;
+
 use crate::question::{Question, Scene};
+use crate::search::marks::{Pairs, is_in_first, is_in_second};
+use crate::search::names::Names;
+use crate::separation::conditions::{both_imply, not_all};
 use std::alloc::{AllocError, Global};
 use tg_model::{Edge, MAX_WORKERS, Picture};
 use tg_rights::{Label, Right, Rights};

@@ -7,16 +7,22 @@ ghost use Rattle.tg_could.specs.View.{IsViewOf, IsCheckedOn, IsPlaced, IsListed,
 ghost use Rattle.tg_could.specs.Scenes.{EachActor, TakesTurns};
 ghost use Rattle.tg_could.specs.View.{TellsNever};
 
+pub(crate) mod entries;
+pub(crate) mod incoming;
+pub(crate) mod islands;
+pub(crate) mod walks;
+pub(crate) mod words;
+
 use crate::chance::Chance;
-use crate::conditions::pairs_match;
-use crate::entries::{PackedEdge, PackedEdges};
-use crate::growth::{push, table};
-use crate::incoming::Incoming;
-use crate::islands::Islands;
-use crate::names::Names;
 use crate::question::{Question, Scene};
+use crate::search::growth::{push, table};
+use crate::search::names::Names;
+use crate::separation::conditions::pairs_match;
 use crate::separation::{is_among, is_silent};
-use crate::words::{is_within, meets};
+use crate::view::entries::{PackedEdge, PackedEdges};
+use crate::view::incoming::Incoming;
+use crate::view::islands::Islands;
+use crate::view::words::{is_within, meets};
 use std::alloc::{AllocError, Global};
 use tg_model::{Edge, MAX_WORKERS, Picture};
 

@@ -10,12 +10,12 @@ ghost use Rattle.tg_could.specs.Listed.{NeverUnlisted};
 ghost use Rattle.tg_could.specs.Scenes.{EachActor, TakesTurns};
 
 use crate::chance::Chance;
-use crate::conditions::{both_imply, not_all};
-use crate::growth::table;
 use crate::later::first_later;
-use crate::names::Names;
 use crate::question::Scene;
+use crate::search::growth::table;
+use crate::search::names::Names;
 use crate::search::{Findings, search};
+use crate::separation::conditions::{both_imply, not_all};
 use crate::separation::{Separation, comes_later, has, is_alone, is_silent, stays};
 use std::alloc::{AllocError, Global};
 use tg_model::Edge;

@@ -8,11 +8,11 @@ ghost use Rattle.tg_could.specs.Scenes.{EachActor, TakesTurns};
 ghost use Rattle.tg_could.specs.Told.{NeverUntold};
 
 use crate::chance::Chance;
-use crate::conditions::both_imply;
 use crate::later::first_later;
-use crate::names::Names;
 use crate::question::Scene;
+use crate::search::names::Names;
 use crate::search::{Findings, search};
+use crate::separation::conditions::both_imply;
 use crate::separation::{Separation, comes_later, has, is_alone, is_silent, stays};
 use std::alloc::{AllocError, Global};
 use tg_model::{Edge, Picture};

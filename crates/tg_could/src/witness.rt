@@ -2,9 +2,13 @@
 ghost use Rattle.std.specs.Prelude.{IfOk, IsTrue};
 ghost use Rattle.tg_could.specs.Scenes.{OnGraphs, WitnessOf};
 
-use crate::chains::Chains;
+pub(crate) mod chains;
+pub(crate) mod plan;
+pub(crate) mod trial;
+
 use crate::question::{Question, Scene, Witness};
-use crate::trial::Trial;
+use crate::witness::chains::Chains;
+use crate::witness::trial::Trial;
 use std::alloc::{AllocError, Global};
 
 /// Whether these turns lead to x's holding a right over y, where so many more vertices may be made: each is that of one

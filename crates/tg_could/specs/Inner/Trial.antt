@@ -11,8 +11,8 @@ use Rattle.tg_model.specs.Picture.{AreAmong}
 use Rattle.tg_model.specs.Rules.{HoldsOver, step}
 use Rattle.tg_could.specs.Turns.{Turn, AreTurns, after}
 use Rattle.tg_could.specs.declared.question.Scene.{Scene}
-use Rattle.tg_could.specs.declared.trial.Transfer.{Transfer}
-use Rattle.tg_could.specs.declared.trial.Trial.{Trial}
+use Rattle.tg_could.specs.declared.witness.trial.Transfer.{Transfer}
+use Rattle.tg_could.specs.declared.witness.trial.Trial.{Trial}
 
 -- the graph has these subjects, names and limit, and at least the rights on these edges and on those that came since
 pub record Stands (edges : List Edge) (t : Trial) (g : ProtectionGraph) : Type 0 where

@@ -2,7 +2,7 @@ use Rattle.std.proofs.Common.{List, subst}
 use Rattle.std.specs.List.{All}
 use Rattle.std.proofs.lemmas.Bool.{false≢true}
 use Rattle.tg_could.specs.View.{IsIn, JoinsEntry}
-use Rattle.tg_could.specs.declared.entries.PackedEdge.{PackedEdge}
+use Rattle.tg_could.specs.declared.view.entries.PackedEdge.{PackedEdge}
 use Rattle.tg_could.proofs.ViewLaws.{entered-stand}
 use Rattle.tg_could.proofs.view.Facts.have_all.Goals as goal
 
