@@ -115,14 +115,14 @@ NAMED = {
     ("tg_program/src/boxes.rt", "serve_with_boxes", "start.settings.workers"): "the same",
     ("tgdot/src/run.rt", "open", "script.workers"): "the same",
     ("tg_plain/src/text.rt", "pad", "first.saturating_add(width)"): "the longest text of a kind that is drawn",
-    ("tg_could/src/plan.rt", "make_names", "last.saturating_add(1)"):
+    ("tg_could/src/witness/plan.rt", "make_names", "last.saturating_add(1)"):
         "a turn for each name up to the one that is asked about, which is 65,536 ahead at most",
-    ("tg_could/src/plan.rt", "make_up_to_late", "late.name.saturating_add(1)"): "the same",
+    ("tg_could/src/witness/plan.rt", "make_up_to_late", "late.name.saturating_add(1)"): "the same",
     # Loops that end where there is no more.
     ("tg_could/src/search.rt", "go_back", "NONE"): "a step that was found each",
     ("tg_could/src/search.rt", "spread", "NONE"): "a step that was found each",
     ("tg_could/src/search.rt", "spread_along", "NONE"): "an edge of the vertex each",
-    ("tg_could/src/walks.rt", "begin", "u64::MAX"): "an edge along a path each",
+    ("tg_could/src/view/walks.rt", "begin", "u64::MAX"): "an edge along a path each",
     ("tg_entries/src/piece.rt", "read_some", "u64::MAX"): "a piece of the line each",
     ("tg_entries/src/stream.rt", "audit_lines", "u64::MAX"): "a line of the reader each",
     ("tg_entries/src/stream.rt", "skip_line", "u64::MAX"): "a piece of the line each",

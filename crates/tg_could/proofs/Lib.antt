@@ -3,6 +3,7 @@ pub mod StillLaws
 pub mod MarkLaws
 pub mod TurnLaws
 pub mod ReachedLaws
+pub mod AsIfLaws
 pub mod ToldLaws
 pub mod ListedLaws
 pub mod WordLaws

@@ -25,13 +25,9 @@ use Rattle.tg_model.proofs.NearLaws.{denial_of-near, labels_after-same}
 use Rattle.tg_model.proofs.ReachLaws.{HasEdge-with_rights, closed_after, IsReachable-step, unreachable_row}
 use Rattle.tg_model.proofs.SoundLaws.{IsSound-step, le-step-made}
 use Rattle.tg_model.proofs.SubjectLaws.{subject_before}
-use Rattle.tg_could.specs.Turns.{Turn, Acts, AreTurns, IsSilent, LeadThere, NeverHolds, after, with_names}
-use Rattle.tg_could.specs.Answered.{IsAnswer}
-use Rattle.tg_could.specs.Reached.{HaveSameReach, IsLedTo, IsReachedEdge, IsReachedPicture, IsToldOf}
-use Rattle.tg_could.specs.declared.reached.Told.TheVariants.{Of, Unreached}
+use Rattle.tg_could.specs.Turns.{Turn, Acts, AreTurns, IsSilent, LeadThere, NeverHolds, after}
+use Rattle.tg_could.specs.Reached.{HaveSameReach, IsLedTo, IsReachedEdge, IsReachedPicture}
 use Rattle.tg_could.proofs.TurnLaws.{Holds-member, given_by, no_right, right_edge}
-use Rattle.tg_could.specs.declared.answer.Answer.{Answer}
-use Rattle.tg_could.specs.declared.answer.Answer.TheVariants.{Never, Could, WantsNames, Open}
 
 -- ---- two graphs that agree on a set of vertices
 
@@ -275,28 +271,6 @@ module _ (silent : List ℕ) (g : ProtectionGraph) (label : ℕ → ℕ → Righ
       let both = alike_turns known (IsSilent silent g) turns g (relabelled g label) alike_first (inr lead.0) in
       (both.0, subst (λ (s : RightSet). has s r ≡ true) (both.2.agree.labels x y is) lead.1)
 
--- what is answered of a graph with the labels of a picture is so of the whole graph
-pub answer_on : (silent : List ℕ) (p : Shown) (g : ProtectionGraph) → IsSound g → IsReachedPicture p g → (x : ℕ) → Known g x → (r : Right) (y : ℕ) (answer : Answer) → IsAnswer silent (relabelled g (label_in p.edges)) x r y answer → IsAnswer silent g x r y answer
-answer_on silent p g sound picture x is r y (Never separation) never = never_on silent g (label_in p.edges) (Known g) (picture_agrees p g sound picture) x is r y never
-answer_on silent p g sound picture x is r y (Could turns) lead = lead_on silent g (label_in p.edges) (Known g) (picture_agrees p g sound picture) x is r y turns.items lead
-answer_on silent p g sound picture x is r y (WantsNames turns names) (lead, short) =
-    let agree = picture_agrees p g sound picture in
-    let more : Agree (Known g) (with_names g names) (label_in p.edges) = record { subjects = agree.subjects; later = agree.later; closed = agree.closed; labels = agree.labels } in
-    (lead_on silent (with_names g names) (label_in p.edges) (Known g) more x is r y turns.items lead, short)
-answer_on silent p g sound picture x is r y Open answered = λ near_x near_y.
-    let said = answered near_x near_y in
-    let agree = picture_agrees p g sound picture in
-    let shown_sound = sound_shown p g sound picture in
-    record {
-      enough = λ any long.
-          let could = said.enough shown_sound long in
-          record { turns = could.turns; lead_there = lead_on silent g (label_in p.edges) (Known g) agree x is r y could.turns could.lead_there };
-      with_more = λ any names long.
-          let could = said.with_more shown_sound names long in
-          let more : Agree (Known g) (with_names g names) (label_in p.edges) = record { subjects = agree.subjects; later = agree.later; closed = agree.closed; labels = agree.labels } in
-          record { turns = could.turns; lead_there = lead_on silent (with_names g names) (label_in p.edges) (Known g) more x is r y could.turns could.lead_there };
-    }
-
 -- ---- who isn't reached
 
 pub unreached_row : (silent : ℕ → Type 0) (turns : List Turn) (g : ProtectionGraph) (x : ℕ) → IsSound g → x < g.made → ¬ IsReachable g x → AreTurns silent g turns → (y : ℕ) → (after g turns).label x y ≡ g.label x y
@@ -343,16 +317,3 @@ same_picture g h same p picture = record {
     λ is. (picture.edges edge).1 (edge_on h g (swapped g h same) edge is),
   );
 }
-
--- ---- what is told
-
-module _ (silent : List ℕ) (p : Shown) (g : ProtectionGraph) (sound : IsSound g) (picture : IsReachedPicture p g) (x : ℕ) (r : Right) (y : ℕ) where
-  pub told_unreached : x < p.made → ¬ IsReachable g x → IsToldOf silent g x r y Unreached
-  told_unreached made unreached =
-      let below : x < g.made = let same = picture.made in omega (arith, same, made) in
-      (below, unreached, λ turns are y. unreached_row (λ q. ⊥) turns g x sound below unreached are y)
-
-  pub told_of : (answer : Answer) → IsReachable g x ⊎ (p.made ≤ x) → ((h : ProtectionGraph) → IsPictureOf p h → IsAnswer silent h x r y answer) → IsToldOf silent g x r y (Of answer)
-  told_of answer where_x of_all =
-      let is : Known g x = ⊎_elim inl (λ (above : p.made ≤ x). let same = picture.made in inr (omega (arith, same, above))) where_x in
-      (is, answer_on silent p g sound picture x is r y answer (of_all (relabelled g (label_in p.edges)) (pictured p g sound picture)))

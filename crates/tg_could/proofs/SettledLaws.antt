@@ -12,7 +12,7 @@ use Rattle.tg_model.specs.declared.opening.TheConstants.{MAX_WORKERS}
 use Rattle.tg_model.specs.Graph.{ProtectionGraph, IsSound}
 use Rattle.tg_model.specs.Opened.{label_in}
 use Rattle.tg_model.specs.Picture.{Holds, Shown, IsPictureOf, AreAmong}
-use Rattle.tg_could.specs.declared.led.LedNames.{LedNames}
+use Rattle.tg_could.specs.declared.separation.led.LedNames.{LedNames}
 use Rattle.tg_could.specs.Turns.{Acts, MayCome, IsSilent, NeverHolds, with_names}
 use Rattle.tg_could.specs.Separation.{Sides, Keeps, ComesLater}
 use Rattle.tg_could.specs.Answered.{HasTurns, IsDecided}

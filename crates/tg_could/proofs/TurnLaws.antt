@@ -26,7 +26,7 @@ use Rattle.tg_model.proofs.AllowedLaws.{step-allowed}
 use Rattle.tg_model.proofs.MakingLaws.{HasRoom, step-made}
 use Rattle.tg_model.proofs.PictureLaws.{or_true, Holds-pushed, Holds-still, Holds-added, Holds-with_rights}
 use Rattle.tg_could.specs.Inner.Trial.{Stands}
-use Rattle.tg_could.specs.declared.trial.Trial.{Trial}
+use Rattle.tg_could.specs.declared.witness.trial.Trial.{Trial}
 
 -- edges that stand on a graph stand on it with more rights too, and so does the new one
 pub among-with : (es : List Edge) (label : ℕ → ℕ → RightSet) (from to : ℕ) (rights : RightSet) → AreAmong es label → AreAmong es (with_rights label from to rights)

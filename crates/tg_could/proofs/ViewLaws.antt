@@ -14,10 +14,10 @@ use Rattle.tg_could.specs.Turns.{NeverHolds}
 use Rattle.tg_could.specs.Separation.{Sides, MayAdd, Walks, IsEven}
 use Rattle.tg_could.specs.Names.{number_in}
 use Rattle.tg_could.specs.View.{word_of, word_at, is_within, meets, IsOfOne, Joins, JoinsEntry, IsIn, IsEntered, Stands, IsGathered, AreGathered, IsPlaced, IsCheckedOn, sides_by, bound_of}
-use Rattle.tg_could.specs.declared.entries.Entry.{Entry}
-use Rattle.tg_could.specs.declared.incoming.Incoming.{Incoming}
-use Rattle.tg_could.specs.declared.islands.Islands.{Islands}
-use Rattle.tg_could.specs.declared.names.Names.{Names}
+use Rattle.tg_could.specs.declared.view.entries.PackedEdge.{PackedEdge}
+use Rattle.tg_could.specs.declared.view.incoming.Incoming.{Incoming}
+use Rattle.tg_could.specs.declared.view.islands.Islands.{Islands}
+use Rattle.tg_could.specs.declared.search.names.Names.{Names}
 use Rattle.tg_could.specs.declared.view.Facts.{Facts}
 use Rattle.tg_could.proofs.MarkLaws.{IsNot, keeps-walks, none_holds, Parts-edges, pictured-never, pictured-same, pictured-alone}
 use Rattle.tg_could.proofs.WordLaws.{within-trans, within-more, meets-down, meets-up, bridged-on, bridged-back, single-alike}
@@ -119,9 +119,9 @@ gathered-at f r x y words word {n = n} {m = m} are_words at_x at_y are =
 -- ---- checks
 
 -- each edge that has an entry stands as all entries do
-pub entered-stand : (names : Names) (islands : Islands) (incoming : Incoming) (entries : List Entry) (edges : List Edge) → All (IsEntered names entries) edges → All (JoinsEntry islands) entries → All (IsIn incoming) entries → All (Stands names islands incoming) edges
+pub entered-stand : (names : Names) (islands : Islands) (incoming : Incoming) (entries : List PackedEdge) (edges : List Edge) → All (IsEntered names entries) edges → All (JoinsEntry islands) entries → All (IsIn incoming) entries → All (Stands names islands incoming) edges
 entered-stand names islands incoming entries edges entered joined in_parts k d inside =
-    let none : Entry = record { to = 0; from = 0; label = (slice_index_or edges k d).label } in
+    let none : PackedEdge = record { to = 0; from = 0; label = (slice_index_or edges k d).label } in
     let is = entered k d inside in
     record {
       entry = slice_index_or entries is.place none;

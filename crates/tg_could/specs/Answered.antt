@@ -1,10 +1,10 @@
 -- What an answer says.
-use Rattle.std.specs.Prelude.{◌⊎◌, ℕ, ◌+◌, ◌<◌, Bool, true, false, List}
+use Rattle.std.specs.Prelude.{◌⊎◌, ℕ, ◌+◌, ◌<◌, Bool, true, false, List, []}
 use Rattle.tg_rights.specs.declared.Right.{Right}
 use Rattle.tg_model.specs.Graph.{ProtectionGraph, IsSound}
 use Rattle.tg_could.specs.declared.answer.Answer.{Answer}
 use Rattle.tg_could.specs.declared.answer.Answer.TheVariants.{Never, Could, WantsNames, Open}
-use Rattle.tg_could.specs.Turns.{NeverHolds, LeadThere, CouldHold, MayCome, with_names}
+use Rattle.tg_could.specs.Turns.{Turn, NeverHolds, LeadThere, CouldHold, MayCome, with_names}
 
 -- y was made, and fewer than 64 names are left; or 64 are, and x is one of them. Of a y that may yet be made names are never
 -- short, since whoever makes it holds the right.
@@ -33,3 +33,10 @@ IsAnswer silent g x right y Open = ¬ IsFar g x → ¬ IsFar g y → HasTurns si
 abbrev pub IsDecided : List ℕ → ProtectionGraph → ℕ → Right → ℕ → Bool → Type 0
 IsDecided silent g x right y true = HasTurns silent g x right y
 IsDecided silent g x right y false = NeverHolds silent g x right y
+
+-- the turns of an answer
+abbrev pub turns_of : Answer → List Turn
+turns_of (Never separation) = []
+turns_of (Could turns) = turns.items
+turns_of (WantsNames turns names) = turns.items
+turns_of Open = []

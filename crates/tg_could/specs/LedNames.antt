@@ -1,17 +1,20 @@
 -- What is known of two sets of names while they grow by going over all edges.
 use Rattle.std.specs.Prelude.{◌≡◌, ◌⊎◌, ℕ, ◌+◌, ◌<◌, nat_eq, Bool, true, false, List, length, if◌then◌else◌}
-use Rattle.std.specs.List.{Contains}
+use Rattle.std.specs.List.{All, Contains}
 use Rattle.std.specs.Set.{is_member}
 use Rattle.tg_rights.specs.RightSet.{has}
 use Rattle.tg_rights.specs.declared.Right.{Right}
 use Rattle.tg_rights.specs.declared.Right.TheVariants.{T, G}
 use Rattle.tg_model.specs.declared.edge.Edge.{Edge}
 use Rattle.tg_model.specs.Graph.{ProtectionGraph}
-use Rattle.tg_model.specs.Picture.{Shown}
-use Rattle.tg_could.specs.Separation.{Sides, ComesLater}
-use Rattle.tg_could.specs.Led.{Way, Led}
+use Rattle.tg_model.specs.Picture.{Shown, AreAmong}
+use Rattle.tg_could.specs.Separation.{Sides, Keeps, ComesLater}
+use Rattle.tg_could.specs.Led.{Way, Led, IsBrought}
 use Rattle.tg_could.specs.Led.Way.{back, forward}
-use Rattle.tg_could.specs.declared.led.LedNames.{LedNames}
+use Rattle.tg_could.specs.Scenes.{OnGraphs}
+use Rattle.tg_could.specs.Turns.{IsSilent}
+use Rattle.tg_could.specs.declared.separation.led.LedNames.{LedNames}
+use Rattle.tg_could.specs.declared.question.Scene.{Scene}
 
 -- whoever is in one of the two sets is led to
 pub record AreLed (silent : ℕ → Type 0) (right : Right) (y : ℕ) (g : ProtectionGraph) (s : Sides) : Type 0 where
@@ -60,3 +63,41 @@ pub record IsTurned (s : Sides) (p : Shown) (y : ℕ) (v : ℕ) : Type 0 where
 -- someone who acts on a picture
 abbrev pub ActsIn : List ℕ → Shown → ℕ → Type 0
 ActsIn silent p v = Contains p.subjects v × ¬ (Contains silent v × (v < p.made))
+
+abbrev pub ActsOn : Scene → ℕ → Type 0
+ActsOn scene v = ActsIn scene.silent.now scene.picture.now v
+
+-- ---- what one pass over the edges and the subjects comes to
+
+-- If whoever is in the old sets is led to, whoever is in the new ones is, too.
+abbrev pub StaysLed : Scene → Right → ℕ → Sides → Sides → Type 0
+StaysLed scene right y old new =
+    OnGraphs scene (λ g. AreLed (IsSilent scene.silent.now g) right y g old → AreLed (IsSilent scene.silent.now g) right y g new)
+
+-- This is so of each graph that has these edges, whoever is silent.
+abbrev pub StaysLedAlong : List Edge → Right → ℕ → Sides → Sides → Type 0
+StaysLedAlong edges right y old new = (silent : List ℕ) (g : ProtectionGraph) → AreAmong edges g.label →
+    AreLed (IsSilent silent g) right y g old → AreLed (IsSilent silent g) right y g new
+
+-- each of these edges leads out of neither set
+abbrev pub KeepsEach : Sides → Right → ℕ → List Edge → Type 0
+KeepsEach s right y edges = All (λ e. Keeps s right y (λ a b. e.label) e.from e.to) edges
+
+-- whoever acts turns nowhere else
+abbrev pub AreTurned : Scene → Sides → ℕ → Type 0
+AreTurned scene s y = (v : ℕ) → ActsOn scene v → IsTurned s scene.picture.now y v
+
+-- ---- to whom the sets lead the right
+
+-- a vertex is x, or may make x
+abbrev pub IsOrMakes : Scene → ℕ → ℕ → Type 0
+IsOrMakes scene x v = (v ≡ x) ⊎ ComesLater scene.picture.now x
+
+-- nobody who acts and is in the second set is x, or may make x
+abbrev pub NobodyGets : Scene → Sides → ℕ → Type 0
+NobodyGets scene s x = (v : ℕ) → ActsOn scene v → IsOrMakes scene x v → s.back v ≡ false
+
+-- If whoever is in the sets is led to, the right is led to x.
+abbrev pub BringsTo : Scene → Sides → ℕ → Type 0
+BringsTo scene s x = (right : Right) (y : ℕ) →
+    OnGraphs scene (λ g. AreLed (IsSilent scene.silent.now g) right y g s → IsBrought (IsSilent scene.silent.now g) right y g x)

@@ -2,6 +2,7 @@ pub mod Turns
 pub mod Names
 pub mod Separation
 pub mod Answered
+pub mod Scenes
 pub mod Reached
 pub mod Later
 pub mod Told

@@ -9,6 +9,8 @@ use Rattle.tg_model.specs.declared.opening.TheConstants.{MAX_WORKERS}
 use Rattle.tg_model.specs.Graph.{ProtectionGraph}
 use Rattle.tg_model.specs.Picture.{Shown, IsPictureOf}
 use Rattle.tg_could.specs.Turns.{NeverHolds}
+use Rattle.tg_could.specs.Scenes.{OnGraphs}
+use Rattle.tg_could.specs.declared.question.Scene.{Scene}
 use Rattle.tg_could.specs.Names.{number_in}
 use Rattle.tg_could.specs.Separation.{Sides, Walks, ComesLater}
 use Rattle.tg_could.specs.declared.what.What.{What}
@@ -53,3 +55,8 @@ pub record ListsActor (s : Sides) (listed : Listed) (shown : Shown) (x : ℕ) (p
   pub not_x : p ≡ x → ¬ (s.back p ≡ true)
   pub later : s.back p ≡ false → listed.later ≡ true
   pub x_may_come : ComesLater shown x → ¬ (s.back p ≡ true)
+
+-- x never holds what isn't told
+abbrev pub NeverUnlisted : Scene → ℕ → Listed → Type 0
+NeverUnlisted scene x listed = OnGraphs scene
+    (λ g. (right : Right) (y : ℕ) → IsUnlisted listed x scene.picture.now.made scene.picture.now.limit right y → NeverHolds scene.silent.now g x right y)

@@ -1,7 +1,7 @@
 -- Numbers for the names of a picture: its own where most names are shown, else its place in a list.
 use Rattle.std.specs.Prelude.{ℕ, zero, suc, ◌+◌, ◌-◌, ◌/◌, ◌==◌, nat_le, if◌then◌else◌, List, length, slice_index_or}
-use Rattle.tg_could.specs.declared.names.Names.{Names}
-use Rattle.tg_could.specs.declared.names.Names.TheVariants.{Each, Few}
+use Rattle.tg_could.specs.declared.search.names.Names.{Names}
+use Rattle.tg_could.specs.declared.search.names.Names.TheVariants.{Each, Few}
 
 -- The half of a part of a list in which a name is looked for: where it begins, and how long it is.
 unfoldable pub halved : List ℕ → ℕ → ℕ × ℕ → ℕ × ℕ

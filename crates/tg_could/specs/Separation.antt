@@ -11,7 +11,7 @@ use Rattle.tg_model.specs.Picture.{Holds, Shown}
 use Rattle.tg_could.specs.Turns.{Acts, MayCome}
 use Rattle.tg_could.specs.Names.{number_in}
 use Rattle.tg_could.specs.declared.separation.Separation.{Separation}
-use Rattle.tg_could.specs.declared.separation.Place.{Place}
+use Rattle.tg_could.specs.declared.separation.Membership.{Membership}
 
 -- Two sets of vertices. `back` has each vertex from which a walk of take edges leads to one who may come to hold the
 -- right; `forward` each vertex to which one leads from one who acts and may.
@@ -83,28 +83,28 @@ sides_against m = record {
 }
 
 -- take and grant lead out of neither set, between vertices in these
-pub record Stays (label : RightSet) (from to : Place) : Type 0 where
+pub record Stays (label : RightSet) (from to : Membership) : Type 0 where
   pub take_on : has label T ≡ true → from.forward ≡ true → to.forward ≡ true
   pub take_back : has label T ≡ true → to.back ≡ true → from.back ≡ true
   pub grant_on : has label G ≡ true → from.forward ≡ true → to.back ≡ true
   pub grant_back : has label G ≡ true → to.forward ≡ true → from.back ≡ true
 
 -- neither of two vertices is in a set
-pub record AreApart (from to : Place) : Type 0 where
+pub record AreApart (from to : Membership) : Type 0 where
   pub from_forward : ¬ (from.forward ≡ true)
   pub from_back : ¬ (from.back ≡ true)
   pub to_forward : ¬ (to.forward ≡ true)
   pub to_back : ¬ (to.back ≡ true)
 
 -- the edge leads out of neither set, between vertices in these, and x is neither its holder nor its gift
-pub record Suits (from to : Place) (x : ℕ) (right : Right) (y : ℕ) (edge : Edge) : Type 0 where
+pub record Suits (from to : Membership) (x : ℕ) (right : Right) (y : ℕ) (edge : Edge) : Type 0 where
   pub stays : Stays edge.label from to
   pub source : has edge.label right ≡ true → edge.to ≡ y → from.back ≡ true
   pub not_held : edge.from ≡ x → edge.to ≡ y → ¬ (has edge.label right ≡ true)
   pub not_granted : edge.to ≡ x → has edge.label G ≡ true → ¬ (from.forward ≡ true)
 
 -- where a vertex is
-abbrev pub place_in : Sides → ℕ → Place
+abbrev pub place_in : Sides → ℕ → Membership
 place_in s v = record { forward = s.forward v; back = s.back v }
 
 -- take and grant lead out of neither set along this edge
@@ -128,3 +128,7 @@ pub record IsEven (s : Sides) (shown : Shown) (x y : ℕ) (p : ℕ) : Type 0 whe
 pub record IsConfined (inside : ℕ → Bool) (g : ProtectionGraph) : Type 0 where
   pub take : (a b : ℕ) → Holds g.label a T b → inside a ≡ inside b
   pub grant : (a b : ℕ) → Holds g.label a G b → inside a ≡ inside b
+
+-- nobody in the set holds the right over y
+abbrev pub NoneHolds : (ℕ → Bool) → ProtectionGraph → Right → ℕ → Type 0
+NoneHolds inside g right y = (a : ℕ) → inside a ≡ true → ¬ Holds g.label a right y

@@ -1,11 +1,14 @@
 -- Whole runs of the rules, and what nobody can bring about by any of them.
 use Rattle.std.specs.Prelude.{ℕ, ◌+◌, ◌<◌, ◌≤◌, List, [], ◌∷◌}
 use Rattle.std.specs.List.{Contains}
+use Rattle.tg_rights.specs.RightSet.{RightSet}
 use Rattle.tg_rights.specs.declared.Right.{Right}
 use Rattle.tg_model.specs.declared.command.Deed.{Deed}
 use Rattle.tg_model.specs.Graph.{ProtectionGraph, IsSubject}
 use Rattle.tg_model.specs.Picture.{Holds}
-use Rattle.tg_model.specs.Rules.{step}
+use Rattle.tg_model.specs.Rules.{Permits, step}
+use Rattle.tg_model.specs.declared.command.Command.TheVariants.{Grant}
+use Rattle.tg_model.specs.declared.command.Deed.TheVariants.{Plain}
 
 -- who asks, and for what
 abbrev pub Turn : Type 0
@@ -33,6 +36,18 @@ IsSilent silent g p = Contains silent p × (p < g.made)
 abbrev pub NeverHolds : List ℕ → ProtectionGraph → ℕ → Right → ℕ → Type 0
 NeverHolds silent g x right y =
     (turns : List Turn) → AreTurns (IsSilent silent g) g turns → ¬ Holds (after g turns).label x right y
+
+-- the host may grant these rights over the target to the other vertex
+abbrev pub MayGrant : ProtectionGraph → ℕ → ℕ → ℕ → RightSet → Type 0
+MayGrant g host via target rights = Permits g.label g.value host (Grant rights via target)
+
+-- the graph after it did
+abbrev pub granted : ProtectionGraph → ℕ → ℕ → ℕ → RightSet → ProtectionGraph
+granted g host via target rights = step g host (Plain (Grant rights via target))
+
+-- what never comes about on one graph never does on the other
+abbrev pub StaysNever : List ℕ → ProtectionGraph → ProtectionGraph → Type 0
+StaysNever silent g h = (x : ℕ) (right : Right) (y : ℕ) → NeverHolds silent g x right y → NeverHolds silent h x right y
 
 -- these turns of those who act lead there
 abbrev pub LeadThere : List ℕ → ProtectionGraph → List Turn → ℕ → Right → ℕ → Type 0

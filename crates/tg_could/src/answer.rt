@@ -1,19 +1,18 @@
 //! The question and its answers.
-ghost use Rattle.std.specs.Prelude.{◌≡◌, ◌+◌, ◌<◌, ◌⊎◌, IfNone, IfOk, IfSome, IsTrue};
+ghost use Rattle.std.specs.Prelude.{◌≡◌, ◌<◌, IfNone, IfOk, IfSome, IsTrue};
 ghost use Rattle.tg_model.specs.Graph.{ProtectionGraph};
 ghost use Rattle.tg_model.specs.Picture.{IsPictureOf};
-ghost use Rattle.tg_could.specs.Separation.{ComesLater};
-ghost use Rattle.tg_could.specs.Turns.{NeverHolds};
-ghost use Rattle.tg_could.specs.Answered.{IsAnswer, IsFar, IsShort};
+ghost use Rattle.tg_could.specs.Answered.{IsFar, IsShort};
+ghost use Rattle.tg_could.specs.Scenes.{AnswerOf, NeverOf, OnGraphs};
 
-use crate::led::may_come_about;
-use crate::plan::turns_to;
-use crate::search::{Found, search};
+use crate::question::{Question, Scene, Witness};
+use crate::search::{Findings, search};
+use crate::separation::led::may_come_about;
 use crate::separation::{Separation, comes_later};
+use crate::witness::plan::turns_to;
 use crate::witness::replay;
 use std::alloc::{AllocError, Global};
 use tg_model::{Deed, Picture};
-use tg_rights::Right;
 
 // How many names that nobody asks about turns make at most, on the way to one that is asked about.
 const MOST_MADE: u64 = 1 << 16;
@@ -42,24 +41,32 @@ pub enum Answer {
     Open,
 }
 
+impl Answer {
+    ghost use Rattle.std.specs.Prelude.{◌≡◌};
+    ghost use Rattle.tg_could.specs.Answered.{turns_of};
+
+    /// The turns of the answer, in order. `Never` and `Open` have none.
+    pub fn turns(&self) -> &[(u64, Deed)]
+        ensures { result.now ≡ turns_of self.now }
+    {
+        match self {
+            Answer::Could(turns) | Answer::WantsNames { turns, .. } => turns.as_slice(),
+            Answer::Never(_) | Answer::Open => &[],
+        }
+    }
+}
+
 /// Whether x could ever come to hold a right over y, by any turns of the active subjects but the silent ones, on the
 /// graph of which this is a picture. A name in `silent` that was never made counts for nothing. Who retired is asked
 /// about like any object. A name that isn't made yet is asked about as one that whoever acts may make, and may have the
 /// right over, or hand it to: a `Could` makes each name up to it, and where over 65,536 others come before it the
 /// answer is `Never` or `Open`. Takes time and memory in proportion to the picture and to these. Fails only when out of
 /// memory.
-pub fn could_hold(
-    alloc: Global,
-    picture: &Picture,
-    silent: &[u64],
-    x: u64,
-    right: Right,
-    y: u64,
-) -> Result<Answer, AllocError>
-    ensures { IfOk result (λ answer. (g : ProtectionGraph) → IsPictureOf picture.now g → IsAnswer silent.now g x right y answer) }
+pub fn could_hold(alloc: Global, scene: &Scene, question: Question) -> Result<Answer, AllocError>
+    ensures { IfOk result (λ answer. OnGraphs scene.now (AnswerOf scene.now question answer)) }
 {
-    let found = search(alloc, picture, silent, right, y, false);
-    match settle(alloc, picture, silent, &found, x, right, y) {
+    let found = search(alloc, scene, question.right, question.y, false);
+    match settle(alloc, scene, &found, question) {
         Ok(Some(answer)) => Ok(answer),
         Ok(None) => Ok(Answer::Never(found.sides)),
         Err(error) => Err(error),
@@ -69,27 +76,24 @@ pub fn could_hold(
 // What is answered of what the search has found; none where x never holds the right. Fails only when out of memory.
 fn settle(
     alloc: Global,
-    picture: &Picture,
-    silent: &[u64],
-    found: &Found,
-    x: u64,
-    right: Right,
-    y: u64,
+    scene: &Scene,
+    found: &Findings,
+    question: Question,
 ) -> Result<Option<Answer>, AllocError>
-    ensures told { IfOk result (λ told. (g : ProtectionGraph) → IsPictureOf picture.now g → IfSome told (IsAnswer silent.now g x right y)) }
-    ensures never { IfOk result (λ told. (g : ProtectionGraph) → IsPictureOf picture.now g → IfNone told (NeverHolds silent.now g x right y)) }
+    ensures told { IfOk result (λ told. OnGraphs scene.now (λ g. IfSome told (λ answer. AnswerOf scene.now question answer g))) }
+    ensures never { IfOk result (λ told. OnGraphs scene.now (λ g. IfNone told (NeverOf scene.now question g))) }
 {
     found.grown?;
-    if found.sides.parts(picture, silent, x, right, y) {
+    if found.sides.parts(scene, question) {
         return Ok(None);
     }
-    if is_far(picture, x) || is_far(picture, y) {
+    if is_far(scene.picture, question.x) || is_far(scene.picture, question.y) {
         return Ok(Some(Answer::Open));
     }
-    if let Some(answer) = tell_turns(alloc, picture, silent, found, x, right, y)? {
+    if let Some(answer) = tell_turns(alloc, scene, found, question)? {
         return Ok(Some(answer));
     }
-    if may_come_about(alloc, picture, silent, x, right, y)? {
+    if may_come_about(alloc, scene, question)? {
         return Ok(Some(Answer::Open));
     }
     Ok(None)
@@ -99,37 +103,28 @@ fn settle(
 // only when out of memory.
 fn tell_turns(
     alloc: Global,
-    picture: &Picture,
-    silent: &[u64],
-    found: &Found,
-    x: u64,
-    right: Right,
-    y: u64,
+    scene: &Scene,
+    found: &Findings,
+    question: Question,
 ) -> Result<Option<Answer>, AllocError>
-    ensures { IfOk result (λ told. (g : ProtectionGraph) → IsPictureOf picture.now g → IfSome told (IsAnswer silent.now g x right y)) }
+    ensures { IfOk result (λ told. OnGraphs scene.now (λ g. IfSome told (λ answer. AnswerOf scene.now question answer g))) }
 {
-    let rows = found.rows(alloc, picture, x);
-    let planned = turns_to(alloc, picture, found, rows, x, right, y);
-    let names = planned.made.saturating_sub(picture.limit());
+    let rows = found.rows(alloc, scene.picture, question.x);
+    let planned = turns_to(alloc, scene.picture, found, rows, question);
+    let names = planned.made.saturating_sub(scene.picture.limit());
     let turns = planned.turns;
-    let leads = replay(
-        alloc,
-        picture,
-        planned.rows,
-        silent,
+    let witness = Witness {
+        turns: turns.as_slice(),
         names,
-        turns.as_slice(),
-        x,
-        right,
-        y,
-    )?;
+    };
+    let leads = replay(alloc, scene, planned.rows, question, &witness)?;
     if !leads {
         return Ok(None);
     }
     if names == 0 {
         return Ok(Some(Answer::Could(turns)));
     }
-    if is_short(picture, x, y) {
+    if is_short(scene.picture, question.x, question.y) {
         return Ok(Some(Answer::WantsNames { turns, names }));
     }
     Ok(None)

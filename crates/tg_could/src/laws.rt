@@ -3,14 +3,11 @@ ghost use Rattle.std.specs.Prelude.{◌≡◌, ◌≢◌, ◌⊎◌, ◌<◌, �
 ghost use Rattle.std.specs.List.{Contains};
 ghost use Rattle.tg_rights.specs.RightSet.{RightSet};
 ghost use Rattle.tg_rights.specs.declared.Right.{Right};
-ghost use Rattle.tg_model.specs.declared.command.Command.TheVariants.{Grant};
-ghost use Rattle.tg_model.specs.declared.command.Deed.TheVariants.{Plain};
 ghost use Rattle.tg_model.specs.Graph.{ProtectionGraph, IsSound};
-ghost use Rattle.tg_model.specs.Picture.{Holds, IsMade, with_edge};
-ghost use Rattle.tg_model.specs.Rules.{Permits, step};
-ghost use Rattle.tg_could.specs.Turns.{IsSilent, NeverHolds, CouldHold};
+ghost use Rattle.tg_model.specs.Picture.{IsMade, with_edge};
+ghost use Rattle.tg_could.specs.Turns.{IsSilent, NeverHolds, CouldHold, StaysNever, MayGrant, granted};
 ghost use Rattle.tg_could.specs.Answered.{IsShort};
-ghost use Rattle.tg_could.specs.Separation.{Sides, Separates, IsConfined};
+ghost use Rattle.tg_could.specs.Separation.{Sides, Separates, IsConfined, NoneHolds};
 ghost use Rattle.tg_could.specs.Led.{IsBrought, HasHelp};
 
 /// Where two sets part x from a right over y, x never holds it, whatever any who act do.
@@ -24,17 +21,16 @@ pub fn the_separated_never_hold()
 pub fn the_confined_never_hold()
     ensures { (silent : List ℕ) (g : ProtectionGraph) (inside : ℕ → Bool) (right : Right) (y : ℕ) →
         IsMade g → IsConfined inside g → y < g.made →
-        ((a : ℕ) → inside a ≡ true → ¬ Holds g.label a right y) →
+        NoneHolds inside g right y →
         (x : ℕ) → x < g.made → inside x ≡ true → NeverHolds silent g x right y }
 {}
 
 /// A question is asked of a grant before it is made: where x never holds the right on the graph with the new edge, it
 /// never does after the host's grant either, whatever the others do while the host is silent.
 pub fn a_grant_is_asked_about_before_it_is_made()
-    ensures { (silent : List ℕ) (g : ProtectionGraph) (host via target : ℕ) (rights : RightSet) (x : ℕ) (right : Right) (y : ℕ) →
-        Contains silent host → Permits g.label g.value host (Grant rights via target) →
-        NeverHolds silent (with_edge g via target rights) x right y →
-        NeverHolds silent (step g host (Plain (Grant rights via target))) x right y }
+    ensures { (silent : List ℕ) (g : ProtectionGraph) (host via target : ℕ) (rights : RightSet) →
+        Contains silent host → MayGrant g host via target rights →
+        StaysNever silent (with_edge g via target rights) (granted g host via target rights) }
 {}
 
 /// Where walks lead the right over y to x, x could come to hold it: there are turns of those who act behind which it
@@ -54,6 +50,6 @@ pub fn what_is_not_brought_is_parted()
 
 /// So each question has an answer where names aren't short: x never holds the right over y, or could come to hold it.
 pub fn each_question_has_an_answer()
-    ensures { (silent : List ℕ) (g : ProtectionGraph) (x : ℕ) (right : Right) (y : ℕ) →
+    ensures { (silent : List ℕ) (g : ProtectionGraph) (x y : ℕ) (right : Right) →
         IsSound g → ¬ IsShort g x y → NeverHolds silent g x right y ⊎ CouldHold silent g x right y }
 {}

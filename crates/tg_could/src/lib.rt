@@ -1,10 +1,10 @@
 //! Could x ever come to hold a right over y, by any turns of those whom one doesn't trust?
 //!
-//! A reference monitor says what is allowed now. Who builds a capability system asks the other question before each
-//! grant: could this plug-in ever come to write that document? [`could_hold`] answers it for a graph of `tg_model`, of
-//! which it is shown a `Picture`: the active subjects, the edges, and how many vertices were made and may be. Whom the
-//! host trusts it names as silent, itself foremost: these take no turns. All other active subjects act, and so does
-//! whoever is spawned later.
+//! A reference monitor says what is allowed now. A host asks another question before each grant: could this plug-in
+//! ever come to write that document? [`could_hold`] answers a [`Question`] on a [`Scene`]. The scene has the picture of
+//! a graph of `tg_model`: the active subjects, the edges, and how many vertices were made and may be. It also has the
+//! names of those who take no turns: a host names whom it trusts, itself first. All other active subjects act, and so
+//! does whoever is spawned later.
 //!
 //! - `Never`: after no list of turns of those who act does x hold the right over y, whatever they create or give up,
 //!   and whoever retires. With it comes a [`Separation`], which [`Separation::parts`] checks in one pass over the
@@ -20,47 +20,38 @@
 //!
 //! A question about a grant is asked before it is made, on the picture with the new edge (`Picture::with`).
 //!
-//! Of a store there is a picture of what its active subjects reach. On it [`could_hold_reached`] asks: whom nobody
-//! reaches is told as `Unreached`, and all else as it is on the whole graph.
+//! Of a store there is a picture of what its active subjects reach. [`could_hold_reached`] asks on it, with the edges
+//! that are supposed. If nobody reaches x, the answer is `Unreached`. Every other answer is that of the whole graph.
 //!
 //! What a reader has to believe stands in `specs/`: `Turns` (turns, `NeverHolds`, `LeadThere`), `Answered` (what an
-//! answer says) and `Reached`; of `Separation`, `Led`, `Told`, `Listed` and `View` no more than that a law or a later
-//! call speaks of them. The theorem is that of Jones, Lipton and Snyder ("A linear time algorithm for deciding
+//! answer says), `Scenes` and `Reached`; of `Separation`, `Led`, `Told`, `Listed` and `View` no more than that a law or
+//! a later call speaks of them. The theorem is that of Jones, Lipton and Snyder ("A linear time algorithm for deciding
 //! security", 1976) and of Lipton and Snyder ("A linear time algorithm for deciding subject security", Journal of the
 //! ACM 24(3), 1977). The search (`search`) and the turns that it leads to (`plan`) promise nothing: what they find is
 //! checked. [`laws`] has what holds of the definitions alone.
+//!
+//! The phases have a folder each: `search`, `separation`, `witness` and `view`.
 #![tactic(auto)]
 
 mod answer;
-mod chains;
 mod chance;
 mod enough;
-mod entries;
-mod growth;
-mod incoming;
-mod islands;
 mod later;
 pub mod laws;
-mod led;
-mod links;
-mod marks;
-mod names;
-mod plan;
+mod question;
 mod reached;
 mod search;
 mod separation;
-mod trial;
 mod view;
-mod walks;
 mod what;
 mod who;
 mod witness;
-mod words;
 
 pub use answer::{Answer, could_hold};
 pub use chance::Chance;
 pub use enough::needs;
-pub use reached::{Told, could_hold_reached, is_reached};
+pub use question::{Question, Scene, Witness};
+pub use reached::{ReachedAnswer, could_hold_reached, is_reached, join_reached, supposing};
 pub use separation::Separation;
 pub use view::View;
 pub use what::{What, what_could};

@@ -1,23 +1,23 @@
 //! What the active subjects of a graph reach, and the question on a picture of that part alone. Of a heap that was
 //! collected it is all that there is.
-ghost use Rattle.std.specs.Prelude.{◌≡◌, ◌↔◌, ◌⊎◌, ◌<◌, ◌≤◌, ℕ, List, IfOk, IsTrue};
+ghost use Rattle.std.specs.Prelude.{◌≡◌, ◌↔◌, ◌⊎◌, ◌++◌, ◌<◌, ℕ, List, IfOk, IsTrue};
 ghost use Rattle.std.specs.List.{Contains};
-ghost use Rattle.tg_rights.specs.declared.Right.{Right as RightOf};
+ghost use Rattle.tg_rights.specs.declared.Right.{Right};
 ghost use Rattle.tg_model.specs.Graph.{ProtectionGraph, IsReachable, IsSound};
-ghost use Rattle.tg_model.specs.Opened.{label_in};
 ghost use Rattle.tg_model.specs.Picture.{Shown};
-ghost use Rattle.tg_could.specs.Turns.{NeverHolds, IsSilent, Turn, AreTurns, LeadThere, after};
-ghost use Rattle.tg_could.specs.Reached.{HaveSameReach, HoldsWhatItHolds, IsLedTo, IsReachedPicture, IsToldOf};
+ghost use Rattle.tg_could.specs.Turns.{NeverHolds, Turn, LeadThere};
+ghost use Rattle.tg_could.specs.Reached.{HaveSameReach, HoldsWhatItHolds, IsLedTo, IsReachedPicture, JoinReached, JoinsReached, with_edges};
+ghost use Rattle.tg_could.specs.Reached.{IsKnown, OnReached, ReachedAnswerOf, as_shown};
 
 use crate::answer::{Answer, could_hold};
+use crate::question::{Question, Scene};
 use crate::separation::is_among;
 use std::alloc::{AllocError, Global};
 use tg_model::{Edge, Picture};
-use tg_rights::Right;
 
 /// What comes of the question on a picture of what the active subjects reach.
 #[derive(Drop)]
-pub enum Told {
+pub enum ReachedAnswer {
     /// No active subject reaches x, which was made: it holds what it holds, and no turns of anybody change that. The
     /// picture doesn't show what this is.
     Unreached,
@@ -52,35 +52,70 @@ fn is_led_to(edges: &[Edge], name: u64) -> bool
     false
 }
 
-/// What [`could_hold`] answers, on a picture of what the active subjects of a graph reach, and so true of the whole
-/// graph; but `Unreached` exactly where x was made and no active subject reaches it. Fails only when out of memory.
+/// What [`could_hold`] answers on the graph with these edges too, by a picture of what the active subjects of the graph
+/// reach without them, and so true of the whole graph; but `Unreached` exactly where x was made and no active subject
+/// reaches it. Each of the edges has to join two different vertices that active subjects reach ([`join_reached`]): else
+/// the answer says nothing. Fails only when out of memory.
 pub fn could_hold_reached(
     alloc: Global,
-    picture: &Picture,
-    silent: &[u64],
-    x: u64,
-    right: Right,
-    y: u64,
-) -> Result<Told, AllocError>
-    ensures { IfOk result (λ told. (g : ProtectionGraph) → IsSound g → IsReachedPicture picture.now g →
-        IsToldOf silent.now g x right y told) }
+    scene: &Scene,
+    supposed: &[Edge],
+    question: Question,
+) -> Result<ReachedAnswer, AllocError>
+    ensures { IfOk result (λ told. OnReached scene.now (λ g. JoinReached g supposed.now →
+        ReachedAnswerOf scene.now question told (with_edges g supposed.now))) }
 {
-    if x < picture.made() && !is_reached(picture, x) {
-        return Ok(Told::Unreached);
+    if question.x < scene.picture.made() && !is_reached(scene.picture, question.x) {
+        return Ok(ReachedAnswer::Unreached);
     }
-    let answer = could_hold(alloc, picture, silent, x, right, y)?;
-    Ok(Told::Of(answer))
+    let picture = supposing(alloc, scene.picture, supposed)?;
+    let wider = Scene {
+        picture: &picture,
+        silent: scene.silent,
+    };
+    let answer = could_hold(alloc, &wider, question)?;
+    Ok(ReachedAnswer::Of(answer))
+}
+
+/// Whether each edge joins two different vertices that active subjects reach, on the graph of whose reached part this
+/// is a picture. Looks at each edge of the picture once at most for each end. Takes no memory.
+pub fn join_reached(picture: &Picture, edges: &[Edge]) -> bool
+    ensures { (g : ProtectionGraph) → IsReachedPicture picture.now g → IsTrue result ↔ JoinReached g edges.now }
+{
+    for edge in edges {
+        if !joins_reached(picture, edge) {
+            return false;
+        }
+    }
+    true
+}
+
+// Whether an edge joins two different vertices that active subjects reach.
+fn joins_reached(picture: &Picture, edge: &Edge) -> bool
+    ensures { (g : ProtectionGraph) → IsReachedPicture picture.now g → IsTrue result ↔ JoinsReached g edge.now }
+{
+    edge.from != edge.to && is_reached(picture, edge.from) && is_reached(picture, edge.to)
+}
+
+/// The picture with these edges too. Fails only when out of memory.
+pub fn supposing(alloc: Global, picture: &Picture, edges: &[Edge]) -> Result<Picture, AllocError>
+    ensures { IfOk result (λ supposed. supposed ≡ record picture.now { edges = picture.now.edges ++ edges.now }) }
+{
+    let subjects = Vec::from_slice(alloc, picture.subjects())?;
+    let mut all = Vec::from_slice(alloc, picture.edges())?;
+    all.extend_from_slice(edges)?;
+    Ok(Picture::new(subjects, all, picture.made(), picture.limit()))
 }
 
 /// On the graph with the labels that a picture of its reached part shows, whoever is reached or isn't made yet could
 /// hold exactly what it could on the whole graph: the same turns lead there, and where none do there, none do here.
 pub fn what_is_reached_says_it_all()
-    ensures never { (silent : List ℕ) (p : Shown) (g : ProtectionGraph) (x : ℕ) (right : RightOf) (y : ℕ) →
-        IsSound g → IsReachedPicture p g → IsReachable g x ⊎ (g.made ≤ x) →
-        NeverHolds silent (record g { label = label_in p.edges }) x right y → NeverHolds silent g x right y }
-    ensures could { (silent : List ℕ) (p : Shown) (g : ProtectionGraph) (x : ℕ) (right : RightOf) (y : ℕ) (turns : List Turn) →
-        IsSound g → IsReachedPicture p g → IsReachable g x ⊎ (g.made ≤ x) →
-        LeadThere silent (record g { label = label_in p.edges }) turns x right y → LeadThere silent g turns x right y }
+    ensures never { (silent : List ℕ) (p : Shown) (g : ProtectionGraph) (x : ℕ) (right : Right) (y : ℕ) →
+        IsSound g → IsReachedPicture p g → IsKnown g x →
+        NeverHolds silent (as_shown p g) x right y → NeverHolds silent g x right y }
+    ensures could { (silent : List ℕ) (p : Shown) (g : ProtectionGraph) (x : ℕ) (right : Right) (y : ℕ) (turns : List Turn) →
+        IsSound g → IsReachedPicture p g → IsKnown g x →
+        LeadThere silent (as_shown p g) turns x right y → LeadThere silent g turns x right y }
 {}
 
 /// Whoever was made and no active subject reaches holds what it holds: no turns of anybody change a label at it.

@@ -1,19 +1,25 @@
 //! The search: who may come to hold a right, and on which way. What it finds is checked (`Separation::parts`,
 //! `lead_there`), so that nothing has to be believed of it. It goes back along take edges first, and looks at all
 //! others only where this leads to one who acts.
-use crate::chains::{Chains, NONE, place};
-use crate::growth::push;
-use crate::links::{Links, number_of};
-use crate::marks::{Pairs, is_in_second};
-use crate::names::Names;
+pub(crate) mod growth;
+pub(crate) mod links;
+pub(crate) mod marks;
+pub(crate) mod names;
+
+use crate::question::Scene;
+use crate::search::growth::push;
+use crate::search::links::{Links, number_of};
+use crate::search::marks::{Pairs, is_in_second};
+use crate::search::names::Names;
 use crate::separation::{Separation, comes_later, has, is_silent};
+use crate::witness::chains::{Chains, NONE, place};
 use std::alloc::{AllocError, Global};
 use tg_model::{Edge, Picture};
 use tg_rights::Right;
 
 /// A vertex that was put into a set.
 #[derive(Clone, Copy, Drop)]
-pub(crate) struct Step {
+pub(crate) struct Hop {
     pub(crate) vertex: u64,
     pub(crate) forward: bool,
 }
@@ -21,7 +27,7 @@ pub(crate) struct Step {
 // A step as it is kept, in 8 bytes: the number of the vertex twice, and one more where it was put into the first set;
 // and the place of the step that led there, `NONE` where the search began.
 #[derive(Clone, Copy, Drop)]
-struct Kept {
+struct PackedHop {
     packed: u32,
     before: u32,
 }
@@ -29,9 +35,9 @@ struct Kept {
 /// What the search has found: the sets, its steps in order, and who acts, in the second of two sets. Where memory was
 /// wanting once, nothing of it may be told but that.
 #[derive(Drop)]
-pub(crate) struct Found {
+pub(crate) struct Findings {
     pub(crate) sides: Separation,
-    steps: Vec<Kept>,
+    steps: Vec<PackedHop>,
     acting: Pairs,
     pub(crate) grown: Result<(), AllocError>,
 }
@@ -61,11 +67,11 @@ impl Ways {
     }
 }
 
-impl Kept {
+impl PackedHop {
     // None for a number past the most that are kept.
-    fn of(number: u64, forward: bool, before: u32) -> Option<Kept> {
+    fn of(number: u64, forward: bool, before: u32) -> Option<PackedHop> {
         let number = number_of(number)?;
-        Some(Kept {
+        Some(PackedHop {
             packed: number << 1 | forward as u32,
             before,
         })
@@ -83,36 +89,35 @@ impl Kept {
 /// and where it may yet be made, who acts is taken for it. Tells whether memory was wanting.
 pub(crate) fn search(
     alloc: Global,
-    picture: &Picture,
-    silent: &[u64],
+    scene: &Scene,
     right: Right,
     over: u64,
     back: bool,
-) -> Found {
-    let mut found = Found::start(alloc, picture, silent);
-    if comes_later(picture, over) {
-        found.put_actors(picture, back);
+) -> Findings {
+    let mut found = Findings::start(alloc, scene);
+    if comes_later(scene.picture, over) {
+        found.put_actors(scene.picture, back);
     }
     if back && found.acts(over) {
         found.put_name(over, true);
     }
-    found.search(alloc, picture.edges(), right, over);
+    found.search(alloc, scene.picture.edges(), right, over);
     found
 }
 
-impl Found {
+impl Findings {
     // No vertex is in a set.
-    fn start(alloc: Global, picture: &Picture, silent: &[u64]) -> Found {
+    fn start(alloc: Global, scene: &Scene) -> Findings {
         let mut grown = Ok(());
-        let names = Names::of(alloc, picture, &mut grown);
+        let names = Names::of(alloc, scene.picture, &mut grown);
         let mut acting = Pairs::none(alloc, names.len(), &mut grown);
-        for subject in picture.subjects() {
-            if !is_silent(silent, picture.made(), *subject) {
+        for subject in scene.picture.subjects() {
+            if !is_silent(scene.silent, scene.picture.made(), *subject) {
                 acting.put(names.number(*subject), false);
             }
         }
         let sides = Separation::none(alloc, names, &mut grown);
-        Found {
+        Findings {
             sides,
             steps: Vec::new(alloc),
             acting,
@@ -216,7 +221,7 @@ impl Found {
     // Puts the vertex with a number into a set.
     fn put(&mut self, number: u64, forward: bool, before: u32) {
         if self.sides.pairs.put(number, forward)
-            && let Some(kept) = Kept::of(number, forward, before)
+            && let Some(kept) = PackedHop::of(number, forward, before)
         {
             push(&mut self.steps, kept, &mut self.grown);
         }
@@ -251,12 +256,12 @@ impl Found {
     }
 
     /// The first who acts and is in the first set, or in the second.
-    pub(crate) fn first_actor(&self, picture: &Picture, forward: bool) -> Option<Step> {
+    pub(crate) fn first_actor(&self, picture: &Picture, forward: bool) -> Option<Hop> {
         for subject in picture.subjects() {
             let place = self.sides.place(*subject);
             let is_in = if forward { place.forward } else { place.back };
             if is_in && self.acts(*subject) {
-                return Some(Step {
+                return Some(Hop {
                     vertex: *subject,
                     forward,
                 });
@@ -285,9 +290,9 @@ impl Found {
     pub(crate) fn path(
         &self,
         alloc: Global,
-        last: Step,
+        last: Hop,
         grown: &mut Result<(), AllocError>,
-    ) -> Vec<Step> {
+    ) -> Vec<Hop> {
         let mut path = Vec::new(alloc);
         let mut next = self.place(last);
         for _ in 0..self.steps.len() {
@@ -296,7 +301,7 @@ impl Found {
             }
             let kept = self.steps[next as usize];
             let (number, forward) = kept.step();
-            let step = Step {
+            let step = Hop {
                 vertex: self.sides.names.name(number as u64),
                 forward,
             };
@@ -308,9 +313,9 @@ impl Found {
     }
 
     // The place of a step, `NONE` where it wasn't made.
-    fn place(&self, step: Step) -> u32 {
+    fn place(&self, step: Hop) -> u32 {
         let number = self.sides.names.number(step.vertex);
-        let Some(wanted) = Kept::of(number, step.forward, NONE) else {
+        let Some(wanted) = PackedHop::of(number, step.forward, NONE) else {
             return NONE;
         };
         for (at, kept) in self.steps.iter().enumerate() {

@@ -1,17 +1,21 @@
 //! Separations: two sets of vertices, and whether they part someone from a right.
 ghost use Rattle.std.specs.Prelude.{◌≡◌, ◌≢◌, ◌⊎◌, ◌↔◌, ℕ, false, ◌<◌, ◌≤◌, IsTrue, length};
-ghost use Rattle.std.specs.List.{All, Contains};
+ghost use Rattle.std.specs.List.{Contains};
 ghost use Rattle.tg_rights.specs.RightSet.{has as has_right};
-ghost use Rattle.tg_model.specs.Graph.{ProtectionGraph};
 ghost use Rattle.tg_model.specs.Opened.{label_in};
 ghost use Rattle.tg_model.specs.declared.opening.TheConstants.{MAX_WORKERS};
-ghost use Rattle.tg_model.specs.Picture.{Holds, IsPictureOf};
-ghost use Rattle.tg_could.specs.Turns.{NeverHolds};
-ghost use Rattle.tg_could.specs.LedNames.{ActsIn};
+ghost use Rattle.tg_model.specs.Picture.{Holds};
 ghost use Rattle.tg_could.specs.Separation.{MayAdd, Parts, Stays, sides_of, sides_against, place_in, ComesLater, IsEven, IsIdle, AreApart, Suits};
+ghost use Rattle.tg_could.specs.LedNames.{ActsOn};
+ghost use Rattle.tg_could.specs.Scenes.{EachActor, NeverOf, OnGraphs, TakesTurns};
 
-use crate::marks::{Pairs, is_in_first, is_in_second};
-use crate::names::Names;
+pub(crate) mod conditions;
+pub(crate) mod led;
+
+use crate::question::{Question, Scene};
+use crate::search::marks::{Pairs, is_in_first, is_in_second};
+use crate::search::names::Names;
+use crate::separation::conditions::{both_imply, not_all};
 use std::alloc::{AllocError, Global};
 use tg_model::{Edge, MAX_WORKERS, Picture};
 use tg_rights::{Label, Right, Rights};
@@ -34,7 +38,7 @@ impl Drop for Separation {
 
 /// Where a vertex is: in the first set, and in the second.
 #[derive(Clone, Copy, Drop)]
-pub(crate) struct Place {
+pub(crate) struct Membership {
     pub(crate) forward: bool,
     pub(crate) back: bool,
 }
@@ -49,21 +53,6 @@ pub(crate) fn has(label: Label, right: Right) -> bool
 /// The label of one right.
 pub(crate) fn single(right: Right) -> Label {
     Label::new(Rights::of(right)).unwrap()
-}
-
-/// Whether a third thing holds where two others do.
-pub(crate) fn leads(one: bool, two: bool, third: bool) -> bool
-    ensures { IsTrue result → IsTrue one → IsTrue two → IsTrue third }
-{
-    !one || !two || third
-}
-
-/// Whether one of three things doesn't hold.
-pub(crate) fn are_not_all(one: bool, two: bool, third: bool) -> bool
-    ensures not_all { IsTrue result → IsTrue one → IsTrue two → ¬ IsTrue third }
-    ensures all { result ≡ false → IsTrue one × IsTrue two × IsTrue third }
-{
-    !one || !two || !third
 }
 
 /// Whether a name is in a list.
@@ -88,12 +77,16 @@ pub(crate) fn comes_later(picture: &Picture, name: u64) -> bool
 }
 
 // Whether no edge from x to y has a right.
-pub(crate) fn lacks(edges: &[Edge], x: u64, right: Right, y: u64) -> bool
-    ensures lacks { IsTrue result → ¬ Holds (label_in edges.now) x right y }
-    ensures held { result ≡ false → Holds (label_in edges.now) x right y }
+pub(crate) fn lacks(edges: &[Edge], question: Question) -> bool
+    ensures lacks { IsTrue result → ¬ Holds (label_in edges.now) question.x question.right question.y }
+    ensures held { result ≡ false → Holds (label_in edges.now) question.x question.right question.y }
 {
     for edge in edges {
-        if !are_not_all(edge.from == x, edge.to == y, has(edge.label, right)) {
+        if !not_all(
+            edge.from == question.x,
+            edge.to == question.y,
+            has(edge.label, question.right),
+        ) {
             return false;
         }
     }
@@ -101,21 +94,21 @@ pub(crate) fn lacks(edges: &[Edge], x: u64, right: Right, y: u64) -> bool
 }
 
 /// Whether take and grant lead out of neither set, along an edge from a vertex to another.
-pub(crate) fn stays(label: Label, from: Place, to: Place) -> bool
+pub(crate) fn stays(label: Label, from: Membership, to: Membership) -> bool
     ensures { IsTrue result → Stays label from to }
 {
     let take = has(label, Right::T);
     let grant = has(label, Right::G);
-    if !leads(take, from.forward, to.forward) {
+    if !both_imply(take, from.forward, to.forward) {
         return false;
     }
-    if !leads(take, to.back, from.back) {
+    if !both_imply(take, to.back, from.back) {
         return false;
     }
-    if !leads(grant, from.forward, to.back) {
+    if !both_imply(grant, from.forward, to.back) {
         return false;
     }
-    leads(grant, to.forward, from.back)
+    both_imply(grant, to.forward, from.back)
 }
 
 // Whether an edge has neither take nor grant, nor the right over y.
@@ -129,31 +122,31 @@ fn is_idle(edge: &Edge, right: Right, y: u64) -> bool
 }
 
 // Whether neither of two vertices is in a set, and the name of the second isn't y.
-fn are_apart(from: Place, to: Place, name: u64, y: u64) -> bool
+fn are_apart(from: Membership, to: Membership, name: u64, y: u64) -> bool
     ensures { IsTrue result → AreApart from to × (name ≢ y) }
 {
     !from.forward && !from.back && !to.forward && !to.back && name != y
 }
 
 // Whether an edge between vertices in these sets leads out of neither, and x is neither its holder nor its gift.
-fn are_fit(edge: &Edge, from: Place, to: Place, x: u64, right: Right, y: u64) -> bool
-    ensures { IsTrue result → Suits from to x right y edge.now }
+fn are_fit(edge: &Edge, from: Membership, to: Membership, question: Question) -> bool
+    ensures { IsTrue result → Suits from to question.x question.right question.y edge.now }
 {
     let grant = has(edge.label, Right::G);
-    let held = has(edge.label, right);
-    let at_x = edge.from == x;
-    let to_x = edge.to == x;
-    let to_y = edge.to == y;
+    let held = has(edge.label, question.right);
+    let at_x = edge.from == question.x;
+    let to_x = edge.to == question.x;
+    let to_y = edge.to == question.y;
     if !stays(edge.label, from, to) {
         return false;
     }
-    if !leads(held, to_y, from.back) {
+    if !both_imply(held, to_y, from.back) {
         return false;
     }
-    if !are_not_all(at_x, to_y, held) {
+    if !not_all(at_x, to_y, held) {
         return false;
     }
-    are_not_all(to_x, grant, from.forward)
+    not_all(to_x, grant, from.forward)
 }
 
 impl Separation {
@@ -187,48 +180,48 @@ impl Separation {
     }
 
     /// In which of the sets a name is.
-    pub(crate) fn place(&self, name: u64) -> Place
+    pub(crate) fn place(&self, name: u64) -> Membership
         ensures { result ≡ place_in (sides_of self.now) name }
     {
         let pair = self.pairs.pair(self.names.number(name));
-        Place {
+        Membership {
             forward: is_in_first(pair),
             back: is_in_second(pair),
         }
     }
 
     /// In which of the sets it is of those whom a search that went back from x didn't reach.
-    pub(crate) fn place_against(&self, name: u64) -> Place
+    pub(crate) fn place_against(&self, name: u64) -> Membership
         ensures { result ≡ place_in (sides_against self.now) name }
     {
         let pair = self.pairs.pair(self.names.number(name));
-        Place {
+        Membership {
             forward: !is_in_second(pair),
             back: !is_in_first(pair),
         }
     }
 
     // Whether an edge leads out of neither set, and x is neither its holder nor its gift.
-    fn fits(&self, edge: &Edge, x: u64, right: Right, y: u64) -> bool
-        ensures { IsTrue result → MayAdd (sides_of self.now) x right y edge.now.from edge.now.to edge.now.label }
+    fn fits(&self, edge: &Edge, question: Question) -> bool
+        ensures { IsTrue result → MayAdd (sides_of self.now) question.x question.right question.y edge.now.from edge.now.to edge.now.label }
     {
-        if is_idle(edge, right, y) {
+        if is_idle(edge, question.right, question.y) {
             return true;
         }
         let from = self.place(edge.from);
         let to = self.place(edge.to);
-        if are_apart(from, to, edge.to, y) {
+        if are_apart(from, to, edge.to, question.y) {
             return true;
         }
-        are_fit(edge, from, to, x, right, y)
+        are_fit(edge, from, to, question)
     }
 
     // Whether the two sets part x from a right over y, as far as these edges go.
-    fn part(&self, edges: &[Edge], x: u64, right: Right, y: u64) -> bool
-        ensures { IsTrue result → Parts (sides_of self.now) x right y (label_in edges.now) }
+    fn part(&self, edges: &[Edge], question: Question) -> bool
+        ensures { IsTrue result → Parts (sides_of self.now) question.x question.right question.y (label_in edges.now) }
     {
         for edge in edges {
-            if !self.fits(edge, x, right, y) {
+            if !self.fits(edge, question) {
                 return false;
             }
         }
@@ -236,11 +229,11 @@ impl Separation {
     }
 
     // Whether a subject is silent, or in both sets or in none, and where it has to be.
-    fn is_even(&self, picture: &Picture, silent: &[u64], x: u64, y: u64, subject: u64) -> bool
+    fn is_even(&self, scene: &Scene, question: Question, subject: u64) -> bool
         ensures { IsTrue result →
-            ¬ (Contains silent.now subject × (subject < picture.now.made)) → IsEven (sides_of self.now) picture.now x y subject }
+            TakesTurns scene.now subject → IsEven (sides_of self.now) scene.now.picture.now question.x question.y subject }
     {
-        if is_silent(silent, picture.made(), subject) {
+        if is_silent(scene.silent, scene.picture.made(), subject) {
             return true;
         }
         let back = self.is_back(subject);
@@ -248,18 +241,18 @@ impl Separation {
             return false;
         }
         if back {
-            return subject != x && !comes_later(picture, x);
+            return subject != question.x && !comes_later(scene.picture, question.x);
         }
-        !comes_later(picture, y)
+        !comes_later(scene.picture, question.y)
     }
 
     // Whether each who acts is in both sets or in none, and where it has to be.
-    fn are_even(&self, picture: &Picture, silent: &[u64], x: u64, y: u64) -> bool
+    fn are_even(&self, scene: &Scene, question: Question) -> bool
         ensures { IsTrue result →
-            All (λ v. ¬ (Contains silent.now v × (v < picture.now.made)) → IsEven (sides_of self.now) picture.now x y v) picture.now.subjects }
+            EachActor scene.now (IsEven (sides_of self.now) scene.now.picture.now question.x question.y) }
     {
-        for subject in picture.subjects() {
-            if !self.is_even(picture, silent, x, y, *subject) {
+        for subject in scene.picture.subjects() {
+            if !self.is_even(scene, question, *subject) {
                 return false;
             }
         }
@@ -270,34 +263,34 @@ impl Separation {
     /// subjects but the silent ones, those spawned on the way included. Looks at each edge once. Where x is y, or
     /// nobody but y acts and as many subjects as may be are active, the sets play no part: who holds nothing then never
     /// does.
-    pub fn parts(&self, picture: &Picture, silent: &[u64], x: u64, right: Right, y: u64) -> bool
-        ensures { IsTrue result → (g : ProtectionGraph) → IsPictureOf picture.now g → NeverHolds silent.now g x right y }
+    pub fn parts(&self, scene: &Scene, question: Question) -> bool
+        ensures { IsTrue result → OnGraphs scene.now (NeverOf scene.now question) }
     {
-        if x == y {
-            return lacks(picture.edges(), x, right, y);
+        if question.x == question.y {
+            return lacks(scene.picture.edges(), question);
         }
-        if is_alone(picture, silent, y) {
-            return lacks(picture.edges(), x, right, y);
+        if is_alone(scene, question.y) {
+            return lacks(scene.picture.edges(), question);
         }
-        if !self.are_even(picture, silent, x, y) {
+        if !self.are_even(scene, question) {
             return false;
         }
-        self.part(picture.edges(), x, right, y)
+        self.part(scene.picture.edges(), question)
     }
 }
 
 /// Whether nobody but y acts, and as many subjects as may be are active.
-pub(crate) fn is_alone(picture: &Picture, silent: &[u64], y: u64) -> bool
-    ensures many { IsTrue result → MAX_WORKERS ≤ length picture.now.subjects }
+pub(crate) fn is_alone(scene: &Scene, y: u64) -> bool
+    ensures many { IsTrue result → MAX_WORKERS ≤ length scene.now.picture.now.subjects }
     ensures alone { IsTrue result →
-        All (λ v. ¬ (Contains silent.now v × (v < picture.now.made)) → v ≡ y) picture.now.subjects }
-    ensures helped { result ≡ false → (length picture.now.subjects < MAX_WORKERS) ⊎ ((v : ℕ) × ActsIn silent.now picture.now v × (v ≢ y)) }
+        EachActor scene.now (λ v. v ≡ y) }
+    ensures helped { result ≡ false → (length scene.now.picture.now.subjects < MAX_WORKERS) ⊎ ((v : ℕ) × ActsOn scene.now v × (v ≢ y)) }
 {
-    if (picture.subjects().len() as u64) < MAX_WORKERS {
+    if (scene.picture.subjects().len() as u64) < MAX_WORKERS {
         return false;
     }
-    for subject in picture.subjects() {
-        if !is_or_is_silent(picture, silent, *subject, y) {
+    for subject in scene.picture.subjects() {
+        if !is_or_is_silent(scene, *subject, y) {
             return false;
         }
     }
@@ -305,9 +298,9 @@ pub(crate) fn is_alone(picture: &Picture, silent: &[u64], y: u64) -> bool
 }
 
 // Whether a subject is silent, or is y.
-fn is_or_is_silent(picture: &Picture, silent: &[u64], subject: u64, y: u64) -> bool
-    ensures is { IsTrue result → ¬ (Contains silent.now subject × (subject < picture.now.made)) → subject ≡ y }
-    ensures other { result ≡ false → ¬ (Contains silent.now subject × (subject < picture.now.made)) × (subject ≢ y) }
+fn is_or_is_silent(scene: &Scene, subject: u64, y: u64) -> bool
+    ensures is { IsTrue result → TakesTurns scene.now subject → subject ≡ y }
+    ensures other { result ≡ false → TakesTurns scene.now subject × (subject ≢ y) }
 {
-    is_silent(silent, picture.made(), subject) || subject == y
+    is_silent(scene.silent, scene.picture.made(), subject) || subject == y
 }

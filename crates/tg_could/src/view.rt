@@ -1,25 +1,30 @@
 //! All questions of one picture at once.
-ghost use Rattle.std.specs.Prelude.{◌≡◌, ◌↔◌, ◌<◌, ◌≤◌, true, ℕ, List, length, IfOk, IsTrue};
-ghost use Rattle.std.specs.List.{All, Contains};
-ghost use Rattle.tg_rights.specs.declared.Right.{Right as TheRight};
-ghost use Rattle.tg_model.specs.Graph.{ProtectionGraph};
+ghost use Rattle.std.specs.Prelude.{◌≡◌, ◌↔◌, ◌<◌, ◌≤◌, true, ℕ, length, IfOk, IsTrue};
+ghost use Rattle.std.specs.List.{All};
 ghost use Rattle.tg_model.specs.declared.opening.TheConstants.{MAX_WORKERS};
-ghost use Rattle.tg_model.specs.Picture.{Shown, IsPictureOf};
 ghost use Rattle.tg_could.specs.declared.chance.Chance.TheVariants.{Never};
-ghost use Rattle.tg_could.specs.Turns.{NeverHolds};
 ghost use Rattle.tg_could.specs.View.{IsViewOf, IsCheckedOn, IsPlaced, IsListed, Stands, is_within as within};
+ghost use Rattle.tg_could.specs.Scenes.{EachActor, TakesTurns};
+ghost use Rattle.tg_could.specs.View.{TellsNever};
+
+pub(crate) mod entries;
+pub(crate) mod incoming;
+pub(crate) mod islands;
+pub(crate) mod walks;
+pub(crate) mod words;
 
 use crate::chance::Chance;
-use crate::entries::{Entries, Entry};
-use crate::growth::{push, table};
-use crate::incoming::Incoming;
-use crate::islands::Islands;
-use crate::names::Names;
+use crate::question::{Question, Scene};
+use crate::search::growth::{push, table};
+use crate::search::names::Names;
+use crate::separation::conditions::pairs_match;
 use crate::separation::{is_among, is_silent};
-use crate::words::{is_within, meets};
+use crate::view::entries::{PackedEdge, PackedEdges};
+use crate::view::incoming::Incoming;
+use crate::view::islands::Islands;
+use crate::view::words::{is_within, meets};
 use std::alloc::{AllocError, Global};
 use tg_model::{Edge, MAX_WORKERS, Picture};
-use tg_rights::Right;
 
 /// What could come about on a picture, of all questions at once, as of the moment of [`View::open`].
 #[derive(Drop)]
@@ -59,125 +64,115 @@ impl View {
     /// Makes ready for all questions of a picture, where the silent ones take no turns: for each vertex two words of 64
     /// bits, and the edges by their targets. Time and memory are in proportion to the picture. Vertices and edges count
     /// by 32 bits: where there are more, all is told as `Perhaps`. Fails only when out of memory.
-    pub fn open(alloc: Global, picture: &Picture, silent: &[u64]) -> Result<View, AllocError>
-        ensures { IfOk result (λ view. IsViewOf silent.now picture.now view) }
+    pub fn open(alloc: Global, scene: &Scene) -> Result<View, AllocError>
+        ensures { IfOk result (λ view. IsViewOf scene.now.silent.now scene.now.picture.now view) }
     {
         let mut grown = Ok(());
-        let names = Names::of(alloc, picture, &mut grown);
-        let entries = Entries::of(alloc, &names, picture.edges(), &mut grown);
-        let list = entries.list.as_slice();
-        let mut places = table(alloc, 0, list.len(), &mut grown);
-        let facts = Facts::of(
-            alloc,
-            picture,
-            silent,
-            names,
-            list,
-            places.as_mut_slice(),
-            &mut grown,
-        );
+        let names = Names::of(alloc, scene.picture, &mut grown);
+        let entries = PackedEdges::of(alloc, &names, scene.picture.edges(), &mut grown);
+        let (facts, places) = Facts::of(alloc, scene, names, entries.list.as_slice(), &mut grown);
         grown?;
-        let is_shown = facts.is_checked(picture, silent, &entries, places.as_slice());
+        let is_shown = facts.is_checked(scene, &entries, places.as_slice());
         Ok(View { facts, is_shown })
     }
 
     /// Whether x could ever come to hold a right over y, by any turns of the active subjects but the silent ones, as of
     /// the moment of [`View::open`]: `Never` is proved, `Perhaps` says nothing. Takes no memory, and time in proportion
     /// to the edges to y.
-    pub fn could(&self, x: u64, right: Right, y: u64) -> Chance
-        ensures { (silent : List ℕ) (shown : Shown) (g : ProtectionGraph) →
-            IsViewOf silent shown self.now → IsPictureOf shown g → result ≡ Never → NeverHolds silent g x right y }
+    pub fn could(&self, question: Question) -> Chance
+        ensures { TellsNever (λ silent shown. IsViewOf silent shown self.now) result question }
     {
         if !self.is_shown {
             return Chance::Perhaps;
         }
-        self.facts.could(x, right, y)
+        self.facts.could(question)
     }
 }
 
 impl Facts {
-    // The facts of a picture, by its entries, of which each is told its place. Nothing is believed of them. Notes
+    // The facts of a picture, by its entries, and the place of each entry's holder. Nothing is believed of them. Notes
     // whether memory was wanting.
     fn of(
         alloc: Global,
-        picture: &Picture,
-        silent: &[u64],
+        scene: &Scene,
         names: Names,
-        entries: &[Entry],
-        places: &mut [u32],
+        entries: &[PackedEdge],
         grown: &mut Result<(), AllocError>,
-    ) -> Facts {
-        let actors = actors_of(alloc, picture, silent, grown);
+    ) -> (Facts, Vec<u32>) {
+        let mut places = table(alloc, 0, entries.len(), grown);
+        let actors = actors_of(alloc, scene, grown);
         let islands = Islands::of(alloc, &names, entries, actors.as_slice(), grown);
-        let incoming = Incoming::of(alloc, names.len(), entries, places, grown);
-        Facts {
+        let incoming = Incoming::of(alloc, names.len(), entries, places.as_mut_slice(), grown);
+        let facts = Facts {
             names,
             actors,
             islands,
             incoming,
-            is_full: is_full(picture),
-            made: picture.made(),
-            limit: picture.limit(),
-        }
+            is_full: is_full(scene.picture),
+            made: scene.picture.made(),
+            limit: scene.picture.limit(),
+        };
+        (facts, places)
     }
 
     // What a view tells, of facts that were checked.
-    fn could(&self, x: u64, right: Right, y: u64) -> Chance
-        ensures { (silent : List ℕ) (shown : Shown) (g : ProtectionGraph) →
-            IsCheckedOn silent shown self.now → IsPictureOf shown g → result ≡ Never → NeverHolds silent g x right y }
+    fn could(&self, question: Question) -> Chance
+        ensures { TellsNever (λ silent shown. IsCheckedOn silent shown self.now) result question }
     {
-        let number = self.names.number(x);
+        let number = self.names.number(question.x);
         let words = self.islands.reached.as_slice();
-        let Some(gathered) = self
-            .incoming
-            .gather(words, number, right, self.names.number(y))
+        let Some(gathered) = self.incoming.gather(
+            words,
+            number,
+            question.right,
+            self.names.number(question.y),
+        )
         else {
             return Chance::Perhaps;
         };
-        if x == y {
+        if question.x == question.y {
             return Chance::Never;
         }
-        if self.is_alone(y) {
+        if self.is_alone(question.y) {
             return Chance::Never;
         }
-        let word = self.with_later(gathered, y);
+        let word = self.with_later(gathered, question.y);
         if meets(self.islands.granted(number), word) {
             return Chance::Perhaps;
         }
-        if !self.are_placed(x, y, word) {
+        if !self.are_placed(question.x, question.y, word) {
             return Chance::Perhaps;
         }
         Chance::Never
     }
 
     // Whether the facts are those of a picture.
-    fn is_checked(
-        &self,
-        picture: &Picture,
-        silent: &[u64],
-        entries: &Entries,
-        places: &[u32],
-    ) -> bool
-        ensures { IsTrue result → IsCheckedOn silent.now picture.now self.now }
+    fn is_checked(&self, scene: &Scene, entries: &PackedEdges, places: &[u32]) -> bool
+        ensures { IsTrue result → IsCheckedOn scene.now.silent.now scene.now.picture.now self.now }
     {
         let actors = self.actors.as_slice();
-        if !are_same(self.made, picture.made(), self.limit, picture.limit()) {
+        if !pairs_match(
+            self.made,
+            scene.picture.made(),
+            self.limit,
+            scene.picture.limit(),
+        ) {
             return false;
         }
-        if !self.is_full_as(picture) {
+        if !self.is_full_as(scene.picture) {
             return false;
         }
-        if !are_listed(actors, picture, silent) {
+        if !are_listed(actors, scene) {
             return false;
         }
         if !self.islands.are_single(&self.names, actors) {
             return false;
         }
-        self.have_all(picture.edges(), entries, places)
+        self.have_all(scene.picture.edges(), entries, places)
     }
 
     // Whether each of these edges has an entry, which the words count, and whose holder stands at its place.
-    fn have_all(&self, edges: &[Edge], entries: &Entries, places: &[u32]) -> bool
+    fn have_all(&self, edges: &[Edge], entries: &PackedEdges, places: &[u32]) -> bool
         ensures { IsTrue result → All (Stands self.now.names self.now.islands self.now.incoming) edges.now }
     {
         let list = entries.list.as_slice();
@@ -219,7 +214,7 @@ impl Facts {
     fn is_alone(&self, y: u64) -> bool
         ensures { IsTrue result → (self.now.is_full ≡ true) × All (λ v. v ≡ y) self.now.actors.items }
     {
-        self.is_full && are_all(self.actors.as_slice(), y)
+        self.is_full && are_each(self.actors.as_slice(), y)
     }
 
     // Whether each who acts is of the islands of a word or not, as x and y ask.
@@ -246,15 +241,10 @@ impl Facts {
 }
 
 // Who acts. Notes whether memory was wanting.
-fn actors_of(
-    alloc: Global,
-    picture: &Picture,
-    silent: &[u64],
-    grown: &mut Result<(), AllocError>,
-) -> Vec<u64> {
+fn actors_of(alloc: Global, scene: &Scene, grown: &mut Result<(), AllocError>) -> Vec<u64> {
     let mut actors = Vec::new(alloc);
-    for subject in picture.subjects() {
-        if !is_silent(silent, picture.made(), *subject) {
+    for subject in scene.picture.subjects() {
+        if !is_silent(scene.silent, scene.picture.made(), *subject) {
             push(&mut actors, *subject, grown);
         }
     }
@@ -269,7 +259,7 @@ fn is_full(picture: &Picture) -> bool
 }
 
 // Whether each of these names is y.
-fn are_all(names: &[u64], y: u64) -> bool
+fn are_each(names: &[u64], y: u64) -> bool
     ensures { IsTrue result → All (λ v. v ≡ y) names.now }
 {
     for name in names {
@@ -281,12 +271,12 @@ fn are_all(names: &[u64], y: u64) -> bool
 }
 
 // Whether each who acts is listed.
-fn are_listed(actors: &[u64], picture: &Picture, silent: &[u64]) -> bool
+fn are_listed(actors: &[u64], scene: &Scene) -> bool
     ensures { IsTrue result →
-        All (λ v. ¬ (Contains silent.now v × (v < picture.now.made)) → IsListed actors.now v) picture.now.subjects }
+        EachActor scene.now (IsListed actors.now) }
 {
-    for subject in picture.subjects() {
-        if !is_listed_or_silent(actors, picture, silent, *subject) {
+    for subject in scene.picture.subjects() {
+        if !is_listed_or_silent(actors, scene, *subject) {
             return false;
         }
     }
@@ -294,15 +284,8 @@ fn are_listed(actors: &[u64], picture: &Picture, silent: &[u64]) -> bool
 }
 
 // Whether a subject is silent, or listed.
-fn is_listed_or_silent(actors: &[u64], picture: &Picture, silent: &[u64], subject: u64) -> bool
-    ensures { IsTrue result → ¬ (Contains silent.now subject × (subject < picture.now.made)) → IsListed actors.now subject }
+fn is_listed_or_silent(actors: &[u64], scene: &Scene, subject: u64) -> bool
+    ensures { IsTrue result → TakesTurns scene.now subject → IsListed actors.now subject }
 {
-    is_silent(silent, picture.made(), subject) || is_among(actors, subject)
-}
-
-// Whether the two and the other two are the same.
-fn are_same(one: u64, same: u64, two: u64, alike: u64) -> bool
-    ensures { IsTrue result → (one ≡ same) × (two ≡ alike) }
-{
-    one == same && two == alike
+    is_silent(scene.silent, scene.picture.made(), subject) || is_among(actors, subject)
 }

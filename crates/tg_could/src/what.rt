@@ -1,25 +1,24 @@
 //! What someone could ever come to hold.
 ghost use Rattle.std.specs.Prelude.{◌≡◌, ◌⊎◌, ◌↔◌, ◌<◌, ◌≤◌, ℕ, true, IfOk, IfSome, IsTrue};
-ghost use Rattle.std.specs.List.{All, Contains};
+ghost use Rattle.std.specs.List.{All};
 ghost use Rattle.tg_rights.specs.RightSet.{has as has_right};
 ghost use Rattle.tg_rights.specs.declared.Right.{Right as TheRight};
-ghost use Rattle.tg_model.specs.Graph.{ProtectionGraph};
-ghost use Rattle.tg_model.specs.Picture.{IsPictureOf};
 ghost use Rattle.tg_could.specs.declared.chance.Chance.TheVariants.{Never};
-ghost use Rattle.tg_could.specs.Turns.{NeverHolds};
 ghost use Rattle.tg_could.specs.Separation.{sides_against};
-ghost use Rattle.tg_could.specs.Listed.{IsUnlisted, IsLeftOut, IsOnlyActor, ListsEdge, ListsActor, TellsWhat, rights_over};
+ghost use Rattle.tg_could.specs.Listed.{IsLeftOut, IsOnlyActor, ListsEdge, ListsActor, TellsWhat, rights_over};
+ghost use Rattle.tg_could.specs.Listed.{NeverUnlisted};
+ghost use Rattle.tg_could.specs.Scenes.{EachActor, TakesTurns};
 
 use crate::chance::Chance;
-use crate::growth::table;
 use crate::later::first_later;
-use crate::names::Names;
-use crate::search::{Found, search};
-use crate::separation::{
-    Separation, are_not_all, comes_later, has, is_alone, is_silent, leads, stays,
-};
+use crate::question::Scene;
+use crate::search::growth::table;
+use crate::search::names::Names;
+use crate::search::{Findings, search};
+use crate::separation::conditions::{both_imply, not_all};
+use crate::separation::{Separation, comes_later, has, is_alone, is_silent, stays};
 use std::alloc::{AllocError, Global};
-use tg_model::{Edge, Picture};
+use tg_model::Edge;
 use tg_rights::{Right, Rights};
 
 /// What someone could ever come to hold, as [`what_could`] tells it.
@@ -84,25 +83,20 @@ impl What {
 /// What x could ever come to hold, by any turns of the active subjects but the silent ones. Each right over a name of
 /// which `Never` is told it never holds; `Perhaps` says nothing. One search: time and memory in proportion to the
 /// picture. Fails only when out of memory.
-pub fn what_could(
-    alloc: Global,
-    picture: &Picture,
-    silent: &[u64],
-    x: u64,
-) -> Result<What, AllocError>
-    ensures { IfOk result (TellsWhat silent.now picture.now x) }
+pub fn what_could(alloc: Global, scene: &Scene, x: u64) -> Result<What, AllocError>
+    ensures { IfOk result (TellsWhat scene.now.silent.now scene.now.picture.now x) }
 {
-    let found = search(alloc, picture, silent, Right::G, x, true);
+    let found = search(alloc, scene, Right::G, x, true);
     let mut grown = found.grown;
-    let listed = Listed::of(alloc, picture, silent, &found, x, &mut grown);
+    let listed = Listed::of(alloc, scene, &found, x, &mut grown);
     grown?;
-    let is_shown = listed.leaves_out(&found.sides, picture, silent, x);
+    let is_shown = listed.leaves_out(&found.sides, scene, x);
     Ok(What {
         listed,
         is_shown,
         holder: x,
-        made: picture.made(),
-        limit: picture.limit(),
+        made: scene.picture.made(),
+        limit: scene.picture.limit(),
     })
 }
 
@@ -114,10 +108,10 @@ fn all_rights() -> Rights
 }
 
 // The only one who acts, where as many subjects as may be are active.
-fn only_actor(picture: &Picture, silent: &[u64]) -> Option<u64> {
-    for subject in picture.subjects() {
-        if !is_silent(silent, picture.made(), *subject) {
-            return if is_alone(picture, silent, *subject) {
+fn only_actor(scene: &Scene) -> Option<u64> {
+    for subject in scene.picture.subjects() {
+        if !is_silent(scene.silent, scene.picture.made(), *subject) {
+            return if is_alone(scene, *subject) {
                 Some(*subject)
             } else {
                 None
@@ -141,9 +135,8 @@ impl Listed {
     // What x holds, and what is held by those whose rights it may get. Notes whether memory was wanting.
     fn of(
         alloc: Global,
-        picture: &Picture,
-        silent: &[u64],
-        found: &Found,
+        scene: &Scene,
+        found: &Findings,
         x: u64,
         grown: &mut Result<(), AllocError>,
     ) -> Listed {
@@ -151,17 +144,17 @@ impl Listed {
         let mut listed = Listed {
             rights: table(alloc, Rights::empty(), names.len(), grown),
             names,
-            later: found.first_actor(picture, true).is_some(),
-            alone: only_actor(picture, silent),
+            later: found.first_actor(scene.picture, true).is_some(),
+            alone: only_actor(scene),
         };
-        for edge in picture.edges() {
+        for edge in scene.picture.edges() {
             listed.add(found, edge, x);
         }
         listed
     }
 
     // Lists the rights of an edge, where it is one from x, or from somebody else whose rights x may get.
-    fn add(&mut self, found: &Found, edge: &Edge, x: u64) {
+    fn add(&mut self, found: &Findings, edge: &Edge, x: u64) {
         if edge.from != x && (self.is_kept(edge.to, x) || !found.sides.is_forward(edge.from)) {
             return;
         }
@@ -190,25 +183,24 @@ impl Listed {
     }
 
     // Whether x never holds what isn't told, as far as the two sets show it.
-    fn leaves_out(&self, sides: &Separation, picture: &Picture, silent: &[u64], x: u64) -> bool
-        ensures { IsTrue result → (g : ProtectionGraph) → IsPictureOf picture.now g → (right : TheRight) (y : ℕ) →
-            IsUnlisted self.now x picture.now.made picture.now.limit right y → NeverHolds silent.now g x right y }
+    fn leaves_out(&self, sides: &Separation, scene: &Scene, x: u64) -> bool
+        ensures { IsTrue result → NeverUnlisted scene.now x self.now }
     {
-        if !self.has_alone(picture, silent) {
+        if !self.has_alone(scene) {
             return false;
         }
-        if !self.has_actors(sides, picture, silent, x) {
+        if !self.has_actors(sides, scene, x) {
             return false;
         }
-        self.has_edges(sides, picture.edges(), x)
+        self.has_edges(sides, scene.picture.edges(), x)
     }
 
     // Whether the one who is told as the only one who acts is.
-    fn has_alone(&self, picture: &Picture, silent: &[u64]) -> bool
-        ensures { IsTrue result → IfSome self.now.alone (IsOnlyActor silent.now picture.now) }
+    fn has_alone(&self, scene: &Scene) -> bool
+        ensures { IsTrue result → IfSome self.now.alone (IsOnlyActor scene.now.silent.now scene.now.picture.now) }
     {
         match self.alone {
-            Some(name) => is_alone(picture, silent, name),
+            Some(name) => is_alone(scene, name),
             None => true,
         }
     }
@@ -234,22 +226,22 @@ impl Listed {
         if !stays(edge.label, from, sides.place_against(edge.to)) {
             return false;
         }
-        if !leads(edge.from == x, true, told) {
+        if !both_imply(edge.from == x, true, told) {
             return false;
         }
-        if !leads(!self.is_kept(edge.to, x), !from.back, told) {
+        if !both_imply(!self.is_kept(edge.to, x), !from.back, told) {
             return false;
         }
-        are_not_all(edge.to == x, has(edge.label, Right::G), from.forward)
+        not_all(edge.to == x, has(edge.label, Right::G), from.forward)
     }
 
     // Whether each who acts is in both sets or in none, and where it has to be.
-    fn has_actors(&self, sides: &Separation, picture: &Picture, silent: &[u64], x: u64) -> bool
+    fn has_actors(&self, sides: &Separation, scene: &Scene, x: u64) -> bool
         ensures { IsTrue result →
-            All (λ v. ¬ (Contains silent.now v × (v < picture.now.made)) → ListsActor (sides_against sides.now) self.now picture.now x v) picture.now.subjects }
+            EachActor scene.now (ListsActor (sides_against sides.now) self.now scene.now.picture.now x) }
     {
-        for subject in picture.subjects() {
-            if !self.has_actor(sides, picture, silent, x, *subject) {
+        for subject in scene.picture.subjects() {
+            if !self.has_actor(sides, scene, x, *subject) {
                 return false;
             }
         }
@@ -257,18 +249,10 @@ impl Listed {
     }
 
     // The same of one subject.
-    fn has_actor(
-        &self,
-        sides: &Separation,
-        picture: &Picture,
-        silent: &[u64],
-        x: u64,
-        subject: u64,
-    ) -> bool
-        ensures { IsTrue result → ¬ (Contains silent.now subject × (subject < picture.now.made)) →
-            ListsActor (sides_against sides.now) self.now picture.now x subject }
+    fn has_actor(&self, sides: &Separation, scene: &Scene, x: u64, subject: u64) -> bool
+        ensures { IsTrue result → TakesTurns scene.now subject → ListsActor (sides_against sides.now) self.now scene.now.picture.now x subject }
     {
-        if is_silent(silent, picture.made(), subject) {
+        if is_silent(scene.silent, scene.picture.made(), subject) {
             return true;
         }
         let place = sides.place_against(subject);
@@ -276,7 +260,7 @@ impl Listed {
             return false;
         }
         if place.back {
-            return subject != x && !comes_later(picture, x);
+            return subject != x && !comes_later(scene.picture, x);
         }
         self.later
     }

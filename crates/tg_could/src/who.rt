@@ -1,17 +1,19 @@
 //! Who could ever come to hold a right over a vertex.
 ghost use Rattle.std.specs.Prelude.{◌≡◌, ◌↔◌, ◌<◌, ◌≤◌, ℕ, IfOk, IsTrue};
-ghost use Rattle.std.specs.List.{All, Contains};
-ghost use Rattle.tg_model.specs.Graph.{ProtectionGraph};
-ghost use Rattle.tg_model.specs.Picture.{IsPictureOf};
+ghost use Rattle.std.specs.List.{All};
 ghost use Rattle.tg_could.specs.declared.chance.Chance.TheVariants.{Never};
-ghost use Rattle.tg_could.specs.Turns.{NeverHolds};
 ghost use Rattle.tg_could.specs.Separation.{sides_of};
-ghost use Rattle.tg_could.specs.Told.{IsLeftOut, IsTold, IsUntold, TellsHolder, TellsOf, TellsActor, TellsWho, is_told};
+ghost use Rattle.tg_could.specs.Told.{IsLeftOut, IsTold, TellsHolder, TellsOf, TellsActor, TellsWho, is_told};
+ghost use Rattle.tg_could.specs.Scenes.{EachActor, TakesTurns};
+ghost use Rattle.tg_could.specs.Told.{NeverUntold};
 
 use crate::chance::Chance;
 use crate::later::first_later;
-use crate::search::{Found, search};
-use crate::separation::{Separation, comes_later, has, is_alone, is_silent, leads, stays};
+use crate::question::Scene;
+use crate::search::names::Names;
+use crate::search::{Findings, search};
+use crate::separation::conditions::both_imply;
+use crate::separation::{Separation, comes_later, has, is_alone, is_silent, stays};
 use std::alloc::{AllocError, Global};
 use tg_model::{Edge, Picture};
 use tg_rights::Right;
@@ -19,7 +21,7 @@ use tg_rights::Right;
 /// Who could ever come to hold a right over a vertex, as [`who_could`] tells it.
 #[derive(Drop)]
 pub struct Who {
-    told: Told,
+    told: Candidates,
     is_shown: bool,
     over: u64,
     made: u64,
@@ -28,7 +30,7 @@ pub struct Who {
 
 /// Who is told, in the second of two sets, and whether those are who aren't made yet.
 #[derive(Drop)]
-struct Told {
+struct Candidates {
     marks: Separation,
     later: bool,
 }
@@ -73,62 +75,63 @@ impl Who {
 /// Who could ever come to hold a right over y, by any turns of the active subjects but the silent ones. Each name of
 /// which `Never` is told never does; `Perhaps` says nothing. One search: time and memory in proportion to the picture.
 /// Fails only when out of memory.
-pub fn who_could(
-    alloc: Global,
-    picture: &Picture,
-    silent: &[u64],
-    right: Right,
-    y: u64,
-) -> Result<Who, AllocError>
-    ensures { IfOk result (TellsWho silent.now picture.now right y) }
+pub fn who_could(alloc: Global, scene: &Scene, right: Right, y: u64) -> Result<Who, AllocError>
+    ensures { IfOk result (TellsWho scene.now.silent.now scene.now.picture.now right y) }
 {
-    let found = search(alloc, picture, silent, right, y, false);
+    let found = search(alloc, scene, right, y, false);
     let mut grown = found.grown;
-    let told = Told::of(alloc, picture, silent, &found, right, y, &mut grown);
+    let names = found.sides.names.copy(alloc, &mut grown);
+    let mut told = Candidates::none(alloc, names, &mut grown);
+    told.tell(scene, &found, right, y);
     grown?;
-    let is_shown = told.leaves_out(&found.sides, picture, silent, right, y);
+    let is_shown = told.leaves_out(&found.sides, scene, right, y);
     Ok(Who {
         told,
         is_shown,
         over: y,
-        made: picture.made(),
-        limit: picture.limit(),
+        made: scene.picture.made(),
+        limit: scene.picture.limit(),
     })
 }
 
-impl Told {
-    // Who holds the right, who acts and may come to hold it, and to whom one who may can grant. Notes whether memory
-    // was wanting.
-    fn of(
-        alloc: Global,
-        picture: &Picture,
-        silent: &[u64],
-        found: &Found,
-        right: Right,
-        y: u64,
-        grown: &mut Result<(), AllocError>,
-    ) -> Told {
-        let names = found.sides.names.copy(alloc, grown);
-        let mut told = Told {
+impl Candidates {
+    // Nobody is told. Notes whether memory was wanting.
+    fn none(alloc: Global, names: Names, grown: &mut Result<(), AllocError>) -> Candidates {
+        Candidates {
             marks: Separation::none(alloc, names, grown),
             later: false,
-        };
-        let alone = is_alone(picture, silent, y);
-        told.add_edges(picture.edges(), found, right, y, alone);
-        if !alone {
-            told.add_actors(picture, found, y);
         }
-        told
     }
 
-    // Each who holds the right, and each to whom one who may hold it can grant, unless y is alone.
-    fn add_edges(&mut self, edges: &[Edge], found: &Found, right: Right, y: u64, alone: bool) {
+    // Adds who holds the right, who acts and may come to hold it, and to whom one who may can grant; but where y is
+    // alone those who hold it.
+    fn tell(&mut self, scene: &Scene, found: &Findings, right: Right, y: u64) {
+        let edges = scene.picture.edges();
+        if is_alone(scene, y) {
+            self.add_holders(edges, right, y);
+        } else {
+            self.add_edges(edges, found, right, y);
+            self.add_actors(scene.picture, found, y);
+        }
+    }
+
+    // Adds each who holds the right.
+    fn add_holders(&mut self, edges: &[Edge], right: Right, y: u64) {
+        for edge in edges {
+            if edge.to == y && has(edge.label, right) {
+                self.marks.put(edge.from);
+            }
+        }
+    }
+
+    // Adds each who holds the right, and each to whom one who may hold it can grant.
+    fn add_edges(&mut self, edges: &[Edge], found: &Findings, right: Right, y: u64) {
         for edge in edges {
             if edge.to == y {
                 if has(edge.label, right) {
                     self.marks.put(edge.from);
                 }
-            } else if !alone && has(edge.label, Right::G) && found.sides.is_forward(edge.from) {
+            } else if has(edge.label, Right::G) && found.sides.is_forward(edge.from) {
                 self.marks.put(edge.to);
             }
         }
@@ -141,8 +144,8 @@ impl Told {
         self.marks.is_back(name)
     }
 
-    // Each who acts and may come to hold the right.
-    fn add_actors(&mut self, picture: &Picture, found: &Found, y: u64) {
+    // Adds each who acts and may come to hold the right.
+    fn add_actors(&mut self, picture: &Picture, found: &Findings, y: u64) {
         for subject in picture.subjects() {
             if !found.acts(*subject) || !found.sides.is_back(*subject) {
                 continue;
@@ -155,27 +158,19 @@ impl Told {
     }
 
     // Whether whoever isn't told never holds the right, as far as the two sets show it.
-    fn leaves_out(
-        &self,
-        sides: &Separation,
-        picture: &Picture,
-        silent: &[u64],
-        right: Right,
-        y: u64,
-    ) -> bool
-        ensures { IsTrue result → (g : ProtectionGraph) → IsPictureOf picture.now g → (x : ℕ) →
-            IsUntold self.now y picture.now.made picture.now.limit x → NeverHolds silent.now g x right y }
+    fn leaves_out(&self, sides: &Separation, scene: &Scene, right: Right, y: u64) -> bool
+        ensures { IsTrue result → NeverUntold scene.now right y self.now }
     {
-        if !self.has_holders(picture.edges(), right, y) {
+        if !self.has_holders(scene.picture.edges(), right, y) {
             return false;
         }
-        if is_alone(picture, silent, y) {
+        if is_alone(scene, y) {
             return true;
         }
-        if !self.has_actors(sides, picture, silent, y) {
+        if !self.has_actors(sides, scene, y) {
             return false;
         }
-        self.has_gifts(sides, picture.edges(), right, y)
+        self.has_gifts(sides, scene.picture.edges(), right, y)
     }
 
     // Whether each is told who holds the right by an edge.
@@ -183,7 +178,7 @@ impl Told {
         ensures { IsTrue result → All (TellsHolder self.now right y) edges.now }
     {
         for edge in edges {
-            if !leads(edge.to == y, has(edge.label, right), self.has(edge.from)) {
+            if !both_imply(edge.to == y, has(edge.label, right), self.has(edge.from)) {
                 return false;
             }
         }
@@ -212,19 +207,19 @@ impl Told {
         if !stays(edge.label, from, sides.place(edge.to)) {
             return false;
         }
-        if !leads(edge.to == y, has(edge.label, right), from.back) {
+        if !both_imply(edge.to == y, has(edge.label, right), from.back) {
             return false;
         }
-        leads(grant, from.forward, told)
+        both_imply(grant, from.forward, told)
     }
 
     // Whether each who acts is in both sets or in none, and is told where it may hold the right.
-    fn has_actors(&self, sides: &Separation, picture: &Picture, silent: &[u64], y: u64) -> bool
+    fn has_actors(&self, sides: &Separation, scene: &Scene, y: u64) -> bool
         ensures { IsTrue result →
-            All (λ v. ¬ (Contains silent.now v × (v < picture.now.made)) → TellsActor (sides_of sides.now) self.now picture.now y v) picture.now.subjects }
+            EachActor scene.now (TellsActor (sides_of sides.now) self.now scene.now.picture.now y) }
     {
-        for subject in picture.subjects() {
-            if !self.has_actor(sides, picture, silent, y, *subject) {
+        for subject in scene.picture.subjects() {
+            if !self.has_actor(sides, scene, y, *subject) {
                 return false;
             }
         }
@@ -232,18 +227,10 @@ impl Told {
     }
 
     // The same of one subject.
-    fn has_actor(
-        &self,
-        sides: &Separation,
-        picture: &Picture,
-        silent: &[u64],
-        y: u64,
-        subject: u64,
-    ) -> bool
-        ensures { IsTrue result → ¬ (Contains silent.now subject × (subject < picture.now.made)) →
-            TellsActor (sides_of sides.now) self.now picture.now y subject }
+    fn has_actor(&self, sides: &Separation, scene: &Scene, y: u64, subject: u64) -> bool
+        ensures { IsTrue result → TakesTurns scene.now subject → TellsActor (sides_of sides.now) self.now scene.now.picture.now y subject }
     {
-        if is_silent(silent, picture.made(), subject) {
+        if is_silent(scene.silent, scene.picture.made(), subject) {
             return true;
         }
         let back = sides.is_back(subject);
@@ -253,6 +240,6 @@ impl Told {
         if back {
             return self.later && (subject == y || self.has(subject));
         }
-        !comes_later(picture, y)
+        !comes_later(scene.picture, y)
     }
 }

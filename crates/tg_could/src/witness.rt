@@ -1,50 +1,41 @@
 //! Witnesses: turns that lead there, replayed by the rules.
 ghost use Rattle.std.specs.Prelude.{IfOk, IsTrue};
-ghost use Rattle.tg_model.specs.Graph.{ProtectionGraph};
-ghost use Rattle.tg_model.specs.Picture.{IsPictureOf};
-ghost use Rattle.tg_could.specs.Turns.{LeadThere, with_names};
+ghost use Rattle.tg_could.specs.Scenes.{OnGraphs, WitnessOf};
 
-use crate::chains::Chains;
-use crate::trial::Trial;
+pub(crate) mod chains;
+pub(crate) mod plan;
+pub(crate) mod trial;
+
+use crate::question::{Question, Scene, Witness};
+use crate::witness::chains::Chains;
+use crate::witness::trial::Trial;
 use std::alloc::{AllocError, Global};
-use tg_model::{Deed, Picture};
-use tg_rights::Right;
 
 /// Whether these turns lead to x's holding a right over y, where so many more vertices may be made: each is that of one
 /// who acts by then, it adds rights, makes a vertex or retires, and is allowed; and behind the last x holds the right.
 /// Fails only when out of memory.
 pub fn lead_there(
     alloc: Global,
-    picture: &Picture,
-    silent: &[u64],
-    names: u64,
-    turns: &[(u64, Deed)],
-    x: u64,
-    right: Right,
-    y: u64,
+    scene: &Scene,
+    question: Question,
+    witness: &Witness,
 ) -> Result<bool, AllocError>
-    ensures { IfOk result (λ lead. IsTrue lead → (g : ProtectionGraph) → IsPictureOf picture.now g →
-        LeadThere silent.now (with_names g names) turns.now x right y) }
+    ensures { IfOk result (λ lead. IsTrue lead → OnGraphs scene.now (WitnessOf scene.now question witness.now)) }
 {
-    let rows = Chains::of(alloc, picture);
-    replay(alloc, picture, rows, silent, names, turns, x, right, y)
+    let rows = Chains::of(alloc, scene.picture);
+    replay(alloc, scene, rows, question, witness)
 }
 
-/// The same, where the edges from each vertex are known. Nothing is believed of them.
+/// Whether a witness leads there, where the edges from each vertex are known. Nothing is believed of these edges.
 pub(crate) fn replay(
     alloc: Global,
-    picture: &Picture,
+    scene: &Scene,
     rows: Chains,
-    silent: &[u64],
-    names: u64,
-    turns: &[(u64, Deed)],
-    x: u64,
-    right: Right,
-    y: u64,
+    question: Question,
+    witness: &Witness,
 ) -> Result<bool, AllocError>
-    ensures { IfOk result (λ lead. IsTrue lead → (g : ProtectionGraph) → IsPictureOf picture.now g →
-        LeadThere silent.now (with_names g names) turns.now x right y) }
+    ensures { IfOk result (λ lead. IsTrue lead → OnGraphs scene.now (WitnessOf scene.now question witness.now)) }
 {
-    let mut trial = Trial::new(alloc, picture, rows);
-    trial.lead_there(picture, silent, names, turns, x, right, y)
+    let mut trial = Trial::new(alloc, scene.picture, rows);
+    trial.lead_there(scene, question, witness)
 }

@@ -7,13 +7,14 @@ use Rattle.tg_model.specs.Graph.{ProtectionGraph}
 use Rattle.tg_model.specs.Picture.{Shown, IsPictureOf}
 use Rattle.tg_could.specs.Turns.{NeverHolds}
 use Rattle.tgcould.specs.declared.options.TheConstants.{NEVER}
-use Rattle.tgcould.specs.declared.question.Question.{Question}
-use Rattle.tgcould.specs.declared.question.Question.TheVariants.{Hold, Who, What}
-use Rattle.tgcould.specs.declared.question.Vertex.{Vertex}
-use Rattle.tgcould.specs.declared.question.Vertex.TheVariants.{Named, New}
+use Rattle.tgcould.specs.declared.query.Query.{Query}
+use Rattle.tgcould.specs.declared.query.Query.TheVariants.{Hold, Who, What}
+use Rattle.tgcould.specs.declared.query.Vertex.{Vertex}
+use Rattle.tgcould.specs.declared.query.Vertex.TheVariants.{Named, New}
 use Rattle.tgcould.specs.declared.supposed.Supposed.{Supposed}
 use Rattle.tgcould.specs.Policies.{IsKept, texts_of}
-use Rattle.tgcould.specs.Supposed.{JoinsMade, Supposes, with_edges}
+use Rattle.tgcould.specs.Supposed.{JoinsMade, Supposes}
+use Rattle.tg_could.specs.Reached.{with_edges}
 use Rattle.tgcould.specs.Told.{NeverComes, named_in}
 use Rattle.tgcould.specs.Verdict.{AreKept, IsKeptOn, NeverComesOn, named_on}
 
@@ -22,7 +23,7 @@ same_name : (p : Shown) (g : ProtectionGraph) → IsPictureOf p g → (v : Verte
 same_name p g picture (Named name) = refl
 same_name p g picture New = sym picture.made
 
-never_on : (p : Shown) (g : ProtectionGraph) (silent : List ℕ) → IsPictureOf p g → (question : Question) → NeverComes p silent question → NeverComesOn g silent question
+never_on : (p : Shown) (g : ProtectionGraph) (silent : List ℕ) → IsPictureOf p g → (question : Query) → NeverComes p silent question → NeverComesOn g silent question
 never_on p g silent picture (Hold x right y) never =
     subst (λ (n : ℕ). NeverHolds silent g (named_on g x) right n) (same_name p g picture y)
     (subst (λ (n : ℕ). NeverHolds silent g n right (named_in p y)) (same_name p g picture x) (never g picture))

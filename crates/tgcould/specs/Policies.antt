@@ -6,10 +6,10 @@ use Rattle.clap.specs.declared.parser.matches.ArgMatches.{ArgMatches}
 use Rattle.clap.specs.declared.parser.matches.MatchedArg.{MatchedArg}
 use Rattle.tg_rights.specs.RightSet.{letter_of}
 use Rattle.tg_model.specs.Picture.{Shown}
-use Rattle.tgcould.specs.declared.question.Question.{Question}
-use Rattle.tgcould.specs.declared.question.Question.TheVariants.{Hold, Who, What}
-use Rattle.tgcould.specs.declared.question.Vertex.{Vertex}
-use Rattle.tgcould.specs.declared.question.Vertex.TheVariants.{Named, New}
+use Rattle.tgcould.specs.declared.query.Query.{Query}
+use Rattle.tgcould.specs.declared.query.Query.TheVariants.{Hold, Who, What}
+use Rattle.tgcould.specs.declared.query.Vertex.{Vertex}
+use Rattle.tgcould.specs.declared.query.Vertex.TheVariants.{Named, New}
 use Rattle.tgcould.specs.Told.{NeverComes}
 
 -- ---- the command line
@@ -35,20 +35,20 @@ IsVertex word (Named n) = Writes word n
 IsVertex word New = word ≡ codes "new"
 
 -- the three words are the question
-abbrev pub AreWords : List ℕ → List ℕ → List ℕ → Question → Type 0
+abbrev pub AreWords : List ℕ → List ℕ → List ℕ → Query → Type 0
 AreWords holder right over (Hold x r y) = IsVertex holder x × (right ≡ letter_of r ∷ []) × IsVertex over y
 AreWords holder right over (Who r y) = (holder ≡ codes "*") × (right ≡ letter_of r ∷ []) × IsVertex over y
 AreWords holder right over (What x) = IsVertex holder x × (right ≡ codes "*") × (over ≡ codes "*")
 
 -- behind the holder and a space the text has the two other words of the question, with a space between them
-pub record IsBehind (holder rest : List ℕ) (question : Question) : Type 0 where
+pub record IsBehind (holder rest : List ℕ) (question : Query) : Type 0 where
   pub right : List ℕ
   pub over : List ℕ
   pub split : rest ≡ right ++ 32 ∷ over
   pub words : AreWords holder right over question
 
 -- the text is the question: three words with a space between two
-pub record IsQuestion (text : List ℕ) (question : Question) : Type 0 where
+pub record IsQuestion (text : List ℕ) (question : Query) : Type 0 where
   pub holder : List ℕ
   pub rest : List ℕ
   pub split : text ≡ holder ++ 32 ∷ rest
@@ -58,7 +58,7 @@ pub record IsQuestion (text : List ℕ) (question : Question) : Type 0 where
 
 -- the text is a question, and what it asks about never comes about
 pub record IsKept (p : Shown) (silent : List ℕ) (text : List ℕ) : Type 0 where
-  pub question : Question
+  pub question : Query
   pub is : IsQuestion text question
   pub never : NeverComes p silent question
 

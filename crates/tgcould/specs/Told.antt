@@ -10,10 +10,10 @@ use Rattle.tg_could.specs.Answered.{IsAnswer}
 use Rattle.tg_could.specs.Turns.{NeverHolds}
 use Rattle.tg_plain.specs.declared.text.PlainText.{PlainText}
 use Rattle.tg_plain.specs.Grown.{Adds}
-use Rattle.tgcould.specs.declared.question.Question.{Question}
-use Rattle.tgcould.specs.declared.question.Question.TheVariants.{Hold, Who, What}
-use Rattle.tgcould.specs.declared.question.Vertex.{Vertex}
-use Rattle.tgcould.specs.declared.question.Vertex.TheVariants.{Named, New}
+use Rattle.tgcould.specs.declared.query.Query.{Query}
+use Rattle.tgcould.specs.declared.query.Query.TheVariants.{Hold, Who, What}
+use Rattle.tgcould.specs.declared.query.Vertex.{Vertex}
+use Rattle.tgcould.specs.declared.query.Vertex.TheVariants.{Named, New}
 use Rattle.tgcould.specs.declared.stars.Holders.{Holders}
 use Rattle.tgcould.specs.declared.stars.Held.{Held}
 use Rattle.tgcould.specs.Texts.{answer_text}
@@ -70,7 +70,7 @@ IsNothing held = (length held.over.items ≡ 0) × (is_none_held held.later ≡ 
 -- ---- what never comes about
 
 -- What the question asks about never comes about. With a star it is about all names, made or not.
-abbrev pub NeverComes : Shown → List ℕ → Question → Type 0
+abbrev pub NeverComes : Shown → List ℕ → Query → Type 0
 NeverComes p silent (Hold x right y) = IsNever p silent (named_in p x) right (named_in p y)
 NeverComes p silent (Who right y) = (x : ℕ) → IsNever p silent x right (named_in p y)
 NeverComes p silent (What x) = (right : Right) (y : ℕ) → IsNever p silent (named_in p x) right y

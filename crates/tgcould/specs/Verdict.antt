@@ -10,13 +10,14 @@ use Rattle.tg_plain.specs.declared.options.PlainOptions.{PlainOptions}
 use Rattle.tg_plain.specs.declared.outcome.Outcome.{Outcome}
 use Rattle.tg_plain.specs.Lines.{IsOutcomeOf}
 use Rattle.tgcould.specs.declared.options.TheConstants.{NEVER}
-use Rattle.tgcould.specs.declared.question.Question.{Question}
-use Rattle.tgcould.specs.declared.question.Question.TheVariants.{Hold, Who, What}
-use Rattle.tgcould.specs.declared.question.Vertex.{Vertex}
-use Rattle.tgcould.specs.declared.question.Vertex.TheVariants.{Named, New}
+use Rattle.tgcould.specs.declared.query.Query.{Query}
+use Rattle.tgcould.specs.declared.query.Query.TheVariants.{Hold, Who, What}
+use Rattle.tgcould.specs.declared.query.Vertex.{Vertex}
+use Rattle.tgcould.specs.declared.query.Vertex.TheVariants.{Named, New}
 use Rattle.tgcould.specs.declared.supposed.Supposed.{Supposed}
 use Rattle.tgcould.specs.Policies.{IsQuestion, texts_of}
-use Rattle.tgcould.specs.Supposed.{IsSupposed, with_edges}
+use Rattle.tgcould.specs.Supposed.{IsSupposed}
+use Rattle.tg_could.specs.Reached.{with_edges}
 
 -- the name of a vertex of a question: the next to be made has the number of those that were
 abbrev pub named_on : ProtectionGraph → Vertex → ℕ
@@ -24,14 +25,14 @@ named_on g (Named name) = name
 named_on g New = g.made
 
 -- what the question asks about never comes about on this graph; with a star it is about all names, made or not
-abbrev pub NeverComesOn : ProtectionGraph → List ℕ → Question → Type 0
+abbrev pub NeverComesOn : ProtectionGraph → List ℕ → Query → Type 0
 NeverComesOn g silent (Hold x right y) = NeverHolds silent g (named_on g x) right (named_on g y)
 NeverComesOn g silent (Who right y) = (x : ℕ) → NeverHolds silent g x right (named_on g y)
 NeverComesOn g silent (What x) = (right : Right) (y : ℕ) → NeverHolds silent g (named_on g x) right y
 
 -- the text is a question, and what it asks about never comes about on this graph
 pub record IsKeptOn (g : ProtectionGraph) (silent : List ℕ) (text : List ℕ) : Type 0 where
-  pub question : Question
+  pub question : Query
   pub is : IsQuestion text question
   pub never : NeverComesOn g silent question
 

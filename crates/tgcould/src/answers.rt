@@ -4,16 +4,18 @@ ghost use Rattle.std.specs.List.{All};
 ghost use Rattle.tgcould.specs.Policies.{IsKept, texts_of};
 ghost use Rattle.tgcould.specs.Told.{NeverComes};
 
-use crate::ask::{Scene, Told, tell};
+use crate::ask::{Told, tell};
 use crate::notes::Notes;
-use crate::question::{Question, read_question};
+use crate::query::{Query, read_question};
 use clap::ArgMatches;
 use std::alloc::{AllocError, Global};
+use tg_could::Scene;
 use tg_plain::{PlainFault, PlainText};
 
 /// The answers to questions.
 #[derive(Drop)]
 pub struct Answers {
+    alloc: Global,
     text: PlainText,
     notes: Notes,
     // Whether each stands behind its question, and an empty line behind it.
@@ -26,6 +28,7 @@ impl Answers {
         ensures { result.notes.status ≡ 0 }
     {
         Answers {
+            alloc,
             text: PlainText::new(alloc),
             notes: Notes::new(alloc, boxes),
             are_headed: questions > 1,
@@ -61,32 +64,32 @@ impl Answers {
             IsKept scene.now.picture.now scene.now.silent.now text.now }
     {
         match read_question(text) {
-            Ok(question) => self.add_noted(scene, text, question, must_never),
+            Ok(query) => self.add_noted(scene, text, query, must_never),
             Err(_) => self.notes.refuse(),
         }
     }
 
     // Adds the answer to a question, whose text this is, and what standard error says of it.
-    fn add_noted(&mut self, scene: &Scene, text: &str, question: Question, must_never: bool)
+    fn add_noted(&mut self, scene: &Scene, text: &str, query: Query, must_never: bool)
         ensures before { self.new.notes.status ≡ 0 → self.old.notes.status ≡ 0 }
         ensures kept { self.new.notes.status ≡ 0 → IsTrue must_never →
-            NeverComes scene.now.picture.now scene.now.silent.now question }
+            NeverComes scene.now.picture.now scene.now.silent.now query }
     {
-        let told = self.add(scene, text, question);
+        let told = self.add(scene, text, query);
         self.notes.add(text, told, must_never);
     }
 
     // Adds the answer to a question, whose text this is.
-    fn add(&mut self, scene: &Scene, text: &str, question: Question) -> Told
-        ensures never { IsTrue result.is_never → NeverComes scene.now.picture.now scene.now.silent.now question }
+    fn add(&mut self, scene: &Scene, text: &str, query: Query) -> Told
+        ensures never { IsTrue result.is_never → NeverComes scene.now.picture.now scene.now.silent.now query }
         ensures status { self.new.notes.status ≡ self.old.notes.status }
     {
         if !self.are_headed {
-            return tell(&mut self.text, scene, question);
+            return tell(self.alloc, &mut self.text, scene, query);
         }
         self.text.add(text);
         self.text.add(": ");
-        let told = tell(&mut self.text, scene, question);
+        let told = tell(self.alloc, &mut self.text, scene, query);
         self.text.add("\n");
         told
     }

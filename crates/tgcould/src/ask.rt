@@ -1,30 +1,19 @@
 //! What is asked of a picture, and told.
-ghost use Rattle.std.specs.Prelude.{◌≡◌, ℕ, List, IfOk, IsTrue, true, false};
+ghost use Rattle.std.specs.Prelude.{◌≡◌, ℕ, List, IsTrue, true, false};
 ghost use Rattle.tg_rights.specs.declared.Right.{Right as TheRight};
 ghost use Rattle.tg_model.specs.Picture.{Shown};
 ghost use Rattle.tg_plain.specs.Grown.{Adds};
 ghost use Rattle.tgcould.specs.Texts.{answer_text};
 ghost use Rattle.tgcould.specs.Told.{Answers, IsNever, IsNobody, IsNothing, NeverComes, TellsHold, named_in};
 
-use crate::question::{Question, Vertex};
+use crate::query::{Query, Vertex};
 use crate::stars::{Held, Holders, held_by, holders_of};
 use crate::text::add_answer;
-use std::alloc::{AllocError, Global};
-use tg_could::{Answer, could_hold};
-use tg_model::{Deed, Picture};
+use std::alloc::Global;
+use tg_could::{Answer, Question, Scene, could_hold};
+use tg_model::Deed;
 use tg_plain::PlainText;
 use tg_rights::{Right, Rights};
-
-/// What is asked about: the picture of a graph, and who takes no turns.
-#[derive(Clone, Copy)]
-pub struct Scene<'a> {
-    /// Where memory comes from.
-    pub alloc: Global,
-    /// The picture.
-    pub picture: &'a Picture,
-    /// Who takes no turns.
-    pub silent: &'a [u64],
-}
 
 /// What was told of a question.
 #[derive(Clone, Copy)]
@@ -38,13 +27,17 @@ pub struct Told {
 }
 
 /// Adds the answer to a question.
-pub fn tell(text: &mut PlainText, scene: &Scene, question: Question) -> Told
-    ensures { IsTrue result.is_never → NeverComes scene.now.picture.now scene.now.silent.now question }
+pub fn tell(alloc: Global, text: &mut PlainText, scene: &Scene, query: Query) -> Told
+    ensures { IsTrue result.is_never → NeverComes scene.now.picture.now scene.now.silent.now query }
 {
-    match question {
-        Question::Hold { x, right, y } => tell_hold(text, scene, x, right, y),
-        Question::Who { right, y } => tell_who(text, scene, right, name_of(scene, y)),
-        Question::What { x } => tell_what(text, scene, name_of(scene, x)),
+    match query {
+        Query::Hold { x, right, y } => {
+            let x = name_of(scene, x);
+            let y = name_of(scene, y);
+            tell_hold(alloc, text, scene, Question { x, right, y })
+        }
+        Query::Who { right, y } => tell_who(alloc, text, scene, right, name_of(scene, y)),
+        Query::What { x } => tell_what(alloc, text, scene, name_of(scene, x)),
     }
 }
 
@@ -58,21 +51,13 @@ fn name_of(scene: &Scene, vertex: Vertex) -> u64
     }
 }
 
-// Whether x could come to hold the right over y.
-fn ask(scene: &Scene, x: u64, right: Right, y: u64) -> Result<Answer, AllocError>
-    ensures { IfOk result (Answers scene.now.picture.now scene.now.silent.now x right y) }
-{
-    could_hold(scene.alloc, scene.picture, scene.silent, x, right, y)
-}
-
 // Adds whether x could come to hold the right over y.
-fn tell_hold(text: &mut PlainText, scene: &Scene, x: Vertex, right: Right, y: Vertex) -> Told
-    ensures text { TellsHold scene.now.picture.now scene.now.silent.now
-        (named_in scene.now.picture.now x) right (named_in scene.now.picture.now y) text.old text.new }
-    ensures never { IsTrue result.is_never → IsNever scene.now.picture.now scene.now.silent.now
-        (named_in scene.now.picture.now x) right (named_in scene.now.picture.now y) }
+fn tell_hold(alloc: Global, text: &mut PlainText, scene: &Scene, question: Question) -> Told
+    ensures text { TellsHold scene.now.picture.now scene.now.silent.now question.x question.right question.y text.old text.new }
+    ensures never { IsTrue result.is_never →
+        IsNever scene.now.picture.now scene.now.silent.now question.x question.right question.y }
 {
-    match ask(scene, name_of(scene, x), right, name_of(scene, y)) {
+    match could_hold(alloc, scene, question) {
         Ok(answer) => tell_answer(text, &answer),
         Err(_) => {
             text.is_short = true;
@@ -91,7 +76,7 @@ fn tell_answer(text: &mut PlainText, answer: &Answer) -> Told
     Told {
         is_never: is_never(answer),
         is_open: matches!(answer, Answer::Open),
-        made: makings(turns_of(answer)),
+        made: makings(answer.turns()),
     }
 }
 
@@ -101,14 +86,6 @@ fn is_never(answer: &Answer) -> bool
         Answers p silent x right y answer.now → IsNever p silent x right y }
 {
     matches!(answer, Answer::Never(_))
-}
-
-// The turns that an answer tells.
-fn turns_of(answer: &Answer) -> &[(u64, Deed)] {
-    match answer {
-        Answer::Could(turns) | Answer::WantsNames { turns, .. } => turns.as_slice(),
-        _ => &[],
-    }
 }
 
 // How many vertices the turns make.
@@ -134,10 +111,10 @@ fn listed(is_never: bool) -> Told
 }
 
 // Adds who could come to hold the right over y.
-fn tell_who(text: &mut PlainText, scene: &Scene, right: Right, y: u64) -> Told
+fn tell_who(alloc: Global, text: &mut PlainText, scene: &Scene, right: Right, y: u64) -> Told
     ensures { IsTrue result.is_never → (x : ℕ) → IsNever scene.now.picture.now scene.now.silent.now x right y }
 {
-    match holders_of(scene, right, y) {
+    match holders_of(alloc, scene, right, y) {
         Ok(holders) => add_holders(text, &holders),
         Err(_) => {
             text.is_short = true;
@@ -182,10 +159,10 @@ fn add_space(text: &mut PlainText, first: usize) {
 }
 
 // Adds which rights x could come to hold, and over whom.
-fn tell_what(text: &mut PlainText, scene: &Scene, x: u64) -> Told
+fn tell_what(alloc: Global, text: &mut PlainText, scene: &Scene, x: u64) -> Told
     ensures { IsTrue result.is_never → (right : TheRight) (y : ℕ) → IsNever scene.now.picture.now scene.now.silent.now x right y }
 {
-    match held_by(scene, x) {
+    match held_by(alloc, scene, x) {
         Ok(held) => add_held(text, &held),
         Err(_) => {
             text.is_short = true;

@@ -4,7 +4,7 @@ ghost use Rattle.std.specs.List.{All};
 ghost use Rattle.tgcould.specs.Supposed.{JoinsMade};
 
 use crate::options::{ASK, NEVER, questions_in};
-use crate::question::read_question;
+use crate::query::read_question;
 use crate::supposed::Supposed;
 use clap::ArgMatches;
 use tg_model::Edge;

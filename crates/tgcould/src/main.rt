@@ -4,7 +4,7 @@
 //! runs it on the plain graph, and `tg_could` answers of its picture; what is printed is that answer's text.
 //!
 //! The words of the command line are `options`' matter, `checks` says which of them is none, and `supposed` has what
-//! they suppose. What is asked is `question`'s. `ask` asks it and tells the answer, whose texts are in `text`, and
+//! they suppose. What is asked is `query`'s. `ask` asks it and tells the answer, whose texts are in `text`, and
 //! `stars` lists who and what. `answers` has those to all questions, and `notes` what standard error says of them.
 //! `verdict` has the exit status.
 #![tactic(auto)]
@@ -19,7 +19,7 @@ mod checks;
 mod help;
 mod notes;
 mod options;
-mod question;
+mod query;
 mod stars;
 mod supposed;
 mod text;

@@ -3,15 +3,13 @@ ghost use Rattle.std.specs.Prelude.{◌≡◌, ℕ, IfOk, IsTrue, OnOk, true};
 ghost use Rattle.std.specs.List.{Contains};
 ghost use Rattle.tg_rights.specs.RightSet.{has};
 ghost use Rattle.tg_rights.specs.declared.Right.{Right as TheRight};
-ghost use Rattle.tg_could.specs.declared.chance.Chance.{Chance as TheChance};
 ghost use Rattle.tg_could.specs.declared.chance.Chance.TheVariants.{Never};
 ghost use Rattle.tg_could.specs.Told.{TellsWho, IsLeftOut};
 ghost use Rattle.tg_could.specs.Listed.{TellsWhat};
 ghost use Rattle.tgcould.specs.Told.{ListsWho, ListsWhat, IsHeld};
 
-use crate::ask::Scene;
-use std::alloc::AllocError;
-use tg_could::{Chance, What, Who, what_could, who_could};
+use std::alloc::{AllocError, Global};
+use tg_could::{Chance, Scene, What, Who, what_could, who_could};
 use tg_rights::{Right, Rights};
 
 /// Who could come to hold a right over a vertex.
@@ -33,19 +31,25 @@ pub struct Held {
 }
 
 /// Who could come to hold the right over y: each name that isn't listed never does, whether it was made or not.
-pub fn holders_of(scene: &Scene, right: Right, y: u64) -> Result<Holders, AllocError>
+pub fn holders_of(alloc: Global, scene: &Scene, right: Right, y: u64) -> Result<Holders, AllocError>
     ensures { IfOk result (ListsWho scene.now.picture.now scene.now.silent.now right y) }
 {
-    let who = who_could(scene.alloc, scene.picture, scene.silent, right, y)?;
-    list_holders(scene, &who, right, y)
+    let who = who_could(alloc, scene, right, y)?;
+    list_holders(alloc, scene, &who, right, y)
 }
 
 // The names that one search tells.
-fn list_holders(scene: &Scene, who: &Who, right: Right, y: u64) -> Result<Holders, AllocError>
+fn list_holders(
+    alloc: Global,
+    scene: &Scene,
+    who: &Who,
+    right: Right,
+    y: u64,
+) -> Result<Holders, AllocError>
     requires { TellsWho scene.now.silent.now scene.now.picture.now right y who.now }
     ensures { IfOk result (ListsWho scene.now.picture.now scene.now.silent.now right y) }
 {
-    let mut names = Vec::new(scene.alloc);
+    let mut names = Vec::new(alloc);
     for x in 0..scene.picture.made() {
         add_unless_never(&mut names, who, x)?;
     }
@@ -75,19 +79,19 @@ fn is_never(chance: Chance) -> bool
 }
 
 /// What x could come to hold: a right over a name that isn't listed it never holds, whether the name was made or not.
-pub fn held_by(scene: &Scene, x: u64) -> Result<Held, AllocError>
+pub fn held_by(alloc: Global, scene: &Scene, x: u64) -> Result<Held, AllocError>
     ensures { IfOk result (ListsWhat scene.now.picture.now scene.now.silent.now x) }
 {
-    let what = what_could(scene.alloc, scene.picture, scene.silent, x)?;
-    list_held(scene, &what, x)
+    let what = what_could(alloc, scene, x)?;
+    list_held(alloc, scene, &what, x)
 }
 
 // The rights that one search tells.
-fn list_held(scene: &Scene, what: &What, x: u64) -> Result<Held, AllocError>
+fn list_held(alloc: Global, scene: &Scene, what: &What, x: u64) -> Result<Held, AllocError>
     requires { TellsWhat scene.now.silent.now scene.now.picture.now x what.now }
     ensures { IfOk result (ListsWhat scene.now.picture.now scene.now.silent.now x) }
 {
-    let mut rows = Vec::new(scene.alloc);
+    let mut rows = Vec::new(alloc);
     for y in 0..scene.picture.made() {
         add_rights(&mut rows, y, what.over(y))?;
     }

@@ -6,12 +6,12 @@ ghost use Rattle.tgcould.specs.Supposed.{IsSupposed};
 ghost use Rattle.tgcould.specs.Verdict.{AreKept, Passes};
 
 use crate::answers::Answers;
-use crate::ask::Scene;
 use crate::checks::are_made;
 use crate::options::{ASK, NEVER, questions_in};
 use crate::supposed::{Supposed, suppose};
 use clap::ArgMatches;
 use std::io::Read;
+use tg_could::Scene;
 use tg_model::Picture;
 use tg_plain::{Outcome, PlainFault, PlainOptions};
 
@@ -46,7 +46,6 @@ fn status_on<R: AllocGlobal + Print + Eprint>(
     }
     let picture = suppose(picture, supposed.edges.as_slice())?;
     let scene = Scene {
-        alloc: rt.alloc(),
         picture: &picture,
         silent: supposed.silent.as_slice(),
     };
@@ -54,7 +53,7 @@ fn status_on<R: AllocGlobal + Print + Eprint>(
 }
 
 // Prints the answers. So many boxes are left in the stock. Returns the exit status.
-fn print_answers<R: Print + Eprint>(
+fn print_answers<R: AllocGlobal + Print + Eprint>(
     rt: &R,
     matches: &ArgMatches,
     scene: &Scene,
@@ -62,7 +61,7 @@ fn print_answers<R: Print + Eprint>(
 ) -> Result<u8, PlainFault>
     ensures { IfOk result (λ status. status ≡ 0 → All (IsKept scene.now.picture.now scene.now.silent.now) (texts_of matches.now NEVER.now)) }
 {
-    let mut answers = Answers::new(scene.alloc, boxes, questions_in(matches));
+    let mut answers = Answers::new(rt.alloc(), boxes, questions_in(matches));
     answers.add_all(scene, matches, ASK, false);
     answers.add_all(scene, matches, NEVER, true);
     answers.print(rt)

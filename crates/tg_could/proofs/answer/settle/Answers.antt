@@ -7,11 +7,11 @@ returns-then-parts-clause-never c g picture = c.parts.ensures c.if-parts.true g 
 
 pub returns-then-branch-clause-told : goal.returns-then-branch-clause-told
 returns-then-branch-clause-told c g picture = λ near_x near_y.
-    subst (λ (b : Bool). IsDecided c.args.silent.now g c.args.x c.args.right c.args.y b) c.if-branch.true (c.in_ok-may_come_about.ensures g picture)
+    subst (λ (b : Bool). IsDecided c.args.scene.now.silent.now g c.args.question.x c.args.question.right c.args.question.y b) c.if-branch.true (c.in_ok-may_come_about.ensures g picture)
 
 pub returns-clause-never : goal.returns-clause-never
 returns-clause-never c g picture =
-    subst (λ (b : Bool). IsDecided c.args.silent.now g c.args.x c.args.right c.args.y b) c.if-branch.false (c.in_ok-may_come_about.ensures g picture)
+    subst (λ (b : Bool). IsDecided c.args.scene.now.silent.now g c.args.question.x c.args.question.right c.args.question.y b) c.if-branch.false (c.in_ok-may_come_about.ensures g picture)
 
 pub returns-in-Some-clause-told : goal.returns-in-Some-clause-told
 returns-in-Some-clause-told c g picture =

@@ -7,13 +7,13 @@ returns-then-names-eq0 c g picture =
     let names = c.saturating_sub-names.result in
     let leads = c.in_ok-leads.ensures c.if-not-leads.false g picture in
     let none : g.limit + names ≡ g.limit = omega (arith, c.if-names-eq0.true) in
-    subst (λ (n : ℕ). LeadThere c.args.silent.now (record g { limit = n }) c.turns_to-planned.result.turns.items c.args.x c.args.right c.args.y) none
-    (subst (λ (l : List Turn). LeadThere c.args.silent.now (with_names g names) l c.args.x c.args.right c.args.y) c.as_slice.ensures.value leads)
+    subst (λ (n : ℕ). LeadThere c.args.scene.now.silent.now (record g { limit = n }) c.turns_to-planned.result.turns.items c.args.question.x c.args.question.right c.args.question.y) none
+    (subst (λ (l : List Turn). LeadThere c.args.scene.now.silent.now (with_names g names) l c.args.question.x c.args.question.right c.args.question.y) c.as_slice.ensures.value leads)
 
 pub returns-then-is_short : goal.returns-then-is_short
 returns-then-is_short c g picture =
     let names = c.saturating_sub-names.result in
     let leads = c.in_ok-leads.ensures c.if-not-leads.false g picture in (
-      subst (λ (l : List Turn). LeadThere c.args.silent.now (with_names g names) l c.args.x c.args.right c.args.y) c.as_slice.ensures.value leads,
+      subst (λ (l : List Turn). LeadThere c.args.scene.now.silent.now (with_names g names) l c.args.question.x c.args.question.right c.args.question.y) c.as_slice.ensures.value leads,
       c.is_short.ensures c.if-is_short.true g picture,
     )

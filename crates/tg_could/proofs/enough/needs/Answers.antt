@@ -12,18 +12,18 @@ pushed old new x is = subst (λ (l : List ℕ). Contains l x) (sym is) (Contains
 
 pub loop-host-preserved-then-not-would_do : goal.loop-host-preserved-then-not-would_do
 loop-host-preserved-then-not-would_do c =
-    let silent = c.args.silent.now in
-    let P : ℕ → Type 0 = λ h. ¬ Contains c.loop-host.enough.items h → (k : ProtectionGraph) → IsPictureOf c.args.picture.now k → NeverHolds (without_subject silent h) k c.args.x c.args.right c.args.y in
+    let silent = c.args.scene.now.silent.now in
+    let P : ℕ → Type 0 = λ h. ¬ Contains c.loop-host.enough.items h → (k : ProtectionGraph) → IsPictureOf c.args.scene.now.picture.now k → NeverHolds (without_subject silent h) k c.args.question.x c.args.question.right c.args.question.y in
     AllWithin-more P silent 0 c.loop-host.host-index c.loop-host.invariant
     (λ d. subst P (get_or_default silent c.loop-host.host-index _ d c.loop-host-test.true) (λ out. c.in_ok-would_do.ensures c.if-not-would_do.true))
 
 pub loop-host-preserved : goal.loop-host-preserved
 loop-host-preserved c =
-    let silent = c.args.silent.now in
+    let silent = c.args.scene.now.silent.now in
     let old = c.loop-host.enough.items in
     let new = c.push.new.self.items in
     let is = c.in_ok-push.ensures.items in
-    let P : ℕ → Type 0 = λ h. ¬ Contains new h → (k : ProtectionGraph) → IsPictureOf c.args.picture.now k → NeverHolds (without_subject silent h) k c.args.x c.args.right c.args.y in
+    let P : ℕ → Type 0 = λ h. ¬ Contains new h → (k : ProtectionGraph) → IsPictureOf c.args.scene.now.picture.now k → NeverHolds (without_subject silent h) k c.args.question.x c.args.question.right c.args.question.y in
     AllWithin-more P silent 0 c.loop-host.host-index
     (λ k d low below out.
     c.loop-host.invariant k d low below
@@ -33,5 +33,5 @@ loop-host-preserved c =
 pub returns : goal.returns
 returns c g picture host silent untold =
     All-contains
-    (λ (h : ℕ). ¬ Contains c.loop-host.enough.items h → (k : ProtectionGraph) → IsPictureOf c.args.picture.now k → NeverHolds (without_subject c.args.silent.now h) k c.args.x c.args.right c.args.y)
-    c.args.silent.now host (λ k d inside. c.loop-host.invariant k d (omega arith) (omega arith)) silent untold g picture
+    (λ (h : ℕ). ¬ Contains c.loop-host.enough.items h → (k : ProtectionGraph) → IsPictureOf c.args.scene.now.picture.now k → NeverHolds (without_subject c.args.scene.now.silent.now h) k c.args.question.x c.args.question.right c.args.question.y)
+    c.args.scene.now.silent.now host (λ k d inside. c.loop-host.invariant k d (omega arith) (omega arith)) silent untold g picture

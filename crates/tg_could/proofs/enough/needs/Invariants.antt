@@ -8,5 +8,5 @@ use Rattle.tg_could.proofs.enough.needs.Given as goal
 abbrev pub invariant-loop-host : goal.invariant-loop-host
 invariant-loop-host l =
     AllWithin
-    (λ host. ¬ Contains l.enough.items host → (g : ProtectionGraph) → IsPictureOf l.picture g → NeverHolds (without_subject l.silent host) g l.x l.right l.y)
-    l.silent 0 l.host-index
+    (λ host. ¬ Contains l.enough.items host → (g : ProtectionGraph) → IsPictureOf l.scene.picture.now g → NeverHolds (without_subject l.scene.silent.now host) g l.question.x l.question.right l.question.y)
+    l.scene.silent.now 0 l.host-index

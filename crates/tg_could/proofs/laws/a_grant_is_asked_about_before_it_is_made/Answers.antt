@@ -6,5 +6,5 @@ use Rattle.tg_could.specs.Turns.{NeverHolds}
 use Rattle.tg_could.proofs.laws.a_grant_is_asked_about_before_it_is_made.Goals as goal
 
 pub returns : goal.returns
-returns c silent g host via target rights x right y host_silent permits never =
+returns c silent g host via target rights host_silent permits x right y never =
     subst (λ (h : ProtectionGraph). NeverHolds silent h x right y) (sym (step-allowed g host (Grant rights via target) permits)) never

@@ -7,14 +7,14 @@ use Rattle.tg_could.proofs.separation.is_alone.Goals as goal
 
 pub loop-subject-preserved : goal.loop-subject-preserved
 loop-subject-preserved c =
-    let P : ℕ → Type 0 = λ v. ¬ (Contains c.args.silent.now v × (v < c.args.picture.now.made)) → v ≡ c.args.y in
-    one-more P c.subjects-subject-items.result.now c.args.picture.now.subjects c.loop-subject.subject-index 0 c.subjects-subject-items.ensures c.loop-subject-test.true
+    let P : ℕ → Type 0 = λ v. ¬ (Contains c.args.scene.now.silent.now v × (v < c.args.scene.now.picture.now.made)) → v ≡ c.args.y in
+    one-more P c.subjects-subject-items.result.now c.args.scene.now.picture.now.subjects c.loop-subject.subject-index 0 c.subjects-subject-items.ensures c.loop-subject-test.true
     c.loop-subject.invariant (c.is_or_is_silent.ensures.is c.if-not-is_or_is_silent.false)
 
 pub returns-then-not-is_or_is_silent-clause-helped : goal.returns-then-not-is_or_is_silent-clause-helped
 returns-then-not-is_or_is_silent-clause-helped c same =
     let seen = c.subjects-subject-items.result.now in
-    let subjects = c.args.picture.now.subjects in
+    let subjects = c.args.scene.now.picture.now.subjects in
     let i = c.loop-subject.subject-index in
     let v = get_or seen i 0 in
     let other = c.is_or_is_silent.ensures.other c.if-not-is_or_is_silent.true in
@@ -23,8 +23,8 @@ returns-then-not-is_or_is_silent-clause-helped c same =
 
 pub returns-clause-alone : goal.returns-clause-alone
 returns-clause-alone c t =
-    let P : ℕ → Type 0 = λ v. ¬ (Contains c.args.silent.now v × (v < c.args.picture.now.made)) → v ≡ c.args.y in
-    all-seen P c.subjects-subject-items.result.now c.args.picture.now.subjects c.loop-subject.subject-index c.subjects-subject-items.ensures c.loop-subject-test.false
+    let P : ℕ → Type 0 = λ v. ¬ (Contains c.args.scene.now.silent.now v × (v < c.args.scene.now.picture.now.made)) → v ≡ c.args.y in
+    all-seen P c.subjects-subject-items.result.now c.args.scene.now.picture.now.subjects c.loop-subject.subject-index c.subjects-subject-items.ensures c.loop-subject-test.false
     c.loop-subject.invariant
 
 pub returns-then-not-is_or_is_silent-clause-many : goal.returns-then-not-is_or_is_silent-clause-many

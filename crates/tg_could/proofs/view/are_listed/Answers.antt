@@ -5,7 +5,7 @@ use Rattle.tg_could.proofs.view.are_listed.Goals as goal
 
 pub loop-subject-preserved : goal.loop-subject-preserved
 loop-subject-preserved c =
-    one-more (OfActor c.args.silent.now c.args.picture.now (IsListed c.args.actors.now)) c.subjects-subject-items.result.now c.args.picture.now.subjects c.loop-subject.subject-index 0 c.subjects-subject-items.ensures c.loop-subject-test.true
+    one-more (OfActor c.args.scene.now.silent.now c.args.scene.now.picture.now (IsListed c.args.actors.now)) c.subjects-subject-items.result.now c.args.scene.now.picture.now.subjects c.loop-subject.subject-index 0 c.subjects-subject-items.ensures c.loop-subject-test.true
     c.loop-subject.invariant (c.is_listed_or_silent.ensures c.if-not-is_listed_or_silent.false)
 
 pub returns-then-not-is_listed_or_silent : goal.returns-then-not-is_listed_or_silent

@@ -6,4 +6,4 @@ use Rattle.tg_could.proofs.view.are_listed.Given as goal
 -- who acts before this place is listed
 abbrev pub invariant-loop-subject : goal.invariant-loop-subject
 invariant-loop-subject l =
-    AllWithin (OfActor l.silent l.picture (IsListed l.actors)) l.picture.subjects 0 l.subject-index
+    AllWithin (OfActor l.scene.silent.now l.scene.picture.now (IsListed l.actors)) l.scene.picture.now.subjects 0 l.subject-index

@@ -1,6 +1,15 @@
 use Rattle.std.proofs.Common.{ℕ, subst, sym}
-use Rattle.tgcould.specs.Told.{IsNever, NeverComes}
+use Rattle.tgcould.specs.Told.{IsNever, NeverComes, named_in}
 use Rattle.tgcould.proofs.ask.tell.Goals as goal
+
+pub returns-in-Hold : goal.returns-in-Hold
+returns-in-Hold c never =
+    let p = c.args.scene.now.picture.now in
+    let silent = c.args.scene.now.silent.now in
+    let right = c.in-Hold.right in
+    subst (NeverComes p silent) (sym c.in-Hold.is)
+    (subst (λ (n : ℕ). IsNever p silent (named_in p c.in-Hold.x) right n) c.name_of-y.ensures
+    (subst (λ (n : ℕ). IsNever p silent n right c.name_of-y.result) c.name_of-x.ensures (c.tell_hold.ensures.never never)))
 
 pub returns-in-Who : goal.returns-in-Who
 returns-in-Who c never =

@@ -5,4 +5,4 @@ use Rattle.tg_could.proofs.separation.Separation.part.Given as goal
 
 -- all edges before this place fit
 abbrev pub invariant-loop-edge : goal.invariant-loop-edge
-invariant-loop-edge l = AllWithin (Fits (sides_of l.self) l.x l.right l.y) l.edges 0 l.edge-index
+invariant-loop-edge l = AllWithin (Fits (sides_of l.self) l.question.x l.question.right l.question.y) l.edges 0 l.edge-index

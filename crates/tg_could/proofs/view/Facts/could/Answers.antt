@@ -4,29 +4,29 @@ use Rattle.tg_could.specs.View.{word_of, meets}
 use Rattle.tg_could.proofs.ViewLaws.{perhaps_not, gathered-at, viewed-same, viewed-alone, viewed-never}
 use Rattle.tg_could.proofs.view.Facts.could.Goals as goal
 
-pub returns-then-x-y : goal.returns-then-x-y
-returns-then-x-y c silent shown g checked picture never =
+pub returns-then-question : goal.returns-then-question
+returns-then-question c silent shown g checked picture never =
     let f = c.args.self.now in
-    viewed-same silent shown g picture f checked c.args.x c.args.right c.args.y c.in-Some.gathered
-    (gathered-at f c.args.right _ _ c.as_slice-words.result.now c.in-Some.gathered c.as_slice-words.ensures.value c.number-number.ensures c.number.ensures c.in-Some.ensures)
-    c.if-x-y.true
+    viewed-same silent shown g picture f checked c.args.question.x c.args.question.right c.args.question.y c.in-Some.gathered
+    (gathered-at f c.args.question.right _ _ c.as_slice-words.result.now c.in-Some.gathered c.as_slice-words.ensures.value c.number-number.ensures c.number.ensures c.in-Some.ensures)
+    c.if-question.true
 
 pub returns-then-is_alone : goal.returns-then-is_alone
 returns-then-is_alone c silent shown g checked picture never =
     let f = c.args.self.now in
     let is = c.is_alone.ensures c.if-is_alone.true in
-    viewed-alone silent shown g picture f checked c.args.x c.args.right c.args.y c.in-Some.gathered
-    (gathered-at f c.args.right _ _ c.as_slice-words.result.now c.in-Some.gathered c.as_slice-words.ensures.value c.number-number.ensures c.number.ensures c.in-Some.ensures)
+    viewed-alone silent shown g picture f checked c.args.question.x c.args.question.right c.args.question.y c.in-Some.gathered
+    (gathered-at f c.args.question.right _ _ c.as_slice-words.result.now c.in-Some.gathered c.as_slice-words.ensures.value c.number-number.ensures c.number.ensures c.in-Some.ensures)
     is.0 is.1
 
 pub returns : goal.returns
 returns c silent shown g checked picture never =
     let f = c.args.self.now in
     let word = c.with_later-word.result in
-    let at : c.granted.result ≡ word_of f.islands.granted.items (number_in f.names c.args.x) =
+    let at : c.granted.result ≡ word_of f.islands.granted.items (number_in f.names c.args.question.x) =
     c.granted.ensures ∙ ap (λ (n : ℕ). word_of f.islands.granted.items n) c.number-number.ensures in
-    viewed-never silent shown g picture f checked c.args.x c.args.right c.args.y c.in-Some.gathered
-    (gathered-at f c.args.right _ _ c.as_slice-words.result.now c.in-Some.gathered c.as_slice-words.ensures.value c.number-number.ensures c.number.ensures c.in-Some.ensures)
+    viewed-never silent shown g picture f checked c.args.question.x c.args.question.right c.args.question.y c.in-Some.gathered
+    (gathered-at f c.args.question.right _ _ c.as_slice-words.result.now c.in-Some.gathered c.as_slice-words.ensures.value c.number-number.ensures c.number.ensures c.in-Some.ensures)
     word c.with_later-word.ensures
     (subst (λ (n : ℕ). meets n word ≡ false) at (sym c.meets.ensures ∙ c.if-meets.false))
     (c.are_placed.ensures c.if-not-are_placed.false)

@@ -8,11 +8,11 @@ use Rattle.tg_could.proofs.view.Facts.is_checked.Goals as goal
 pub returns : goal.returns
 returns c t =
     let f = c.args.self.now in
-    let p = c.args.picture.now in
-    let same = c.are_same.ensures c.if-not-are_same.false in
+    let p = c.args.scene.now.picture.now in
+    let same = c.pairs_match.ensures c.if-not-pairs_match.false in
     record {
       actors =
-          subst (λ (l : List ℕ). All (λ v. ¬ (Contains c.args.silent.now v × (v < p.made)) → IsListed l v) p.subjects) c.as_slice-actors.ensures.value
+          subst (λ (l : List ℕ). All (λ v. ¬ (Contains c.args.scene.now.silent.now v × (v < p.made)) → IsListed l v) p.subjects) c.as_slice-actors.ensures.value
           (c.are_listed.ensures c.if-not-are_listed.false);
       single =
           subst (λ (l : List ℕ). All (IsOfOne f.names f.islands) l) c.as_slice-actors.ensures.value
@@ -23,8 +23,8 @@ returns c t =
       limit = same.1 ∙ c.limit.ensures;
     }
 
-pub returns-then-not-are_same : goal.returns-then-not-are_same
-returns-then-not-are_same c t = absurd (false≢true t)
+pub returns-then-not-pairs_match : goal.returns-then-not-pairs_match
+returns-then-not-pairs_match c t = absurd (false≢true t)
 
 pub returns-then-not-is_full_as : goal.returns-then-not-is_full_as
 returns-then-not-is_full_as c t = absurd (false≢true t)

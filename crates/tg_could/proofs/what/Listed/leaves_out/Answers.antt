@@ -10,6 +10,6 @@ pub returns : goal.returns
 returns c t g picture right y untold =
     let listed = c.args.self.now in
     let s = sides_against c.args.sides.now in
-    unlisted-never c.args.silent.now c.args.picture.now g picture listed c.args.x right y untold s
+    unlisted-never c.args.scene.now.silent.now c.args.scene.now.picture.now g picture listed c.args.x right y untold s
     (subst (λ (es : List Edge). All (ListsEdge s listed c.args.x) es) c.edges.ensures (c.has_edges.ensures t))
     (c.has_actors.ensures c.if-not-has_actors.false) (c.has_alone.ensures c.if-not-has_alone.false)

@@ -1,5 +1,0 @@
-use Rattle.tg_could.proofs.SettledLaws.{Turns}
-use Rattle.tg_could.proofs.led.LedNames.turn.Given as goal
-
-abbrev pub invariant-loop-subject : goal.invariant-loop-subject
-invariant-loop-subject l = Turns l.silent l.picture l.y l.fn.self l.self l.subject-index
