@@ -1,7 +1,7 @@
 # Writes a C file that compiles exactly where kovshenul.h fits the library's text: each struct of numbers has the same
 # fields at the same offsets, each export the same parameters, each constant the number that the contracts give it.
 #
-# It reads crates/tg_c/src/forms.rt, records.rt, handle.rt, place.rt, answer.rt, exports.rt, could.rt, those of its auditor and its view,
+# It reads crates/tg_c/src/forms.rt, records.rt, place.rt, answer.rt, exports.rt, could.rt, those of its auditor and its view,
 # crates/tg_c/specs/Forms.antt, Records.antt, Could.antt and View.antt, behind them crates/tg_model/specs/Commands.antt, and
 # crates/tg_rights/specs/RightSet.antt.
 
@@ -61,7 +61,7 @@ BEGIN {
     types["EdgeIn"] = "tg_edge"; types["ValueIn"] = "tg_value"; types["LimitsIn"] = "tg_limits"
     types["DenialOut"] = "tg_denial"; types["EdgeOut"] = "tg_target"; types["CensusOut"] = "tg_counts"
     types["RecordOut"] = "tg_record"
-    types["StorePlace"] = "tg_store"; types["Handle"] = "twin_Handle"
+    types["StorePlace"] = "tg_store"; types["StoreHandle"] = "twin_StoreHandle"
     types["AnswerPlace"] = "tg_answer"; types["AnswerHandle"] = "twin_AnswerHandle"
     types["AuditorPlace"] = "tg_auditor"; types["AuditorHandle"] = "twin_AuditorHandle"
     types["ViewPlace"] = "tg_view"; types["ViewHandle"] = "twin_ViewHandle"

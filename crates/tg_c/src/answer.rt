@@ -1,65 +1,53 @@
-//! Answers to what could come about, which C holds: a flag, and the handle of a box that is open exactly while the flag
-//! is set.
-ghost use Rattle.std.specs.Prelude.{◌≡◌, Bool, false, true};
+//! The place of an answer to what could come about, in the memory of C, as `crate::held` tells.
+ghost use Rattle.std.specs.Prelude.{◌≡◌, Bool};
 ghost use Rattle.tg_c.specs.declared.outlook.Outlook.{Outlook as OutlookValue};
-ghost use Rattle.tg_c.specs.HeldAnswer.{answer_coded, held_answer};
-ghost use Rattle.tg_c.specs.Inner.Places.{IsPut, IsTaken};
+ghost use Rattle.tg_c.specs.contracts.outlook.Outlook.{the_row};
+ghost use Rattle.tg_c.specs.Held.{held_by};
+ghost use Rattle.tg_c.specs.Inner.Places.{Holds};
 
+use crate::handle::Handle;
+use crate::held::{Held, Holder};
 use crate::outlook::Outlook;
-use crate::parts::Parts;
-use crate::place::may_cross;
 use std::alloc::Global;
 use std::marker::Model;
-use std::mem;
-use std::ptr::null_mut;
 
 /// The box of an open answer as its pointer, or none. 8 bytes.
 #[repr(C)]
-#[derive(Drop)]
 pub struct AnswerHandle {
     at: *mut u8,
     alloc: Global,
     pub ghost is_open: { Bool },
-    pub ghost opened: { OutlookValue } by { answer_coded },
+    pub ghost opened: { OutlookValue } by { the_row.coded },
 }
 
 impl Model for AnswerHandle {
-    ghost also_owns = { λ h. held_answer h.is_open h.alloc h.at h.opened };
+    ghost also_owns = { λ h. held_by the_row h.is_open h.alloc h.at h.opened };
 }
 
 impl AnswerHandle {
-    /// The handle of a box.
-    pub fn of_parts(parts: Parts<Outlook, Global>) -> AnswerHandle
-        ensures { (result.is_open ≡ true) × (result.opened ≡ parts.value) }
+    // Returns the handle with this box, or none, and the box that the handle had. C doesn't see the pointer's type.
+    fn exchange(self, with: Handle<Outlook, Global>) -> (AnswerHandle, Handle<Outlook, Global>)
+        ensures { Holds self.is_open self.opened result.1.opened × Holds result.0.is_open result.0.opened with.opened }
     {
-        let Parts { ptr, alloc } = parts;
-        let at = ptr as *mut u8;
-        AnswerHandle { at, alloc }
-    }
-
-    /// The box of an open handle.
-    pub fn into_parts(self) -> Parts<Outlook, Global>
-        requires { self.is_open ≡ true }
-        ensures { result.value ≡ self.opened }
-    {
-        let AnswerHandle { at, alloc } = self;
-        let ptr = at as *mut Outlook;
-        Parts { ptr, alloc }
-    }
-
-    /// A handle of no answer: the null pointer.
-    pub fn closed(alloc: Global) -> AnswerHandle
-        ensures { result.is_open ≡ false }
-    {
-        let at = null_mut::<u8>();
-        AnswerHandle { at, alloc }
+        let AnswerHandle {
+            at: was_at,
+            alloc: was_in,
+        } = self;
+        let Handle { at, alloc } = with;
+        let at = at as *mut u8;
+        (
+            AnswerHandle { at, alloc },
+            Handle {
+                at: was_at as *mut Outlook,
+                alloc: was_in,
+            },
+        )
     }
 }
 
-/// An answer that C holds, in 16 bytes. All bytes zero is a closed one. It may be moved, and of two copies only one may
-/// be used: nothing checks that.
+/// An answer that C holds, in 16 bytes. All bytes zero is a closed one. It may be moved, and of two copies only one
+/// may be used: nothing checks that.
 #[repr(C)]
-#[derive(Drop)]
 pub struct AnswerPlace {
     /// Whether there is an answer.
     pub is_open: bool,
@@ -68,31 +56,29 @@ pub struct AnswerPlace {
     pub ghost agrees: { handle.is_open ≡ is_open },
 }
 
-impl AnswerPlace {
-    /// Takes the answer out, if there is one. The place is closed until it is put back. Takes no memory.
-    pub fn take(&mut self, alloc: Global) -> Option<Box<Outlook>>
-        ensures { IsTaken self.old.is_open self.old.handle.opened self.new.is_open result }
-    {
-        let closed = AnswerPlace {
-            is_open: false,
-            handle: AnswerHandle::closed(alloc),
-        };
-        let place = mem::replace(self, closed);
-        let AnswerPlace { is_open, handle } = place;
-        if is_open {
-            Some(handle.into_parts().into_box())
-        } else {
-            None
-        }
-    }
+impl Holder<Outlook> for AnswerPlace {
+    ghost is_open = { λ p. p.is_open };
 
-    /// Puts an answer in place, which should be closed: what was there before isn't looked at. Takes no memory.
-    pub fn put(&mut self, opened: Box<Outlook>)
-        ensures { IsPut opened.value self.new.is_open self.new.handle.opened }
+    ghost opened = { λ p. p.handle.opened };
+
+    fn exchange(self, with: Held<Outlook>) -> (AnswerPlace, Held<Outlook>)
+        ensures { Holds self.is_open self.handle.opened result.1.handle.opened × Holds result.0.is_open result.0.handle.opened with.handle.opened }
     {
-        *self = AnswerPlace {
-            is_open: true,
-            handle: AnswerHandle::of_parts(Parts::of(may_cross(opened))),
-        };
+        let AnswerPlace {
+            is_open: was_open,
+            handle,
+        } = self;
+        let Held {
+            is_open,
+            handle: with,
+        } = with;
+        let (handle, had) = handle.exchange(with);
+        (
+            AnswerPlace { is_open, handle },
+            Held {
+                is_open: was_open,
+                handle: had,
+            },
+        )
     }
 }

@@ -2,10 +2,9 @@
 //! up what was audited.
 //!
 //! As of a store, C holds an `AuditorPlace` of 16 bytes, all zero while it is closed (`place`). An open place has a
-//! pointer to an `Audit` (`handle`, `audit`). The functions of `exports` call it by `calls`.
+//! pointer to an `Audit` (`audit`). The functions of `exports` call it by `calls`.
 
 pub mod audit;
 mod calls;
 mod exports;
-pub mod handle;
 mod place;

@@ -6,6 +6,7 @@ ghost use Rattle.tg_c.specs.Statuses.{TellsNumber, status_of};
 use crate::answer::AnswerPlace;
 use crate::foresee::foresee;
 use crate::forms::EdgeIn;
+use crate::held::Holder;
 use crate::outlook::Outlook;
 use crate::place::StorePlace;
 use crate::records::{RecordOut, numbers_of_turn, turn_out};

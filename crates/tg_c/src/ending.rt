@@ -5,6 +5,7 @@ ghost use Rattle.tg_c.specs.Ending.{AsksHolders, Leaves};
 ghost use Rattle.tg_c.specs.Statuses.{TellsNames, TellsNumber};
 
 use crate::foresee::right_of;
+use crate::held::Holder;
 use crate::place::StorePlace;
 use crate::refusal::CallRefusal;
 use crate::tell::{put_numbers, tell_number};

@@ -7,6 +7,7 @@ ghost use Rattle.tg_c.specs.Could.{IsForeseen, IsRefusedQuestion, JoinReached, J
 ghost use Rattle.tg_c.specs.Inner.Stores.{KeepsStore};
 
 use crate::forms::EdgeIn;
+use crate::held::Holder;
 use crate::law_store::LawStore;
 use crate::opening::{check_rights, edges_in};
 use crate::outlook::Outlook;

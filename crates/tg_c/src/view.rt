@@ -2,11 +2,10 @@
 //! opened.
 //!
 //! As of a store, C holds a `ViewPlace` of 16 bytes, all zero while it is closed (`place`). An open place has a pointer
-//! to a `Sight` (`handle`, `sight`), which is made of what the workers of a store reach (`calls`). It has nothing of
+//! to a `Sight` (`sight`), which is made of what the workers of a store reach (`calls`). It has nothing of
 //! the store, and outlives it.
 
 mod calls;
 mod exports;
-pub mod handle;
-mod place;
+pub mod place;
 pub mod sight;

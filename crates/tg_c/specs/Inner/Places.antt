@@ -1,6 +1,14 @@
 -- What is taken out of a place in the memory of C, and put there.
-use Rattle.std.specs.Prelude.{◌≡◌, Bool, true, false, Option, MatchOption}
+use Rattle.std.specs.Prelude.{◌≡◌, Bool, true, false, Option, None, Some, MatchOption}
 use Rattle.std_alloc.specs.declared.boxed.Box.{Box}
+
+-- the value of this box, or none of either
+abbrev pub IsBoxOf : {S A : Type 0} → Option S → Option (Box S A) → Type 0
+IsBoxOf had boxed = MatchOption boxed (had ≡ None) (λ one. had ≡ Some one.value)
+
+-- what is held is this, where it is open, or else nothing
+abbrev pub Holds : {S : Type 0} → Bool → S → Option S → Type 0
+Holds is_open held had = MatchOption had (is_open ≡ false) (λ one. (is_open ≡ true) × (held ≡ one))
 
 -- What a place held was taken out of it, if it was open, and it is closed then.
 pub record IsTaken {S A : Type 0} (was_open : Bool) (held : S) (is_open : Bool) (result : Option (Box S A)) : Type 0 where

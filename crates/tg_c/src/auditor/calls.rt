@@ -8,6 +8,7 @@ use crate::auditor::audit::Audit;
 use crate::auditor::place::AuditorPlace;
 use crate::calls::forget;
 use crate::forms::{EdgeIn, LimitsIn, ValueIn};
+use crate::held::Holder;
 use crate::opening::asked_for;
 use crate::place::StorePlace;
 use crate::refusal::CallRefusal;

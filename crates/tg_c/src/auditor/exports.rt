@@ -6,6 +6,7 @@ ghost use Rattle.tg_c.specs.Statuses.{TellsNumber, TellsOnly, status_of};
 use crate::auditor::calls;
 use crate::auditor::place::AuditorPlace;
 use crate::forms::{EdgeIn, LimitsIn, ValueIn};
+use crate::held::Holder;
 use crate::place::StorePlace;
 use crate::refusal::CallRefusal;
 use crate::tell::{DONE, tell_number, tell_only};

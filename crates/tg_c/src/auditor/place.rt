@@ -1,18 +1,53 @@
-//! The auditor's place in the memory of C, as `crate::place` has that of a store.
-ghost use Rattle.std.specs.Prelude.{◌≡◌};
-ghost use Rattle.tg_c.specs.Inner.Places.{IsPut, IsTaken};
+//! The auditor's place in the memory of C, as `crate::held` tells.
+ghost use Rattle.std.specs.Prelude.{◌≡◌, Bool};
+ghost use Rattle.tg_c.specs.declared.auditor.audit.Audit.{Audit as AuditValue};
+ghost use Rattle.tg_c.specs.contracts.auditor.audit.Audit.{the_row};
+ghost use Rattle.tg_c.specs.Held.{held_by};
+ghost use Rattle.tg_c.specs.Inner.Places.{Holds};
 
 use crate::auditor::audit::Audit;
-use crate::auditor::handle::AuditorHandle;
-use crate::parts::Parts;
-use crate::place::may_cross;
+use crate::handle::Handle;
+use crate::held::{Held, Holder};
 use std::alloc::Global;
-use std::mem;
+use std::marker::Model;
+
+/// The box of an open auditor as its pointer, or none. 8 bytes.
+#[repr(C)]
+pub struct AuditorHandle {
+    at: *mut u8,
+    alloc: Global,
+    pub ghost is_open: { Bool },
+    pub ghost opened: { AuditValue } by { the_row.coded },
+}
+
+impl Model for AuditorHandle {
+    ghost also_owns = { λ h. held_by the_row h.is_open h.alloc h.at h.opened };
+}
+
+impl AuditorHandle {
+    // Returns the handle with this box, or none, and the box that the handle had. C doesn't see the pointer's type.
+    fn exchange(self, with: Handle<Audit, Global>) -> (AuditorHandle, Handle<Audit, Global>)
+        ensures { Holds self.is_open self.opened result.1.opened × Holds result.0.is_open result.0.opened with.opened }
+    {
+        let AuditorHandle {
+            at: was_at,
+            alloc: was_in,
+        } = self;
+        let Handle { at, alloc } = with;
+        let at = at as *mut u8;
+        (
+            AuditorHandle { at, alloc },
+            Handle {
+                at: was_at as *mut Audit,
+                alloc: was_in,
+            },
+        )
+    }
+}
 
 /// An auditor that C holds, in 16 bytes. All bytes zero is a closed one. It may be moved, and of two copies only one
 /// may be used: nothing checks that.
 #[repr(C)]
-#[derive(Drop)]
 pub struct AuditorPlace {
     /// Whether there is an auditor.
     pub is_open: bool,
@@ -21,31 +56,29 @@ pub struct AuditorPlace {
     pub ghost agrees: { handle.is_open ≡ is_open },
 }
 
-impl AuditorPlace {
-    /// Takes the auditor out, if there is one. The place is closed until it is put back. Takes no memory.
-    pub fn take(&mut self, alloc: Global) -> Option<Box<Audit>>
-        ensures { IsTaken self.old.is_open self.old.handle.opened self.new.is_open result }
-    {
-        let closed = AuditorPlace {
-            is_open: false,
-            handle: AuditorHandle::closed(alloc),
-        };
-        let place = mem::replace(self, closed);
-        let AuditorPlace { is_open, handle } = place;
-        if is_open {
-            Some(handle.into_parts().into_box())
-        } else {
-            None
-        }
-    }
+impl Holder<Audit> for AuditorPlace {
+    ghost is_open = { λ p. p.is_open };
 
-    /// Puts the auditor in place, which should be closed: what was there before isn't looked at. Takes no memory.
-    pub fn put(&mut self, opened: Box<Audit>)
-        ensures { IsPut opened.value self.new.is_open self.new.handle.opened }
+    ghost opened = { λ p. p.handle.opened };
+
+    fn exchange(self, with: Held<Audit>) -> (AuditorPlace, Held<Audit>)
+        ensures { Holds self.is_open self.handle.opened result.1.handle.opened × Holds result.0.is_open result.0.handle.opened with.handle.opened }
     {
-        *self = AuditorPlace {
-            is_open: true,
-            handle: AuditorHandle::of_parts(Parts::of(may_cross(opened))),
-        };
+        let AuditorPlace {
+            is_open: was_open,
+            handle,
+        } = self;
+        let Held {
+            is_open,
+            handle: with,
+        } = with;
+        let (handle, had) = handle.exchange(with);
+        (
+            AuditorPlace { is_open, handle },
+            Held {
+                is_open: was_open,
+                handle: had,
+            },
+        )
     }
 }

@@ -5,6 +5,7 @@ ghost use Rattle.tg_c.specs.View.{Glances, IsRefusedView, IsSeen};
 
 use crate::foresee::right_of;
 use crate::forms::EdgeIn;
+use crate::held::Holder;
 use crate::law_store::LawStore;
 use crate::opening::check_rights;
 use crate::place::StorePlace;

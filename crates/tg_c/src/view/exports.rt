@@ -4,6 +4,7 @@ ghost use Rattle.tg_c.specs.Statuses.{TellsNumber, status_of};
 ghost use Rattle.tg_c.specs.View.{Glances, OpensView};
 
 use crate::forms::EdgeIn;
+use crate::held::Holder;
 use crate::place::StorePlace;
 use crate::refusal::CallRefusal;
 use crate::tell::{DONE, tell_number};

@@ -1,18 +1,53 @@
-//! The view's place in the memory of C, as `crate::place` has that of a store.
-ghost use Rattle.std.specs.Prelude.{◌≡◌};
-ghost use Rattle.tg_c.specs.Inner.Places.{IsPut, IsTaken};
+//! The view's place in the memory of C, as `crate::held` tells.
+ghost use Rattle.std.specs.Prelude.{◌≡◌, Bool};
+ghost use Rattle.tg_c.specs.declared.view.sight.Sight.{Sight as SightValue};
+ghost use Rattle.tg_c.specs.contracts.view.sight.Sight.{the_row};
+ghost use Rattle.tg_c.specs.Held.{held_by};
+ghost use Rattle.tg_c.specs.Inner.Places.{Holds};
 
-use crate::parts::Parts;
-use crate::place::may_cross;
-use crate::view::handle::ViewHandle;
+use crate::handle::Handle;
+use crate::held::{Held, Holder};
 use crate::view::sight::Sight;
 use std::alloc::Global;
-use std::mem;
+use std::marker::Model;
+
+/// The box of an open view as its pointer, or none. 8 bytes.
+#[repr(C)]
+pub struct ViewHandle {
+    at: *mut u8,
+    alloc: Global,
+    pub ghost is_open: { Bool },
+    pub ghost opened: { SightValue } by { the_row.coded },
+}
+
+impl Model for ViewHandle {
+    ghost also_owns = { λ h. held_by the_row h.is_open h.alloc h.at h.opened };
+}
+
+impl ViewHandle {
+    // Returns the handle with this box, or none, and the box that the handle had. C doesn't see the pointer's type.
+    fn exchange(self, with: Handle<Sight, Global>) -> (ViewHandle, Handle<Sight, Global>)
+        ensures { Holds self.is_open self.opened result.1.opened × Holds result.0.is_open result.0.opened with.opened }
+    {
+        let ViewHandle {
+            at: was_at,
+            alloc: was_in,
+        } = self;
+        let Handle { at, alloc } = with;
+        let at = at as *mut u8;
+        (
+            ViewHandle { at, alloc },
+            Handle {
+                at: was_at as *mut Sight,
+                alloc: was_in,
+            },
+        )
+    }
+}
 
 /// A view that C holds, in 16 bytes. All bytes zero is a closed one. It may be moved, and of two copies only one
 /// may be used: nothing checks that.
 #[repr(C)]
-#[derive(Drop)]
 pub struct ViewPlace {
     /// Whether there is a view.
     pub is_open: bool,
@@ -21,31 +56,29 @@ pub struct ViewPlace {
     pub ghost agrees: { handle.is_open ≡ is_open },
 }
 
-impl ViewPlace {
-    /// Takes the view out, if there is one. The place is closed until it is put back. Takes no memory.
-    pub fn take(&mut self, alloc: Global) -> Option<Box<Sight>>
-        ensures { IsTaken self.old.is_open self.old.handle.opened self.new.is_open result }
-    {
-        let closed = ViewPlace {
-            is_open: false,
-            handle: ViewHandle::closed(alloc),
-        };
-        let place = mem::replace(self, closed);
-        let ViewPlace { is_open, handle } = place;
-        if is_open {
-            Some(handle.into_parts().into_box())
-        } else {
-            None
-        }
-    }
+impl Holder<Sight> for ViewPlace {
+    ghost is_open = { λ p. p.is_open };
 
-    /// Puts the view in place, which should be closed: what was there before isn't looked at. Takes no memory.
-    pub fn put(&mut self, opened: Box<Sight>)
-        ensures { IsPut opened.value self.new.is_open self.new.handle.opened }
+    ghost opened = { λ p. p.handle.opened };
+
+    fn exchange(self, with: Held<Sight>) -> (ViewPlace, Held<Sight>)
+        ensures { Holds self.is_open self.handle.opened result.1.handle.opened × Holds result.0.is_open result.0.handle.opened with.handle.opened }
     {
-        *self = ViewPlace {
-            is_open: true,
-            handle: ViewHandle::of_parts(Parts::of(may_cross(opened))),
-        };
+        let ViewPlace {
+            is_open: was_open,
+            handle,
+        } = self;
+        let Held {
+            is_open,
+            handle: with,
+        } = with;
+        let (handle, had) = handle.exchange(with);
+        (
+            ViewPlace { is_open, handle },
+            Held {
+                is_open: was_open,
+                handle: had,
+            },
+        )
     }
 }
