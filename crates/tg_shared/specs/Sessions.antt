@@ -2,6 +2,7 @@
 use Rattle.std.specs.Prelude.{◌≡◌, ◌≢◌, ℕ, ◌+◌, ◌<◌, ◌≤◌, ◌==◌, max, Bool, true, false, Option, Some, None, List, [], ◌∷◌, ◌++◌, Result, Ok, Err, IfErr, OnOk, length, map, take, drop}
 use Rattle.std.specs.List.{All, AllPairs, count_by, filter, sum_by}
 use Rattle.tg_model.specs.declared.command.Deed.{Deed}
+use Rattle.tg_model.specs.declared.command.Command.{Command}
 use Rattle.tg_model.specs.declared.command.Command.TheVariants.{Retire}
 use Rattle.tg_model.specs.declared.command.Deed.TheVariants.{Plain, Spawn}
 use Rattle.tg_model.specs.declared.reply.Reply.{Reply}
@@ -17,9 +18,12 @@ use Rattle.tg_journal.specs.History.{IsLegal, IsLegalEntry, graph_after}
 use Rattle.tg_journal.specs.Journal.{Entries}
 use Rattle.tg_graph.specs.Heap.{nursery_of}
 use Rattle.tg_rows.specs.Spots.{LacksCellsFor}
+use Rattle.tg_rules.specs.Effect.{AddsEdge, LacksCellsToServe}
 use Rattle.tg_space.specs.declared.kind.Kind.{Kind}
 use Rattle.tg_store.specs.Collecting.{IsSwept}
 use Rattle.tg_store.specs.Leaving.{HasLeft, leaving}
+use Rattle.tg_store.specs.declared.fault.ApplyFault.{ApplyFault}
+use Rattle.tg_store.specs.declared.fault.ApplyFault.TheVariants as apply
 use Rattle.tg_store.specs.declared.fault.CreateFault.{CreateFault}
 use Rattle.tg_store.specs.declared.fault.CreateFault.TheVariants as fault
 use Rattle.tg_store.specs.declared.fault.CreateRefused.{CreateRefused}
@@ -194,6 +198,11 @@ graph_seen start seen = graph_after (start_of start.opening) (start.entries ++ e
 abbrev pub IsGone : SharedStart → List Signed → ℕ → Type 0
 IsGone start seen worker = AtSeen start seen (λ s. (worker < (graph_of_store s).made) × (¬ IsSubject (graph_of_store s) worker))
 
+-- The session made exactly its own of the entries that it has seen, and the keeper made none of its worker, unless it may end nobody.
+pub record IsOnItsOwn (start : SharedStart) (session : SessionState) : Type 0 where
+  pub own : entries_by (Session session.worker) session.seen ≡ session.made
+  pub alone : start.may_end ≡ true → own_entries session.worker (entries_by Keeper session.seen) ≡ []
+
 -- A session whose worker was gone when it looked last has no subject in the store either, if it sees all entries.
 abbrev pub StaysOut : SharedStart → StoreState → List Signed → SessionState → Type 0
 StaysOut start s signed session = Sees signed (knowledge session) → IsGone start session.seen session.worker → ¬ IsSubject (graph_of_store s) session.worker
@@ -274,6 +283,14 @@ pub record IsAnswered (start : SharedStart) (old new : SessionState) (deed : Dee
   pub receipt : AddsReceipt old new (length start.entries + length before) deed reply
   pub legal : AtSeen start before (λ s. IsLegalEntry (graph_of_store s) (record { worker = old.worker; deed = deed; reply = reply }))
   pub seen : new.seen ≡ before ++ sign (Session old.worker) (record { worker = old.worker; deed = deed; reply = reply }) ∷ []
+
+-- Why a session's command is refused: of a store with exactly the entries that the session has then seen there was no such worker, or
+-- the command was allowed and a cell was lacking; or memory ran out.
+pub record RefusesCall (start : SharedStart) (command : Command) (old new : SessionState) (why : ApplyFault) : Type 0 where
+  pub looked : HasLooked old new
+  pub no_such_worker : why ≡ apply.NoSuchWorker → AtSeen start new.seen (λ s. ¬ IsSubject (graph_of_store s) old.worker)
+  pub full : why ≡ apply.HeapFull → AtSeen start new.seen (λ s.
+      IsAllowed (graph_of_store s) old.worker (Plain command) × AddsEdge command × LacksCellsToServe s.heap.table (nursery_of s.heap old.worker) old.worker command)
 
 -- What of a leave comes next after these entries since the start: a remove for each edge that the worker has in this graph, by rising
 -- name, and a retire. They were legal there, and the worker gave up so many edges.
