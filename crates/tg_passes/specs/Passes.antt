@@ -1,5 +1,5 @@
 -- What the lock's side, each session and the keeper know of the entries since a store was shared, as tokens carry it.
-use Rattle.std.specs.Prelude.{◌≡◌, ℕ, ◌+◌, ◌<◌, ◌≤◌, ◌==◌, Bool, true, false, List, [], ◌∷◌, ◌++◌, map}
+use Rattle.std.specs.Prelude.{◌≡◌, ℕ, ◌+◌, ◌<◌, ◌==◌, Bool, true, false, List, [], ◌∷◌, ◌++◌, map}
 use Rattle.std.specs.List.{All, filter}
 use mathlib.Core.Option.{Option, none, some}
 use lib.ListN.{get_elem?}
