@@ -296,7 +296,7 @@ pub record RefusesCall (start : SharedStart) (command : Command) (old new : Sess
 -- name, and a retire. They were legal there, and the worker gave up so many edges.
 pub record IsLegalLeave (g : ProtectionGraph) (worker count : ℕ) : Type 0 where
   pub legal : IsLegal g (leaving g worker)
-  pub count : count ≡ length (listing_of g.label g.made worker)
+  pub edges : count ≡ length (listing_of g.label g.made worker)
 
 -- The session's worker left, and gave up so many edges. Exactly the receipts of its leaving were added, of entries that came next after
 -- these since the start, which the session sees. The session has then seen them and the new ones.
