@@ -39,7 +39,6 @@ pub(crate) struct Opened<L: Round, V: Ledger, E: Ledger, P: Payload> {
 
 impl<L: Round, V: Ledger, E: Ledger, P: Payload> Metered<L, V, E, P> {
     ghost use Rattle.tg_model.specs.declared.command.Deed.TheVariants.{Create, Spawn};
-    ghost use Rattle.tg_model.specs.declared.reply.Reply.TheVariants.{WorkersFull};
     ghost use Rattle.tg_model.specs.Graph.{ProtectionGraph};
     ghost use Rattle.tg_store.specs.Held.{IsHeldOver};
     ghost use Rattle.tg_store.specs.Made.{MayRefuse};
@@ -47,8 +46,8 @@ impl<L: Round, V: Ledger, E: Ledger, P: Payload> Metered<L, V, E, P> {
     ghost use Rattle.tg_store.specs.Store.{IsFaithful, StandsFor};
     ghost use Rattle.tg_passes.specs.declared.signed.Maker.TheVariants as maker;
     ghost use Rattle.tg_passes.specs.Passes.{Sees, entries_by};
-    ghost use Rattle.tg_shared.specs.Serving.{Collects, EndsWorker, HasNoted, HasNotedEnd, IsMadeAndNoted, KeepsNumbers, KeepsRound, ServesCommand};
-    ghost use Rattle.tg_shared.specs.Sessions.{AreFresh, GoesOn, HasGrownBy, IsFresh, MayNote, MayShare, Records, RecordsNothing, keeper_knowledge, knowledge, sessions_made, subjects_at};
+    ghost use Rattle.tg_shared.specs.Serving.{Collects, EndsWorker, HasNoted, HasNotedEnd, IsMadeAndNoted, KeepsNumbers, KeepsRound, NotesRefusal, ServesCommand};
+    ghost use Rattle.tg_shared.specs.Sessions.{AreFresh, GoesOn, HasGrownBy, IsFresh, MayNote, MayShare, keeper_knowledge, knowledge, sessions_made, subjects_at};
     ghost use Rattle.tg_shares.specs.Shares.{CanPayForVertex, LeavesPaying, MayShareOut, PaysFor, PaysForSpawn, one_entry, one_vertex};
 
     /// Shares a store as [`Locked::open`] does, and hands out a purse with so many vertices and entries, which all are
@@ -171,7 +170,7 @@ impl<L: Round, V: Ledger, E: Ledger, P: Payload> Metered<L, V, E, P> {
         ensures refusals { MayRefuse (Create label draft.law draft.state) client.old.session.worker draft self.old.locked.store self.new.locked.store result }
         ensures never_full { IfErr result (λ refused. refused.why ≢ CreateFault.VerticesFull) }
         ensures no_workers_full { IfErr result (λ refused. refused.why ≢ CreateFault.WorkersFull) }
-        ensures refused { OnErr result (RecordsNothing self.old.locked.store self.new.locked.store client.old.session client.new.session) }
+        ensures noted { NotesRefusal (Create label draft.law draft.state) self.old.locked.store self.new.locked.store client.old.session client.new.session result }
         ensures paid { PaysFor one_vertex client.old.purse client.new.purse result }
         ensures numbers { KeepsNumbers self.old.locked self.new.locked }
         ensures signed { HasNoted self.old.locked self.new.locked client.old.session client.new.session }
@@ -202,9 +201,7 @@ impl<L: Round, V: Ledger, E: Ledger, P: Payload> Metered<L, V, E, P> {
         ensures served { IfOk result (λ fresh. IsFresh fresh × IsMadeAndNoted (Spawn label draft.law draft.state) label draft self.old.locked.store self.new.locked.store client.old.session client.new.session fresh.worker) }
         ensures refusals { MayRefuse (Spawn label draft.law draft.state) client.old.session.worker draft self.old.locked.store self.new.locked.store result }
         ensures never_full { IfErr result (λ refused. refused.why ≢ CreateFault.VerticesFull) }
-        ensures too_many_entry { IfErr result (λ refused. refused.why ≡ CreateFault.WorkersFull →
-            Records self.old.locked.store self.new.locked.store client.old.session client.new.session (Spawn label draft.law draft.state) WorkersFull) }
-        ensures refused { IfErr result (λ refused. refused.why ≢ CreateFault.WorkersFull → RecordsNothing self.old.locked.store self.new.locked.store client.old.session client.new.session) }
+        ensures noted { NotesRefusal (Spawn label draft.law draft.state) self.old.locked.store self.new.locked.store client.old.session client.new.session result }
         ensures paid { PaysForSpawn client.old.purse client.new.purse result }
         ensures signed { HasNoted self.old.locked self.new.locked client.old.session client.new.session }
         ensures fresh_seen { IfOk result (λ fresh. fresh.seen ≡ self.new.locked.signed) }
