@@ -153,11 +153,8 @@ looked_all old new all is sees = record {
   own = subst (λ (x : SessionState). entries_by (Session x.worker) x.seen ≡ x.made) (sym is) sees.own;
 }
 
--- and has the receipts that it had before room was made
-pub ready_kept : (old ready now : SessionState) (all : List Signed) → KeepsReceipts old ready → now ≡ record ready { seen = all } → KeepsReceipts (record old { seen = now.seen }) now
-ready_kept old ready now all keeps is =
-    let looks = kept_seen ready now all is in
-    (looks.0 ∙ keeps.0, looks.1 ∙ keeps.1, looks.2 ∙ keeps.2, looks.3 ∙ keeps.3, looks.4 ∙ keeps.4, looks.5 ∙ keeps.5, refl)
+pub seen_only : (old new : SessionState) (all : List Signed) → new ≡ record old { seen = all } → new ≡ record old { seen = new.seen }
+seen_only old new all is = is ∙ (λ i. record old { seen = sym (ap (λ (x : SessionState). x.seen) is) i })
 
 -- one that did nothing has looked too
 pub looked_none : (old new : SessionState) → KeepsReceipts old new → entries_by (Session old.worker) old.seen ≡ old.made → HasLooked old new
@@ -182,6 +179,9 @@ keeper_looked old new all made seen sees = record {
   grown = subst (λ (l : List Signed). BeginsWith l old.seen) (sym seen) sees.front;
   own = ap (entries_by Keeper) seen ∙ sees.own ∙ sym made;
 }
+
+pub keeper_only : (old new : KeeperState) (all : List Signed) → new ≡ record old { seen = all } → new ≡ record old { seen = new.seen }
+keeper_only old new all is = is ∙ (λ i. record old { seen = sym (ap (λ (x : KeeperState). x.seen) is) i })
 
 -- a session sees what one with the same knowledge sees
 pub sees_as : (all : List Signed) (old ready : SessionState) → KeepsReceipts old ready → Sees all (knowledge ready) → Sees all (knowledge old)
@@ -279,6 +279,13 @@ gone_noted start old new signed worker front e grew entries opening own is on be
     let here : worker < (graph_of_store new).made = subst (λ (n : ℕ). n < (graph_of_store new).made) is (subst (λ (g : ProtectionGraph). e.worker < g.made) (sym (graph_more old new more entries opening)) low) in
     (new, on, after, (grown_more start old new signed (Session worker) more grew entries own (λ _. session_keeper worker), (here, none)))
 
+-- what a session's pass sees, the session sees
+pub sees_view : (all : List Signed) (v : SessionState) (pass : PassState) (worker : ℕ) → v.worker ≡ worker → v.made ≡ pass.made → v.seen ≡ pass.seen → pass.maker ≡ Session worker → Sees all pass → Sees all (knowledge v)
+sees_view all v pass worker named made seen maker sees = subst (Sees all) (λ i. record { maker = (maker ∙ ap Session (sym named)) i; made = sym made i; seen = sym seen i }) sees
+
+pub sees_keeper : (all : List Signed) (k : KeeperState) (pass : PassState) → k.made ≡ pass.made → k.seen ≡ pass.seen → pass.maker ≡ Keeper → Sees all pass → Sees all (keeper_knowledge k)
+sees_keeper all k pass made seen maker sees = subst (Sees all) (λ i. record { maker = maker i; made = sym made i; seen = sym seen i }) sees
+
 -- ---- a session's notes
 
 pub one_own : (worker : ℕ) (e : Entry) → e.worker ≡ worker → All (λ x. x.worker ≡ worker) (e ∷ [])
@@ -297,6 +304,13 @@ pub noted_none : (v : LockedState) (new : StoreState) (sessions entered : ℕ) (
 noted_none v new sessions entered signed before after entries same made = record {
   signed = same ∙ sym (append-nil v.signed) ∙ ap (λ (l : List Entry). v.signed ++ sign_all (Session before.worker) l) (sym (got_more v.store.entries new.entries [] (entries ∙ sym (append-nil v.store.entries))));
   seen = λ more. absurd (more made);
+}
+
+-- what is so after room was made is so from before
+pub noted_before : (v w : LockedState) (before ready after : SessionState) → ready.worker ≡ before.worker → ready.made ≡ before.made → HasNoted v w ready after → HasNoted v w before after
+noted_before v w before ready after named made noted = record {
+  signed = noted.signed ∙ ap (λ (n : ℕ). v.signed ++ sign_all (Session n) (drop (length v.store.entries) w.store.entries)) named;
+  seen = λ more. noted.seen (λ same. more (same ∙ made));
 }
 
 -- where an entry was added, the list is longer

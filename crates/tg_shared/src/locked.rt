@@ -305,7 +305,7 @@ impl<L: Round, P: Payload> Locked<L, P> {
         self.register.roll.look(&mut keeper.pass);
         let at = self.store.journal().len();
         let count = self.store.leave(worker)?;
-        let entries = count + 1;
+        let entries = self.store.journal().len() - at;
         self.register.book.add(&mut self.rest, entries);
         // It shows that so many entries were made, so their number is one.
         self.register.book.audit(&mut self.rest);
