@@ -13,9 +13,9 @@ use std::mem;
 use tg_journal::Entry;
 
 /// What a seat knows. The seat of the roll keeps (`keeps`): it knows all entries since the start, and a bound of the
-/// names of the workers that have sessions. The seat of a pass acts (`acts`) for a maker: it knows all entries that this
-/// maker made, and has seen a front of all entries in which these are. A seat is both while it looks or notes. No value
-/// of it is made.
+/// names of the workers that have sessions. The seat of a pass acts (`acts`) for a maker: it knows all entries of this
+/// maker, and has seen a front of all entries in which they are. A seat is both while it looks or notes. No value of it
+/// is made.
 pub struct View {
     pub keeps: bool,
     pub all: LinkedList<Signed>,

@@ -32,8 +32,9 @@ use tg_weave::{Told, in_script_order, sessions_of, share_out};
 /// there is no such worker; so is each line of anybody who is no worker of the opening, also of a subject that a spawn
 /// line made, whose session runs no line. Once all have ended the store is closed and audited, and only then anything
 /// is written: the reply to each line in script order, and the line with the number of entries. In what order lines of
-/// different workers are run is open, and who waits for whom. A line is refused for room in the heap only where a store
-/// that may have been behind the lock lacked it.
+/// different workers are run is open, and who waits for whom. A line is refused for room in the heap only if a store
+/// that may have been behind the lock lacked it, and that store had the first of the race's entries. The number of a
+/// full collection is of such a store too.
 ///
 /// After a fault nothing was written but after `WriteFailed`, which leaves a front of the text. A thread that can't be
 /// started is `NoThread`; those that were started have ended. `ReceiptMismatch` is answered too where a session finds
