@@ -21,8 +21,8 @@
 //! receipts, and of a store with exactly the entries that the session has then seen since the start: its answer was
 //! right of such a store (see 'What a session can know' in docs/ARCHITECTURE.md). Its own entries among these are
 //! exactly those that its calls made, by its pass (see 'How a session knows its own entries' there), and [`close`] says
-//! that the journal begins with what each session has seen. Whenever the lock is free, the store is the shared one, gone
-//! on, and keeps its promise ([`Locked::store`]), and the book that stands beside it has counted each entry since.
+//! that the journal begins with what each session has seen. Whenever the lock is free, the store is the shared one,
+//! gone on, and keeps its promise ([`Locked::store`]), and the book that stands beside it has counted each entry since.
 //!
 //! A session may make a subject, and is answered its session ([`Session::spawn`]), which is owed to [`close`] like the
 //! others. A subject that retires makes no entry any more; its session is owed all the same.
