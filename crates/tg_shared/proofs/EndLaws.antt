@@ -1,8 +1,7 @@
 -- Whom the keeper ended.
-use Rattle.std.proofs.Common.{◌≡◌, ◌∙◌, ℕ, List, [], ◌∷◌, ◌++◌, ap, map, refl, subst, sym}
+use Rattle.std.proofs.Common.{◌≡◌, ◌∙◌, ℕ, List, [], ◌∷◌, ◌++◌, ap, map, subst, sym}
 use Rattle.tg_rights.specs.RightSet.{RightSet}
 use Rattle.tg_model.specs.Graph.{ProtectionGraph, IsSubject, listing_of}
-use Rattle.tg_journal.specs.declared.entry.Entry.{Entry}
 use Rattle.tg_journal.specs.History.{IsLegal}
 use Rattle.tg_passes.specs.declared.signed.Maker.TheVariants.{Keeper}
 use Rattle.tg_passes.specs.declared.signed.Signed.{Signed}

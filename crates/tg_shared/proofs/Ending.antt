@@ -1,16 +1,16 @@
 -- What the keeper knows of an end.
 use Rattle.std.specs.Prelude.{IfErr, OnErr}
-use Rattle.std.proofs.Common.{◌≡◌, ◌↔◌, ◌∙◌, ◌+◌, ◌++◌, ℕ, ◌-◌, ◌<◌, ◌≤◌, ◌^◌, List, [], Result, Ok, Err, drop, length, length-append, append-nil, ap, arith, refl, subst, sym}
+use Rattle.std.proofs.Common.{◌≡◌, ◌↔◌, ◌∙◌, ◌+◌, ◌++◌, ℕ, ◌-◌, ◌<◌, ◌≤◌, ◌^◌, List, [], Result, Ok, Err, drop, length, length-append, append-nil, ap, arith, refl, sym}
 use Rattle.tg_model.specs.Graph.{IsSubject, listing_of}
 use Rattle.tg_journal.specs.declared.entry.Entry.{Entry}
 use Rattle.tg_passes.specs.declared.signed.Maker.TheVariants.{Keeper}
-use Rattle.tg_passes.specs.Passes.{BeginsWith, Sees, sign_all}
+use Rattle.tg_passes.specs.Passes.{Sees, sign_all}
 use Rattle.tg_store.specs.Leaving.{HasLeft, leaving}
 use Rattle.tg_store.specs.Store.{StoreState, IsUnchanged, graph_of_store}
 use Rattle.tg_store.specs.declared.fault.ApplyFault.{ApplyFault}
 use Rattle.tg_store.specs.declared.fault.ApplyFault.TheVariants.{NoSuchWorker}
 use Rattle.tg_shared.specs.Serving.{HasNotedEnd}
-use Rattle.tg_shared.specs.Sessions.{AtSeen, HasEnded, IsLegalLeave, KeeperLooked, KeeperState, LockedState, SharedStart, graph_seen, keeper_knowledge}
+use Rattle.tg_shared.specs.Sessions.{AtSeen, HasEnded, KeeperLooked, KeeperState, LockedState, SharedStart, graph_seen, keeper_knowledge}
 use Rattle.tg_shared.proofs.Calls.{Held, found_with}
 use Rattle.tg_shared.proofs.Knowing.{got_more, graph_is, keeper_looked}
 use Rattle.tg_shared.proofs.Leavings.{legal_more, length_leaving}

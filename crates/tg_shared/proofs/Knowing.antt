@@ -1,15 +1,13 @@
 -- What a session and the keeper know of the store behind the lock, and what the roll has of it.
-use Rattle.std.proofs.Common.{◌≡◌, ◌≢◌, ◌⊎◌, ◌∙◌, ℕ, ◌+◌, ◌<◌, ◌≤◌, ◌==◌, Bool, true, false, List, [], ◌∷◌, ◌++◌, length, map, drop, take, append_assoc, append-nil, length-append, ap, arith, inl, inr, refl, subst, sym, ⊎_elim, Result, Ok, Err}
-use Rattle.std.specs.Prelude.{IfOk}
+use Rattle.std.proofs.Common.{◌≡◌, ◌≢◌, ◌⊎◌, ◌∙◌, ℕ, ◌+◌, ◌<◌, ◌≤◌, Bool, true, false, List, [], ◌∷◌, ◌++◌, length, map, drop, append_assoc, append-nil, length-append, ap, arith, inl, inr, refl, subst, sym, ⊎_elim}
 use Rattle.std.specs.List.{All}
-use Rattle.std.proofs.lemmas.List.{drop-append-le, drop_all, length-map, map_push, take-append-le}
+use Rattle.std.proofs.lemmas.List.{drop-append-le, drop_all, length-map, map_push}
 use Rattle.std.proofs.lemmas.List.Elements.{All-append, All-cons, All-head, All-nil, All-tail}
-use Rattle.std.proofs.Math.Seq.{take-length}
 use Rattle.tg_model.specs.declared.command.Command.TheVariants.{Retire}
 use Rattle.tg_model.specs.declared.command.Deed.{Deed}
 use Rattle.tg_model.specs.declared.command.Deed.TheVariants.{Plain}
 use Rattle.tg_model.specs.Graph.{ProtectionGraph, IsSound, IsSubject}
-use Rattle.tg_model.specs.Opened.{Plan, start_of}
+use Rattle.tg_model.specs.Opened.{start_of}
 use Rattle.tg_model.specs.Rules.{step}
 use Rattle.tg_model.proofs.SoundLaws.{IsSound-step}
 use Rattle.tg_journal.specs.declared.entry.Entry.{Entry}
@@ -23,7 +21,7 @@ use Rattle.tg_passes.proofs.Signing.{by_append, by_one, by_other, by_others, by_
 use Rattle.tg_store.specs.Store.{StoreState, IsFaithful, graph_of_store}
 use Rattle.tg_shared.specs.declared.receipt.Receipt.{Receipt}
 use Rattle.tg_shared.specs.Serving.{HasNoted, Signs}
-use Rattle.tg_shared.specs.Sessions.{AtSeen, GoesOn, HasAll, HasAllUnlessEnded, HasGrownBy, HasLooked, HasMade, IsGone, IsOnItsOwn, IsRolled, KeeperState, KeeperLooked, KeepsReceipts, LockedState, SessionState, SharedStart, StaysOut, graph_seen, keeper_knowledge, knowledge, retired_behind, retired_by, since}
+use Rattle.tg_shared.specs.Sessions.{AtSeen, GoesOn, HasAllUnlessEnded, HasGrownBy, HasLooked, HasMade, IsGone, IsRolled, KeeperState, KeeperLooked, KeepsReceipts, LockedState, SessionState, SharedStart, StaysOut, graph_seen, keeper_knowledge, knowledge, retired_behind, retired_by, since}
 use Rattle.tg_shared.proofs.Balances.{graph_more, graph_same, locked_as, not_both}
 use Rattle.tg_shared.proofs.Leavings.{legal_more}
 use Rattle.tg_shared.proofs.Staying.{behind_append, none_later, who_retired, who_stays}

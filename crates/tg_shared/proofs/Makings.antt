@@ -1,6 +1,6 @@
 -- What the answer of a make tells of its entry, and what is behind the lock then.
 use Rattle.std.specs.Prelude.{IfOk, IfErr, IsErrAnd}
-use Rattle.std.proofs.Common.{◌≡◌, ◌≢◌, ℕ, ◌+◌, ◌++◌, ◌∷◌, ◌∙◌, [], false, Option, Some, None, Result, Ok, Err, ap, refl, subst, sym}
+use Rattle.std.proofs.Common.{◌≡◌, ◌≢◌, ℕ, ◌+◌, ◌∷◌, ◌∙◌, [], false, Option, Some, None, Result, Ok, Err, ap, refl, subst, sym}
 use Rattle.tg_rights.specs.RightSet.{RightSet}
 use Rattle.tg_model.specs.declared.command.Deed.{Deed}
 use Rattle.tg_model.specs.declared.reply.Reply.{Reply}

@@ -4,7 +4,7 @@ use Rattle.std.proofs.lemmas.Result.{err_from_is_err_and}
 use Rattle.tg_model.specs.Graph.{listing_of}
 use Rattle.tg_journal.specs.declared.entry.Entry.{Entry}
 use Rattle.tg_passes.specs.declared.signed.Maker.TheVariants.{Keeper}
-use Rattle.tg_passes.specs.Passes.{RollState, sign_all}
+use Rattle.tg_passes.specs.Passes.{sign_all}
 use Rattle.tg_store.specs.Leaving.{HasLeft, leaving}
 use Rattle.tg_store.specs.Store.{StoreState, graph_of_store}
 use Rattle.tg_shared.specs.Serving.{EndsWorker}
