@@ -28,6 +28,8 @@ struct Told {
     taken_over: [bool; 2],
     // how many edges a worker gives up who is ended, and why its session's next line is refused
     ended: (Option<u64>, Option<ApplyFault>),
+    // the bits of what that worker holds over its own vertex, before it is ended and afterwards
+    held_by_ended: [u8; 2],
     // why a name that is no worker's can't be ended, and whether the first session is answered after that
     nobody: (Option<ApplyFault>, bool),
 }
@@ -37,16 +39,18 @@ const NOTHING: Told = Told {
     parts: [(0, 0, false), (0, 0, false)],
     taken_over: [false, false],
     ended: (None, None),
+    held_by_ended: [0, 0],
     nobody: (None, false),
 };
 
-// The bits of what the session's worker holds over vertex 2; 0 where it holds nothing.
+// The bits of what the session's worker holds over a vertex, or 0 if it holds nothing.
 fn held_by<L: Round, R: Wait>(
     rt: &R,
     store: &SharedStore<L, CellPayload>,
-    session: &Session<L>,
+    session: &mut Session<L>,
+    target: u64,
 ) -> u8 {
-    match session.label(rt, store, 2) {
+    match session.label(rt, store, target) {
         Some(label) => label.rights().bits(),
         None => 0,
     }
@@ -154,10 +158,12 @@ fn tell_of_two<L: Round, R: Wait>(
     requires may_end { L.start.may_end ≡ true }
 {
     let _made = makes(rt, alloc, store, first);
-    let labels = [held_by(rt, store, first), held_by(rt, store, second)];
+    let labels = [held_by(rt, store, first, 2), held_by(rt, store, second, 2)];
     let (parts, taken_over) = take_parts(rt, alloc, store, keeper, first);
     let _made = makes(rt, alloc, store, second);
+    let held = held_by(rt, store, second, 4);
     let ended = end(rt, store, keeper, second);
+    let held_by_ended = [held, held_by(rt, store, second, 4)];
     let nobody = end_nobody(rt, store, keeper, first);
     drop(first.take_receipts());
     Told {
@@ -165,6 +171,7 @@ fn tell_of_two<L: Round, R: Wait>(
         parts,
         taken_over,
         ended,
+        held_by_ended,
         nobody,
     }
 }
@@ -288,6 +295,13 @@ fn a_session_is_taken_over(rt: HostRuntime) {
 fn a_worker_is_ended(rt: HostRuntime) {
     let wanted = (Some(1), Some(ApplyFault::NoSuchWorker));
     assert_eq!(rt; while_shared(&rt, rt.alloc()).ended, wanted);
+}
+
+// A label is the one that the graph has now: a worker that the keeper ended holds nothing over its own vertex any more,
+// though its session was told of rights over it before, and no call of the session came in between.
+#[test]
+fn a_label_is_not_remembered(rt: HostRuntime) {
+    assert_eq!(rt; while_shared(&rt, rt.alloc()).held_by_ended, [3, 0]);
 }
 
 // A name that is no worker's is ended of nobody: the first session acts on.

@@ -48,7 +48,7 @@ fn act_of_two<L: Round, R: Wait>(
     rt: &R,
     alloc: Global,
     store: &SharedStore<L, CellPayload>,
-    keeper: &Keeper<L>,
+    keeper: &mut Keeper<L>,
     first: &mut Session<L>,
     second: &mut Session<L>,
 ) -> Option<Session<L>> {
@@ -70,7 +70,7 @@ fn act<L: Round, R: Wait>(
     rt: &R,
     alloc: Global,
     store: &SharedStore<L, CellPayload>,
-    keeper: &Keeper<L>,
+    keeper: &mut Keeper<L>,
     sessions: &mut [Session<L>],
 ) -> Option<Session<L>> {
     match sessions {
@@ -90,7 +90,7 @@ fn acted<L: Round, R: Wait>(
         mut sessions,
         mut keeper,
     } = shared;
-    let spawned = act(rt, alloc, &store, &keeper, &mut sessions);
+    let spawned = act(rt, alloc, &store, &mut keeper, &mut sessions);
     if let Some(session) = spawned {
         let _pushed = sessions.push(session);
     }
@@ -101,9 +101,9 @@ fn acted<L: Round, R: Wait>(
 fn collect<L: Round, R: Wait>(
     rt: &R,
     store: &SharedStore<L, CellPayload>,
-    sessions: &[Session<L>],
+    sessions: &mut [Session<L>],
 ) {
-    if let Some(session) = sessions.first() {
+    if let Some(session) = sessions.first_mut() {
         let _collected = session.collect(rt, store, Kind::Nursery);
     }
 }
@@ -125,7 +125,7 @@ fn had_back<L: Round, R: Wait>(
             reclaim(store, sessions).ok()
         }
         Way::Collects => {
-            collect(rt, &store, &sessions);
+            collect(rt, &store, &mut sessions);
             close(store, sessions).ok()
         }
         _ => close(store, sessions).ok(),

@@ -1,69 +1,120 @@
--- What the lock's side and each session know of the entries since a store was shared, as tokens carry it.
-use Rattle.std.specs.Prelude.{◌≡◌, ℕ, ◌+◌, ◌<◌, ◌≤◌, ◌==◌, Bool, true, false, List, [], ◌∷◌, ◌++◌}
+-- What the lock's side, each session and the keeper know of the entries since a store was shared, as tokens carry it.
+use Rattle.std.specs.Prelude.{◌≡◌, ℕ, ◌+◌, ◌<◌, ◌==◌, Bool, true, false, List, [], ◌∷◌, ◌++◌, map}
 use Rattle.std.specs.List.{All, filter}
 use mathlib.Core.Option.{Option, none, some}
 use lib.ListN.{get_elem?}
 use Rattle.atomic_table.specs.Table.{Me, Step}
 use Rattle.atomic_table.specs.Seated.{TableId}
 use Rattle.tg_journal.specs.declared.entry.Entry.{Entry}
+use Rattle.tg_passes.specs.declared.signed.Maker.{Maker}
+use Rattle.tg_passes.specs.declared.signed.Maker.TheVariants.{Session, Keeper}
+use Rattle.tg_passes.specs.declared.signed.Signed.{Signed}
 use Rattle.tg_passes.specs.declared.pass.View.{View}
 
 -- the entries of this worker, in their order
 abbrev pub own_entries : ℕ → List Entry → List Entry
 own_entries worker entries = filter (λ e. e.worker == worker) entries
 
--- the entries begin with these
-abbrev pub BeginsWith : List Entry → List Entry → Type 0
-BeginsWith entries front = (rest : List Entry) × (entries ≡ front ++ rest)
+-- the list begins with these
+abbrev pub BeginsWith : {A : Type 0} → List A → List A → Type 0
+BeginsWith {A} all front = (rest : List A) × (all ≡ front ++ rest)
 
--- ---- what a session knows, and what the lock's side does
+-- ---- entries with who made them
 
--- a session's worker, the entries that its own calls made, and a front of all entries since the start, which it has seen
+-- an entry with its maker, and several entries of one maker
+abbrev pub sign : Maker → Entry → Signed
+sign maker entry = record { by = maker; entry = entry }
+
+abbrev pub sign_all : Maker → List Entry → List Signed
+sign_all maker entries = map (sign maker) entries
+
+-- the entries without their makers
+abbrev pub entries_of : List Signed → List Entry
+entries_of all = map (λ s. s.entry) all
+
+-- whether two makers are the same
+abbrev pub is_same : Maker → Maker → Bool
+is_same (Session v) (Session w) = v == w
+is_same Keeper Keeper = true
+is_same one other = false
+
+-- the entries that this maker made, in their order
+abbrev pub entries_by : Maker → List Signed → List Entry
+entries_by maker all = entries_of (filter (λ s. is_same s.by maker) all)
+
+-- Who may make an entry: a session makes those of its own worker, and the keeper makes those of any worker.
+abbrev pub MayMake : Maker → Entry → Type 0
+MayMake (Session worker) entry = entry.worker ≡ worker
+MayMake Keeper entry = Unit {0}
+
+-- each entry was made by who may make it
+abbrev pub AreOwn : List Signed → Type 0
+AreOwn all = All (λ s. MayMake s.by s.entry) all
+
+-- ---- what a pass knows, and what the lock's side does
+
+-- Whose pass it is, the entries that were made with it, and the entries that it has seen: all since the start, up to its last look or
+-- note, or to its making.
 pub record PassState : Type 0 where
-  pub worker : ℕ
+  pub maker : Maker
   pub made : List Entry
-  pub seen : List Entry
+  pub seen : List Signed
 
--- all entries since the start, and a bound of the names of those who act
+-- all entries since the start, and a bound of the names of the workers that have sessions
 pub record RollState : Type 0 where
-  pub entries : List Entry
+  pub signed : List Signed
   pub below : ℕ
 
--- The entries of the pass's worker are exactly those that it made, and all entries begin with those that it has seen.
-pub record Sees (all : List Entry) (pass : PassState) : Type 0 where
-  pub own : own_entries pass.worker all ≡ pass.made
+-- The entries of the pass's maker are exactly those that were made with the pass. All entries begin with those that it has seen, and it
+-- has seen all that it made.
+pub record Sees (all : List Signed) (pass : PassState) : Type 0 where
+  pub own : entries_by pass.maker all ≡ pass.made
   pub front : BeginsWith all pass.seen
+  pub within : entries_by pass.maker pass.seen ≡ pass.made
+
+-- a pass as it is made, when these are all entries
+abbrev pub fresh_pass : Maker → List Signed → PassState
+fresh_pass maker all = record { maker = maker; made = []; seen = all }
+
+-- a pass after a look at all entries, and after a note of one more
+abbrev pub looked : PassState → List Signed → PassState
+looked p all = record { maker = p.maker; made = p.made; seen = all }
+
+abbrev pub noted : PassState → List Signed → Entry → PassState
+noted p all e = record { maker = p.maker; made = p.made ++ e ∷ []; seen = all ++ sign p.maker e ∷ [] }
 
 -- ---- views
 
-abbrev pub keeper : List Entry → ℕ → View
-keeper all below = record { keeps = true; all = all; below = below; acts = false; worker = 0; made = []; seen = [] }
+-- the roll's seat, the seat of a pass, and a seat of nobody
+abbrev pub roll_view : List Signed → ℕ → View
+roll_view all below = record { keeps = true; all = all; below = below; acts = false; maker = Keeper; made = []; seen = [] }
 
-abbrev pub hand : PassState → View
-hand p = record { keeps = false; all = []; below = 0; acts = true; worker = p.worker; made = p.made; seen = p.seen }
+abbrev pub pass_view : PassState → View
+pass_view p = record { keeps = false; all = []; below = 0; acts = true; maker = p.maker; made = p.made; seen = p.seen }
 
-abbrev pub nobody : View
-nobody = record { keeps = false; all = []; below = 0; acts = false; worker = 0; made = []; seen = [] }
+abbrev pub no_view : View
+no_view = record { keeps = false; all = []; below = 0; acts = false; maker = Keeper; made = []; seen = [] }
 
+-- a seat that is both, and its two parts
 abbrev pub together : View → View → View
-together k v = record { keeps = k.keeps; all = k.all; below = k.below; acts = v.acts; worker = v.worker; made = v.made; seen = v.seen }
+together r p = record { keeps = r.keeps; all = r.all; below = r.below; acts = p.acts; maker = p.maker; made = p.made; seen = p.seen }
 
-abbrev pub keeper_of : View → View
-keeper_of v = record { keeps = v.keeps; all = v.all; below = v.below; acts = false; worker = 0; made = []; seen = [] }
+abbrev pub roll_part : View → View
+roll_part v = record { keeps = v.keeps; all = v.all; below = v.below; acts = false; maker = Keeper; made = []; seen = [] }
 
-abbrev pub hand_of : View → View
-hand_of v = record { keeps = false; all = []; below = 0; acts = v.acts; worker = v.worker; made = v.made; seen = v.seen }
+abbrev pub pass_part : View → View
+pass_part v = record { keeps = false; all = []; below = 0; acts = v.acts; maker = v.maker; made = v.made; seen = v.seen }
+
+-- the seat of a new roll, with which the keeper's pass begins
+abbrev pub first_view : View
+first_view = together (roll_view [] 0) (pass_view (fresh_pass Keeper []))
 
 abbrev pub pass_of : List View → PassState
-pass_of [] = record { worker = 0; made = []; seen = [] }
-pass_of (v ∷ vs) = record { worker = v.worker; made = v.made; seen = v.seen }
+pass_of [] = fresh_pass Keeper []
+pass_of (v ∷ vs) = record { maker = v.maker; made = v.made; seen = v.seen }
 
 abbrev pub roll_of : View → RollState
-roll_of v = record { entries = v.all; below = v.below }
-
--- each entry is of a worker before the bound
-abbrev pub IsBound : List Entry → ℕ → Type 0
-IsBound all below = All (λ e. e.worker < below) all
+roll_of v = record { signed = v.all; below = v.below }
 
 -- the name of a round's table
 abbrev pub RoundTable : Type 0
@@ -75,42 +126,54 @@ no_table = record { words = 0; slots = 0; views_name = 0; atom = 0; block = 0; o
 
 -- ---- the rule
 
+-- the worker of a session is before the bound
+abbrev pub IsBelow : ℕ → Maker → Type 0
+IsBelow low (Session worker) = worker < low
+IsBelow low Keeper = Unit {0}
+
 -- what one seat knows of the log
-pub record Fits (log : List Entry) (seat low by : ℕ) (v : View) : Type 0 where
+pub record Fits (log : List Signed) (seat low by : ℕ) (v : View) : Type 0 where
   pub roll : v.keeps ≡ true → (by ≡ seat) × (v.all ≡ log) × (v.below ≡ low)
-  pub own : v.acts ≡ true → (v.worker < low) × (own_entries v.worker log ≡ v.made)
+  pub below : v.acts ≡ true → IsBelow low v.maker
+  pub own : v.acts ≡ true → entries_by v.maker log ≡ v.made
+  pub within : v.acts ≡ true → entries_by v.maker v.seen ≡ v.made
   pub front : BeginsWith log v.seen
 
--- two seats that act for one worker are one
+-- two seats that act for one maker are one
 abbrev pub AreApart : List View → Type 0
-AreApart views = (i j : ℕ) (v w : View) → get_elem? views i ≡ some v → get_elem? views j ≡ some w → v.acts ≡ true → w.acts ≡ true → v.worker ≡ w.worker → i ≡ j
+AreApart views = (i j : ℕ) (v w : View) → get_elem? views i ≡ some v → get_elem? views j ≡ some w → v.acts ≡ true → w.acts ≡ true → v.maker ≡ w.maker → i ≡ j
 
--- there is a log that each seat fits
+-- There is a log that each seat fits. Each entry of it was made by who may make it, and each session's worker is before the bound.
 pub record Kept (views : List View) : Type 0 where
-  pub log : List Entry
+  pub log : List Signed
   pub seat : ℕ
   pub low : ℕ
   pub each : (by : ℕ) (v : View) → get_elem? views by ≡ some v → Fits log seat low by v
   pub apart : AreApart views
+  pub owned : AreOwn log
+  pub bound : All (λ s. IsBelow low s.by) log
 
--- ---- what steps tell
+-- ---- what steps show
 
 abbrev pub Sat : Type 0
 Sat = Me Entry View
 
--- what the seat that keeps and acts knows before a step
+-- what the seat that is both knows before a step
 pub record Knows (v : View) : Type 0 where
-  pub own : v.acts ≡ true → (v.worker < v.below) × (own_entries v.worker v.all ≡ v.made)
-  pub front : BeginsWith v.all v.seen
+  pub sees : v.acts ≡ true → Sees v.all (record { maker = v.maker; made = v.made; seen = v.seen })
+  pub owned : AreOwn v.all
+
+abbrev pub looking : View → View
+looking v = record { keeps = v.keeps; all = v.all; below = v.below; acts = v.acts; maker = v.maker; made = v.made; seen = v.all }
 
 abbrev pub noting : View → Entry → View
-noting v e = record { keeps = v.keeps; all = v.all ++ e ∷ []; below = v.below; acts = v.acts; worker = v.worker; made = v.made ++ e ∷ []; seen = v.all ++ e ∷ [] }
+noting v e = record { keeps = v.keeps; all = v.all ++ sign v.maker e ∷ []; below = v.below; acts = v.acts; maker = v.maker; made = v.made ++ e ∷ []; seen = v.all ++ sign v.maker e ∷ [] }
 
 abbrev pub issuing : View → ℕ → View
-issuing v name = record { keeps = v.keeps; all = v.all; below = name + 1; acts = true; worker = name; made = []; seen = v.all }
+issuing v name = record { keeps = v.keeps; all = v.all; below = name + 1; acts = true; maker = Session name; made = []; seen = v.all }
 
 abbrev pub Looked : Step Entry → Sat → ℕ → Sat → Type 0
-Looked st m n m' = (m'.0 ≡ m.0) × (m'.1 ≡ m.1) × Knows m.0
+Looked st m n m' = (m'.0 ≡ looking m.0) × (m'.1 ≡ m.1) × Knows m.0
 
 abbrev pub IsNoted : Option Entry → Sat → Sat → Type 0
 IsNoted none m m' = (m'.0 ≡ m.0) × (m'.1 ≡ m.1)

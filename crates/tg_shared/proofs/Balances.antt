@@ -20,11 +20,12 @@ use Rattle.tg_journal.specs.declared.entry.Entry.{Entry}
 use Rattle.tg_journal.specs.History.{graph_after}
 use Rattle.tg_journal.proofs.HistoryLaws.{IsSound-opened, graph_after-append, le-graph_after-made, made-opened}
 use Rattle.tg_space.specs.declared.kind.Kind.{Kind}
+use Rattle.tg_passes.specs.declared.signed.Signed.{Signed}
 use Rattle.tg_store.specs.Collecting.{IsSwept, KeepsHistory}
 use Rattle.tg_store.specs.Store.{StoreState, Enters, HasFewBlocks, IsFaithful, graph_of_store}
 use Rattle.tg_store.proofs.StandLaws.{graph-entered}
 use Rattle.tg_shared.specs.Serving.{Collects}
-use Rattle.tg_shared.specs.Sessions.{GoesOn, IsBalanced, KeeperState, LockedState, SharedStart, is_spawn, made_subject, sessions_made, shared_as, spawned, subjects_at}
+use Rattle.tg_shared.specs.Sessions.{GoesOn, IsBalanced, LockedState, SharedStart, is_spawn, made_subject, sessions_made, shared_as, spawned, subjects_at}
 
 -- ---- how many sessions were made
 
@@ -194,20 +195,18 @@ goes_on_start start s is within =
 
 -- ---- what a collection leaves
 
-abbrev pub locked_as : StoreState → ℕ → ℕ → LockedState
-locked_as store sessions entered = record { store = store; sessions = sessions; entered = entered }
+abbrev pub locked_as : StoreState → ℕ → ℕ → List Signed → LockedState
+locked_as store sessions entered signed = record { store = store; sessions = sessions; entered = entered; signed = signed }
 
-abbrev pub keeper_as : ℕ → ℕ → KeeperState
-keeper_as next entered = record { next = next; entered = entered }
-
-pub collected : {E : Type 0} (kind : Kind) (more : ℕ) (old new : StoreState) (sessions entered : ℕ) (before : LockedState) (result : Result ℕ E) → locked_as old sessions entered ≡ before → IfOk result (IsSwept kind old new)
-    → OnOk result (HasFewBlocks kind more old.heap.table new.heap.table) → KeepsHistory old new result → Collects kind more before (locked_as new sessions entered) result
-collected kind more old new sessions entered before result same swept blocks history =
-    subst (λ (b : LockedState). Collects kind more b (locked_as new sessions entered) result) same
+pub collected : {E : Type 0} (kind : Kind) (more : ℕ) (old new : StoreState) (sessions entered : ℕ) (signed : List Signed) (before : LockedState) (result : Result ℕ E) → locked_as old sessions entered signed ≡ before → IfOk result (IsSwept kind old new)
+    → OnOk result (HasFewBlocks kind more old.heap.table new.heap.table) → KeepsHistory old new result → Collects kind more before (locked_as new sessions entered signed) result
+collected kind more old new sessions entered signed before result same swept blocks history =
+    subst (λ (b : LockedState). Collects kind more b (locked_as new sessions entered signed) result) same
     (record {
       swept = swept;
       blocks = blocks;
       history = history;
-      refused = on_err_weaker result (λ (is : new ≡ old). ap (λ (s : StoreState). locked_as s sessions entered) is) history.refused;
+      refused = on_err_weaker result (λ (is : new ≡ old). ap (λ (s : StoreState). locked_as s sessions entered signed) is) history.refused;
       numbers = record { sessions = refl; entered = refl };
+      signed = refl;
     })

@@ -1,6 +1,8 @@
 -- The entries by which a worker leaves: their receipts, and what they make of the balance behind the lock.
 use Rattle.std.proofs.Common.{◌≡◌, ◌∙◌, ℕ, ◌+◌, ◌<◌, ◌^◌, Bool, true, List, [], ◌∷◌, ◌++◌, length, add-zero, length-append, map, append_assoc, refl, sym, ap, subst, arith}
+use Rattle.std.specs.List.{All}
 use Rattle.std.proofs.lemmas.List.{length-map}
+use Rattle.std.proofs.lemmas.List.Elements.{All-cons, All-nil}
 use Rattle.std.proofs.lemmas.List.Sums.{sum_by-cons}
 use Rattle.tg_rights.specs.RightSet.{RightSet}
 use Rattle.tg_model.specs.declared.command.Command.TheVariants.{Remove, Retire}
@@ -55,6 +57,11 @@ pub retired_left : (retired : Bool) (g : ProtectionGraph) (x : ℕ) → retired_
 retired_left retired g x = retired_push retired (map (removal x) (listing_of g.label g.made x)) (retiring x)
 
 -- ---- the store
+
+-- each entry of a leave is the worker's
+pub leaving_own : (x : ℕ) (row : List (ℕ × RightSet)) → All (λ e. e.worker ≡ x) (map (removal x) row ++ retiring x ∷ [])
+leaving_own x [] = All-cons (λ (e : Entry). e.worker ≡ x) (retiring x) [] refl (All-nil (λ (e : Entry). e.worker ≡ x))
+leaving_own x (e ∷ row) = All-cons (λ (y : Entry). y.worker ≡ x) (removal x e) (map (removal x) row ++ retiring x ∷ []) refl (leaving_own x row)
 
 -- what was entered was legal
 pub legal_more : (old new : StoreState) (es : List Entry) → new.entries ≡ old.entries ++ es → new.opening ≡ old.opening → IsFaithful new → IsLegal (graph_of_store old) es

@@ -1,6 +1,6 @@
 -- What the answer of a make tells of its entry, and what is behind the lock then.
 use Rattle.std.specs.Prelude.{IfOk, IfErr, IsErrAnd}
-use Rattle.std.proofs.Common.{◌≡◌, ◌≢◌, ℕ, ◌+◌, ◌++◌, ◌∷◌, [], false, Option, Some, None, Result, Ok, Err, ap, refl, subst, sym}
+use Rattle.std.proofs.Common.{◌≡◌, ◌≢◌, ℕ, ◌+◌, ◌∷◌, ◌∙◌, [], false, Option, Some, None, Result, Ok, Err, ap, refl, subst, sym}
 use Rattle.tg_rights.specs.RightSet.{RightSet}
 use Rattle.tg_model.specs.declared.command.Deed.{Deed}
 use Rattle.tg_model.specs.declared.reply.Reply.{Reply}
@@ -17,10 +17,10 @@ use Rattle.tg_store.specs.declared.fault.CreateFault.TheVariants as fault
 use Rattle.tg_store.specs.declared.fault.CreateRefused.{CreateRefused}
 use Rattle.tg_passes.specs.Passes.{RollState}
 use Rattle.tg_store.specs.Store.{StoreState, Enters}
-use Rattle.tg_shared.specs.Serving.{IsMadeAndNoted, NotesRefusal}
-use Rattle.tg_shared.specs.Sessions.{GoesOn, HasSeen, IsBalanced, IsRolled, Records, RecordsNothing, SessionState, SharedStart, made_subject, reply_entered, reply_made, sessions_made}
-use Rattle.tg_shared.proofs.Balances.{locked_entered, locked_same}
-use Rattle.tg_shared.proofs.Knowing.{rolled_more, rolled_same, seen_same, seen_with}
+use Rattle.tg_shared.specs.Serving.{HasNoted, IsMadeAndNoted, NotesRefusal, Signs}
+use Rattle.tg_shared.specs.Sessions.{GoesOn, IsBalanced, IsRolled, LockedState, Records, RecordsNothing, SessionState, SharedStart, made_subject, reply_entered, reply_made, sessions_made}
+use Rattle.tg_shared.proofs.Balances.{locked_as, locked_entered, locked_same}
+use Rattle.tg_shared.proofs.Knowing.{noted_as, noted_none, one_own, rolled_more, rolled_same}
 
 pub object_not_subject : Object ≡ Subject → ⊥
 object_not_subject is = cc
@@ -81,24 +81,21 @@ made_noted deed label value old new before after (Ok name) noted made = record {
 made_noted deed label value old new before after (Err refused) noted made = tt
 
 -- What the roll has stays so there.
-pub rolled_noted : (start : SharedStart) (old new : StoreState) (before after : SessionState) (roll next : RollState) (deed : Deed) (noted : Option Reply) → IsRolled start old roll → new.opening ≡ old.opening
-    → ((reply : Reply) → noted ≡ Some reply → Enters old new before.worker deed reply) → ((reply : Reply) → noted ≡ Some reply →
-    (after.seen ≡ next.entries) × (next ≡ record { entries = roll.entries ++ (record { worker = before.worker; deed = deed; reply = reply }) ∷ []; below = roll.below }))
-    → (noted ≡ None → (new.entries ≡ old.entries) × (next ≡ roll)) → IsRolled start new next
-rolled_noted start old new before after roll next deed (Some reply) held opening entry rolled none = rolled_more start old new roll next _ held (entry reply refl) opening (rolled reply refl).1
-rolled_noted start old new before after roll next deed None held opening entry rolled none =
-    let told = none refl in
-    subst (IsRolled start new) (sym told.1) (rolled_same start old new roll held told.0 opening)
+pub rolled_noted : (start : SharedStart) (old new : StoreState) (before after : SessionState) (roll next : RollState) (entered : ℕ) (deed : Deed) (noted : Option Reply) → IsRolled start old roll entered → new.opening ≡ old.opening
+    → ((reply : Reply) → noted ≡ Some reply → Enters old new before.worker deed reply) → ((reply : Reply) → noted ≡ Some reply → Signs roll next before after ((record { worker = before.worker; deed = deed; reply = reply }) ∷ []))
+    → (noted ≡ None → (new.entries ≡ old.entries) × (next ≡ roll)) → IsRolled start new next entered
+rolled_noted start old new before after roll next entered deed (Some reply) held opening entry rolled none =
+    rolled_more start old new roll next before.worker entered _ held (entry reply refl) opening (one_own before.worker _ refl) (rolled reply refl).roll
+rolled_noted start old new before after roll next entered deed None held opening entry rolled none =
+    let same = none refl in
+    subst (λ (r : RollState). IsRolled start new r entered) (sym same.1) (rolled_same start old new roll entered held same.0 opening)
 
--- And a session that made the entry has seen it.
-pub seen_noted : (start : SharedStart) (old new : StoreState) (before after : SessionState) (roll next : RollState) (deed : Deed) (noted : Option Reply) → IsRolled start old roll → GoesOn start old
-    → ((reply : Reply) → noted ≡ Some reply → Enters old new before.worker deed reply) → ((reply : Reply) → noted ≡ Some reply →
-    (after.seen ≡ next.entries) × (next ≡ record { entries = roll.entries ++ (record { worker = before.worker; deed = deed; reply = reply }) ∷ []; below = roll.below }))
-    → (noted ≡ None → after.made ≡ before.made) → HasSeen start new before after
-seen_noted start old new before after roll next deed (Some reply) held on entry rolled none =
-    let told = rolled reply refl in
-    seen_with start old new roll next before after _ held on (entry reply refl) (ap (λ (r : RollState). r.entries) told.1) told.0
-seen_noted start old new before after roll next deed None held on entry rolled none = seen_same start new before after (none refl)
+-- And what a session entered is noted as its own.
+pub signed_noted : (v : LockedState) (new : StoreState) (sessions entered : ℕ) (before after : SessionState) (roll next : RollState) (deed : Deed) (noted : Option Reply) → v.signed ≡ roll.signed
+    → ((reply : Reply) → noted ≡ Some reply → Enters v.store new before.worker deed reply) → ((reply : Reply) → noted ≡ Some reply → Signs roll next before after ((record { worker = before.worker; deed = deed; reply = reply }) ∷ []))
+    → (noted ≡ None → (new.entries ≡ v.store.entries) × (next ≡ roll) × (after.made ≡ before.made)) → HasNoted v (locked_as new sessions entered next.signed) before after
+signed_noted v new sessions entered before after roll next deed (Some reply) same entry rolled none = noted_as v new sessions entered before after roll next _ same (entry reply refl) (rolled reply refl)
+signed_noted v new sessions entered before after roll next deed None same entry rolled none = let told = none refl in noted_none v new sessions entered next.signed before after told.0 (ap (λ (r : RollState). r.signed) told.1 ∙ sym same) told.2
 
 -- What is so behind the lock stays so where what was entered of a make is noted, and it made no subject.
 pub locked_noted : {P Q : Type 0} {out : ℕ} (start : SharedStart) (old new : StoreState) (before after : SessionState) (first sessions total next rest parts : ℕ) (deed : Deed) (noted : Option Reply)

@@ -1,5 +1,5 @@
 -- A subject that a spawn made, as the session that asked knows of it.
-use Rattle.std.proofs.Common.{◌≡◌, ◌∙◌, ℕ, Bool, true, false, cond, nat_lt, List, [], ◌∷◌, ◌++◌, append_assoc, length, ap, refl, subst, sym}
+use Rattle.std.proofs.Common.{◌≡◌, ◌∙◌, ℕ, Bool, true, false, cond, nat_lt, List, [], ◌∷◌, ◌++◌, append-nil, length, ap, refl, subst, sym}
 use Rattle.std.specs.List.{Contains}
 use Rattle.std.proofs.lemmas.List.Elements.{Contains-push}
 use Rattle.tg_rights.specs.RightSet.{RightSet}
@@ -15,11 +15,13 @@ use Rattle.tg_model.specs.Rules.{answer_of, step, with_subject}
 use Rattle.tg_model.proofs.NameLaws.{name_is_next}
 use Rattle.tg_journal.specs.declared.entry.Entry.{Entry}
 use Rattle.tg_journal.specs.History.{graph_after}
-use Rattle.tg_journal.proofs.HistoryLaws.{graph_after-append}
-use Rattle.tg_passes.specs.Passes.{BeginsWith}
+use Rattle.tg_passes.specs.declared.signed.Maker.TheVariants.{Session}
+use Rattle.tg_passes.specs.declared.signed.Signed.{Signed}
+use Rattle.tg_passes.specs.Passes.{BeginsWith, sign}
+use Rattle.tg_passes.proofs.Signing.{longer}
 use Rattle.tg_store.specs.Store.{StoreState, graph_of_store}
-use Rattle.tg_shared.specs.Sessions.{AtKnown, IsAnswered, SessionState, SharedStart, retired_behind, since}
-use Rattle.tg_shared.proofs.Knowing.{from_start, stays_known}
+use Rattle.tg_shared.specs.Sessions.{AtSeen, IsAnswered, IsOnItsOwn, SessionState, SharedStart, graph_seen, retired_behind}
+use Rattle.tg_shared.proofs.Knowing.{graph_front, graph_is, none_of, stays_made}
 
 there : (b c : Bool) (g k : ProtectionGraph) (n name : ℕ) → IsSubject k name → cond b (cond c (Name n) WorkersFull) VerticesFull ≡ Name name → IsSubject (cond b (cond c k g) g) name
 there true true g k n name here answer = here
@@ -33,35 +35,32 @@ spawned_is g x name label law state answer =
     let made : IsSubject (with_subject g x label (record { law = law; state = state })) name = subst (λ (n : ℕ). Contains (g.subjects ++ g.made ∷ []) n) (sym next) (Contains-push g.subjects g.made) in
     there (nat_lt g.made g.limit) (nat_lt (length g.subjects) MAX_WORKERS) g (with_subject g x label (record { law = law; state = state })) g.made name made answer
 
--- so it is one behind what the session that asked has seen
-seen_spawned : (start : SharedStart) (before after : SessionState) (label : RightSet) (law : Law) (state : List ℕ) (name : ℕ) → start.may_end ≡ false → IsAnswered start before after (Spawn label law state) (Name name)
-    → IsSubject (graph_after (graph_after (start_of start.opening) start.entries) after.seen) name
-seen_spawned start before after label law state name never told =
-    let s : StoreState = told.0 in
+-- so it is one after what the session that asked has seen
+seen_spawned : (start : SharedStart) (before after : SessionState) (label : RightSet) (law : Law) (state : List ℕ) (name : ℕ) → IsAnswered start before after (Spawn label law state) (Name name) → IsSubject (graph_seen start after.seen) name
+seen_spawned start before after label law state name told =
+    let s : StoreState = told.legal.0 in
     let e : Entry = record { worker = before.worker; deed = Spawn label law state; reply = Name name } in
-    let first : ProtectionGraph = graph_after (start_of start.opening) start.entries in
-    let graph : graph_of_store s ≡ graph_after first (since start s) =
-    (λ i. graph_after (start_of (told.1.opening i)) (from_start start s told.1 i)) ∙ graph_after-append (start_of start.opening) start.entries (since start s) in
-    let all : graph_after first after.seen ≡ step (graph_of_store s) before.worker (Spawn label law state) =
-    ap (graph_after first) (told.3.0.2 never) ∙ graph_after-append first (since start s) (e ∷ []) ∙ ap (λ (g : ProtectionGraph). step g before.worker (Spawn label law state)) (sym graph) in
-    subst (λ (g : ProtectionGraph). IsSubject g name) (sym all) (spawned_is (graph_of_store s) before.worker name label law state (sym told.3.0.1.reply))
+    let graph : graph_of_store s ≡ graph_seen start told.before = graph_is start s told.before told.legal.3.0 told.legal.1 in
+    let all : graph_seen start after.seen ≡ step (graph_of_store s) before.worker (Spawn label law state) =
+    ap (graph_seen start) told.seen ∙ graph_front start told.before (sign (Session before.worker) e ∷ []) ∙ ap (λ (g : ProtectionGraph). step g before.worker (Spawn label law state)) (sym graph) in
+    subst (λ (g : ProtectionGraph). IsSubject g name) (sym all) (spawned_is (graph_of_store s) before.worker name label law state (sym told.legal.3.1.reply))
 
--- who was a subject behind a front of what a session has seen is not gone where the session knows of the store
-not_gone : (start : SharedStart) (session : SessionState) (front : List Entry) → start.may_end ≡ false → BeginsWith session.seen front → IsSubject (graph_after (graph_after (start_of start.opening) start.entries) front) session.worker
-    → retired_behind false session.made ≡ false → ¬ AtKnown start session (λ s. ¬ IsSubject (graph_of_store s) session.worker)
-not_gone start session front never begins here none gone = gone.3.0 (stays_known start gone.0 gone.1 gone.2 session front (gone.3.1 never) none begins here)
+-- who was a subject after a front of what a session has seen is not gone after all of it
+not_gone : (start : SharedStart) (session : SessionState) (front : List Signed) → BeginsWith session.seen front → IsSubject (graph_seen start front) session.worker → IsOnItsOwn start session → retired_behind false session.made ≡ false
+    → ¬ AtSeen start session.seen (λ s. ¬ IsSubject (graph_of_store s) session.worker)
+not_gone start session front begins here alone none gone =
+    gone.3.1 (stays_made start gone.0 session.seen gone.1 gone.2 gone.3.0 session.worker session.made front begins.0 alone.own (none_of start gone.0 session.seen gone.3.0 session.worker alone.alone) none begins.1 here)
 
-pub from_the_start : (start : SharedStart) (session : SessionState) → start.may_end ≡ false → IsSubject (graph_after (start_of start.opening) start.entries) session.worker → retired_behind false session.made ≡ false
-    → ¬ AtKnown start session (λ s. ¬ IsSubject (graph_of_store s) session.worker)
-from_the_start start session never here none = not_gone start session [] never (session.seen, refl) here none
+pub from_the_start : (start : SharedStart) (session : SessionState) → IsSubject (graph_after (start_of start.opening) start.entries) session.worker → IsOnItsOwn start session → retired_behind false session.made ≡ false
+    → ¬ AtSeen start session.seen (λ s. ¬ IsSubject (graph_of_store s) session.worker)
+from_the_start start session here alone none =
+    not_gone start session [] (session.seen, refl) (subst (λ (l : List Entry). IsSubject (graph_after (start_of start.opening) l) session.worker) (sym (append-nil start.entries)) here) alone none
 
-pub from_a_spawn : (start : SharedStart) (before after session : SessionState) (label : RightSet) (law : Law) (state : List ℕ) → start.may_end ≡ false → IsAnswered start before after (Spawn label law state) (Name session.worker)
-    → BeginsWith session.seen after.seen → retired_behind false session.made ≡ false → ¬ AtKnown start session (λ s. ¬ IsSubject (graph_of_store s) session.worker)
-from_a_spawn start before after session label law state never told begins none = not_gone start session after.seen never begins (seen_spawned start before after label law state session.worker never told) none
+pub from_a_spawn : (start : SharedStart) (before after session : SessionState) (label : RightSet) (law : Law) (state : List ℕ) → IsAnswered start before after (Spawn label law state) (Name session.worker)
+    → BeginsWith session.seen after.seen → IsOnItsOwn start session → retired_behind false session.made ≡ false → ¬ AtSeen start session.seen (λ s. ¬ IsSubject (graph_of_store s) session.worker)
+from_a_spawn start before after session label law state told begins alone none = not_gone start session after.seen begins (seen_spawned start before after label law state session.worker told) alone none
 
 -- what was seen before is in front of what was seen then
-pub seen_grows : (start : SharedStart) (old new : SessionState) (deed : Deed) (reply : Reply) → start.may_end ≡ false → IsAnswered start old new deed reply → BeginsWith new.seen old.seen
-seen_grows start old new deed reply never told =
-    let front : BeginsWith (since start told.0) old.seen = (told.3.1 never).front in
-    let e : Entry = record { worker = old.worker; deed = deed; reply = reply } in
-    (front.0 ++ e ∷ [], told.3.0.2 never ∙ ap (λ l. l ++ e ∷ []) front.1 ∙ append_assoc old.seen front.0 (e ∷ []))
+pub seen_grows : (start : SharedStart) (old new : SessionState) (deed : Deed) (reply : Reply) → IsAnswered start old new deed reply → BeginsWith new.seen old.seen
+seen_grows start old new deed reply told =
+    subst (λ (l : List Signed). BeginsWith l old.seen) (sym told.seen) (longer told.before old.seen (sign (Session old.worker) (record { worker = old.worker; deed = deed; reply = reply }) ∷ []) told.sees.front)

@@ -14,7 +14,7 @@ use Rattle.tg_journal.specs.declared.entry.Entry.{Entry}
 use Rattle.tg_journal.specs.History.{IsLegal, graph_after}
 use Rattle.tg_journal.proofs.HistoryLaws.{no_subject-after}
 use Rattle.tg_passes.specs.Passes.{own_entries}
-use Rattle.tg_passes.proofs.Rolling.{no_own, only_own}
+use Rattle.tg_passes.proofs.Signing.{no_own, only_own}
 use Rattle.tg_shared.specs.Sessions.{retired_behind, retired_by}
 
 -- ---- whether a retire is among entries
@@ -39,7 +39,7 @@ none_later es more none = later (retired_behind false es) (sym (behind_append fa
     later false is = is
     later true is = let no : ⊥ = cc (behind_once more, is) in absurd no
 
-pub own_here : (worker : ℕ) (e : Entry) (es : List Entry) → e.worker ≡ worker → own_entries worker (e ∷ es) ≡ e ∷ own_entries worker es
+own_here : (worker : ℕ) (e : Entry) (es : List Entry) → e.worker ≡ worker → own_entries worker (e ∷ es) ≡ e ∷ own_entries worker es
 own_here worker e es is = filter-append (λ (x : Entry). x.worker == worker) (e ∷ []) es ∙ ap (λ l. l ++ own_entries worker es) (only_own worker e is)
 
 own_there : (worker : ℕ) (e : Entry) (es : List Entry) → e.worker ≢ worker → own_entries worker (e ∷ es) ≡ own_entries worker es

@@ -1,9 +1,12 @@
 -- How a round ends, or does not.
 use Rattle.std.specs.Prelude.{◌≡◌, ◌≤◌, ◌+◌, List, Result, IfErr, IfOk, OnOk, length}
+use Rattle.std.specs.List.{All}
 use Rattle.std.specs.List.Sorted.{IsPermutation}
+use Rattle.tg_passes.specs.declared.signed.Signed.{Signed}
+use Rattle.tg_passes.specs.Passes.{Sees}
 use Rattle.tg_store.specs.Store.{StoreState, IsFaithful}
 use Rattle.tg_shared.specs.declared.closing.LockedRefused.{LockedRefused}
-use Rattle.tg_shared.specs.Sessions.{GoesOn, LockedState, MayClose, SessionState, SharedStart, count_of, handed_of, held_from}
+use Rattle.tg_shared.specs.Sessions.{GoesOn, HasGrownBy, LockedState, MayClose, SessionState, SharedStart, count_of, handed_of, held_from, knowledge}
 
 -- What was behind the lock is the shared store, gone on. It is handed out where the receipts are right; else all that was handed in
 -- comes back, the sessions perhaps in another order.
@@ -20,3 +23,9 @@ pub record IsGivenBack (start : SharedStart) (sessions : List SessionState) (sto
   pub at_least : length start.entries + handed_of sessions + count_of sessions ≤ length store.entries
   pub faithful : IsFaithful store
   pub gone_on : GoesOn start store
+
+-- These are the entries that the store got since it was shared, with who made each. Each of the sessions sees them: it made exactly its
+-- own among them, and they begin with those that it has seen.
+pub record IsSignedBy (start : SharedStart) (store : StoreState) (sessions : List SessionState) (signed : List Signed) : Type 0 where
+  pub grown : HasGrownBy start store signed
+  pub sees : All (λ s. Sees signed (knowledge s)) sessions

@@ -1,5 +1,5 @@
 -- What the calls behind the lock do, each told once: of the call itself, and of whoever makes it for a session.
-use Rattle.std.specs.Prelude.{◌≡◌, ◌≢◌, ◌↔◌, ℕ, Result, Err, IfErr, IfOk, OnErr, OnOk, length}
+use Rattle.std.specs.Prelude.{◌≡◌, ◌≢◌, ◌↔◌, ℕ, List, ◌++◌, Result, Err, IfErr, IfOk, OnErr, OnOk, drop, length}
 use Rattle.tg_rights.specs.RightSet.{RightSet}
 use Rattle.tg_model.specs.declared.command.Command.{Command}
 use Rattle.tg_model.specs.declared.command.Deed.{Deed}
@@ -9,6 +9,9 @@ use Rattle.tg_model.specs.declared.reply.Reply.TheVariants.{Denied, Name, Vertic
 use Rattle.tg_model.specs.declared.value.Value.{Value}
 use Rattle.tg_model.specs.Graph.{ProtectionGraph, IsSubject, listing_of}
 use Rattle.tg_model.specs.Rules.{IsAllowed, answer_of, step}
+use Rattle.tg_journal.specs.declared.entry.Entry.{Entry}
+use Rattle.tg_passes.specs.declared.signed.Maker.TheVariants.{Keeper, Session}
+use Rattle.tg_passes.specs.Passes.{RollState, sign_all}
 use Rattle.tg_graph.specs.Heap.{nursery_of}
 use Rattle.tg_rules.specs.Effect.{AddsEdge, LacksCellsToServe}
 use Rattle.tg_space.specs.declared.kind.Kind.{Kind}
@@ -20,7 +23,7 @@ use Rattle.tg_store.specs.declared.fault.ApplyFault.TheVariants.{HeapFull, NoSuc
 use Rattle.tg_store.specs.declared.fault.CreateFault.TheVariants as fault
 use Rattle.tg_store.specs.declared.fault.CreateRefused.{CreateRefused}
 use Rattle.tg_store.specs.Store.{StoreState, HasFewBlocks, IsUnchanged, StandsFor, graph_of_store}
-use Rattle.tg_shared.specs.Sessions.{AddsReceipts, KeepsReceipts, LockedState, Records, RecordsNothing, SessionState}
+use Rattle.tg_shared.specs.Sessions.{AddsReceipts, KeeperState, KeepsReceipts, LockedState, Records, RecordsNothing, SessionState}
 
 -- ---- what stays behind the lock
 
@@ -28,6 +31,27 @@ use Rattle.tg_shared.specs.Sessions.{AddsReceipts, KeepsReceipts, LockedState, R
 pub record KeepsNumbers (old new : LockedState) : Type 0 where
   pub sessions : new.sessions ≡ old.sessions
   pub entered : new.entered ≡ old.entered
+
+-- These entries come after all others in the roll, as the session's, which has then seen all.
+pub record Signs (all next : RollState) (before after : SessionState) (entries : List Entry) : Type 0 where
+  pub roll : next ≡ record { signed = all.signed ++ sign_all (Session before.worker) entries; below = all.below }
+  pub seen : after.seen ≡ next.signed
+
+-- the entries that the store got
+abbrev pub entries_more : LockedState → LockedState → List Entry
+entries_more old new = drop (length old.store.entries) new.store.entries
+
+-- A session's call noted the entries that the store got as the session's. A session that made one has then seen all.
+pub record HasNoted (old new : LockedState) (before after : SessionState) : Type 0 where
+  pub signed : new.signed ≡ old.signed ++ sign_all (Session before.worker) (entries_more old new)
+  pub seen : after.made ≢ before.made → after.seen ≡ new.signed
+
+-- The keeper noted the entries that the store got as its own, and has then seen all.
+pub record HasNotedEnd (old new : LockedState) (before after : KeeperState) : Type 0 where
+  pub signed : new.signed ≡ old.signed ++ sign_all Keeper (entries_more old new)
+  pub made : after.made ≡ before.made ++ entries_more old new
+  pub seen : after.seen ≡ new.signed
+  pub next : after.next ≡ before.next
 
 -- What a session's command leaves, whatever comes of it.
 pub record KeepsRound (old new : LockedState) : Type 0 where
@@ -89,3 +113,4 @@ pub record Collects {E : Type 0} (kind : Kind) (more : ℕ) (old new : LockedSta
   pub history : KeepsHistory old.store new.store result
   pub refused : OnErr result (new ≡ old)
   pub numbers : KeepsNumbers old new
+  pub signed : new.signed ≡ old.signed

@@ -2,12 +2,13 @@
 use Rattle.std.specs.Prelude.{◌≡◌, ◌≢◌, ℕ, ◌+◌, ◌<◌, ◌≤◌, ◌==◌, max, Bool, true, false, Option, Some, None, List, [], ◌∷◌, ◌++◌, Result, Ok, Err, IfErr, OnOk, length, map, take, drop}
 use Rattle.std.specs.List.{All, AllPairs, count_by, filter, sum_by}
 use Rattle.tg_model.specs.declared.command.Deed.{Deed}
+use Rattle.tg_model.specs.declared.command.Command.{Command}
 use Rattle.tg_model.specs.declared.command.Command.TheVariants.{Retire}
 use Rattle.tg_model.specs.declared.command.Deed.TheVariants.{Plain, Spawn}
 use Rattle.tg_model.specs.declared.reply.Reply.{Reply}
 use Rattle.tg_model.specs.declared.reply.Reply.TheVariants.{Name, VerticesFull, WorkersFull}
 use Rattle.tg_model.specs.declared.value.Value.{Value}
-use Rattle.tg_model.specs.Graph.{IsSubject, listing_of}
+use Rattle.tg_model.specs.Graph.{IsSubject, ProtectionGraph, listing_of}
 use Rattle.tg_model.specs.Opened.{Plan, start_of}
 use Rattle.tg_model.specs.Rules.{IsAllowed}
 use Rattle.tg_word.specs.Word.{nursery_space}
@@ -17,22 +18,27 @@ use Rattle.tg_journal.specs.History.{IsLegal, IsLegalEntry, graph_after}
 use Rattle.tg_journal.specs.Journal.{Entries}
 use Rattle.tg_graph.specs.Heap.{nursery_of}
 use Rattle.tg_rows.specs.Spots.{LacksCellsFor}
+use Rattle.tg_rules.specs.Effect.{AddsEdge, LacksCellsToServe}
 use Rattle.tg_space.specs.declared.kind.Kind.{Kind}
 use Rattle.tg_store.specs.Collecting.{IsSwept}
 use Rattle.tg_store.specs.Leaving.{HasLeft, leaving}
+use Rattle.tg_store.specs.declared.fault.ApplyFault.{ApplyFault}
+use Rattle.tg_store.specs.declared.fault.ApplyFault.TheVariants as apply
 use Rattle.tg_store.specs.declared.fault.CreateFault.{CreateFault}
 use Rattle.tg_store.specs.declared.fault.CreateFault.TheVariants as fault
 use Rattle.tg_store.specs.declared.fault.CreateRefused.{CreateRefused}
 use Rattle.tg_store.specs.Store.{StoreState, Enters, IsFaithful, IsUnchanged, graph_of_store}
-use Rattle.tg_passes.specs.Passes.{PassState, RollState, RoundTable, Sees, own_entries}
+use Rattle.tg_passes.specs.declared.signed.Maker.TheVariants.{Keeper, Session}
+use Rattle.tg_passes.specs.declared.signed.Signed.{Signed}
+use Rattle.tg_passes.specs.Passes.{AreOwn, BeginsWith, PassState, RollState, RoundTable, Sees, entries_by, entries_of, own_entries, sign, sign_all}
 use Rattle.tg_shared.specs.declared.receipt.Receipt.{Receipt}
 use Rattle.tg_shared.specs.declared.round.Blanks.{Blanks}
 use Rattle.tg_shared.specs.Receipts.{MatchParts, ReceiptsMatch, all_receipts, receipt_of, receipts_from}
 
 -- A session: the name of its subject, its receipts in order, how many before them were handed out, for how many sessions it stands
 -- (its own, and those that it took over), whether it entered a retire of its own, for how many more receipts there is room, and the
--- copy of a state that the next may need. It also has the entries that its own calls made, and those that it has seen: all entries
--- that the sessions made since the start, up to its own last one or to its making.
+-- copy of a state that the next may need. It also has the entries that its own calls made, and those that it has seen, with who made
+-- each: all entries since the start, up to its last call that took the lock, or to its making.
 pub record SessionState : Type 0 where
   pub worker : ℕ
   pub receipts : List Receipt
@@ -42,32 +48,35 @@ pub record SessionState : Type 0 where
   pub spare : ℕ
   pub copy : List ℕ
   pub made : List Entry
-  pub seen : List Entry
+  pub seen : List Signed
 
 -- what a session knows of the entries since the start
 abbrev pub knowledge : SessionState → PassState
-knowledge s = record { worker = s.worker; made = s.made; seen = s.seen }
-
--- what it knows after it made these entries, which come next after all others
-abbrev pub knowledge_with : SessionState → List Entry → List Entry → PassState
-knowledge_with s all more = record { worker = s.worker; made = s.made ++ more; seen = all ++ more }
+knowledge s = record { maker = Session s.worker; made = s.made; seen = s.seen }
 
 -- A session may note a receipt of a deed with this state: it has room for one, and a copy of the state.
 pub record MayNote (session : SessionState) (state : List ℕ) : Type 0 where
   pub room : 0 < session.spare
   pub copy : session.copy ≡ state
 
--- What is behind the lock: the store, how many sessions were made, and how many entries the keeper made for workers that he ended.
+-- What is behind the lock: the store, how many sessions were made, how many entries the keeper made for workers that it ended, and all
+-- entries since the start, with who made each.
 pub record LockedState : Type 0 where
   pub store : StoreState
   pub sessions : ℕ
   pub entered : ℕ
+  pub signed : List Signed
 
--- A keeper: the place at which the last part of the journal ended that it took, and how many entries it made for workers that it
--- ended.
+-- A keeper: the place at which the last part of the journal ended that it took, the entries that it made for workers that it ended,
+-- and those that it has seen, with who made each: all entries since the start, up to its last call.
 pub record KeeperState : Type 0 where
   pub next : ℕ
-  pub entered : ℕ
+  pub made : List Entry
+  pub seen : List Signed
+
+-- what a keeper knows of the entries since the start
+abbrev pub keeper_knowledge : KeeperState → PassState
+keeper_knowledge k = record { maker = Keeper; made = k.made; seen = k.seen }
 
 -- What a store was when it was shared: its opening, the entries that its journal had, how many of them were handed out, and its
 -- limits; whether the journal may be handed out in parts while it is shared, and whether its keeper may end workers.
@@ -96,24 +105,22 @@ start_with_ends s = shared_as false true s
 abbrev pub start_in_parts_with_ends : StoreState → SharedStart
 start_in_parts_with_ends s = shared_as true true s
 
--- the names of a keeper's two ledgers and the table of the roll, and those of the blanks that a round is opened with
+-- the names of a keeper's ledger and of the table of the roll, and those of the blanks that a round is opened with
 pub record KeeperNames : Type 0 where
   pub handed : ℕ
-  pub entered : ℕ
   pub roll : RoundTable
 
 abbrev pub names_of : Blanks → KeeperNames
-names_of blanks = record { handed = blanks.handed.name; entered = blanks.entered.name; roll = blanks.roll }
+names_of blanks = record { handed = blanks.handed.name; roll = blanks.roll }
 
--- A store may be shared with blanks by the round whose ledger has this name and so many parts, whose keeper's ledgers and roll have
+-- A store may be shared with blanks by the round whose ledger has this name and so many parts, whose keeper's ledger and roll have
 -- these names, and which has this start: the blanks are the round's, that of the sessions has one part more than vertices may be made,
--- those of the keeper two each, and the round starts from the store.
+-- that of the keeper has two, and the round starts from the store.
 pub record MayShare (ledger whole : ℕ) (keeper : KeeperNames) (first : SharedStart) (blanks : Blanks) (store : StoreState) : Type 0 where
   pub name : blanks.sessions.name ≡ ledger
   pub parts : (blanks.sessions.parts ≡ whole) × (blanks.sessions.parts ≡ store.opening.limit + 1)
   pub handed_name : blanks.handed.name ≡ keeper.handed
-  pub entered_name : blanks.entered.name ≡ keeper.entered
-  pub keeper_parts : (blanks.handed.parts ≡ 2) × (blanks.entered.parts ≡ 2)
+  pub keeper_parts : blanks.handed.parts ≡ 2
   pub roll : blanks.roll ≡ keeper.roll
   pub start : shared_as first.in_parts first.may_end store ≡ first
 
@@ -171,46 +178,46 @@ AtSome start holds = (s : StoreState) × GoesOn start s × IsFaithful s × holds
 abbrev pub since : SharedStart → StoreState → List Entry
 since start s = drop (length start.entries) s.entries
 
--- Where the keeper may end nobody, who has this knowledge knows of the store: the entries of its worker since the start are exactly
--- those that it made, and the entries since the start begin with those that it has seen.
-abbrev pub IsKnown : SharedStart → PassState → StoreState → Type 0
-IsKnown start pass s = start.may_end ≡ false → Sees (since start s) pass
+-- Since it was shared, the store got exactly these entries. Each was made by who may make it: by the session of its worker, or by the
+-- keeper. The keeper made none, if it may end nobody.
+pub record HasGrownBy (start : SharedStart) (s : StoreState) (signed : List Signed) : Type 0 where
+  pub all : s.entries ≡ start.entries ++ entries_of signed
+  pub owned : AreOwn signed
+  pub none_ended : start.may_end ≡ false → entries_by Keeper signed ≡ []
 
--- This holds of some store that may have been behind the lock, of which this is known.
-abbrev pub AtPass : SharedStart → PassState → (StoreState → Type 0) → Type 0
-AtPass start pass holds = AtSome start (λ s. holds s × IsKnown start pass s)
+-- This holds of some store that may have been behind the lock, and that got exactly these entries since it was shared. All such stores
+-- have the same journal, and so the same graph.
+abbrev pub AtSeen : SharedStart → List Signed → (StoreState → Type 0) → Type 0
+AtSeen start seen holds = AtSome start (λ s. HasGrownBy start s seen × holds s)
 
--- This holds of some store that may have been behind the lock, of which the session knows what it does.
-abbrev pub AtKnown : SharedStart → SessionState → (StoreState → Type 0) → Type 0
-AtKnown start session holds = AtPass start (knowledge session) holds
+-- that graph
+abbrev pub graph_seen : SharedStart → List Signed → ProtectionGraph
+graph_seen start seen = graph_after (start_of start.opening) (start.entries ++ entries_of seen)
 
--- Where the keeper may end nobody, a session that made an entry has seen all entries of the store.
-abbrev pub HasSeen : SharedStart → StoreState → SessionState → SessionState → Type 0
-HasSeen start next old new = start.may_end ≡ false → new.made ≢ old.made → new.seen ≡ since start next
+-- After these entries since the start the worker has been made, and is no subject any more.
+abbrev pub IsGone : SharedStart → List Signed → ℕ → Type 0
+IsGone start seen worker = AtSeen start seen (λ s. (worker < (graph_of_store s).made) × (¬ IsSubject (graph_of_store s) worker))
 
--- A session that has retired, sees the roll and knows whether it has retired, has no subject in the store, where the keeper may end
--- nobody.
-abbrev pub StaysOut : SharedStart → StoreState → RollState → SessionState → Type 0
-StaysOut start s roll session =
-    Sees roll.entries (knowledge session) → session.retired ≡ retired_behind false session.made → session.retired ≡ true → start.may_end ≡ false → ¬ IsSubject (graph_of_store s) session.worker
+-- The session made exactly its own of the entries that it has seen. If the keeper may end workers, it made none of this worker.
+pub record IsOnItsOwn (start : SharedStart) (session : SessionState) : Type 0 where
+  pub own : entries_by (Session session.worker) session.seen ≡ session.made
+  pub alone : start.may_end ≡ true → own_entries session.worker (entries_by Keeper session.seen) ≡ []
 
--- What is behind the lock beside the store: where the keeper may end nobody, the roll has exactly the entries since the start; and
--- the names of those who act are names of vertices.
-pub record IsRolled (start : SharedStart) (store : StoreState) (roll : RollState) : Type 0 where
-  pub all : start.may_end ≡ false → store.entries ≡ start.entries ++ roll.entries
+-- A session whose worker was gone when it looked last has no subject in the store either, if it sees all entries.
+abbrev pub StaysOut : SharedStart → StoreState → List Signed → SessionState → Type 0
+StaysOut start s signed session = Sees signed (knowledge session) → IsGone start session.seen session.worker → ¬ IsSubject (graph_of_store s) session.worker
+
+-- What is behind the lock beside the store: the roll has exactly the entries since the start, so many of them are the keeper's, and the
+-- names of those who act are names of vertices.
+pub record IsRolled (start : SharedStart) (store : StoreState) (roll : RollState) (entered : ℕ) : Type 0 where
+  pub grown : HasGrownBy start store roll.signed
+  pub ended : entered ≡ length (entries_by Keeper roll.signed)
   pub below : roll.below ≤ (graph_of_store store).made
 
--- A collection left so many vertices: of two stores that may have been behind the lock, with the same journal, it made the second
--- out of the first.
-abbrev pub LeavesAtSome : SharedStart → Kind → ℕ → Type 0
-LeavesAtSome start kind number = AtSome start (λ old. AtSome start (λ new. (new.entries ≡ old.entries) × IsSwept kind old new number))
-
--- The keeper ended a worker, which gave up so many edges: of two stores that may have been behind the lock, the worker left the
--- first, and this made the second of it.
-abbrev pub EndsAtSome : SharedStart → ℕ → ℕ → Type 0
-EndsAtSome start worker count =
-    AtSome start (λ old. AtSome start (λ new. HasLeft worker old new
-    × (count ≡ length (listing_of (graph_of_store old).label (graph_of_store old).made worker))))
+-- A collection left so many vertices when exactly these entries had been made since the start: of two stores that may have been behind
+-- the lock then, it made the second out of the first.
+abbrev pub LeavesAtSeen : SharedStart → List Signed → Kind → ℕ → Type 0
+LeavesAtSeen start seen kind number = AtSeen start seen (λ old. AtSeen start seen (λ new. IsSwept kind old new number))
 
 -- ---- what a call does
 
@@ -222,6 +229,20 @@ KeepsReceipts old new = (new.worker ≡ old.worker) × (new.receipts ≡ old.rec
 pub record MakesRoom {T E : Type 0} (more : ℕ) (old new : SessionState) (result : Result T E) : Type 0 where
   pub receipts : KeepsReceipts old new
   pub spare : OnOk result (more ≤ new.spare)
+
+-- A session that took the lock and made no entry has seen all entries up to then. It has the same receipts, and made the same entries,
+-- which are exactly its own among those that it has seen.
+pub record HasLooked (old new : SessionState) : Type 0 where
+  pub kept : KeepsReceipts (record old { seen = new.seen }) new
+  pub grown : BeginsWith new.seen old.seen
+  pub own : entries_by (Session new.worker) new.seen ≡ new.made
+
+-- A keeper that took the lock and ended nobody has seen all entries up to then. It made the same entries, which are exactly the
+-- keeper's among those that it has seen.
+pub record KeeperLooked (old new : KeeperState) : Type 0 where
+  pub same : new.made ≡ old.made
+  pub grown : BeginsWith new.seen old.seen
+  pub own : entries_by Keeper new.seen ≡ new.made
 
 -- exactly one receipt more: at this place, with the session's worker, this deed and this reply
 abbrev pub AddsReceipt : SessionState → SessionState → ℕ → Deed → Reply → Type 0
@@ -253,24 +274,49 @@ pub record TakesOver (old ended new : SessionState) : Type 0 where
   pub made : new.made ≡ old.made
   pub seen : new.seen ≡ old.seen
 
--- Exactly one receipt more, of an entry with this deed and this reply. The entry came next in the journal of a store that may
--- have been behind the lock, and was legal there: the reply is the rules' answer on that store's graph. The session knows of that
--- store what it knew before, and has then seen its entries and the new one.
-abbrev pub IsAnswered : SharedStart → SessionState → SessionState → Deed → Reply → Type 0
-IsAnswered start old new deed reply =
-    AtKnown start old (λ s. AddsReceipt old new (length s.entries) deed reply
-    × IsLegalEntry (graph_of_store s) (record { worker = old.worker; deed = deed; reply = reply })
-    × (start.may_end ≡ false → new.seen ≡ since start s ++ (record { worker = old.worker; deed = deed; reply = reply }) ∷ []))
+-- Exactly one receipt more, of an entry with this deed and this reply. It came next after these entries since the start, which the
+-- session sees: they begin with those that it had seen, and its own among them are exactly those that it had made. The new entry was
+-- legal there: the reply is the rules' answer on the graph after them. The session has then seen them and the new entry.
+pub record IsAnswered (start : SharedStart) (old new : SessionState) (deed : Deed) (reply : Reply) : Type 0 where
+  pub before : List Signed
+  pub sees : Sees before (knowledge old)
+  pub receipt : AddsReceipt old new (length start.entries + length before) deed reply
+  pub legal : AtSeen start before (λ s. IsLegalEntry (graph_of_store s) (record { worker = old.worker; deed = deed; reply = reply }))
+  pub seen : new.seen ≡ before ++ sign (Session old.worker) (record { worker = old.worker; deed = deed; reply = reply }) ∷ []
 
--- The session's worker left, and gave up so many edges. Exactly the receipts of its leaving were added: of a remove for each edge, by
--- rising name, and of a retire. These entries came next in the journal of a store that may have been behind the lock, and were
--- legal there. The session knows of that store what it knew before, and has then seen its entries and the new ones.
-abbrev pub HasLeftAtSome : SharedStart → SessionState → SessionState → ℕ → Type 0
-HasLeftAtSome start old new count =
-    AtKnown start old (λ s. AddsReceipts old new (length s.entries) (leaving (graph_of_store s) old.worker)
-    × IsLegal (graph_of_store s) (leaving (graph_of_store s) old.worker)
-    × (count ≡ length (listing_of (graph_of_store s).label (graph_of_store s).made old.worker))
-    × (start.may_end ≡ false → new.seen ≡ since start s ++ leaving (graph_of_store s) old.worker))
+-- Why a session's command is refused: of a store with exactly the entries that the session has then seen there was no such worker, or
+-- the command was allowed and a cell was lacking; or memory ran out.
+pub record RefusesCall (start : SharedStart) (command : Command) (old new : SessionState) (why : ApplyFault) : Type 0 where
+  pub looked : HasLooked old new
+  pub no_such_worker : why ≡ apply.NoSuchWorker → AtSeen start new.seen (λ s. ¬ IsSubject (graph_of_store s) old.worker)
+  pub full : why ≡ apply.HeapFull → AtSeen start new.seen (λ s.
+      IsAllowed (graph_of_store s) old.worker (Plain command) × AddsEdge command × LacksCellsToServe s.heap.table (nursery_of s.heap old.worker) old.worker command)
+
+-- What of a leave comes next after these entries since the start: a remove for each edge that the worker has in this graph, by rising
+-- name, and a retire. They were legal there, and the worker gave up so many edges.
+pub record IsLegalLeave (g : ProtectionGraph) (worker count : ℕ) : Type 0 where
+  pub legal : IsLegal g (leaving g worker)
+  pub edges : count ≡ length (listing_of g.label g.made worker)
+
+-- The session's worker left, and gave up so many edges. Exactly the receipts of its leaving were added, of entries that came next after
+-- these since the start, which the session sees. The session has then seen them and the new ones.
+pub record HasLeftAtSeen (start : SharedStart) (old new : SessionState) (count : ℕ) : Type 0 where
+  pub before : List Signed
+  pub sees : Sees before (knowledge old)
+  pub receipts : AddsReceipts old new (length start.entries + length before) (leaving (graph_seen start before) old.worker)
+  pub legal : AtSeen start before (λ s. IsLegalLeave (graph_of_store s) old.worker count)
+  pub seen : new.seen ≡ before ++ sign_all (Session old.worker) (leaving (graph_seen start before) old.worker)
+
+-- The keeper ended a worker, which gave up so many edges. Of a store that may have been behind the lock when exactly these entries had
+-- been made since the start, the worker left by entries that were legal there, and this made another that may have been there next.
+-- The keeper sees the entries before. It has made exactly the new ones, and has then seen both.
+pub record HasEnded (start : SharedStart) (worker : ℕ) (old new : KeeperState) (count : ℕ) : Type 0 where
+  pub before : List Signed
+  pub sees : Sees before (keeper_knowledge old)
+  pub left : AtSeen start before (λ s. IsLegalLeave (graph_of_store s) worker count × AtSeen start new.seen (HasLeft worker s))
+  pub made : new.made ≡ old.made ++ leaving (graph_seen start before) worker
+  pub seen : new.seen ≡ before ++ sign_all Keeper (leaving (graph_seen start before) worker)
+  pub next : new.next ≡ old.next
 
 -- exactly one entry more, and exactly one receipt of it, at the place of the entry
 pub record Records (old new : StoreState) (before after : SessionState) (deed : Deed) (reply : Reply) : Type 0 where
@@ -281,13 +327,13 @@ pub record Records (old new : StoreState) (before after : SessionState) (deed : 
 abbrev pub RecordsNothing : StoreState → StoreState → SessionState → SessionState → Type 0
 RecordsNothing old new before after = IsUnchanged old new × KeepsReceipts before after
 
--- When a session's deed makes no vertex, of a store that may have been behind the lock and of which the session knows what it does, and
--- the draft is handed back. Where as many
--- vertices were made as may be a receipt is added; a spawn's clauses tell of one where as many are subjects as may be.
-pub record MayRefuseAtSome {P T : Type 0} (start : SharedStart) (deed : Deed) (value : Value) (old new : SessionState) (result : Result T (CreateRefused P)) : Type 0 where
+-- When a session's deed makes no vertex, of a store that may have been behind the lock and that has exactly the entries that the
+-- session has then seen, and the draft is handed back. If as many vertices were made as may be, a receipt is added; a spawn's clauses
+-- say of one if as many are subjects as may be.
+pub record MayRefuseAtSeen {P T : Type 0} (start : SharedStart) (deed : Deed) (value : Value) (old new : SessionState) (result : Result T (CreateRefused P)) : Type 0 where
   pub full : IfErr result (λ refused. refused.why ≡ fault.VerticesFull → IsAnswered start old new deed VerticesFull)
-  pub no_such_worker : IfErr result (λ refused. refused.why ≡ fault.NoSuchWorker → AtKnown start old (λ s. ¬ IsSubject (graph_of_store s) old.worker))
-  pub heap_full : IfErr result (λ refused. refused.why ≡ fault.HeapFull → AtKnown start old (λ s.
+  pub no_such_worker : IfErr result (λ refused. refused.why ≡ fault.NoSuchWorker → AtSeen start new.seen (λ s. ¬ IsSubject (graph_of_store s) old.worker))
+  pub heap_full : IfErr result (λ refused. refused.why ≡ fault.HeapFull → AtSeen start new.seen (λ s.
       IsAllowed (graph_of_store s) old.worker deed × LacksCellsFor s.heap.table (nursery_space (nursery_of s.heap old.worker)) 1 old.worker (graph_of_store s).made))
   pub handed_back : IfErr result (λ refused. refused.draft ≡ value)
 
@@ -360,6 +406,10 @@ held_from start s = max (length start.entries) s.handed
 -- A session that handed out no receipt and took over nobody has receipts of all entries of its worker among these, in their order.
 abbrev pub HasAll : List Entry → SessionState → Type 0
 HasAll entries s = s.handed ≡ 0 → s.parts ≡ 1 → map (λ r. r.entry) s.receipts ≡ own_entries s.worker entries
+
+-- and it has them if the keeper, which made these entries, made none of its worker
+abbrev pub HasAllUnlessEnded : List Entry → List Entry → SessionState → Type 0
+HasAllUnlessEnded ended entries s = own_entries s.worker ended ≡ [] → HasAll entries s
 
 -- and those of all entries that its own calls made
 abbrev pub HasMade : SessionState → Type 0

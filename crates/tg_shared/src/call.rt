@@ -6,10 +6,12 @@ ghost use Rattle.tg_model.specs.declared.command.Deed.TheVariants.{Create, Plain
 ghost use Rattle.tg_model.specs.declared.reply.Reply.TheVariants.{Name, WorkersFull};
 ghost use Rattle.tg_graph.specs.Heap.{nursery_of};
 ghost use Rattle.tg_rules.specs.Effect.{AddsEdge, LacksCellsToServe};
+ghost use Rattle.tg_passes.specs.declared.signed.Maker.TheVariants as maker;
+ghost use Rattle.tg_passes.specs.Passes.{entries_by};
 ghost use Rattle.tg_store.specs.Held.{IsHeldOver};
 ghost use Rattle.tg_store.specs.Room.{LacksRoomToCollect};
 ghost use Rattle.tg_store.specs.Store.{graph_of_store};
-ghost use Rattle.tg_shared.specs.Sessions.{AtKnown, AtSome, HasLeftAtSome, IsAnswered, IsFresh, KeepsReceipts, LeavesAtSome, MayNote, MayRefuseAtSome};
+ghost use Rattle.tg_shared.specs.Sessions.{AtSeen, HasLeftAtSeen, HasLooked, IsAnswered, IsFresh, KeepsReceipts, LeavesAtSeen, MayNote, MayRefuseAtSeen, RefusesCall};
 
 use crate::round::Round;
 use crate::session::Session;
@@ -28,19 +30,19 @@ impl<L: Round> Session<L> {
 
     /// Asks the shared store for a command of the session's subject, by one call of
     /// [`Locked::apply`](crate::Locked::apply) under the lock. Answers the reply, lent from the receipt: exactly one
-    /// was added, with this command and this reply. Its entry came next in the journal of a store that may have been
-    /// behind the lock, the shared one, gone on, and was legal there: the reply is the rules' on the graph of that
-    /// store.
+    /// was added, with this command and this reply. Its entry came next after the entries since the start that the
+    /// session has then seen, and was legal there: the reply is the rules' on the graph after them.
     ///
-    /// A refused call keeps the receipts, and its refusal was due of such a store: there was no such worker, or the
-    /// command was allowed and a cell was lacking. Memory may run out at any call. After a retire that the session
-    /// entered itself, the call always reports that there is no such worker, and takes no lock.
+    /// A refused call keeps the receipts, and its refusal was due of a store with exactly the entries that the session
+    /// has then seen (`AtSeen`): there was no such worker, or the command was allowed and a cell was lacking. Memory
+    /// may run out at any call. After a retire that the session entered itself, the call always reports that there is
+    /// no such worker, and takes no lock.
     ///
-    /// If the keeper may end nobody, the entries of the session's worker in that store are exactly those that the
-    /// session's own calls made, and the store's entries since the start begin with those that the session has seen
-    /// (`AtKnown`). So a worker that entered no retire is never reported missing:
-    /// [`a_session_without_a_retire_is_a_subject`](crate::laws::a_session_without_a_retire_is_a_subject). If the keeper
-    /// may end workers, the clauses tie that store to nothing that the session did.
+    /// What a session has seen has who made each entry, and begins with what it had seen before. The session's own
+    /// among these entries are exactly those that its calls made, and [`close`](crate::close) compares what each
+    /// session has seen with the journal. So a worker that entered no retire, and that the keeper didn't end, is never
+    /// reported missing:
+    /// [`a_session_without_a_retire_is_a_subject`](crate::laws::a_session_without_a_retire_is_a_subject).
     pub fn call<P: Payload, R: Wait>(
         &mut self,
         rt: &R,
@@ -48,10 +50,7 @@ impl<L: Round> Session<L> {
         command: Command,
     ) -> Result<&Reply, ApplyFault>
         ensures* receipt { sem 𝓛 (follows_so (the_row L.row (record { start = L.start; keeper = L.keeper }) L.Ledger) (the_row L.row (record { start = L.start; keeper = L.keeper }) L.Ledger) self.entry.ghost_name none (λ _ _. ⊤)
-            (λ after. MatchResult result (λ reply. IsAnswered L.start self.old after (Plain command) reply.now) (λ _. KeepsReceipts self.old after))) }
-        ensures no_such_worker { IfErr result (λ why. why ≡ ApplyFault.NoSuchWorker → AtKnown L.start self.old (λ s. ¬ IsSubject (graph_of_store s) self.old.worker)) }
-        ensures full { IfErr result (λ why. why ≡ ApplyFault.HeapFull → AtKnown L.start self.old (λ s.
-            IsAllowed (graph_of_store s) self.old.worker (Plain command) × AddsEdge command × LacksCellsToServe s.heap.table (nursery_of s.heap self.old.worker) self.old.worker command)) }
+            (λ after. MatchResult result (λ reply. IsAnswered L.start self.old after (Plain command) reply.now) (RefusesCall L.start command self.old after))) }
         ensures retired { self.old.retired ≡ true → IsErrAnd result (λ why. why ≡ ApplyFault.NoSuchWorker) }
     {
         if self.retired() {
@@ -59,7 +58,7 @@ impl<L: Round> Session<L> {
         }
         self.make_room(&[])?;
         let mut locked = store.locked.lock(rt);
-        // for what is told of it: the shared store, gone on, of which the session knows what it does
+        // for what holds of it: the shared store, gone on, all of whose entries the session has then seen
         locked.look(self);
         let _ = locked.store();
         locked.apply(self, command)?;
@@ -70,9 +69,10 @@ impl<L: Round> Session<L> {
 
     /// Makes a vertex of the session's subject, by one call of [`Locked::create`](crate::Locked::create) under the
     /// lock. A name, and `VerticesFull`, have added exactly one receipt, with this create and that answer. Its entry
-    /// came next in the journal of a store that may have been behind the lock, and was legal there. A call that is
-    /// refused otherwise keeps the receipts, and its refusal was due of such a store, unless memory ran out. What the
-    /// session knows of that store [`call`](Session::call) says. A refused draft is handed back.
+    /// came next after the entries since the start that the session has then seen, and was legal there. A call that is
+    /// refused otherwise keeps the receipts, and its refusal was due of a store with exactly the entries that the
+    /// session has then seen, unless memory ran out. What the session knows of these [`call`](Session::call) says. A
+    /// refused draft is handed back.
     pub fn create<P: Payload, R: Wait>(
         &mut self,
         rt: &R,
@@ -81,8 +81,8 @@ impl<L: Round> Session<L> {
         draft: Draft<P>,
     ) -> Result<u64, CreateRefused<P>>
         ensures receipt { IfOk result (λ name. IsAnswered L.start self.old self.new (Create label draft.law draft.state) (Name name)) }
-        ensures refusals { MayRefuseAtSome L.start (Create label draft.law draft.state) draft self.old self.new result }
-        ensures refused { IfErr result (λ refused. refused.why ≢ CreateFault.VerticesFull → KeepsReceipts self.old self.new) }
+        ensures refusals { MayRefuseAtSeen L.start (Create label draft.law draft.state) draft self.old self.new result }
+        ensures refused { IfErr result (λ refused. refused.why ≢ CreateFault.VerticesFull → HasLooked self.old self.new) }
         ensures no_workers_full { IfErr result (λ refused. refused.why ≢ CreateFault.WorkersFull) }
         ensures retired { self.old.retired ≡ true → IsErrAnd result (λ refused. refused.why ≡ CreateFault.NoSuchWorker) }
     {
@@ -90,7 +90,7 @@ impl<L: Round> Session<L> {
             return Err(CreateRefused { draft, why });
         }
         let mut locked = store.locked.lock(rt);
-        // for what is told of it: the shared store, gone on, of which the session knows what it does
+        // for what holds of it: the shared store, gone on, all of whose entries the session has then seen
         locked.look(self);
         let _ = locked.store();
         let created = locked.create(self, label, draft);
@@ -101,14 +101,14 @@ impl<L: Round> Session<L> {
 
     /// Makes a subject, by one call of [`Locked::spawn`](crate::Locked::spawn) under the lock, and answers its session,
     /// which has no receipt. The session that asks then has exactly one more, with this spawn and the new name. Its
-    /// entry came next in the journal of a store that may have been behind the lock, and was legal there. The new
+    /// entry came next after the entries since the start that the session has then seen, and was legal there. The new
     /// session goes to [`close`](crate::close) with the others: a round does not end without it, so it is kept where
     /// nothing else is refused.
     ///
     /// `VerticesFull` and `WorkersFull` have added a receipt with that answer. A call that is refused otherwise keeps
-    /// the receipts, and its refusal was due of such a store, unless memory ran out. What the session knows of that
-    /// store [`call`](Session::call) says. The new session has seen what the session that asks has seen then
-    /// (`fresh_seen`). A refused draft is handed back.
+    /// the receipts, and its refusal was due of a store with exactly the entries that the session has then seen, unless
+    /// memory ran out. What the session knows of these [`call`](Session::call) says. The new session has seen what the
+    /// session that asks has seen then (`fresh_seen`). A refused draft is handed back.
     pub fn spawn<P: Payload, R: Wait>(
         &mut self,
         rt: &R,
@@ -118,17 +118,17 @@ impl<L: Round> Session<L> {
     ) -> Result<Session<L>, CreateRefused<P>>
         ensures receipt { IfOk result (λ fresh. IsAnswered L.start self.old self.new (Spawn label draft.law draft.state) (Name fresh.worker)) }
         ensures fresh { IfOk result IsFresh }
-        ensures fresh_seen { L.start.may_end ≡ false → IfOk result (λ fresh. fresh.seen ≡ self.new.seen) }
-        ensures refusals { MayRefuseAtSome L.start (Spawn label draft.law draft.state) draft self.old self.new result }
+        ensures fresh_seen { IfOk result (λ fresh. fresh.seen ≡ self.new.seen) }
+        ensures refusals { MayRefuseAtSeen L.start (Spawn label draft.law draft.state) draft self.old self.new result }
         ensures workers_full { IfErr result (λ refused. refused.why ≡ CreateFault.WorkersFull → IsAnswered L.start self.old self.new (Spawn label draft.law draft.state) WorkersFull) }
-        ensures refused { IfErr result (λ refused. refused.why ≢ CreateFault.VerticesFull → refused.why ≢ CreateFault.WorkersFull → KeepsReceipts self.old self.new) }
+        ensures refused { IfErr result (λ refused. refused.why ≢ CreateFault.VerticesFull → refused.why ≢ CreateFault.WorkersFull → HasLooked self.old self.new) }
         ensures retired { self.old.retired ≡ true → IsErrAnd result (λ refused. refused.why ≡ CreateFault.NoSuchWorker) }
     {
         if let Err(why) = self.make_ready(draft.value().state.as_slice()) {
             return Err(CreateRefused { draft, why });
         }
         let mut locked = store.locked.lock(rt);
-        // for what is told of it: the shared store, gone on, of which the session knows what it does
+        // for what holds of it: the shared store, gone on, all of whose entries the session has then seen
         locked.look(self);
         let _ = locked.store();
         let spawned = locked.spawn(self, label, draft);
@@ -146,7 +146,8 @@ impl<L: Round> Session<L> {
         ensures notable { OnOk result (MayNote self.new state.now) }
         ensures receipts { KeepsReceipts self.old self.new }
         ensures retired { self.old.retired ≡ true → result ≡ Err CreateFault.NoSuchWorker }
-        ensures why { IfErr result (λ why. (why ≡ CreateFault.NoSuchWorker × AtKnown L.start self.old (λ s. ¬ IsSubject (graph_of_store s) self.old.worker)) ⊎ (why ≡ CreateFault.OutOfMemory)) }
+        ensures why { IfErr result (λ why. (why ≡ CreateFault.NoSuchWorker × AtSeen L.start self.old.seen (λ s. ¬ IsSubject (graph_of_store s) self.old.worker)) ⊎ (why ≡ CreateFault.OutOfMemory)) }
+        ensures own { entries_by (maker.Session self.old.worker) self.old.seen ≡ self.old.made }
     {
         if self.retired() {
             return Err(CreateFault::NoSuchWorker);
@@ -159,22 +160,22 @@ impl<L: Round> Session<L> {
 
     /// The session's worker leaves, by one call of [`Locked::leave`](crate::Locked::leave) under the lock: it gives up
     /// each edge that it has, by rising name, and retires. Answers how many edges these were. Exactly the receipts of
-    /// these entries were added, which came next in the journal of a store that may have been behind the lock, and were
-    /// legal there. From then on each call of the session answers that there is no such worker; its receipts are taken
-    /// or closed with as before.
+    /// these entries were added, which came next after the entries since the start that the session has then seen, and
+    /// were legal there. From then on each call of the session answers that there is no such worker; its receipts are
+    /// taken or closed with as before.
     ///
-    /// A refused leave keeps the receipts, and the worker holds what it held: there was no such worker in such a store,
-    /// or memory ran out. What the session knows of that store [`call`](Session::call) says. Nothing is refused on the
-    /// way.
+    /// A refused leave keeps the receipts, and the worker holds what it held: there was no such worker in a store with
+    /// exactly the entries that the session has then seen, or memory ran out. What the session knows of these
+    /// [`call`](Session::call) says. Nothing is refused on the way.
     pub fn leave<P: Payload, R: Wait>(
         &mut self,
         rt: &R,
         store: &SharedStore<L, P>,
     ) -> Result<u64, ApplyFault>
-        ensures left { IfOk result (HasLeftAtSome L.start self.old self.new) }
+        ensures left { IfOk result (HasLeftAtSeen L.start self.old self.new) }
         ensures gone { OnOk result (self.new.retired ≡ true) }
-        ensures refused { OnErr result (KeepsReceipts self.old self.new) }
-        ensures no_such_worker { IfErr result (λ why. why ≡ ApplyFault.NoSuchWorker → AtKnown L.start self.old (λ s. ¬ IsSubject (graph_of_store s) self.old.worker)) }
+        ensures refused { OnErr result (HasLooked self.old self.new) }
+        ensures no_such_worker { IfErr result (λ why. why ≡ ApplyFault.NoSuchWorker → AtSeen L.start self.new.seen (λ s. ¬ IsSubject (graph_of_store s) self.old.worker)) }
         ensures never_full { result ≢ Err ApplyFault.HeapFull }
         ensures retired { self.old.retired ≡ true → IsErrAnd result (λ why. why ≡ ApplyFault.NoSuchWorker) }
     {
@@ -182,7 +183,7 @@ impl<L: Round> Session<L> {
             return Err(ApplyFault::NoSuchWorker);
         }
         let mut locked = store.locked.lock(rt);
-        // for what is told of it: the shared store, gone on, of which the session knows what it does
+        // for what holds of it: the shared store, gone on, all of whose entries the session has then seen
         locked.look(self);
         let _ = locked.store();
         let left = locked.leave(self);
@@ -192,38 +193,46 @@ impl<L: Round> Session<L> {
     }
 
     /// The rights that the session's subject holds over a vertex, by one call of
-    /// [`Locked::label`](crate::Locked::label) under the lock: the label of a store that may have been behind the lock,
-    /// the shared one, gone on. It makes no entry and no receipt.
+    /// [`Locked::label`](crate::Locked::label) under the lock: the label of the graph after exactly the entries since
+    /// the start that the session has then seen. It makes no entry and no receipt. [`close`](crate::close) compares
+    /// these entries with the journal, so the label is of the journal up to there:
+    /// [`an_answer_is_of_the_closed_journal`](crate::laws::an_answer_is_of_the_closed_journal).
     pub fn label<P: Payload, R: Wait>(
-        &self,
+        &mut self,
         rt: &R,
         store: &SharedStore<L, P>,
         target: u64,
     ) -> Option<Label>
-        ensures held { AtSome L.start (λ s. IsHeldOver (graph_of_store s) self.now.worker target result) }
+        ensures held { AtSeen L.start self.new.seen (λ s. IsHeldOver (graph_of_store s) self.old.worker target result) }
+        ensures looked { HasLooked self.old self.new }
+        ensures same { self.new ≡ record self.old { seen = self.new.seen } }
     {
-        let locked = store.locked.lock(rt);
-        // for what is told of it: the shared store, gone on
+        let mut locked = store.locked.lock(rt);
+        // for what holds of it: the shared store, gone on, all of whose entries the session has then seen
+        locked.look(self);
         let _ = locked.store();
         locked.label(self, target)
     }
 
     /// Collects the heap of the shared store, by one call of [`Locked::collect`](crate::Locked::collect) under the
-    /// lock, and answers how many vertices it then has: the number of a store that may have been behind the lock, and
-    /// that this collection left of another that may have been there; after a full one that of the vertices that can be
-    /// reached. It makes no entry and no receipt.
+    /// lock, and answers how many vertices it then has: the number of a store with exactly the entries that the session
+    /// has then seen, which this collection left of another with the same entries. After a full one it is the number of
+    /// vertices that can be reached in the graph after these entries. It makes no entry and no receipt.
     pub fn collect<P: Payload, R: Wait>(
-        &self,
+        &mut self,
         rt: &R,
         store: &SharedStore<L, P>,
         kind: Kind,
     ) -> Result<u64, RoomFault>
-        ensures number { IfOk result (LeavesAtSome L.start kind) }
-        ensures full { IfErr result (λ why. why ≡ RoomFault.HeapFull → AtSome L.start (λ s.
+        ensures number { IfOk result (LeavesAtSeen L.start self.new.seen kind) }
+        ensures full { IfErr result (λ why. why ≡ RoomFault.HeapFull → AtSeen L.start self.new.seen (λ s.
             LacksRoomToCollect kind 1 s.heap)) }
+        ensures looked { HasLooked self.old self.new }
+        ensures same { self.new ≡ record self.old { seen = self.new.seen } }
     {
         let mut locked = store.locked.lock(rt);
-        // for what is told of it: the shared store, gone on
+        // for what holds of it: the shared store, gone on, all of whose entries the session has then seen
+        locked.look(self);
         let _ = locked.store();
         let left = locked.collect(kind);
         // and of the one that is left

@@ -34,12 +34,14 @@ pub struct LockedRefused<L: Round, P: Payload> {
 }
 
 impl<L: Round, P: Payload> Locked<L, P> {
-    ghost use Rattle.tg_shared.specs.Closing.{EndsRound};
-    ghost use Rattle.tg_shared.specs.Sessions.{AddsUp, AreSharedOut, HasAll, MayClose, count_of, handed_of, held_from, parts_of, since};
+    ghost use Rattle.tg_passes.specs.declared.signed.Maker.TheVariants as maker;
+    ghost use Rattle.tg_passes.specs.Passes.{entries_by};
+    ghost use Rattle.tg_shared.specs.Closing.{EndsRound, IsSignedBy};
+    ghost use Rattle.tg_shared.specs.Sessions.{AddsUp, AreSharedOut, HasAllUnlessEnded, MayClose, count_of, handed_of, held_from, parts_of, since};
 
     /// Ends a round: hands out the store, where all sessions are given back and their receipts are right. Then the
     /// journal has grown by as many entries as there are receipts, and they are shared out among the sessions. What the
-    /// keeper entered for workers that he ended is counted beside the receipts, and shared out to nobody.
+    /// keeper entered for workers that it ended is counted beside the receipts, and shared out to nobody.
     ///
     /// `SessionsMissing` is answered exactly where the sessions stand for fewer than were made, and looked for first;
     /// `ReceiptMismatch` exactly where they stand for as many, and may not close. What was handed in then comes back,
@@ -49,9 +51,13 @@ impl<L: Round, P: Payload> Locked<L, P> {
     /// worker, each entry made since stands in exactly one receipt, and the receipts of each session are all its
     /// entries.
     ///
-    /// If the keeper may end nobody, `single` says this of each single session, whatever the other sessions did. A
+    /// `single` says this of each single session whose worker the keeper didn't end, whatever the other sessions did. A
     /// session that handed out no receipt and took over nobody has receipts of all entries of its worker since the
     /// store was shared.
+    ///
+    /// `signed` says who made each entry since the store was shared: each session made exactly its own, and the entries
+    /// begin with those that the session has seen. So what a session was answered after the entries that it had seen is
+    /// an answer on the journal up to there.
     pub fn close(self, sessions: Vec<Session<L>>) -> Result<Store<P>, LockedRefused<L, P>>
         ensures ends { EndsRound L.start self sessions.items result }
         ensures all { OnOk result (parts_of sessions.items ≡ self.sessions) }
@@ -60,7 +66,8 @@ impl<L: Round, P: Payload> Locked<L, P> {
             AreSharedOut (drop (held_from L.start self.store) self.store.entries) sessions.items) }
         ensures none_handed { self.entered ≡ 0 → OnOk result (handed_of sessions.items ≡ 0 → held_from L.start self.store ≡ length L.start.entries) }
         ensures whole { L.start.in_parts ≡ false → self.entered ≡ 0 → OnOk result (AreSharedOut (drop (length L.start.entries) self.store.entries) sessions.items) }
-        ensures single { L.start.may_end ≡ false → OnOk result (All (HasAll (since L.start self.store)) sessions.items) }
+        ensures single { OnOk result (All (HasAllUnlessEnded (entries_by maker.Keeper self.signed) (since L.start self.store)) sessions.items) }
+        ensures signed { OnOk result (IsSignedBy L.start self.store sessions.items self.signed) }
         ensures missing { IsErrAnd result (λ refused. refused.why ≡ CloseFault.SessionsMissing) ↔ (parts_of sessions.items < self.sessions) }
         ensures mismatch { IsErrAnd result (λ refused. refused.why ≡ CloseFault.ReceiptMismatch) ↔
             ((self.sessions ≤ parts_of sessions.items) × (¬ MayClose self.store.entries (held_from L.start self.store) sessions.items)) }
@@ -78,7 +85,7 @@ impl<L: Round, P: Payload> Locked<L, P> {
 
     /// Ends a round whose sessions may be lost: hands out the store, where the receipts of those given back are right.
     /// The journal has then grown by as many entries at least as these have receipts and the keeper entered for workers
-    /// that he ended; if none is missing, all that [`close`](Locked::close) says is so.
+    /// that it ended; if none is missing, all that [`close`](Locked::close) says is so.
     ///
     /// `ReceiptMismatch` is answered exactly where the sessions that are there may not close, and nothing else. What
     /// was handed in then comes back, with the sessions in the order of their workers' names. Takes no memory, and for
@@ -90,7 +97,8 @@ impl<L: Round, P: Payload> Locked<L, P> {
             AreSharedOut (drop (held_from L.start self.store) self.store.entries) sessions.items) }
         ensures none_handed { self.entered ≡ 0 → OnOk result (parts_of sessions.items ≡ self.sessions → handed_of sessions.items ≡ 0 → held_from L.start self.store ≡ length L.start.entries) }
         ensures whole { L.start.in_parts ≡ false → self.entered ≡ 0 → OnOk result (parts_of sessions.items ≡ self.sessions → AreSharedOut (drop (length L.start.entries) self.store.entries) sessions.items) }
-        ensures single { L.start.may_end ≡ false → OnOk result (All (HasAll (since L.start self.store)) sessions.items) }
+        ensures single { OnOk result (All (HasAllUnlessEnded (entries_by maker.Keeper self.signed) (since L.start self.store)) sessions.items) }
+        ensures signed { OnOk result (IsSignedBy L.start self.store sessions.items self.signed) }
         ensures mismatch { IsErr result ↔ (¬ MayClose self.store.entries (held_from L.start self.store) sessions.items) }
         ensures only { IfErr result (λ refused. refused.why ≡ CloseFault.ReceiptMismatch) }
         ensures counted { OnErr result (length L.start.entries + self.entered + count_of sessions.items ≤ length self.store.entries) }
@@ -100,7 +108,7 @@ impl<L: Round, P: Payload> Locked<L, P> {
         self.register.book.audit(&mut self.rest);
         let journal = self.store.journal();
         let since = self.start.max(journal.start());
-        let entries = entries_since(journal, self.start, self.entered.number());
+        let entries = entries_since(journal, self.start, self.entered);
         if are_refused(journal, since, entries, sessions.as_slice()) {
             return Err(LockedRefused {
                 locked: self,

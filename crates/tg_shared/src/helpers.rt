@@ -2,7 +2,7 @@
 ghost use Rattle.std.specs.Prelude.{◌≡◌, ◌≢◌, Err, IfOk, IfErr};
 ghost use Rattle.tg_store.specs.Collecting.{AreHelpers};
 ghost use Rattle.tg_store.specs.Room.{LacksRoomToCollect};
-ghost use Rattle.tg_shared.specs.Sessions.{AtSome, LeavesAtSome};
+ghost use Rattle.tg_shared.specs.Sessions.{AtSeen, HasLooked, LeavesAtSeen};
 ghost use Rattle.tg_shared.specs.Serving.{Collects};
 
 use crate::locked::Locked;
@@ -43,11 +43,11 @@ impl<L: Round> Session<L> {
     /// of [`Locked::collect_with`](crate::Locked::collect_with) under the lock, and all threads that were started have
     /// ended before the lock is let go. Answers how many vertices the heap then has.
     ///
-    /// Of a store that may have been behind the lock `HeapFull` was due, where each helper may leave a block open;
-    /// `NoThread` is answered where a thread couldn't be started, and never of one helper alone; else `OutOfMemory`
-    /// alone. It makes no entry and no receipt.
+    /// `HeapFull` was due of a store with exactly the entries that the session has then seen, where each helper may
+    /// leave a block open. `NoThread` is answered where a thread couldn't be started, and never of one helper alone.
+    /// The only other refusal is `OutOfMemory`. It makes no entry and no receipt.
     pub fn collect_with<P: Payload, R: Threads + Wait + Sync, G: Gate>(
-        &self,
+        &mut self,
         rt: &R,
         store: &SharedStore<L, P>,
         kind: Kind,
@@ -55,13 +55,16 @@ impl<L: Round> Session<L> {
         gate: &G,
     ) -> Result<u64, HelpersFault>
         requires helpers { AreHelpers helpers }
-        ensures number { IfOk result (LeavesAtSome L.start kind) }
-        ensures full { IfErr result (λ why. why ≡ HelpersFault.HeapFull → AtSome L.start (λ s.
+        ensures number { IfOk result (LeavesAtSeen L.start self.new.seen kind) }
+        ensures full { IfErr result (λ why. why ≡ HelpersFault.HeapFull → AtSeen L.start self.new.seen (λ s.
             LacksRoomToCollect kind helpers s.heap)) }
+        ensures looked { HasLooked self.old self.new }
+        ensures same { self.new ≡ record self.old { seen = self.new.seen } }
         ensures alone { helpers ≡ 1 → result ≢ Err HelpersFault.NoThread }
     {
         let mut locked = store.locked.lock(rt);
-        // for what is told of it: the shared store, gone on
+        // for what holds of it: the shared store, gone on, all of whose entries the session has then seen
+        locked.look(self);
         let _ = locked.store();
         let left = locked.collect_with(rt, self.alloc(), kind, helpers, gate);
         // and of the one that is left

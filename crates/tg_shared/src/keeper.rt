@@ -1,18 +1,21 @@
 //! Who may take a shared store's entries, see all of its graph, and end a worker.
-ghost use Rattle.std.specs.Prelude.{◌≡◌, ◌≢◌, ◌+◌, true, Err, IfErr, IfOk, OnErr, length};
+ghost use Rattle.std.specs.Prelude.{◌≡◌, ◌≢◌, ◌+◌, ◌++◌, ◌<◌, ◌∷◌, ◌^◌, [], true, Err, IfErr, IfOk, OnErr, length};
 ghost use Rattle.tg_could.specs.Reached.{IsReachedPicture};
 ghost use Rattle.tg_model.specs.Graph.{IsSubject};
 ghost use Rattle.tg_store.specs.Store.{graph_of_store};
-ghost use Rattle.tg_shared.specs.Sessions.{AtSome, EndsAtSome};
+ghost use Rattle.tg_passes.specs.declared.signed.Maker.TheVariants as maker;
+ghost use Rattle.tg_passes.specs.Passes.{BeginsWith, fresh_pass, sign, sign_all};
+ghost use Rattle.tg_shared.specs.Sessions.{AtSeen, HasEnded, KeeperLooked};
 
 use crate::mirror::Mirror;
-use crate::round::{Entered, HandedOut, Round};
+use crate::round::{HandedOut, Rolled, Round};
 use crate::shared::SharedStore;
 use std::alloc::{AllocError, Global};
 use std::marker::Model;
 use std::sync::Wait;
-use tg_journal::Journal;
+use tg_journal::{Entry, Journal};
 use tg_model::Picture;
+use tg_passes::{Pass, Roll};
 use tg_payload::Payload;
 use tg_store::ApplyFault;
 
@@ -21,27 +24,40 @@ use tg_store::ApplyFault;
 /// it, and no session can take the journal away, or end another's worker. It takes no memory. [`close`](crate::close)
 /// doesn't ask for it, since what it did is counted behind the lock too.
 ///
-/// It knows two numbers of what is behind the lock, which change by its own calls alone. Contracts see a `KeeperState`.
+/// It knows where its last part of the journal ended, and which entries it made, both of which change by its own calls
+/// alone. Each of its calls of the store looks at all entries since the store was shared, so the keeper knows of which
+/// entries the answer speaks. Contracts see a `KeeperState`.
 #[derive(Drop)]
 pub struct Keeper<L: Round> {
     pub(crate) next: Mirror<HandedOut<L>>,
-    pub(crate) entered: Mirror<Entered<L>>,
+    // How many entries it made.
+    entered: u64,
+    pub(crate) pass: Pass<Rolled<L>>,
 }
 
 impl<L: Round> Model for Keeper<L> {
+    ghost use Rattle.std.specs.Prelude.{◌≡◌, length};
+    ghost use Rattle.tg_passes.specs.declared.signed.Maker.TheVariants as maker;
     ghost use Rattle.tg_shared.specs.Sessions.{KeeperState};
 
     ghost Value = { KeeperState };
 
-    ghost view = { λ k. record { next = k.next; entered = k.entered } };
+    ghost view = { λ k. record { next = k.next; made = k.pass.made; seen = k.pass.seen } };
+
+    ghost invariant = { λ k. (k.entered ≡ length k.pass.made) × (k.pass.maker ≡ maker.Keeper) };
 }
 
 impl<L: Round> Keeper<L> {
     /// The keeper of a store that is being shared.
-    pub(crate) fn new(next: Mirror<HandedOut<L>>, entered: Mirror<Entered<L>>) -> Keeper<L>
-        ensures { result ≡ record { next = next; entered = entered } }
+    pub(crate) fn new(next: Mirror<HandedOut<L>>, pass: Pass<Rolled<L>>) -> Keeper<L>
+        requires { pass ≡ fresh_pass maker.Keeper [] }
+        ensures { result ≡ record { next = next; made = []; seen = [] } }
     {
-        Keeper { next, entered }
+        Keeper {
+            next,
+            entered: 0,
+            pass,
+        }
     }
 
     /// The place at which the last part of the journal ended that it took: the next one begins there.
@@ -53,16 +69,38 @@ impl<L: Round> Keeper<L> {
 
     /// How many entries it made for workers that it ended. No session has a receipt of these.
     pub fn entered(&self) -> u64
-        ensures { result ≡ self.now.entered }
+        ensures { result ≡ length self.now.made }
     {
-        self.entered.number()
+        self.entered
+    }
+
+    // Notes entries that it made, after all others. It has seen all others.
+    pub(crate) fn note_all(&mut self, roll: &mut Roll<Rolled<L>>, entries: &[Entry])
+        requires fits { length self.old.made + length entries.now < 2 ^ 64 }
+        requires seen { self.old.seen ≡ roll.old.signed }
+        ensures roll { roll.new ≡ record { signed = roll.old.signed ++ sign_all maker.Keeper entries.now; below = roll.old.below } }
+        ensures keeper { self.new ≡ record { next = self.old.next; made = self.old.made ++ entries.now; seen = roll.new.signed } }
+    {
+        for entry in entries {
+            self.note(roll, entry);
+        }
+    }
+
+    // Notes an entry that it made, after all others.
+    fn note(&mut self, roll: &mut Roll<Rolled<L>>, entry: &Entry)
+        requires { length self.old.made + 1 < 2 ^ 64 }
+        ensures roll { roll.new ≡ record { signed = roll.old.signed ++ sign maker.Keeper entry.now ∷ []; below = roll.old.below } }
+        ensures keeper { self.new ≡ record { next = self.old.next; made = self.old.made ++ entry.now ∷ []; seen = roll.new.signed } }
+    {
+        roll.note(&mut self.pass, entry);
+        self.entered += 1;
     }
 
     /// Hands out the entries that the store behind the lock holds, by one call of
     /// [`Locked::take_journal`](crate::Locked::take_journal) under the lock, at any moment and whatever the sessions
     /// do. What is handed out begins where the part before it ended (`joined`), so no entry is in two parts or in none:
-    /// all parts, in the order in which they were taken, are the journal. The store has to be shared so as to be handed
-    /// out in parts. Takes no memory.
+    /// all parts, in the order in which they were taken, are the journal. It ends with the last entry that the keeper
+    /// has then seen (`held`). The store has to be shared so as to be handed out in parts. Takes no memory.
     pub fn take_journal<P: Payload, R: Wait>(
         &mut self,
         rt: &R,
@@ -70,28 +108,28 @@ impl<L: Round> Keeper<L> {
     ) -> Journal
         requires in_parts { L.start.in_parts ≡ true }
         ensures joined { result.start ≡ self.old.next }
-        ensures next { self.new ≡ record self.old { next = length result.entries } }
-        ensures held { AtSome L.start (λ s. (result.entries ≡ s.entries) × (result.start ≡ s.handed)) }
+        ensures next { self.new.next ≡ length result.entries }
+        ensures looked { KeeperLooked self.old self.new }
+        ensures held { AtSeen L.start self.new.seen (λ s. (result.entries ≡ s.entries) × (result.start ≡ s.handed)) }
     {
         let mut locked = store.locked.lock(rt);
-        // for what is told of it: the shared store, gone on
+        // for what holds of it: the shared store, gone on, all of whose entries the keeper has then seen
+        locked.tell(self);
         let _ = locked.store();
         locked.take_journal(self)
     }
 
     /// Ends a worker whose session is elsewhere, whether that comes back or not, by one call of
     /// [`Locked::end`](crate::Locked::end) under the lock: the worker gives up each edge that it has, by rising name,
-    /// and retires. Answers how many edges these were. Of two stores that may have been behind the lock, the shared
-    /// one, gone on, it left the first, and this made the second of it: the worker stopped being a subject, and no
-    /// other did. The keeper has made exactly these entries (`entered`). From then on each call of its session answers
-    /// that there is no such worker; the receipts that it has stay right, and it is closed with as before, or the store
-    /// is had back without it ([`reclaim`](crate::reclaim)). The store has to be shared so that its keeper may end
-    /// workers.
+    /// and retires. Answers how many edges these were. The entries by which this worker leaves came next after all
+    /// entries that the keeper had seen then, and were legal there (`ended`). They are exactly what the keeper made
+    /// more, so the named worker stopped being a subject, and no other did. [`close_with`](crate::close_with) compares
+    /// what the keeper made with the journal. From then on each call of the worker's session answers that there is no
+    /// such worker; the receipts that it has stay right, and it is closed with as before, or the store is had back
+    /// without it ([`reclaim`](crate::reclaim)). The store has to be shared so that its keeper may end workers.
     ///
-    /// If the call is refused, the keeper has made no entry, so nobody is ended. Memory ran out, or there was no such
-    /// worker in some legal continuation of the shared store, which need not be the store behind the lock.
-    /// [`Locked::end`](crate::Locked::end) says of that store exactly when the refusal comes. Nothing is refused on the
-    /// way.
+    /// If the call is refused, the keeper has made no entry, so nobody is ended (`refused`). Memory ran out, or there
+    /// was no such worker after exactly the entries that the keeper has then seen. Nothing is refused on the way.
     pub fn end<P: Payload, R: Wait>(
         &mut self,
         rt: &R,
@@ -99,14 +137,14 @@ impl<L: Round> Keeper<L> {
         worker: u64,
     ) -> Result<u64, ApplyFault>
         requires may_end { L.start.may_end ≡ true }
-        ensures ended { IfOk result (EndsAtSome L.start worker) }
-        ensures entered { IfOk result (λ count. self.new ≡ record self.old { entered = self.old.entered + (count + 1) }) }
-        ensures none_entered { OnErr result (self.new ≡ self.old) }
-        ensures no_such_worker { IfErr result (λ why. why ≡ ApplyFault.NoSuchWorker → AtSome L.start (λ s. ¬ IsSubject (graph_of_store s) worker)) }
+        ensures ended { IfOk result (HasEnded L.start worker self.old self.new) }
+        ensures entered { IfOk result (λ count. length self.new.made ≡ length self.old.made + (count + 1)) }
+        ensures refused { OnErr result (KeeperLooked self.old self.new × (self.new.next ≡ self.old.next)) }
+        ensures no_such_worker { IfErr result (λ why. why ≡ ApplyFault.NoSuchWorker → AtSeen L.start self.new.seen (λ s. ¬ IsSubject (graph_of_store s) worker)) }
         ensures never_full { result ≢ Err ApplyFault.HeapFull }
     {
         let mut locked = store.locked.lock(rt);
-        // for what is told of it: the shared store, gone on
+        // for what holds of it: the shared store, gone on
         let _ = locked.store();
         let ended = locked.end(self, worker);
         // and of the one that is left
@@ -115,19 +153,21 @@ impl<L: Round> Keeper<L> {
     }
 
     /// The picture of what the active subjects reach, by one call of [`Locked::picture`](crate::Locked::picture) under
-    /// the lock: that of a store that may have been behind the lock, the shared one, gone on. Sessions wait while all
+    /// the lock: that of the graph after exactly the entries that the keeper has then seen. Sessions wait while all
     /// rows that are reached are gone over; questions are asked of the picture afterwards, without the lock. It makes
     /// no entry and no receipt. Fails only when out of memory.
     pub fn picture<P: Payload, R: Wait>(
-        &self,
+        &mut self,
         rt: &R,
         alloc: Global,
         store: &SharedStore<L, P>,
     ) -> Result<Picture, AllocError>
-        ensures { IfOk result (λ picture. AtSome L.start (λ s. IsReachedPicture picture (graph_of_store s))) }
+        ensures shown { IfOk result (λ picture. AtSeen L.start self.new.seen (λ s. IsReachedPicture picture (graph_of_store s))) }
+        ensures looked { KeeperLooked self.old self.new × (self.new.next ≡ self.old.next) }
     {
-        let locked = store.locked.lock(rt);
-        // for what is told of it: the shared store, gone on
+        let mut locked = store.locked.lock(rt);
+        // for what holds of it: the shared store, gone on, all of whose entries the keeper has then seen
+        locked.tell(self);
         let _ = locked.store();
         locked.picture(alloc)
     }

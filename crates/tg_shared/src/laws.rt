@@ -1,5 +1,5 @@
 //! What receipts say of a history. A function here does nothing: what it ensures is the law.
-ghost use Rattle.std.specs.Prelude.{◌≡◌, ◌≢◌, ◌≤◌, ◌+◌, ◌++◌, ℕ, List, drop, false, length, take, true};
+ghost use Rattle.std.specs.Prelude.{◌≡◌, ◌≢◌, ◌≤◌, ◌+◌, ◌++◌, ℕ, List, Option, drop, false, length, take, true};
 ghost use Rattle.std.specs.List.{All, AllPairs, Contains};
 ghost use Rattle.tg_rights.specs.RightSet.{RightSet};
 ghost use Rattle.tg_model.specs.declared.command.Deed.{Deed};
@@ -7,7 +7,9 @@ ghost use Rattle.tg_model.specs.declared.command.Deed.TheVariants.{Spawn};
 ghost use Rattle.tg_model.specs.declared.law.Law.{Law};
 ghost use Rattle.tg_model.specs.declared.reply.Reply.{Reply};
 ghost use Rattle.tg_model.specs.declared.reply.Reply.TheVariants.{Name};
-ghost use Rattle.tg_passes.specs.Passes.{BeginsWith};
+ghost use Rattle.tg_model.specs.Opened.{start_of};
+ghost use Rattle.tg_passes.specs.declared.signed.Signed.{Signed};
+ghost use Rattle.tg_passes.specs.Passes.{BeginsWith, own_entries};
 ghost use Rattle.tg_model.specs.Graph.{IsReachable, IsSubject, ProtectionGraph};
 ghost use Rattle.tg_graph.specs.Heap.{content_of};
 ghost use Rattle.tg_space.specs.declared.kind.Kind.{Kind};
@@ -16,9 +18,10 @@ ghost use Rattle.tg_journal.specs.History.{IsLegal, IsLegalEntry, graph_after};
 ghost use Rattle.tg_shared.specs.declared.receipt.Receipt.{Receipt};
 ghost use Rattle.tg_journal.specs.Journal.{Entries};
 ghost use Rattle.tg_shared.specs.Receipts.{AreParts, MatchParts, ReceiptsMatch, all_receipts};
-ghost use Rattle.tg_shared.specs.Sessions.{AreSharedOut, AtKnown, AtSome, GoesOn, IsAnswered, IsKnown, KeptInParts, LeavesAtSome, MayClose, SessionState, SharedStart, count_of, held_from, knowledge, parts_of, retired_behind, subjects_at};
+ghost use Rattle.tg_shared.specs.Sessions.{AreSharedOut, AtSeen, GoesOn, HasEnded, HasGrownBy, IsAnswered, IsOnItsOwn, KeeperState, KeptInParts, LeavesAtSeen, MayClose, SessionState, SharedStart, count_of, graph_seen, held_from, parts_of, retired_behind, since, subjects_at};
 ghost use Rattle.tg_space.specs.declared.kind.Kind.TheVariants.{Full};
-ghost use Rattle.tg_store.specs.Leaving.{HasLeft};
+ghost use Rattle.tg_store.specs.Held.{IsHeldOver};
+ghost use Rattle.tg_store.specs.Leaving.{HasLeft, left_by};
 ghost use Rattle.tg_store.specs.Store.{IsCountOf, IsFaithful, StoreState, graph_of_store};
 
 /// The entry of each receipt that matches a legal history was answered by the rules, on the graph after all entries
@@ -84,34 +87,63 @@ pub fn who_left_stays_away()
         later.opening ≡ new.opening → later.entries ≡ new.entries ++ entries → ¬ IsSubject (graph_of_store later) worker }
 {}
 
-/// What a session knows bounds what its calls are refused for, in a round whose keeper may end nobody. Its worker was a
-/// subject when the store was shared, or was made by a spawn whose entry the session has seen. While no retire is among
-/// the entries that the session made, the worker is a subject of each store that the session's clauses speak of. So
-/// none of its calls is answered that there is no such worker.
+/// What a session knows bounds what its calls are refused for. Its worker was a subject when the store was shared, or
+/// was made by a spawn whose entry the session has seen. While no retire is among the entries that the session made,
+/// and the keeper made none of its worker, the worker is a subject of each store with exactly the entries that the
+/// session has seen. So none of its calls is answered that there is no such worker. A round whose keeper may end nobody
+/// needs no premise on the keeper.
 pub fn a_session_without_a_retire_is_a_subject()
-    ensures from_the_start { (start : SharedStart) (session : SessionState) → start.may_end ≡ false → Contains (subjects_at start) session.worker → retired_behind false session.made ≡ false →
-        ¬ AtKnown start session (λ s. ¬ IsSubject (graph_of_store s) session.worker) }
-    ensures spawned { (start : SharedStart) (before after session : SessionState) (label : RightSet) (law : Law) (state : List ℕ) → start.may_end ≡ false →
-        IsAnswered start before after (Spawn label law state) (Name session.worker) → BeginsWith session.seen after.seen → retired_behind false session.made ≡ false →
-        ¬ AtKnown start session (λ s. ¬ IsSubject (graph_of_store s) session.worker) }
+    ensures from_the_start { (start : SharedStart) (session : SessionState) → Contains (subjects_at start) session.worker → IsOnItsOwn start session → retired_behind false session.made ≡ false →
+        ¬ AtSeen start session.seen (λ s. ¬ IsSubject (graph_of_store s) session.worker) }
+    ensures spawned { (start : SharedStart) (before after session : SessionState) (label : RightSet) (law : Law) (state : List ℕ) →
+        IsAnswered start before after (Spawn label law state) (Name session.worker) → BeginsWith session.seen after.seen → IsOnItsOwn start session → retired_behind false session.made ≡ false →
+        ¬ AtSeen start session.seen (λ s. ¬ IsSubject (graph_of_store s) session.worker) }
 {}
 
-/// Where a retire is among the entries that a session made, its worker is a subject of no store of which the session
-/// knows what it does, in a round whose keeper may end nobody.
+/// Where a retire is among the entries that a session made, its worker is a subject of no store with exactly the
+/// entries that the session has seen.
 pub fn a_session_with_a_retire_has_no_subject()
-    ensures { (start : SharedStart) (session : SessionState) (s : StoreState) → start.may_end ≡ false → GoesOn start s → IsFaithful s → IsKnown start (knowledge session) s →
+    ensures { (start : SharedStart) (session : SessionState) (s : StoreState) → GoesOn start s → IsFaithful s → HasGrownBy start s session.seen → IsOnItsOwn start session →
         retired_behind false session.made ≡ true → ¬ IsSubject (graph_of_store s) session.worker }
 {}
 
-/// A session whose call made an entry has then seen all that it had seen before. This holds in a round whose keeper may
-/// end nobody.
+/// A session whose call made an entry has then seen all that it had seen before.
 pub fn what_a_session_has_seen_grows()
-    ensures { (start : SharedStart) (old new : SessionState) (deed : Deed) (reply : Reply) → start.may_end ≡ false → IsAnswered start old new deed reply → BeginsWith new.seen old.seen }
+    ensures { (start : SharedStart) (old new : SessionState) (deed : Deed) (reply : Reply) → IsAnswered start old new deed reply → BeginsWith new.seen old.seen }
 {}
 
-/// What a collection of a session answers is how many vertices a store has that may have been behind the lock, and
-/// after a full one how many can be reached there.
+/// What a session knows of a store with exactly the entries that it has seen, if the keeper made none of its worker:
+/// the entries of its worker since the start are exactly those that its own calls made.
+pub fn a_session_knows_its_own_entries()
+    ensures { (start : SharedStart) (session : SessionState) (s : StoreState) → HasGrownBy start s session.seen → IsOnItsOwn start session → own_entries session.worker (since start s) ≡ session.made }
+{}
+
+/// An answer without an entry is an answer on the closed journal. Of a store with exactly the entries that a session,
+/// or the keeper, has seen there is one graph. When the round is closed, and the entries since the start begin with
+/// these, that graph is the one after so many entries of the journal.
+pub fn an_answer_is_of_the_closed_journal()
+    ensures { (start : SharedStart) (s closed : StoreState) (signed seen : List Signed) → GoesOn start s → HasGrownBy start s seen → GoesOn start closed → HasGrownBy start closed signed → BeginsWith signed seen →
+        (graph_of_store s ≡ graph_seen start seen) × (graph_of_store s ≡ graph_after (start_of closed.opening) (take (length start.entries + length seen) closed.entries)) }
+{}
+
+/// The label that a session was answered is the one that the closed journal's graph has, after as many entries since
+/// the store was shared as the session had seen then.
+pub fn a_label_is_of_the_closed_journal()
+    ensures { (start : SharedStart) (closed : StoreState) (signed seen : List Signed) (worker target : ℕ) (label : Option RightSet) → AtSeen start seen (λ s. IsHeldOver (graph_of_store s) worker target label) →
+        GoesOn start closed → HasGrownBy start closed signed → BeginsWith signed seen →
+        IsHeldOver (graph_after (start_of closed.opening) (take (length start.entries + length seen) closed.entries)) worker target label }
+{}
+
+/// Who is ended by the keeper stops being a subject, and nobody else does: the graph after the entries that the keeper
+/// has then seen is the one before, without the named worker and what it held.
+pub fn an_end_is_of_the_named_worker()
+    ensures { (start : SharedStart) (old new : KeeperState) (worker count : ℕ) → HasEnded start worker old new count →
+        (before : List Signed) × BeginsWith new.seen before × IsSubject (graph_seen start before) worker × (graph_seen start new.seen ≡ left_by (graph_seen start before) worker) }
+{}
+
+/// What a collection of a session answers is how many vertices a store has that may have been behind the lock when
+/// exactly these entries had been made, and after a full one how many can be reached in the graph after them.
 pub fn what_is_left_is_counted()
-    ensures { (start : SharedStart) (kind : Kind) (number : ℕ) → LeavesAtSome start kind number → AtSome start (λ s.
+    ensures { (start : SharedStart) (seen : List Signed) (kind : Kind) (number : ℕ) → LeavesAtSeen start seen kind number → AtSeen start seen (λ s.
         (number ≡ length (content_of s.heap).names) × (kind ≡ Full → IsCountOf (IsReachable (graph_of_store s)) number)) }
 {}

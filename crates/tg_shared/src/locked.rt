@@ -1,5 +1,5 @@
 //! The value behind the lock, and what each call does to it.
-ghost use Rattle.std.specs.Prelude.{◌≡◌, ◌≢◌, ◌⊎◌, ◌<◌, ◌≤◌, ◌+◌, ◌^◌, ℕ, [], Err, false, true, IfOk, IfErr, IsErrAnd, OnOk, OnErr, length};
+ghost use Rattle.std.specs.Prelude.{◌≡◌, ◌≢◌, ◌⊎◌, ◌<◌, ◌≤◌, ◌+◌, ◌^◌, ℕ, [], Err, false, true, IfOk, IfErr, IsErrAnd, OnOk, OnErr, drop, length};
 ghost use Rattle.std.specs.List.{All};
 ghost use Rattle.tg_subjects.specs.Subjects.{AreSubjects, names_of};
 ghost use Rattle.tg_shared.specs.Sessions.{AreFresh};
@@ -7,7 +7,7 @@ ghost use Rattle.tg_shared.specs.Sessions.{AreFresh};
 use crate::keeper::Keeper;
 use crate::making::make;
 use crate::mirror::Mirrored;
-use crate::round::{Blanks, Entered, HandedOut, Register, Rolled, Round};
+use crate::round::{Blanks, HandedOut, Register, Rolled, Round};
 use crate::session::Session;
 use std::alloc::{AllocError, Global};
 use std::marker::Model;
@@ -20,20 +20,20 @@ use tg_rights::Label;
 use tg_store::{ApplyFault, CreateFault, CreateRefused, Kind, RoomFault, Store};
 use tg_subjects::Subject;
 
-/// What is behind the lock: the store, the book that counts its entries since it was shared, the roll that has them,
-/// and the parts of the ledger that no session has. Each call is one call of the store, with its contract; one of a
-/// session makes a receipt of each entry.
+/// What is behind the lock: the store, the book that counts its entries since it was shared, the roll that has them
+/// with who made each, and the parts of the ledger that no session has. Each call is one call of the store, with its
+/// contract; one of a session makes a receipt of each entry.
 ///
-/// Contracts see a `LockedState`: the store, how many sessions were made, and how many entries the keeper made for
-/// workers that he ended.
+/// Contracts see a `LockedState`: the store, how many sessions were made, how many entries the keeper made for workers
+/// that it ended, and all entries since the start with who made each.
 #[derive(Drop)]
 pub struct Locked<L: Round, P: Payload> {
     pub(crate) store: Store<P>,
     pub(crate) start: u64,
     pub(crate) sessions: u64,
-    // Of these entries no session has a receipt: the rest of the ledger has them as its amount. The keeper knows their
-    // number.
-    pub(crate) entered: Mirrored<Entered<L>>,
+    // How many entries are the keeper's. Of these no session has a receipt: the rest of the ledger has them as its
+    // amount.
+    pub(crate) entered: u64,
     // How many entries the store has handed out, which the keeper knows.
     pub(crate) handed: Mirrored<HandedOut<L>>,
     pub(crate) register: Register<L>,
@@ -41,14 +41,14 @@ pub struct Locked<L: Round, P: Payload> {
 }
 
 impl<L: Round, P: Payload> Model for Locked<L, P> {
-    ghost use Rattle.std.specs.Prelude.{◌≡◌, false, length};
+    ghost use Rattle.std.specs.Prelude.{◌≡◌, length};
     ghost use Rattle.tg_shared.specs.Sessions.{GoesOn, IsBalanced, IsRolled, LockedState, sessions_made};
 
     ghost Value = { LockedState };
 
-    ghost view = { λ a. record { store = a.store; sessions = a.sessions; entered = a.entered } };
+    ghost view = { λ a. record { store = a.store; sessions = a.sessions; entered = a.entered; signed = a.register.roll.signed } };
 
-    ghost invariant = { λ a. (IsBalanced a.store (length L.start.entries) a.sessions a.register.book.total a.rest.parts L.parts × (a.start ≡ length L.start.entries) × (((a.rest.amount ≡ a.entered) × (L.start.may_end ≡ false → a.entered ≡ 0)) × (a.handed ≡ a.store.handed)) × GoesOn L.start a.store × (a.sessions ≡ sessions_made L.start a.store.entries)) × IsRolled L.start a.store a.register.roll };
+    ghost invariant = { λ a. (IsBalanced a.store (length L.start.entries) a.sessions a.register.book.total a.rest.parts L.parts × (a.start ≡ length L.start.entries) × ((a.rest.amount ≡ a.entered) × (a.handed ≡ a.store.handed)) × GoesOn L.start a.store × (a.sessions ≡ sessions_made L.start a.store.entries)) × IsRolled L.start a.store a.register.roll a.entered };
 }
 
 impl<L: Round, P: Payload> Locked<L, P> {
@@ -59,17 +59,22 @@ impl<L: Round, P: Payload> Locked<L, P> {
     ghost use Rattle.tg_store.specs.Made.{MayRefuse};
     ghost use Rattle.tg_store.specs.Room.{LacksRoomToCollect};
     ghost use Rattle.tg_store.specs.Store.{IsFaithful, StandsFor};
-    ghost use Rattle.tg_shared.specs.Serving.{Collects, EndsWorker, IsMadeAndNoted, KeepsNumbers, KeepsRound, NotesLeaving, NotesRefusal, ServesCommand};
-    ghost use Rattle.tg_shared.specs.Sessions.{AreFresh, GoesOn, HasSeen, IsFresh, IsKnown, MayNote, MayShare, knowledge, sessions_made, since, subjects_at};
+    ghost use Rattle.tg_passes.specs.declared.signed.Maker.TheVariants as maker;
+    ghost use Rattle.tg_passes.specs.Passes.{Sees, entries_by};
+    ghost use Rattle.tg_shared.specs.Serving.{Collects, EndsWorker, HasNoted, HasNotedEnd, IsMadeAndNoted, KeepsNumbers, KeepsRound, NotesLeaving, NotesRefusal, ServesCommand};
+    ghost use Rattle.tg_shared.specs.Sessions.{AreFresh, GoesOn, HasGrownBy, IsFresh, MayNote, MayShare, keeper_knowledge, knowledge, sessions_made, subjects_at};
 
     /// The store. What holds whenever the lock is free is told here: the store's own promise, that its journal is a
     /// legal history of its opening and its heap stands for the graph after it; and it is the store that was shared,
-    /// gone on: with its opening and its limits, and with all entries from before. One session was made for each
-    /// subject that it had then, and one for each that was made since. No worker was ended where its start lets nobody.
+    /// gone on: with its opening and its limits, with all entries from before, and with exactly those since that the
+    /// roll has (`grown_by`). One session was made for each subject that it had then, and one for each that was made
+    /// since. No worker was ended if its start lets nobody.
     pub fn store(&self) -> &Store<P>
         ensures same { result.now ≡ self.now.store }
         ensures faithful { IsFaithful self.now.store }
         ensures gone_on { GoesOn L.start self.now.store }
+        ensures grown_by { HasGrownBy L.start self.now.store self.now.signed }
+        ensures entered { self.now.entered ≡ length (entries_by maker.Keeper self.now.signed) }
         ensures grown { length L.start.entries ≤ length self.now.store.entries }
         ensures sessions { self.now.sessions ≡ sessions_made L.start self.now.store.entries }
         ensures started { length (subjects_at L.start) ≤ self.now.sessions }
@@ -88,33 +93,37 @@ impl<L: Round, P: Payload> Locked<L, P> {
         self.sessions
     }
 
-    /// How many entries the keeper made for workers that he ended: no session has a receipt of these.
+    /// How many entries the keeper made for workers that it ended: no session has a receipt of these.
     pub fn entered(&self) -> u64
         ensures { result ≡ self.now.entered }
     {
-        self.entered.number()
+        self.entered
     }
 
-    /// Changes nothing, and tells that the keeper's numbers are those behind the lock: how many entries it made, and
-    /// from which place on the store holds its entries.
+    /// The keeper looks at all entries since the start, and has then seen them. It is otherwise as it was, and so is
+    /// what is behind the lock. The entries that the keeper made are exactly the keeper's among all, which begin with
+    /// those that it had seen (`sees`). The store holds its entries from the place on at which the keeper's last part
+    /// ended.
     pub fn tell(&mut self, keeper: &mut Keeper<L>)
-        ensures entered { keeper.old.entered ≡ self.old.entered }
+        ensures sees { Sees self.old.signed (keeper_knowledge keeper.old) }
         ensures next { keeper.old.next ≡ self.old.store.handed }
         ensures same { self.new ≡ self.old }
-        ensures same_keeper { keeper.new ≡ keeper.old }
+        ensures keeper { keeper.new ≡ record keeper.old { seen = self.old.signed } }
     {
-        self.entered.tell(&mut keeper.entered);
+        self.register.roll.look(&mut keeper.pass);
         self.handed.tell(&mut keeper.next);
     }
 
-    /// Changes nothing, and shows what a session knows of the store. If the keeper may end nobody, the entries of the
-    /// session's worker since the start are exactly those that the session's own calls made. The entries since the
-    /// start begin with those that the session has seen.
+    /// The session looks at all entries since the start, and has then seen them. It is otherwise as it was, and so is
+    /// what is behind the lock. The entries that its own calls made are exactly its own among all, which begin with
+    /// those that it had seen (`sees`).
     pub fn look(&mut self, session: &mut Session<L>)
-        ensures known { IsKnown L.start (knowledge session.new) self.new.store }
+        ensures sees { Sees self.old.signed (knowledge session.old) }
         ensures same { self.new ≡ self.old }
-        ensures same_session { session.new ≡ session.old }
+        ensures session { session.new ≡ record session.old { seen = self.old.signed } }
     {
+        // It shows that the store is faithful, so who was gone stays so.
+        let _ = self.store.journal();
         session.look(&mut self.register.roll);
     }
 
@@ -131,20 +140,19 @@ impl<L: Round, P: Payload> Locked<L, P> {
         ensures sessions { (g : ProtectionGraph) → StandsFor store g → IfOk result (λ opened. AreFresh g.subjects opened.1.items) }
         ensures number { IfOk result (λ opened. opened.0.sessions ≡ length opened.1.items) }
         ensures none_ended { IfOk result (λ opened. opened.0.entered ≡ 0) }
-        ensures keeper { IfOk result (λ opened. (opened.2.next ≡ store.handed) × (opened.2.entered ≡ 0)) }
+        ensures none_signed { IfOk result (λ opened. opened.0.signed ≡ []) }
+        ensures keeper { IfOk result (λ opened. opened.2 ≡ record { next = store.handed; made = []; seen = [] }) }
         ensures handed_back { IfErr result (λ refused. refused ≡ store) }
     {
         let Blanks {
             sessions: blank,
             handed,
-            entered,
             roll,
         } = blanks;
         let (book, mut rest) = blank.open::<L>();
-        let mut roll = roll.open();
+        let (mut roll, pass) = roll.open();
         let start = store.journal().len();
         let (handed, next) = Mirrored::new(handed, store.journal().start());
-        let (entered, ended) = Mirrored::new(entered, 0);
         let Ok(sessions) = sessions_of(alloc, &mut rest, &mut roll, store.subjects()) else {
             return Err(store);
         };
@@ -152,12 +160,12 @@ impl<L: Round, P: Payload> Locked<L, P> {
             store,
             start,
             sessions: sessions.len() as u64,
-            entered,
+            entered: 0,
             handed,
             register: Register { book, roll },
             rest,
         };
-        Ok((locked, sessions, Keeper::new(next, ended)))
+        Ok((locked, sessions, Keeper::new(next, pass)))
     }
 
     /// Takes a command of the session's subject, by one call of the store. A call that makes an entry adds a receipt
@@ -167,13 +175,13 @@ impl<L: Round, P: Payload> Locked<L, P> {
         requires room { 0 < session.old.spare }
         ensures served { ServesCommand command self.old.store self.new.store session.old session.new result }
         ensures kept { KeepsRound self.old self.new }
-        ensures seen { HasSeen L.start self.new.store session.old session.new }
+        ensures signed { HasNoted self.old self.new session.old session.new }
     {
         let at = self.store.journal().len();
         let worker = session.worker();
         let deed = deed_of(&command);
         let reply = self.store.apply(worker, command)?;
-        // It tells that the store is faithful, so a session that has retired knows it.
+        // It shows that the store is faithful, so a session that has retired knows it.
         let _ = self.store.journal();
         let entry = Entry {
             worker,
@@ -199,7 +207,7 @@ impl<L: Round, P: Payload> Locked<L, P> {
         ensures noted { NotesRefusal (Deed.Create label draft.law draft.state) self.old.store self.new.store session.old session.new result }
         ensures no_workers_full { IfErr result (λ refused. refused.why ≢ CreateFault.WorkersFull) }
         ensures numbers { KeepsNumbers self.old self.new }
-        ensures seen { HasSeen L.start self.new.store session.old session.new }
+        ensures signed { HasNoted self.old self.new session.old session.new }
     {
         // It tells that the store is faithful, so a session that has retired has no subject in it.
         let _ = self.store.journal();
@@ -235,8 +243,8 @@ impl<L: Round, P: Payload> Locked<L, P> {
         ensures one_more { OnOk result (self.new.sessions ≡ self.old.sessions + 1) }
         ensures no_more_sessions { OnErr result (self.new.sessions ≡ self.old.sessions) }
         ensures entered { self.new.entered ≡ self.old.entered }
-        ensures seen { HasSeen L.start self.new.store session.old session.new }
-        ensures fresh_seen { L.start.may_end ≡ false → IfOk result (λ fresh. fresh.seen ≡ since L.start self.new.store) }
+        ensures signed { HasNoted self.old self.new session.old session.new }
+        ensures fresh_seen { IfOk result (λ fresh. fresh.seen ≡ self.new.signed) }
     {
         // It tells that the store is faithful, so there is a part left.
         let _ = self.store.journal();
@@ -265,7 +273,7 @@ impl<L: Round, P: Payload> Locked<L, P> {
         ensures ended { EndsWorker session.old.worker self.old.store self.new.store result }
         ensures noted { NotesLeaving self.old.store session.old session.new result }
         ensures numbers { KeepsNumbers self.old self.new }
-        ensures seen { HasSeen L.start self.new.store session.old session.new }
+        ensures signed { HasNoted self.old self.new session.old session.new }
     {
         let at = self.store.journal().len();
         let worker = session.worker();
@@ -279,9 +287,9 @@ impl<L: Round, P: Payload> Locked<L, P> {
     }
 
     /// Ends a worker, whose session may be anywhere, by one call of the store: it gives up each edge that it has, by
-    /// rising name, and retires. Answers how many edges these were. Each of these entries is counted here and by the
-    /// keeper, and no session has a receipt of it; the worker's own is answered that there is no such worker from then
-    /// on.
+    /// rising name, and retires. Answers how many edges these were. Each of these entries is noted as the keeper's, and
+    /// no session has a receipt of it; the worker's own is answered that there is no such worker from then on. Whether
+    /// it is refused or not, the keeper has then seen all entries.
     ///
     /// Room for all entries is made first: 80 bytes for each edge, and 16 for its listing. `NoSuchWorker` is answered
     /// exactly where no worker has the name; else `OutOfMemory` alone. What is behind the lock is then as it was, and
@@ -289,20 +297,24 @@ impl<L: Round, P: Payload> Locked<L, P> {
     pub fn end(&mut self, keeper: &mut Keeper<L>, worker: u64) -> Result<u64, ApplyFault>
         requires may_end { L.start.may_end ≡ true }
         ensures ended { EndsWorker worker self.old.store self.new.store result }
+        ensures sees { Sees self.old.signed (keeper_knowledge keeper.old) }
+        ensures signed { HasNotedEnd self.old self.new keeper.old keeper.new }
         ensures entered { IfOk result (λ count. self.new.entered ≡ self.old.entered + (count + 1)) }
         ensures none_entered { OnErr result (self.new.entered ≡ self.old.entered) }
-        ensures counted { IfOk result (λ count. keeper.new ≡ record keeper.old { entered = keeper.old.entered + (count + 1) }) }
-        ensures none_counted { OnErr result (keeper.new ≡ keeper.old) }
         ensures sessions { self.new.sessions ≡ self.old.sessions }
     {
+        self.register.roll.look(&mut keeper.pass);
+        let at = self.store.journal().len();
         let count = self.store.leave(worker)?;
-        // It tells that the store is faithful, and that the journal's places are numbers.
-        let _ = self.store.journal().len();
-        let entries = count + 1;
+        let entries = self.store.journal().len() - at;
         self.register.book.add(&mut self.rest, entries);
-        // It tells that so many entries were made, so their number is one.
+        // It shows that so many entries were made, so their number is one.
         self.register.book.audit(&mut self.rest);
-        self.entered.raise(&mut keeper.entered, entries);
+        keeper.note_all(
+            &mut self.register.roll,
+            entries_from(self.store.journal(), at),
+        );
+        self.entered += entries;
         Ok(count)
     }
 
@@ -356,6 +368,14 @@ fn deed_of(command: &Command) -> Deed
     Deed::Plain(*command)
 }
 
+// The entries of a journal from a place on.
+fn entries_from(journal: &Journal, at: u64) -> &[Entry]
+    requires { (journal.now.start ≤ at) × (at ≤ length journal.now.entries) }
+    ensures { result.now ≡ drop at journal.now.entries }
+{
+    &journal.entries()[(at - journal.start()) as usize..]
+}
+
 // A session for each subject, each with one part of the share and with a pass.
 fn sessions_of<L: Round>(
     alloc: Global,
@@ -365,10 +385,10 @@ fn sessions_of<L: Round>(
 ) -> Result<Vec<Session<L>>, AllocError>
     requires parts { (length subjects.now < rest.old.parts) × (rest.old.amount ≡ 0) × (L.parts < 2 ^ 64) }
     requires rising { AreSubjects subjects.now }
-    requires none_yet { (roll.old.entries ≡ []) × (roll.old.below ≡ 0) }
+    requires none_yet { (roll.old.signed ≡ []) × (roll.old.below ≡ 0) }
     ensures fresh { IfOk result (λ sessions. AreFresh (names_of subjects.now) sessions.items) }
     ensures rest { OnOk result ((rest.new.parts + length subjects.now ≡ rest.old.parts) × (rest.new.amount ≡ 0)) }
-    ensures roll { OnOk result ((roll.new.entries ≡ []) × ((made : ℕ) → All (λ subject. subject.name < made) subjects.now → roll.new.below ≤ made)) }
+    ensures roll { OnOk result ((roll.new.signed ≡ []) × ((made : ℕ) → All (λ subject. subject.name < made) subjects.now → roll.new.below ≤ made)) }
 {
     let mut sessions = Vec::new(alloc);
     for subject in subjects {

@@ -14,15 +14,15 @@ pub trait Round: Ledger {
     /// and its keeper may end workers.
     ghost start: { SharedStart };
 
-    /// The names of the two ledgers by which its keeper and what is behind the lock know the same numbers. The table by
-    /// which its sessions and what is behind the lock know of the same entries.
+    /// The name of the ledger by which its keeper and what is behind the lock know the same number. The table by which
+    /// its sessions, its keeper and what is behind the lock know of the same entries.
     ghost keeper: { KeeperNames };
 }
 
 impl Round for Brand {
     ghost use Rattle.tg_passes.specs.Passes.{no_table};
 
-    ghost keeper = { record { handed = 0; entered = 0; roll = no_table } };
+    ghost keeper = { record { handed = 0; roll = no_table } };
 
     ghost start = { record { opening = record { workers = 0; edges = []; values = []; limit = 0 }; entries = []; handed = 0; limits = record { max_blocks = 0; space_blocks = 0 }; in_parts = false; may_end = false } };
 }
@@ -38,18 +38,7 @@ impl<L: Round> Ledger for HandedOut<L> {
     ghost parts = { 2 };
 }
 
-/// The ledger of how many entries the keeper made for workers that it ended.
-pub(crate) struct Entered<L: Round> {
-    of: PhantomData<L>,
-}
-
-impl<L: Round> Ledger for Entered<L> {
-    ghost name = { L.keeper.entered };
-
-    ghost parts = { 2 };
-}
-
-/// The board of the roll behind the lock, and of the sessions' passes.
+/// The board of the roll behind the lock, and of the passes of the sessions and of the keeper.
 pub(crate) struct Rolled<L: Round> {
     of: PhantomData<L>,
 }
@@ -65,13 +54,12 @@ pub(crate) struct Register<L: Round> {
     pub(crate) roll: Roll<Rolled<L>>,
 }
 
-/// What a round is opened with: the blank of its sessions' ledger, those of its keeper's two, and a blank roll. The
-/// roll takes a word of memory, and the others take no bytes.
+/// What a round is opened with: the blank of its sessions' ledger, that of its keeper's, and a blank roll. The roll
+/// takes a word of memory, and the others take no bytes.
 #[derive(Drop)]
 pub struct Blanks {
     pub sessions: Blank,
     pub handed: Blank,
-    pub entered: Blank,
     pub roll: BlankRoll,
 }
 
@@ -80,12 +68,11 @@ impl Blanks {
     /// asks for one part more than vertices may be made. Fails only when out of memory.
     pub fn new(alloc: Global, parts: u64) -> Result<Blanks, AllocError>
         ensures sessions { IfOk result (λ blanks. blanks.sessions.parts ≡ parts) }
-        ensures keeper { IfOk result (λ blanks. (blanks.handed.parts ≡ 2) × (blanks.entered.parts ≡ 2)) }
+        ensures keeper { IfOk result (λ blanks. blanks.handed.parts ≡ 2) }
     {
         Ok(Blanks {
             sessions: Blank::new(parts),
             handed: Blank::new(2),
-            entered: Blank::new(2),
             roll: BlankRoll::new(alloc)?,
         })
     }

@@ -1,10 +1,13 @@
 //! The store behind its lock, from sharing it to closing it.
-ghost use Rattle.std.specs.Prelude.{◌≡◌, ◌<◌, ◌≤◌, ◌+◌, false, IfOk, IfErr, IsErrAnd, drop, length};
+ghost use Rattle.std.specs.Prelude.{◌≡◌, ◌<◌, ◌≤◌, ◌+◌, List, [], false, IfOk, IfErr, IsErrAnd, OnOk, drop, length};
 ghost use Rattle.std.specs.List.{All};
 ghost use Rattle.std.specs.List.Sorted.{IsPermutation};
 ghost use Rattle.tg_store.specs.Store.{IsFaithful};
-ghost use Rattle.tg_shared.specs.Closing.{IsGivenBack};
-ghost use Rattle.tg_shared.specs.Sessions.{AreFresh, AreSharedOut, AtSome, GoesOn, HasAll, MayClose, count_of, handed_of, held_from, parts_of, sessions_made, since, subjects_at};
+ghost use Rattle.tg_passes.specs.declared.signed.Maker.TheVariants as maker;
+ghost use Rattle.tg_passes.specs.declared.signed.Signed.{Signed};
+ghost use Rattle.tg_passes.specs.Passes.{Sees, entries_by};
+ghost use Rattle.tg_shared.specs.Closing.{IsGivenBack, IsSignedBy};
+ghost use Rattle.tg_shared.specs.Sessions.{AreFresh, AreSharedOut, AtSome, GoesOn, HasAll, HasAllUnlessEnded, HasGrownBy, MayClose, count_of, handed_of, held_from, keeper_knowledge, parts_of, sessions_made, since, subjects_at};
 
 use crate::closing::{CloseFault, LockedRefused};
 use crate::keeper::Keeper;
@@ -64,7 +67,7 @@ impl<L: Round, P: Payload> SharedStore<L, P> {
     ) -> Result<Shared<L, P>, SharedRefused<P>>
         requires shareable { MayShare L.name L.parts L.keeper L.start blanks store }
         ensures sessions { (g : ProtectionGraph) → StandsFor store g → IfOk result (λ shared. AreFresh g.subjects shared.sessions.items) }
-        ensures keeper { IfOk result (λ shared. (shared.keeper.next ≡ store.handed) × (shared.keeper.entered ≡ 0)) }
+        ensures keeper { IfOk result (λ shared. shared.keeper ≡ record { next = store.handed; made = []; seen = [] }) }
         ensures handed_back { IfErr result (λ refused. refused.store ≡ store) }
     {
         match Locked::open(alloc, blanks, store) {
@@ -84,8 +87,10 @@ impl<L: Round, P: Payload> SharedStore<L, P> {
     pub fn into_locked(self) -> Locked<L, P>
         ensures faithful { IsFaithful result.store }
         ensures gone_on { GoesOn L.start result.store }
+        ensures grown_by { HasGrownBy L.start result.store result.signed }
         ensures sessions { result.sessions ≡ sessions_made L.start result.store.entries }
         ensures started { length (subjects_at L.start) ≤ result.sessions }
+        ensures entered { result.entered ≡ length (entries_by maker.Keeper result.signed) }
         ensures none_ended { L.start.may_end ≡ false → result.entered ≡ 0 }
     {
         let SharedStore { locked } = self;
@@ -96,16 +101,19 @@ impl<L: Round, P: Payload> SharedStore<L, P> {
     }
 
     /// What was behind the lock, as [`into_locked`](SharedStore::into_locked) hands it out, for who still has the
-    /// keeper: the entries that were made for workers that were ended are exactly those that the keeper made, and the
-    /// store holds its entries from that place on at which the keeper's last part ended. The keeper stays as it was.
+    /// keeper: the entries that were made for workers that were ended are exactly those that the keeper made (`sees`),
+    /// and the store holds its entries from that place on at which the keeper's last part ended. The keeper has then
+    /// seen all entries, and is otherwise as it was.
     pub fn into_locked_with(self, keeper: &mut Keeper<L>) -> Locked<L, P>
         ensures faithful { IsFaithful result.store }
         ensures gone_on { GoesOn L.start result.store }
+        ensures grown_by { HasGrownBy L.start result.store result.signed }
         ensures sessions { result.sessions ≡ sessions_made L.start result.store.entries }
         ensures started { length (subjects_at L.start) ≤ result.sessions }
-        ensures entered { result.entered ≡ keeper.old.entered }
+        ensures entered { result.entered ≡ length keeper.old.made }
+        ensures sees { Sees result.signed (keeper_knowledge keeper.old) }
         ensures held_from { result.store.handed ≡ keeper.old.next }
-        ensures same { keeper.new ≡ keeper.old }
+        ensures keeper { keeper.new ≡ record keeper.old { seen = result.signed } }
     {
         let mut locked = self.into_locked();
         locked.tell(keeper);
@@ -135,6 +143,10 @@ impl<L: Round, P: Payload> SharedStore<L, P> {
 ///
 /// If the keeper may end nobody, `single` speaks of each single session. A session that handed out no receipt and took
 /// over nobody has receipts of all entries of its worker since the store was shared, whatever the other sessions did.
+///
+/// In every round `signed` says who made each entry since the store was shared. Each session made exactly its own of
+/// these, and they begin with those that the session has seen. So the graph of which a session was answered is that of
+/// the journal up to there: [`an_answer_is_of_the_closed_journal`](crate::laws::an_answer_is_of_the_closed_journal).
 pub fn close<L: Round, P: Payload>(
     store: SharedStore<L, P>,
     sessions: Vec<Session<L>>,
@@ -146,6 +158,7 @@ pub fn close<L: Round, P: Payload>(
     ensures none_handed { L.start.may_end ≡ false → IfOk result (λ store. handed_of sessions.items ≡ 0 → held_from L.start store ≡ length L.start.entries) }
     ensures whole { L.start.in_parts ≡ false → L.start.may_end ≡ false → IfOk result (λ store. AreSharedOut (drop (length L.start.entries) store.entries) sessions.items) }
     ensures single { L.start.may_end ≡ false → IfOk result (λ store. All (HasAll (since L.start store)) sessions.items) }
+    ensures signed { IfOk result (λ store. (signed : List Signed) × IsSignedBy L.start store sessions.items signed) }
     ensures all { IfOk result (λ store. parts_of sessions.items ≡ sessions_made L.start store.entries) }
     ensures missing { IfErr result (λ refused. refused.why ≡ CloseFault.SessionsMissing → AtSome L.start (λ s. parts_of sessions.items < sessions_made L.start s.entries)) }
     ensures too_few { parts_of sessions.items < length (subjects_at L.start) → IsErrAnd result (λ refused. refused.why ≡ CloseFault.SessionsMissing) }
@@ -164,30 +177,36 @@ pub fn close<L: Round, P: Payload>(
     }
 }
 
-/// Ends a round as [`close`] does, for who still has the keeper: then how many entries each made is told exactly,
-/// though workers were ended. It is [`SharedStore::into_locked_with`] and [`Locked::close`] in a row.
+/// Ends a round as [`close`] does, for who still has the keeper: then which entries each made is said exactly, though
+/// workers were ended. It is [`SharedStore::into_locked_with`] and [`Locked::close`] in a row.
 ///
 /// The journal has grown by as many entries as the keeper made for workers that it ended, and as there are receipts. Of
-/// a store that was shared whole, where the keeper ended nobody, each entry made since stands in exactly one receipt,
-/// and the receipts of each session are all its entries (`whole`). The store holds its entries from that place on at
-/// which the keeper's last part ended. The keeper stays as it was, and what is refused is refused as by [`close`].
+/// the entries since the store was shared the keeper made exactly those that it has, each session exactly its own, and
+/// all begin with those that each has seen (`signed`). A session whose worker isn't among those that the keeper ended
+/// has receipts of all entries of its worker, if it handed out none and took over nobody (`single`). Of a store that
+/// was shared whole, if the keeper ended nobody, each entry made since stands in exactly one receipt, and the receipts
+/// of each session are all its entries (`whole`). The store holds its entries from that place on at which the keeper's
+/// last part ended. The keeper has then seen all entries, and is otherwise as it was. What is refused is refused as by
+/// [`close`].
 pub fn close_with<L: Round, P: Payload>(
     store: SharedStore<L, P>,
     sessions: Vec<Session<L>>,
     keeper: &mut Keeper<L>,
 ) -> Result<Store<P>, CloseRefused<L, P>>
     ensures back { IfOk result (IsGivenBack L.start sessions.items) }
-    ensures count { IfOk result (λ store. length store.entries ≡ length L.start.entries + keeper.old.entered + handed_of sessions.items + count_of sessions.items) }
-    ensures whole { L.start.in_parts ≡ false → keeper.old.entered ≡ 0 → IfOk result (λ store. AreSharedOut (drop (length L.start.entries) store.entries) sessions.items) }
+    ensures count { IfOk result (λ store. length store.entries ≡ length L.start.entries + length keeper.old.made + handed_of sessions.items + count_of sessions.items) }
+    ensures whole { L.start.in_parts ≡ false → keeper.old.made ≡ [] → IfOk result (λ store. AreSharedOut (drop (length L.start.entries) store.entries) sessions.items) }
     ensures held_from { IfOk result (λ store. store.handed ≡ keeper.old.next) }
-    ensures single { L.start.may_end ≡ false → IfOk result (λ store. All (HasAll (since L.start store)) sessions.items) }
+    ensures none_ended { L.start.may_end ≡ false → keeper.old.made ≡ [] }
+    ensures single { IfOk result (λ store. All (HasAllUnlessEnded keeper.old.made (since L.start store)) sessions.items) }
+    ensures signed { IfOk result (λ store. (signed : List Signed) × IsSignedBy L.start store sessions.items signed × Sees signed (keeper_knowledge keeper.old) × (keeper.new.seen ≡ signed)) }
     ensures all { IfOk result (λ store. parts_of sessions.items ≡ sessions_made L.start store.entries) }
     ensures missing { IfErr result (λ refused. refused.why ≡ CloseFault.SessionsMissing → AtSome L.start (λ s. parts_of sessions.items < sessions_made L.start s.entries)) }
     ensures too_few { parts_of sessions.items < length (subjects_at L.start) → IsErrAnd result (λ refused. refused.why ≡ CloseFault.SessionsMissing) }
     ensures mismatch { IfErr result (λ refused. refused.why ≡ CloseFault.ReceiptMismatch → AtSome L.start (λ s.
-        (length L.start.entries + keeper.old.entered + count_of sessions.items ≤ length s.entries) × (¬ MayClose s.entries (held_from L.start s) sessions.items))) }
+        (length L.start.entries + length keeper.old.made + count_of sessions.items ≤ length s.entries) × (¬ MayClose s.entries (held_from L.start s) sessions.items))) }
     ensures handed_back { IfErr result (λ refused. IsPermutation sessions.items refused.sessions.items) }
-    ensures same { keeper.new ≡ keeper.old }
+    ensures keeper { keeper.new ≡ record keeper.old { seen = keeper.new.seen } }
 {
     let locked = store.into_locked_with(keeper);
     match locked.close(sessions) {
@@ -218,6 +237,7 @@ pub fn reclaim<L: Round, P: Payload>(
     ensures count { L.start.may_end ≡ false → IfOk result (λ store. parts_of sessions.items ≡ sessions_made L.start store.entries →
         length store.entries ≡ length L.start.entries + handed_of sessions.items + count_of sessions.items) }
     ensures single { L.start.may_end ≡ false → IfOk result (λ store. All (HasAll (since L.start store)) sessions.items) }
+    ensures signed { IfOk result (λ store. (signed : List Signed) × IsSignedBy L.start store sessions.items signed) }
     ensures mismatch { IfErr result (λ refused. (refused.why ≡ CloseFault.ReceiptMismatch) × AtSome L.start (λ s.
         (length L.start.entries + count_of sessions.items ≤ length s.entries) × (¬ MayClose s.entries (held_from L.start s) sessions.items))) }
     ensures handed_back { IfErr result (λ refused. IsPermutation sessions.items refused.sessions.items) }

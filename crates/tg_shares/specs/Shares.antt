@@ -8,7 +8,7 @@ use Rattle.tg_store.specs.Store.{StoreState, StandsFor, graph_of_store}
 use Rattle.tg_store.specs.declared.fault.ApplyFault.TheVariants.{HeapFull, NoSuchWorker}
 use Rattle.tg_store.specs.declared.fault.CreateFault.TheVariants as fault
 use Rattle.tg_store.specs.declared.fault.CreateRefused.{CreateRefused}
-use Rattle.tg_shared.specs.Sessions.{AddsReceipts, AtKnown, IsAnswered, RecordsNothing, SessionState, SharedStart}
+use Rattle.tg_shared.specs.Sessions.{AddsReceipts, AtSeen, IsAnswered, RecordsNothing, SessionState, SharedStart}
 use Rattle.tg_shares.specs.declared.fault.LeaveFault.{LeaveFault}
 use Rattle.tg_shares.specs.declared.fault.LeaveFault.TheVariants.{Share, Store}
 use Rattle.tg_shares.specs.declared.fault.ShareFault.{ShareFault}
@@ -91,8 +91,8 @@ IsCovered left s = (graph_of_store s).made + left ≤ s.opening.limit
 abbrev pub IsAnsweredSomehow : SharedStart → SessionState → SessionState → Deed → Type 0
 IsAnsweredSomehow start old new deed = (reply : Reply) × IsAnswered start old new deed reply
 
--- The purse has too few entries for the session's worker to leave a store that may have been behind the lock, and of which the session
--- knows what it does, and the fault says so.
-abbrev pub LacksToLeaveAtSome : SharedStart → SessionState → Portion → ShareFault → Type 0
-LacksToLeaveAtSome start session purse why =
-    (why ≡ record { worker = session.worker; lacks = Entries }) × AtKnown start session (λ s. LacksToLeave (graph_of_store s) session.worker purse)
+-- The purse has too few entries for the session's worker to leave a store that may have been behind the lock, and that has exactly the
+-- entries that the session has seen. The fault says so.
+abbrev pub LacksToLeaveAtSeen : SharedStart → SessionState → Portion → ShareFault → Type 0
+LacksToLeaveAtSeen start session purse why =
+    (why ≡ record { worker = session.worker; lacks = Entries }) × AtSeen start session.seen (λ s. LacksToLeave (graph_of_store s) session.worker purse)

@@ -1,17 +1,14 @@
 //! Who has a session and pays for its calls.
 ghost use Rattle.std.specs.Prelude.{◌≡◌, ◌≢◌, ◌<◌, ◌+◌, Err, IfErr, IfOk, IsErrAnd, OnErr, OnOk, true, false};
 ghost use Rattle.tg_model.specs.Graph.{IsSubject};
-ghost use Rattle.tg_model.specs.Rules.{IsAllowed};
 ghost use Rattle.tg_model.specs.declared.command.Deed.TheVariants.{Create, Plain, Spawn};
 ghost use Rattle.tg_model.specs.declared.reply.Reply.TheVariants.{Name, WorkersFull};
-ghost use Rattle.tg_graph.specs.Heap.{nursery_of};
-ghost use Rattle.tg_rules.specs.Effect.{AddsEdge, LacksCellsToServe};
 ghost use Rattle.tg_store.specs.Held.{IsHeldOver};
 ghost use Rattle.tg_store.specs.Room.{LacksRoomToCollect};
 ghost use Rattle.tg_store.specs.Store.{graph_of_store};
-ghost use Rattle.tg_shared.specs.Sessions.{AtKnown, AtSome, HasLeftAtSome, IsAnswered, IsFresh, KeepsReceipts, LeavesAtSome, MayRefuseAtSome};
+ghost use Rattle.tg_shared.specs.Sessions.{AtSeen, HasLeftAtSeen, HasLooked, IsAnswered, IsFresh, LeavesAtSeen, MayRefuseAtSeen, RefusesCall};
 ghost use Rattle.tg_shares.specs.declared.fault.ShareFault.{ShareFault as ShareFaultOf};
-ghost use Rattle.tg_shares.specs.Shares.{CanPayForVertex, IsAnsweredSomehow, LacksToLeaveAtSome, Pays, PaysFor, PaysForSpawn, entries_alone, one_entry, one_vertex};
+ghost use Rattle.tg_shares.specs.Shares.{CanPayForVertex, IsAnsweredSomehow, LacksToLeaveAtSeen, Pays, PaysFor, PaysForSpawn, entries_alone, one_entry, one_vertex};
 
 use crate::fault::LeaveFault;
 use crate::purse::Purse;
@@ -47,11 +44,8 @@ impl<L: Round, V: Ledger, E: Ledger> Client<L, V, E> {
     ) -> Result<(), ApplyFault>
         requires share { 0 < self.old.purse.entries }
         ensures receipt { OnOk result (IsAnsweredSomehow L.start self.old.session self.new.session (Plain command)) }
-        ensures refused { OnErr result (KeepsReceipts self.old.session self.new.session) }
+        ensures refused { IfErr result (RefusesCall L.start command self.old.session self.new.session) }
         ensures paid { PaysFor one_entry self.old.purse self.new.purse result }
-        ensures no_such_worker { IfErr result (λ why. why ≡ ApplyFault.NoSuchWorker → AtKnown L.start self.old.session (λ s. ¬ IsSubject (graph_of_store s) self.old.session.worker)) }
-        ensures full { IfErr result (λ why. why ≡ ApplyFault.HeapFull → AtKnown L.start self.old.session (λ s.
-            IsAllowed (graph_of_store s) self.old.session.worker (Plain command) × AddsEdge command × LacksCellsToServe s.heap.table (nursery_of s.heap self.old.session.worker) self.old.session.worker command)) }
         ensures retired { self.old.session.retired ≡ true → IsErrAnd result (λ why. why ≡ ApplyFault.NoSuchWorker) }
     {
         if self.session.retired() {
@@ -59,7 +53,7 @@ impl<L: Round, V: Ledger, E: Ledger> Client<L, V, E> {
         }
         self.session.make_room(&[])?;
         let mut metered = store.metered.lock(rt);
-        // for what is told of it: the shared store, gone on, of which the session knows what it does
+        // for what holds of it: the shared store, gone on, all of whose entries the session has then seen
         metered.look(self);
         let _ = metered.store();
         let answered = metered.apply(self, command);
@@ -83,10 +77,10 @@ impl<L: Round, V: Ledger, E: Ledger> Client<L, V, E> {
     ) -> Result<u64, CreateRefused<P>>
         requires share { CanPayForVertex self.old.purse }
         ensures receipt { IfOk result (λ name. IsAnswered L.start self.old.session self.new.session (Create label draft.law draft.state) (Name name)) }
-        ensures refusals { MayRefuseAtSome L.start (Create label draft.law draft.state) draft self.old.session self.new.session result }
+        ensures refusals { MayRefuseAtSeen L.start (Create label draft.law draft.state) draft self.old.session self.new.session result }
         ensures never_full { IfErr result (λ refused. refused.why ≢ CreateFault.VerticesFull) }
         ensures no_workers_full { IfErr result (λ refused. refused.why ≢ CreateFault.WorkersFull) }
-        ensures refused { OnErr result (KeepsReceipts self.old.session self.new.session) }
+        ensures refused { OnErr result (HasLooked self.old.session self.new.session) }
         ensures paid { PaysFor one_vertex self.old.purse self.new.purse result }
         ensures retired { self.old.session.retired ≡ true → IsErrAnd result (λ refused. refused.why ≡ CreateFault.NoSuchWorker) }
     {
@@ -94,7 +88,7 @@ impl<L: Round, V: Ledger, E: Ledger> Client<L, V, E> {
             return Err(CreateRefused { draft, why });
         }
         let mut metered = store.metered.lock(rt);
-        // for what is told of it: the shared store, gone on, of which the session knows what it does
+        // for what holds of it: the shared store, gone on, all of whose entries the session has then seen
         metered.look(self);
         let _ = metered.store();
         let created = metered.create(self, label, draft);
@@ -123,11 +117,11 @@ impl<L: Round, V: Ledger, E: Ledger> Client<L, V, E> {
         requires share { CanPayForVertex self.old.purse }
         ensures receipt { IfOk result (λ fresh. IsAnswered L.start self.old.session self.new.session (Spawn label draft.law draft.state) (Name fresh.worker)) }
         ensures fresh { IfOk result IsFresh }
-        ensures fresh_seen { L.start.may_end ≡ false → IfOk result (λ fresh. fresh.seen ≡ self.new.session.seen) }
-        ensures refusals { MayRefuseAtSome L.start (Spawn label draft.law draft.state) draft self.old.session self.new.session result }
+        ensures fresh_seen { IfOk result (λ fresh. fresh.seen ≡ self.new.session.seen) }
+        ensures refusals { MayRefuseAtSeen L.start (Spawn label draft.law draft.state) draft self.old.session self.new.session result }
         ensures never_full { IfErr result (λ refused. refused.why ≢ CreateFault.VerticesFull) }
         ensures workers_full { IfErr result (λ refused. refused.why ≡ CreateFault.WorkersFull → IsAnswered L.start self.old.session self.new.session (Spawn label draft.law draft.state) WorkersFull) }
-        ensures refused { IfErr result (λ refused. refused.why ≢ CreateFault.WorkersFull → KeepsReceipts self.old.session self.new.session) }
+        ensures refused { IfErr result (λ refused. refused.why ≢ CreateFault.WorkersFull → HasLooked self.old.session self.new.session) }
         ensures paid { PaysForSpawn self.old.purse self.new.purse result }
         ensures retired { self.old.session.retired ≡ true → IsErrAnd result (λ refused. refused.why ≡ CreateFault.NoSuchWorker) }
     {
@@ -135,7 +129,7 @@ impl<L: Round, V: Ledger, E: Ledger> Client<L, V, E> {
             return Err(CreateRefused { draft, why });
         }
         let mut metered = store.metered.lock(rt);
-        // for what is told of it: the shared store, gone on, of which the session knows what it does
+        // for what holds of it: the shared store, gone on, all of whose entries the session has then seen
         metered.look(self);
         let _ = metered.store();
         let spawned = metered.spawn(self, label, draft);
@@ -157,11 +151,11 @@ impl<L: Round, V: Ledger, E: Ledger> Client<L, V, E> {
         rt: &R,
         store: &MeteredStore<L, V, E, P>,
     ) -> Result<u64, LeaveFault>
-        ensures left { IfOk result (HasLeftAtSome L.start self.old.session self.new.session) }
+        ensures left { IfOk result (HasLeftAtSeen L.start self.old.session self.new.session) }
         ensures paid { IfOk result (λ count. Pays (entries_alone (count + 1)) self.old.purse self.new.purse) }
-        ensures refused { OnErr result (KeepsReceipts self.old.session self.new.session × (self.new.purse ≡ self.old.purse)) }
-        ensures lacks { IfErr result (λ why. (fault : ShareFaultOf) → why ≡ LeaveFault.Share fault → LacksToLeaveAtSome L.start self.old.session self.old.purse fault) }
-        ensures no_such_worker { IfErr result (λ why. why ≡ LeaveFault.Store ApplyFault.NoSuchWorker → AtKnown L.start self.old.session (λ s. ¬ IsSubject (graph_of_store s) self.old.session.worker)) }
+        ensures refused { OnErr result (HasLooked self.old.session self.new.session × (self.new.purse ≡ self.old.purse)) }
+        ensures lacks { IfErr result (λ why. (fault : ShareFaultOf) → why ≡ LeaveFault.Share fault → LacksToLeaveAtSeen L.start self.new.session self.old.purse fault) }
+        ensures no_such_worker { IfErr result (λ why. why ≡ LeaveFault.Store ApplyFault.NoSuchWorker → AtSeen L.start self.new.session.seen (λ s. ¬ IsSubject (graph_of_store s) self.old.session.worker)) }
         ensures never_full { result ≢ Err (LeaveFault.Store ApplyFault.HeapFull) }
         ensures retired { self.old.session.retired ≡ true → IsErrAnd result (λ why. why ≡ LeaveFault.Store ApplyFault.NoSuchWorker) }
     {
@@ -169,7 +163,7 @@ impl<L: Round, V: Ledger, E: Ledger> Client<L, V, E> {
             return Err(LeaveFault::Store(ApplyFault::NoSuchWorker));
         }
         let mut metered = store.metered.lock(rt);
-        // for what is told of it: the shared store, gone on, of which the session knows what it does
+        // for what holds of it: the shared store, gone on, all of whose entries the session has then seen
         metered.look(self);
         let _ = metered.store();
         let left = metered.leave(self);
@@ -178,35 +172,41 @@ impl<L: Round, V: Ledger, E: Ledger> Client<L, V, E> {
         left
     }
 
-    /// The rights that the session's subject holds over a vertex, under the lock: the label of a store that may have
-    /// been behind the lock. It makes no entry and no receipt, and costs nothing.
+    /// The rights that the session's subject holds over a vertex, under the lock: the label of the graph after exactly
+    /// the entries since the start that the session has then seen. It makes no entry and no receipt, and costs nothing.
     pub fn label<P: Payload, R: Wait>(
-        &self,
+        &mut self,
         rt: &R,
         store: &MeteredStore<L, V, E, P>,
         target: u64,
     ) -> Option<Label>
-        ensures held { AtSome L.start (λ s. IsHeldOver (graph_of_store s) self.now.session.worker target result) }
+        ensures held { AtSeen L.start self.new.session.seen (λ s. IsHeldOver (graph_of_store s) self.old.session.worker target result) }
+        ensures looked { HasLooked self.old.session self.new.session }
+        ensures same { self.new ≡ record self.old { session = record self.old.session { seen = self.new.session.seen } } }
     {
-        let metered = store.metered.lock(rt);
-        // for what is told of it: the shared store, gone on
+        let mut metered = store.metered.lock(rt);
+        // for what holds of it: the shared store, gone on, all of whose entries the session has then seen
+        metered.look(self);
         let _ = metered.store();
         metered.label(self, target)
     }
 
-    /// Collects the heap of the store, under the lock, and returns how many vertices it then has. It makes no entry and
-    /// no receipt, and costs nothing.
+    /// Collects the heap of the store, under the lock, and returns how many vertices it then has: the number of a store
+    /// with exactly the entries that the session has then seen. It makes no entry and no receipt, and costs nothing.
     pub fn collect<P: Payload, R: Wait>(
-        &self,
+        &mut self,
         rt: &R,
         store: &MeteredStore<L, V, E, P>,
         kind: Kind,
     ) -> Result<u64, RoomFault>
-        ensures number { IfOk result (LeavesAtSome L.start kind) }
-        ensures full { IfErr result (λ why. why ≡ RoomFault.HeapFull → AtSome L.start (λ s. LacksRoomToCollect kind 1 s.heap)) }
+        ensures number { IfOk result (LeavesAtSeen L.start self.new.session.seen kind) }
+        ensures full { IfErr result (λ why. why ≡ RoomFault.HeapFull → AtSeen L.start self.new.session.seen (λ s. LacksRoomToCollect kind 1 s.heap)) }
+        ensures looked { HasLooked self.old.session self.new.session }
+        ensures same { self.new ≡ record self.old { session = record self.old.session { seen = self.new.session.seen } } }
     {
         let mut metered = store.metered.lock(rt);
-        // for what is told of it: the shared store, gone on
+        // for what holds of it: the shared store, gone on, all of whose entries the session has then seen
+        metered.look(self);
         let _ = metered.store();
         let left = metered.collect(kind);
         // and of the one that is left

@@ -39,14 +39,15 @@ pub(crate) struct Opened<L: Round, V: Ledger, E: Ledger, P: Payload> {
 
 impl<L: Round, V: Ledger, E: Ledger, P: Payload> Metered<L, V, E, P> {
     ghost use Rattle.tg_model.specs.declared.command.Deed.TheVariants.{Create, Spawn};
-    ghost use Rattle.tg_model.specs.declared.reply.Reply.TheVariants.{WorkersFull};
     ghost use Rattle.tg_model.specs.Graph.{ProtectionGraph};
     ghost use Rattle.tg_store.specs.Held.{IsHeldOver};
     ghost use Rattle.tg_store.specs.Made.{MayRefuse};
     ghost use Rattle.tg_store.specs.Room.{LacksRoomToCollect};
     ghost use Rattle.tg_store.specs.Store.{IsFaithful, StandsFor};
-    ghost use Rattle.tg_shared.specs.Serving.{Collects, EndsWorker, IsMadeAndNoted, KeepsNumbers, KeepsRound, ServesCommand};
-    ghost use Rattle.tg_shared.specs.Sessions.{AreFresh, GoesOn, HasSeen, IsFresh, IsKnown, MayNote, MayShare, Records, RecordsNothing, knowledge, sessions_made, since, subjects_at};
+    ghost use Rattle.tg_passes.specs.declared.signed.Maker.TheVariants as maker;
+    ghost use Rattle.tg_passes.specs.Passes.{Sees, entries_by};
+    ghost use Rattle.tg_shared.specs.Serving.{Collects, EndsWorker, HasNoted, HasNotedEnd, IsMadeAndNoted, KeepsNumbers, KeepsRound, NotesRefusal, ServesCommand};
+    ghost use Rattle.tg_shared.specs.Sessions.{AreFresh, GoesOn, HasGrownBy, IsFresh, MayNote, MayShare, keeper_knowledge, knowledge, sessions_made, subjects_at};
     ghost use Rattle.tg_shares.specs.Shares.{CanPayForVertex, LeavesPaying, MayShareOut, PaysFor, PaysForSpawn, one_entry, one_vertex};
 
     /// Shares a store as [`Locked::open`] does, and hands out a purse with so many vertices and entries, which all are
@@ -86,6 +87,8 @@ impl<L: Round, V: Ledger, E: Ledger, P: Payload> Metered<L, V, E, P> {
         ensures same { result ≡ self.locked }
         ensures faithful { IsFaithful result.store }
         ensures gone_on { GoesOn L.start result.store }
+        ensures grown_by { HasGrownBy L.start result.store result.signed }
+        ensures entered { result.entered ≡ length (entries_by maker.Keeper result.signed) }
         ensures sessions { result.sessions ≡ sessions_made L.start result.store.entries }
         ensures started { length (subjects_at L.start) ≤ result.sessions }
         ensures none_ended { L.start.may_end ≡ false → result.entered ≡ 0 }
@@ -103,18 +106,30 @@ impl<L: Round, V: Ledger, E: Ledger, P: Payload> Metered<L, V, E, P> {
         ensures same { result.now ≡ self.now.locked.store }
         ensures faithful { IsFaithful self.now.locked.store }
         ensures gone_on { GoesOn L.start self.now.locked.store }
+        ensures grown_by { HasGrownBy L.start self.now.locked.store self.now.locked.signed }
     {
         self.locked.store()
     }
 
-    /// Changes nothing, and tells what the session knows of the store, by one call of [`Locked::look`].
+    /// The session looks at all entries since the start, by one call of [`Locked::look`], and has then seen them. All
+    /// else stays as it is.
     pub(crate) fn look(&mut self, client: &mut Client<L, V, E>)
-        ensures known { IsKnown L.start (knowledge client.new.session) self.new.locked.store }
+        ensures sees { Sees self.old.locked.signed (knowledge client.old.session) }
         ensures same { self.new.locked ≡ self.old.locked }
-        ensures same_session { client.new.session ≡ client.old.session }
+        ensures session { client.new.session ≡ record client.old.session { seen = self.old.locked.signed } }
         ensures same_purse { client.new.purse ≡ client.old.purse }
     {
         self.locked.look(&mut client.session);
+    }
+
+    /// The keeper looks at all entries since the start, by one call of [`Locked::tell`], and has then seen them. All
+    /// else stays as it is.
+    pub(crate) fn tell(&mut self, keeper: &mut Keeper<L>)
+        ensures sees { Sees self.old.locked.signed (keeper_knowledge keeper.old) }
+        ensures same { self.new.locked ≡ self.old.locked }
+        ensures keeper { keeper.new ≡ record keeper.old { seen = self.old.locked.signed } }
+    {
+        self.locked.tell(keeper);
     }
 
     /// Takes a command of the session's subject, by one call of [`Locked::apply`]. An entry is paid for, and nothing
@@ -129,7 +144,7 @@ impl<L: Round, V: Ledger, E: Ledger, P: Payload> Metered<L, V, E, P> {
         ensures served { ServesCommand command self.old.locked.store self.new.locked.store client.old.session client.new.session result }
         ensures paid { PaysFor one_entry client.old.purse client.new.purse result }
         ensures kept { KeepsRound self.old.locked self.new.locked }
-        ensures seen { HasSeen L.start self.new.locked.store client.old.session client.new.session }
+        ensures signed { HasNoted self.old.locked self.new.locked client.old.session client.new.session }
     {
         match self.locked.apply(&mut client.session, command) {
             Ok(()) => {
@@ -155,10 +170,10 @@ impl<L: Round, V: Ledger, E: Ledger, P: Payload> Metered<L, V, E, P> {
         ensures refusals { MayRefuse (Create label draft.law draft.state) client.old.session.worker draft self.old.locked.store self.new.locked.store result }
         ensures never_full { IfErr result (λ refused. refused.why ≢ CreateFault.VerticesFull) }
         ensures no_workers_full { IfErr result (λ refused. refused.why ≢ CreateFault.WorkersFull) }
-        ensures refused { OnErr result (RecordsNothing self.old.locked.store self.new.locked.store client.old.session client.new.session) }
+        ensures noted { NotesRefusal (Create label draft.law draft.state) self.old.locked.store self.new.locked.store client.old.session client.new.session result }
         ensures paid { PaysFor one_vertex client.old.purse client.new.purse result }
         ensures numbers { KeepsNumbers self.old.locked self.new.locked }
-        ensures seen { HasSeen L.start self.new.locked.store client.old.session client.new.session }
+        ensures signed { HasNoted self.old.locked self.new.locked client.old.session client.new.session }
     {
         // It tells that what is in the purse is left.
         client.purse.tell(&mut self.till);
@@ -186,12 +201,10 @@ impl<L: Round, V: Ledger, E: Ledger, P: Payload> Metered<L, V, E, P> {
         ensures served { IfOk result (λ fresh. IsFresh fresh × IsMadeAndNoted (Spawn label draft.law draft.state) label draft self.old.locked.store self.new.locked.store client.old.session client.new.session fresh.worker) }
         ensures refusals { MayRefuse (Spawn label draft.law draft.state) client.old.session.worker draft self.old.locked.store self.new.locked.store result }
         ensures never_full { IfErr result (λ refused. refused.why ≢ CreateFault.VerticesFull) }
-        ensures too_many_entry { IfErr result (λ refused. refused.why ≡ CreateFault.WorkersFull →
-            Records self.old.locked.store self.new.locked.store client.old.session client.new.session (Spawn label draft.law draft.state) WorkersFull) }
-        ensures refused { IfErr result (λ refused. refused.why ≢ CreateFault.WorkersFull → RecordsNothing self.old.locked.store self.new.locked.store client.old.session client.new.session) }
+        ensures noted { NotesRefusal (Spawn label draft.law draft.state) self.old.locked.store self.new.locked.store client.old.session client.new.session result }
         ensures paid { PaysForSpawn client.old.purse client.new.purse result }
-        ensures seen { HasSeen L.start self.new.locked.store client.old.session client.new.session }
-        ensures fresh_seen { L.start.may_end ≡ false → IfOk result (λ fresh. fresh.seen ≡ since L.start self.new.locked.store) }
+        ensures signed { HasNoted self.old.locked self.new.locked client.old.session client.new.session }
+        ensures fresh_seen { IfOk result (λ fresh. fresh.seen ≡ self.new.locked.signed) }
     {
         // It tells that what is in the purse is left.
         client.purse.tell(&mut self.till);
@@ -215,7 +228,7 @@ impl<L: Round, V: Ledger, E: Ledger, P: Payload> Metered<L, V, E, P> {
     /// `OutOfMemory` alone.
     pub(crate) fn leave(&mut self, client: &mut Client<L, V, E>) -> Result<u64, LeaveFault>
         ensures leaves { LeavesPaying self.old.locked.store self.new.locked.store client.old.session client.new.session client.old.purse client.new.purse result }
-        ensures seen { HasSeen L.start self.new.locked.store client.old.session client.new.session }
+        ensures signed { HasNoted self.old.locked self.new.locked client.old.session client.new.session }
     {
         let worker = client.session.worker();
         let edges = match self.locked.store().row(worker) {
@@ -266,8 +279,8 @@ impl<L: Round, V: Ledger, E: Ledger, P: Payload> Metered<L, V, E, P> {
     pub(crate) fn end(&mut self, keeper: &mut Keeper<L>, worker: u64) -> Result<u64, ApplyFault>
         requires may_end { L.start.may_end ≡ true }
         ensures ended { EndsWorker worker self.old.locked.store self.new.locked.store result }
-        ensures counted { IfOk result (λ count. keeper.new ≡ record keeper.old { entered = keeper.old.entered + (count + 1) }) }
-        ensures none_counted { OnErr result (keeper.new ≡ keeper.old) }
+        ensures sees { Sees self.old.locked.signed (keeper_knowledge keeper.old) }
+        ensures signed { HasNotedEnd self.old.locked self.new.locked keeper.old keeper.new }
     {
         self.locked.end(keeper, worker)
     }

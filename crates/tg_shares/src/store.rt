@@ -2,7 +2,9 @@
 ghost use Rattle.std.specs.Prelude.{◌≡◌, ◌≢◌, ◌≤◌, ◌+◌, false, true, Err, IfErr, IfOk, OnErr, length};
 ghost use Rattle.tg_model.specs.Graph.{IsSubject, ProtectionGraph};
 ghost use Rattle.tg_store.specs.Store.{IsFaithful, StandsFor, graph_of_store};
-ghost use Rattle.tg_shared.specs.Sessions.{AreFresh, AtSome, EndsAtSome, GoesOn, MayShare, sessions_made, subjects_at};
+ghost use Rattle.tg_shared.specs.Sessions.{AreFresh, AtSeen, GoesOn, HasEnded, HasGrownBy, KeeperLooked, MayShare, sessions_made, subjects_at};
+ghost use Rattle.tg_passes.specs.declared.signed.Maker.TheVariants as maker;
+ghost use Rattle.tg_passes.specs.Passes.{entries_by};
 ghost use Rattle.tg_shares.specs.Shares.{MayShareOut};
 
 use crate::metered::{Metered, Opened};
@@ -71,16 +73,19 @@ impl<L: Round, V: Ledger, E: Ledger, P: Payload> MeteredStore<L, V, E, P> {
     }
 
     /// Hands out the entries that the store behind the lock holds, as [`Keeper::take_journal`] does of a store without
-    /// shares. What is handed out begins where the part before it ended. The store has to be shared so that its journal
-    /// is handed out in parts. Nobody pays for it. Takes no memory.
+    /// shares. What is handed out begins where the part before it ended, and ends with the last entry that the keeper
+    /// has then seen. The store has to be shared so that its journal is handed out in parts. Nobody pays for it. Takes
+    /// no memory.
     pub fn take_journal<R: Wait>(&self, rt: &R, keeper: &mut Keeper<L>) -> Journal
         requires in_parts { L.start.in_parts ≡ true }
         ensures joined { result.start ≡ keeper.old.next }
-        ensures next { keeper.new ≡ record keeper.old { next = length result.entries } }
-        ensures held { AtSome L.start (λ s. (result.entries ≡ s.entries) × (result.start ≡ s.handed)) }
+        ensures next { keeper.new.next ≡ length result.entries }
+        ensures looked { KeeperLooked keeper.old keeper.new }
+        ensures held { AtSeen L.start keeper.new.seen (λ s. (result.entries ≡ s.entries) × (result.start ≡ s.handed)) }
     {
         let mut metered = self.metered.lock(rt);
-        // for what is told of it: the shared store, gone on
+        // for what holds of it: the shared store, gone on, all of whose entries the keeper has then seen
+        metered.tell(keeper);
         let _ = metered.store();
         metered.take_journal(keeper)
     }
@@ -89,7 +94,8 @@ impl<L: Round, V: Ledger, E: Ledger, P: Payload> MeteredStore<L, V, E, P> {
     /// worker gives up each edge that it has, by rising name, and retires. Returns how many edges these were. No purse
     /// pays for these entries. The store has to be shared so that its keeper may end workers.
     ///
-    /// A refused end changes nothing. The refusals are `NoSuchWorker` and `OutOfMemory`.
+    /// The keeper has made exactly the entries by which the named worker leaves, so no other worker stops being a
+    /// subject. A refused end ends nobody. The refusals are `NoSuchWorker` and `OutOfMemory`.
     pub fn end<R: Wait>(
         &self,
         rt: &R,
@@ -97,14 +103,14 @@ impl<L: Round, V: Ledger, E: Ledger, P: Payload> MeteredStore<L, V, E, P> {
         worker: u64,
     ) -> Result<u64, ApplyFault>
         requires may_end { L.start.may_end ≡ true }
-        ensures ended { IfOk result (EndsAtSome L.start worker) }
-        ensures entered { IfOk result (λ count. keeper.new ≡ record keeper.old { entered = keeper.old.entered + (count + 1) }) }
-        ensures none_entered { OnErr result (keeper.new ≡ keeper.old) }
-        ensures no_such_worker { IfErr result (λ why. why ≡ ApplyFault.NoSuchWorker → AtSome L.start (λ s. ¬ IsSubject (graph_of_store s) worker)) }
+        ensures ended { IfOk result (HasEnded L.start worker keeper.old keeper.new) }
+        ensures entered { IfOk result (λ count. length keeper.new.made ≡ length keeper.old.made + (count + 1)) }
+        ensures refused { OnErr result (KeeperLooked keeper.old keeper.new × (keeper.new.next ≡ keeper.old.next)) }
+        ensures no_such_worker { IfErr result (λ why. why ≡ ApplyFault.NoSuchWorker → AtSeen L.start keeper.new.seen (λ s. ¬ IsSubject (graph_of_store s) worker)) }
         ensures never_full { result ≢ Err ApplyFault.HeapFull }
     {
         let mut metered = self.metered.lock(rt);
-        // for what is told of it: the shared store, gone on
+        // for what holds of it: the shared store, gone on
         let _ = metered.store();
         let ended = metered.end(keeper, worker);
         // and of the one that is left
@@ -119,6 +125,8 @@ impl<L: Round, V: Ledger, E: Ledger, P: Payload> MeteredStore<L, V, E, P> {
     pub fn into_locked(self) -> Locked<L, P>
         ensures faithful { IsFaithful result.store }
         ensures gone_on { GoesOn L.start result.store }
+        ensures grown_by { HasGrownBy L.start result.store result.signed }
+        ensures entered { result.entered ≡ length (entries_by maker.Keeper result.signed) }
         ensures sessions { result.sessions ≡ sessions_made L.start result.store.entries }
         ensures started { length (subjects_at L.start) ≤ result.sessions }
         ensures none_ended { L.start.may_end ≡ false → result.entered ≡ 0 }

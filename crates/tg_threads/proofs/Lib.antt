@@ -1,5 +1,6 @@
 pub mod BringLaws
 pub mod FitLaws
+pub mod FrontLaws
 pub mod OneLaws
 pub mod RaceLaws
 pub mod RunLaws

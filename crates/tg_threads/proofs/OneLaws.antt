@@ -62,7 +62,7 @@ first_none (e ∷ es) h x other =
 tells_first : (arena : Arena) (served : ℕ → Bool) (l : Line) (box : Option Value) (en : Entry) (a : Answer) → Tells arena served l box (Some en) a → IsOfFirst l → en.worker ≡ 0
 tells_first arena served (line.Create x label) box en a h first = (making_of arena x (create_of label) (served x) box en a h).1 ∙ first
 tells_first arena served (line.Spawn x label) box en a h first = (making_of arena x (spawn_of label) (served x) box en a h).1 ∙ first
-tells_first arena served (line.Plain x command) box en a h first = (asked_of (served x) (EntersOrRefuses arena.shared x (deed.Plain command) (Some en) a) en a h).1.0 ∙ first
+tells_first arena served (line.Plain x command) box en a h first = (asked_of (served x) (EntersOrRefuses arena.shared arena.entries x (deed.Plain command) (Some en) a) en a h).1.0 ∙ first
 tells_first arena served l box en a h first = absurd first
 
 one_first : (arena : Arena) (served : ℕ → Bool) (l : Line) (box : Option Value) (e : Option Entry) (a : Answer) (more : List Entry) → Tells arena served l box e a → IsOfFirst l → AreFirst more → AreFirst (option_to_list e ++ more)
@@ -103,12 +103,12 @@ spawned_left true false made rest stock room more = absurd (more refl)
 spawned_left false c made rest stock room more = absurd (room refl)
 
 -- a line that makes a vertex, which took the first box
-making_one : (arena : Arena) (s : Scene) (x : ℕ) (making : Value → Deed) (stock : List Value) (b : Bool) (en : Entry) (a : Answer) → IsServed b (IsMade arena.shared x making (first_of stock) (Some en) a) (Some en) a → IsLegalEntry s.graph en → HasRoom en →
+making_one : (arena : Arena) (s : Scene) (x : ℕ) (making : Value → Deed) (stock : List Value) (b : Bool) (en : Entry) (a : Answer) → IsServed b (IsMade arena.shared arena.entries x making (first_of stock) (Some en) a) (Some en) a → IsLegalEntry s.graph en → HasRoom en →
     ((value : Value) (rest : List Value) → answer_of s.graph x (making value) ≢ reply.VerticesFull → answer_of s.graph x (making value) ≢ reply.WorkersFull → stock_left (answer_of s.graph x (making value)) rest s.stock ≡ rest) →
     AnswersMaking s x making stock a (record s { graph = step s.graph en.worker en.deed; stock = behind_first stock })
-making_one arena s x making [] b en a h legal room left = absurd (none_is_some en (sym (asked_of b (IsMade arena.shared x making None (Some en) a) en a h).1.0))
+making_one arena s x making [] b en a h legal room left = absurd (none_is_some en (sym (asked_of b (IsMade arena.shared arena.entries x making None (Some en) a) en a h).1.0))
 making_one arena s x making (value ∷ rest) b en a h legal room left =
-    let entered : EntersOrRefuses arena.shared x (making value) (Some en) a = (asked_of b (EntersOrRefuses arena.shared x (making value) (Some en) a) en a h).1 in
+    let entered : EntersOrRefuses arena.shared arena.entries x (making value) (Some en) a = (asked_of b (EntersOrRefuses arena.shared arena.entries x (making value) (Some en) a) en a h).1 in
     let is : en.reply ≡ answer_of s.graph x (making value) = legal.reply ∙ (λ i. answer_of s.graph (entered.0 i) (entered.1 i)) in
     let all : stock_left (answer_of s.graph x (making value)) rest s.stock ≡ rest = left value rest (λ full. room.0 (is ∙ full)) (λ full. room.1 (is ∙ full)) in
     inl (subst (IsSubject s.graph) entered.0 legal.subject, entered.2 ∙ ap told.Reply is, λ i. record s { graph = step s.graph (entered.0 i) (entered.1 i); stock = sym all i })
@@ -121,7 +121,7 @@ answers_one (line.Spawn x label) s arena served en a h legal room first =
     making_one arena s x (spawn_of label) s.stock (served x) en a h legal room
     (λ value rest full crowded. spawned_left (nat_lt s.graph.made s.graph.limit) (nat_lt (length s.graph.subjects) MAX_WORKERS) s.graph.made rest s.stock full crowded)
 answers_one (line.Plain x command) s arena served en a h legal room first =
-    let entered = (asked_of (served x) (EntersOrRefuses arena.shared x (deed.Plain command) (Some en) a) en a h).1 in
+    let entered = (asked_of (served x) (EntersOrRefuses arena.shared arena.entries x (deed.Plain command) (Some en) a) en a h).1 in
     inl (
       subst (IsSubject s.graph) entered.0 legal.subject,
       entered.2 ∙ ap told.Reply (legal.reply ∙ (λ i. answer_of s.graph (entered.0 i) (entered.1 i))),

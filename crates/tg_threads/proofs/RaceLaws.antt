@@ -4,7 +4,7 @@ use Rattle.std.proofs.Common.{Bool, ◌≡◌, ◌⊎◌, ◌+◌, ◌<◌, ◌�
 use Rattle.std.specs.Prelude.{IfErr, IsErrAnd, IsOk, OnOk, map}
 use Rattle.std.specs.List.{All, filter, range_with_len}
 use Rattle.std.proofs.lemmas.List.{length-map}
-use Rattle.std.proofs.lemmas.List.Elements.{All-head}
+use Rattle.std.proofs.lemmas.List.Elements.{All-head, All-weaker}
 use Rattle.std.proofs.lemmas.List.FromFn.{length-map-range_with_len, length-range_with_len}
 use Rattle.tg_model.specs.declared.edge.Edge.{Edge}
 use Rattle.tg_model.specs.declared.value.Value.{Value}
@@ -22,7 +22,11 @@ use Rattle.tg_script.specs.Script.{Start, commands_of, edges_of}
 use Rattle.tg_script.proofs.LinesLaws.{keeps_known}
 use Rattle.tg_shared.specs.declared.closing.CloseFault.{CloseFault}
 use Rattle.tg_shared.specs.declared.closing.CloseFault.TheVariants as closing
-use Rattle.tg_shared.specs.Sessions.{SessionState, SharedStart, AreFresh}
+use Rattle.tg_passes.specs.declared.signed.Signed.{Signed}
+use Rattle.tg_passes.specs.Passes.{BeginsWith, Sees, entries_of}
+use Rattle.tg_passes.proofs.Signing.{begins_entries}
+use Rattle.tg_shared.specs.Closing.{IsSignedBy}
+use Rattle.tg_shared.specs.Sessions.{SessionState, SharedStart, AreFresh, knowledge}
 use Rattle.tg_threads.specs.declared.fault.RaceFault.{RaceFault}
 use Rattle.tg_threads.specs.declared.fault.RaceFault.TheVariants as fault
 use Rattle.tg_weave.specs.declared.task.Told.{Told}
@@ -36,7 +40,7 @@ use Rattle.tg_threads.specs.Output.{Arena, IsNewStore, IsRaceOutput, RaceText, a
 use Rattle.tg_threads.specs.Tasks.{AllBring, AreRaced, all_assigned, assigned_of}
 use Rattle.tg_threads.specs.Race.{CountsRace, EndsRace, FinishesRace, HasFinished, HasHistory, HasRaced, IsOfTelling, IsRaceDue, IsWhole, RacesFrom, TellsRace, race_fault_of_audit, race_read_failures, race_write_failures}
 use Rattle.tg_threads.proofs.ShareLaws.{each_assigned}
-use Rattle.tg_threads.proofs.WeaveLaws.{bring_as_many, each_told}
+use Rattle.tg_threads.proofs.WeaveLaws.{HasSeenFront, bring_as_many, each_told}
 
 -- as many fresh sessions as workers
 pub fresh_length : (workers : ℕ) (sessions : List SessionState) → AreFresh (range_with_len 0 workers) sessions → length sessions ≡ workers
@@ -59,27 +63,34 @@ commands_behind [] lines h = refl
 
 -- ---- what the threads brought back
 
-pub all_brought : {P : Type 0} (arena : Arena) (workers : ℕ) (bs : List Boxed) (works : List (Work SessionState P)) (sessions : List SessionState) (all : List (Finished SessionState)) → AreFresh (range_with_len 0 workers) sessions →
-    map (λ w. w.session) works ≡ sessions → map lines_in works ≡ all_lines (length sessions) bs → AllBring arena workers (map assigned_of works) all → AllBring arena workers (all_assigned workers bs) all
-all_brought arena workers bs works sessions all fresh is lines h =
-    let P : List (ℕ × List Boxed) → Type 0 = λ g. AllBring arena workers g all in
+pub all_brought : {P : Type 0} (shared : SharedStart) (helpers workers : ℕ) (bs : List Boxed) (works : List (Work SessionState P)) (sessions : List SessionState) (all : List (Finished SessionState)) → AreFresh (range_with_len 0 workers) sessions →
+    map (λ w. w.session) works ≡ sessions → map lines_in works ≡ all_lines (length sessions) bs → AllBring shared helpers workers (map assigned_of works) all → AllBring shared helpers workers (all_assigned workers bs) all
+all_brought shared helpers workers bs works sessions all fresh is lines h =
+    let P : List (ℕ × List Boxed) → Type 0 = λ g. AllBring shared helpers workers g all in
     subst P (each_assigned workers bs works sessions fresh is (lines ∙ ap (λ (n : ℕ). all_lines n bs) (fresh_length workers sessions fresh))) h
 
 -- one from each worker
-pub brought_by_each : (arena : Arena) (workers : ℕ) (bs : List Boxed) (all : List (Finished SessionState)) → AllBring arena workers (all_assigned workers bs) all → length all ≡ workers
-brought_by_each arena workers bs all h = bring_as_many arena workers (all_assigned workers bs) all h ∙ length-map-range_with_len (λ x. (x, lines_of workers x bs)) 0 workers
+pub brought_by_each : (shared : SharedStart) (helpers workers : ℕ) (bs : List Boxed) (all : List (Finished SessionState)) → AllBring shared helpers workers (all_assigned workers bs) all → length all ≡ workers
+brought_by_each shared helpers workers bs all h = bring_as_many shared helpers workers (all_assigned workers bs) all h ∙ length-map-range_with_len (λ x. (x, lines_of workers x bs)) 0 workers
 
 -- as many as each worker has lines
-pub brought_whole : (arena : Arena) (workers : ℕ) (stock : List Value) (lines : List Line) (all lent : List (Finished SessionState)) → lent ≡ all → AllBring arena workers (all_assigned workers (boxed stock lines)) all →
+pub brought_whole : (shared : SharedStart) (helpers workers : ℕ) (stock : List Value) (lines : List Line) (all lent : List (Finished SessionState)) → lent ≡ all → AllBring shared helpers workers (all_assigned workers (boxed stock lines)) all →
     map (λ f. length f.told.items) lent ≡ map (λ x. length (filter (is_run_by (length lent) x) lines)) (range_with_len 0 (length lent))
-brought_whole arena workers stock lines all lent same h =
+brought_whole shared helpers workers stock lines all lent same h =
     let P : List (Finished SessionState) → ℕ → Type 0 = λ fs n. map (λ f. length f.told.items) fs ≡ map (λ x. length (filter (is_run_by n x) lines)) (range_with_len 0 n) in
-    subst (λ fs. P fs (length fs)) (sym same) (subst (P all) (sym (brought_by_each arena workers (boxed stock lines) all h)) (each_told arena workers stock lines all h))
+    subst (λ fs. P fs (length fs)) (sym same) (subst (P all) (sym (brought_by_each shared helpers workers (boxed stock lines) all h)) (each_told shared helpers workers stock lines all h))
 
 pub brought_in_order : (workers : ℕ) (lines : List Line) (all lent : List (Finished SessionState)) (ts : List Told) → lent ≡ all → length all ≡ workers → IsInScriptOrder (length lent) lines (map (λ f. f.told.items) lent) ts → IsInScriptOrder workers lines (map (λ f. f.told.items) all) ts
 brought_in_order workers lines all lent ts same many h =
     let P : List (Finished SessionState) → ℕ → Type 0 = λ fs n. IsInScriptOrder n lines (map (λ f. f.told.items) fs) ts in
     subst (P all) many (subst (λ fs. P fs (length fs)) same h)
+
+-- the entries of a closed store begin with those that each session has seen
+pub seen_fronts : (start : SharedStart) (s : StoreState) (sessions : List SessionState) (signed : List Signed) → start.entries ≡ [] → IsSignedBy start s sessions signed → All (HasSeenFront s.entries) sessions
+seen_fronts start s sessions signed none by =
+    let all : s.entries ≡ entries_of signed = by.grown.all ∙ ap (λ l. l ++ entries_of signed) none in
+    All-weaker (λ (t : SessionState). Sees signed (knowledge t)) (HasSeenFront s.entries)
+    (λ t sees. subst (λ l. BeginsWith l (entries_of t.seen)) (sym all) (begins_entries signed t.seen sees.front)) sessions by.sees
 
 -- why a store isn't closed
 pub unclosed : {A B : Type 0} (why : CloseFault) → (why ≡ closing.SessionsMissing → A) → (why ≡ closing.ReceiptMismatch → B) → A ⊎ B
@@ -89,7 +100,7 @@ unclosed closing.ReceiptMismatch missing mismatch = inr (mismatch refl)
 -- ---- the whole
 
 -- what the lines came to, with a legal history, is an output
-raced_output : (race_text : RaceText) (start : Start) (shared : SharedStart) (lines : List Line) (s : StoreState) (ts : List Told) → IsNewStore (plan_of start lines) start.blocks shared → s.opening ≡ plan_of start lines → AreRaced (arena_of shared start.helpers) start.workers (boxed start.stock (commands_of lines)) s.entries ts → HasHistory s →
+raced_output : (race_text : RaceText) (start : Start) (shared : SharedStart) (lines : List Line) (s : StoreState) (ts : List Told) → IsNewStore (plan_of start lines) start.blocks shared → s.opening ≡ plan_of start lines → AreRaced (arena_of shared start.helpers s.entries) start.workers (boxed start.stock (commands_of lines)) s.entries ts → HasHistory s →
     IsRaceOutput race_text start lines (race_text s.opening s.entries (text_of_told s.entries ts))
 raced_output race_text start shared lines s ts new opening raced history = record {
   shared = shared;
@@ -110,7 +121,7 @@ raced_same arena n workers stock lent lines entries ts same is h =
     subst (P workers) is (subst (λ k. P k lent) same h)
 
 pub race_told : {T : Type 0} (r : Result T RaceFault) (race_text : RaceText) (start : Start) (shared : SharedStart) (bytes before left : List ℕ) (lines : List Line) (s : StoreState) (ts : List Told) (after : Option (List ℕ)) → IsWhole start bytes lines left → IsNewStore (plan_of start lines) start.blocks shared → s.opening ≡ plan_of start lines →
-    AreRaced (arena_of shared start.helpers) start.workers (boxed start.stock (commands_of lines)) s.entries ts → TellsRace s (race_text s.opening s.entries (text_of_told s.entries ts)) before r after → HasRaced race_text start bytes before r left after
+    AreRaced (arena_of shared start.helpers s.entries) start.workers (boxed start.stock (commands_of lines)) s.entries ts → TellsRace s (race_text s.opening s.entries (text_of_told s.entries ts)) before r after → HasRaced race_text start bytes before r left after
 race_told (Ok done) race_text start shared bytes before left lines s ts after whole new opening raced h =
     (lines, race_text s.opening s.entries (text_of_told s.entries ts), whole, raced_output race_text start shared lines s ts new opening raced h.0, h.1)
 race_told (Err (fault.Script f)) race_text start shared bytes before left lines s ts after whole new opening raced h = absurd h

@@ -1,5 +1,5 @@
 -- What a session's calls come to, line by line.
-use Rattle.std.proofs.Common.{◌≡◌, ◌≢◌, ◌⊎◌, inl, inr, ℕ, Bool, true, false, if◌then◌else◌, List, [], ◌∷◌, ◌++◌, Option, Some, None, Result, Ok, Err, refl, sym, ap, ◌∙◌, subst, append-nil, append_assoc, length, ◌<◌, arith}
+use Rattle.std.proofs.Common.{◌≡◌, ◌≢◌, ◌⊎◌, inl, inr, ℕ, Bool, true, false, if◌then◌else◌, List, [], ◌∷◌, ◌++◌, Option, Some, None, Result, Ok, Err, refl, sym, ap, ◌∙◌, subst, append-nil, append_assoc, length, ◌+◌, ◌<◌, arith}
 use Rattle.std.specs.Prelude.{◌↔◌, IfOk, map, nat_lt}
 use Rattle.std.proofs.lemmas.Bool.{false≢true}
 use Rattle.std.specs.List.{All}
@@ -29,7 +29,11 @@ use Rattle.tg_store.specs.declared.fault.CreateFault.{CreateFault}
 use Rattle.tg_store.specs.declared.fault.CreateFault.TheVariants as create
 use Rattle.tg_script.specs.Refusals.{create_answer}
 use Rattle.tg_script.specs.Script.{create_of}
-use Rattle.tg_shared.specs.Sessions.{AddsReceipt, AreFresh, AtKnown, AtSome, IsAnswered, IsFresh, KeepsReceipts, SessionState, SharedStart}
+use Rattle.tg_passes.specs.declared.signed.Maker.TheVariants as maker
+use Rattle.tg_passes.specs.declared.signed.Signed.{Signed}
+use Rattle.tg_passes.specs.Passes.{BeginsWith, entries_of, sign}
+use Rattle.tg_passes.proofs.Signing.{begins_entries, longer, whole}
+use Rattle.tg_shared.specs.Sessions.{AddsReceipt, AreFresh, AtSeen, HasLooked, IsAnswered, IsFresh, KeepsReceipts, SessionState, SharedStart}
 use Rattle.tg_shared.proofs.Fresh.{fresh_push}
 use Rattle.tg_threads.specs.declared.threads.ThreadsFault.{ThreadsFault}
 use Rattle.tg_threads.specs.declared.threads.ThreadsFault.TheVariants as threads
@@ -37,8 +41,9 @@ use Rattle.tg_weave.specs.declared.task.Told.{Told}
 use Rattle.tg_weave.specs.declared.task.Told.TheVariants as came
 use Rattle.tg_weave.specs.Boxes.{Boxed}
 use Rattle.tg_weave.proofs.ShareLaws.{named}
+use Rattle.tg_threads.proofs.FrontLaws.{front_seen, runs_wider}
 use Rattle.tg_threads.proofs.ShareLaws.{mapped_each}
-use Rattle.tg_threads.specs.Output.{Arena, EntersOrRefuses, IsCollected, IsMade, IsOfStore, IsServed, Tells, has_thread}
+use Rattle.tg_threads.specs.Output.{Arena, AtFront, EntersOrRefuses, IsCollected, IsMade, IsOfStore, IsServed, Tells, arena_of, has_thread}
 use Rattle.tg_threads.specs.Tasks.{IsRunBy, HasAsked, HasMade, HasCollected, HasRun, RunsOne, Runs, is_deed, served_past, subject_spawned, subjects_spawned}
 
 -- ---- why a session refuses
@@ -53,19 +58,25 @@ pub never_collected : (why : CreateFault) (kept : Option ℕ) → answer.Collect
 never_collected create.NoSuchWorker kept is = cc
 never_collected why kept is = cc
 
--- what holds of a store of which the session knows what it does holds of one that may have been behind the lock
-pub of_some : {A : Type 0} (start : SharedStart) (session : SessionState) (P : StoreState → Type 0) → (A → AtKnown start session P) → A → AtSome start P
-of_some start session P told is = let held = told is in (held.0, held.1, held.2, held.3.0)
+-- what the session has seen after an answer begins with what it had seen
+answer_grows : (start : SharedStart) (old new : SessionState) (d : Deed) (r : Reply) → IsAnswered start old new d r → BeginsWith new.seen old.seen
+answer_grows start old new d r h =
+    let more : List Signed = sign (maker.Session old.worker) (record { worker = old.worker; deed = d; reply = r }) ∷ [] in
+    subst (λ l. BeginsWith l old.seen) (sym h.seen) (longer h.before old.seen more h.sees.front)
+
+-- what holds of a store with exactly the entries that a session has seen holds of one with the first of these
+pub heap_front : {A : Type 0} (start : SharedStart) (seen : List Signed) (P : StoreState → Type 0) → (A → AtSeen start seen P) → A → AtFront start (entries_of seen) P
+heap_front start seen P told is = front_seen start seen P (told is)
 
 -- what is told of an answer, with its place
 told_of_answer : (start : SharedStart) (old new : SessionState) (d : Deed) (r : Reply) (t : Told) → IsAnswered start old new d r → ((front : List Receipt) (last : Receipt) → new.receipts ≡ front ++ last ∷ [] → t ≡ came.Entered last.at) → HasAsked start d t old new
 told_of_answer start old new d r t h entered =
     let e : Entry = record { worker = old.worker; deed = d; reply = r } in
-    subst (λ (a : Told). HasAsked start d a old new) (sym (entered old.receipts (receipt_of (length h.0.entries) e) h.3.0.0.1)) (r, h.3.0.0)
+    subst (λ (a : Told). HasAsked start d a old new) (sym (entered old.receipts (receipt_of (length start.entries + length h.before) e) h.receipt.1)) (r, h.receipt, answer_grows start old new d r h)
 
 -- What a deed comes to that made no vertex, of a worker that is a subject: what a script is told, and no receipt, or the entry.
-pub vertex_not_made : (start : SharedStart) (d : Deed) (why : CreateFault) (t : Told) (old new : SessionState) → (why ≡ create.HeapFull → IsOfStore start old.worker d refusal.Heap) → why ≢ create.NoSuchWorker →
-    (why ≡ create.VerticesFull → IsAnswered start old new d reply.VerticesFull) → (why ≡ create.WorkersFull → IsAnswered start old new d reply.WorkersFull) → (why ≢ create.VerticesFull → why ≢ create.WorkersFull → KeepsReceipts old new) →
+pub vertex_not_made : (start : SharedStart) (d : Deed) (why : CreateFault) (t : Told) (old new : SessionState) → (why ≡ create.HeapFull → IsOfStore start (entries_of new.seen) old.worker d refusal.Heap) → why ≢ create.NoSuchWorker →
+    (why ≡ create.VerticesFull → IsAnswered start old new d reply.VerticesFull) → (why ≡ create.WorkersFull → IsAnswered start old new d reply.WorkersFull) → (why ≢ create.VerticesFull → why ≢ create.WorkersFull → HasLooked old new) →
     ((r : Refusal) → create_answer why ≡ answer.Refused r → t ≡ came.Refused r) →
     ((r : Reply) → create_answer why ≡ answer.Reply r → (front : List Receipt) (last : Receipt) → new.receipts ≡ front ++ last ∷ [] → t ≡ came.Entered last.at) → HasAsked start d t old new
 vertex_not_made start d create.NoSuchWorker t old new makes there full crowded kept refused entered = absurd (there refl)
@@ -77,8 +88,8 @@ vertex_not_made start d create.HeapFull t old new makes there full crowded kept 
     subst (λ (a : Told). HasAsked start d a old new) (sym (refused refusal.Heap refl)) (makes refl, kept (λ e. let no : ⊥ = cc in no) (λ e. let no : ⊥ = cc in no))
 
 -- the same of what a session that made no vertex is told, where it is told anything
-pub not_made_asked : (start : SharedStart) (d : Deed) (why : CreateFault) (r : Result Told ThreadsFault) (old new : SessionState) → (why ≡ create.HeapFull → IsOfStore start old.worker d refusal.Heap) → ((r ≡ Err threads.NoSuchWorker) ↔ (why ≡ create.NoSuchWorker)) →
-    (why ≡ create.VerticesFull → IsAnswered start old new d reply.VerticesFull) → (why ≡ create.WorkersFull → IsAnswered start old new d reply.WorkersFull) → (why ≢ create.VerticesFull → why ≢ create.WorkersFull → KeepsReceipts old new) →
+pub not_made_asked : (start : SharedStart) (d : Deed) (why : CreateFault) (r : Result Told ThreadsFault) (old new : SessionState) → (why ≡ create.HeapFull → IsOfStore start (entries_of new.seen) old.worker d refusal.Heap) → ((r ≡ Err threads.NoSuchWorker) ↔ (why ≡ create.NoSuchWorker)) →
+    (why ≡ create.VerticesFull → IsAnswered start old new d reply.VerticesFull) → (why ≡ create.WorkersFull → IsAnswered start old new d reply.WorkersFull) → (why ≢ create.VerticesFull → why ≢ create.WorkersFull → HasLooked old new) →
     ((x : Refusal) → create_answer why ≡ answer.Refused x → IfOk r (λ t. t ≡ came.Refused x)) →
     ((x : Reply) → create_answer why ≡ answer.Reply x → (front : List Receipt) (last : Receipt) → new.receipts ≡ front ++ last ∷ [] → IfOk r (λ t. t ≡ came.Entered last.at)) → IfOk r (λ t. HasAsked start d t old new)
 not_made_asked start d why (Err f) old new makes fault full crowded kept refused entered = tt
@@ -109,7 +120,7 @@ crowded_none d = refl
 asked_none : (start : SharedStart) (d : Deed) → ((r : Reply) → subject_spawned d r ≡ []) → (t : Told) (old new : SessionState) → HasAsked start d t old new → subjects_spawned new.receipts ≡ subjects_spawned old.receipts
 asked_none start d none (came.Entered at) old new h = no_subject old new at d h.0 (none h.0) h.1
 asked_none start d none (came.Collected kept) old new h = absurd h
-asked_none start d none (came.Refused r) old new h = ap subjects_spawned h.1.1
+asked_none start d none (came.Refused r) old new h = ap subjects_spawned h.1.kept.1
 
 made_none : (start : SharedStart) (making : Value → Deed) → ((value : Value) (r : Reply) → subject_spawned (making value) r ≡ []) → (box : Option Value) (t : Told) (old new : SessionState) → HasMade start making box t old new → subjects_spawned new.receipts ≡ subjects_spawned old.receipts
 made_none start making none None t old new h = ap subjects_spawned h.1.1
@@ -117,10 +128,10 @@ made_none start making none (Some value) t old new h = asked_none start (making 
 
 -- a spawn that made no subject leaves them
 pub not_spawned : (start : SharedStart) (d : Deed) (why : CreateFault) (old new : SessionState) → (why ≡ create.VerticesFull → IsAnswered start old new d reply.VerticesFull) → (why ≡ create.WorkersFull → IsAnswered start old new d reply.WorkersFull) →
-    (why ≢ create.VerticesFull → why ≢ create.WorkersFull → KeepsReceipts old new) → subjects_spawned new.receipts ≡ subjects_spawned old.receipts
-not_spawned start d create.VerticesFull old new full crowded kept = let h = full refl in no_subject old new _ d reply.VerticesFull (full_none d) h.3.0.0
-not_spawned start d create.WorkersFull old new full crowded kept = let h = crowded refl in no_subject old new _ d reply.WorkersFull (crowded_none d) h.3.0.0
-not_spawned start d why old new full crowded kept = ap subjects_spawned (kept (λ e. let no : ⊥ = cc in no) (λ e. let no : ⊥ = cc in no)).1
+    (why ≢ create.VerticesFull → why ≢ create.WorkersFull → HasLooked old new) → subjects_spawned new.receipts ≡ subjects_spawned old.receipts
+not_spawned start d create.VerticesFull old new full crowded kept = let h = full refl in no_subject old new _ d reply.VerticesFull (full_none d) h.receipt
+not_spawned start d create.WorkersFull old new full crowded kept = let h = crowded refl in no_subject old new _ d reply.WorkersFull (crowded_none d) h.receipt
+not_spawned start d why old new full crowded kept = ap subjects_spawned (kept (λ e. let no : ⊥ = cc in no) (λ e. let no : ⊥ = cc in no)).kept.1
 
 pub ok_where : {T E : Type 0} (r : Result T E) (Q : Type 0) → Q → IfOk r (λ _. Q)
 ok_where (Ok t) Q held = held
@@ -162,6 +173,9 @@ runner_named workers x = if nat_lt x workers then Some x else None
 none_more : (old new : SessionState) → KeepsReceipts old new → (new.worker ≡ old.worker) × (new.receipts ≡ old.receipts ++ []) × (new.handed ≡ old.handed)
 none_more old new keeps = (keeps.0, keeps.1 ∙ sym (append-nil old.receipts), keeps.2)
 
+looked_none : (old new : SessionState) → HasLooked old new → (new.worker ≡ old.worker) × (new.receipts ≡ old.receipts ++ []) × (new.handed ≡ old.handed)
+looked_none old new looked = (looked.kept.0, looked.kept.1 ∙ sym (append-nil old.receipts), looked.kept.2)
+
 -- the line's worker is the session's, whose lines are run
 served_by : (workers x : ℕ) (served : ℕ → Bool) (old : SessionState) → runner_named workers x ≡ Some old.worker → served old.worker ≡ true → served x ≡ true
 served_by workers x served old by is = subst (λ n. served n ≡ true) (sym (named x workers old.worker by).1) is
@@ -171,47 +185,55 @@ as_served true asked e a is h = h
 as_served false asked e a is h = absurd (false≢true is)
 
 -- the entry of a deed, and a refusal of the store, as a line of x is told of them
-asked_told : (arena : Arena) (workers x : ℕ) (served : ℕ → Bool) (d : Deed) (e : Option Entry) (a : Answer) (old : SessionState) → runner_named workers x ≡ Some old.worker → served old.worker ≡ true → EntersOrRefuses arena.shared old.worker d e a → IsServed (served x) (EntersOrRefuses arena.shared x d e a) e a
+asked_told : (arena : Arena) (workers x : ℕ) (served : ℕ → Bool) (d : Deed) (e : Option Entry) (a : Answer) (old : SessionState) → runner_named workers x ≡ Some old.worker → served old.worker ≡ true → EntersOrRefuses arena.shared arena.entries old.worker d e a → IsServed (served x) (EntersOrRefuses arena.shared arena.entries x d e a) e a
 asked_told arena workers x served d e a old by is h =
-    as_served (served x) (EntersOrRefuses arena.shared x d e a) e a (served_by workers x served old by is) (subst (λ n. EntersOrRefuses arena.shared n d e a) (sym (named x workers old.worker by).1) h)
+    as_served (served x) (EntersOrRefuses arena.shared arena.entries x d e a) e a (served_by workers x served old by is) (subst (λ n. EntersOrRefuses arena.shared arena.entries n d e a) (sym (named x workers old.worker by).1) h)
+
+-- the arena as the session has it
+abbrev pub arena_now : SharedStart → ℕ → SessionState → Arena
+arena_now shared helpers s = arena_of shared helpers (entries_of s.seen)
 
 -- a line for which the session asked for a deed
-told_runs : (arena : Arena) (served : ℕ → Bool) (b : Boxed) (d : Deed) (t : Told) (old new : SessionState) → ((e : Option Entry) (a : Answer) → EntersOrRefuses arena.shared old.worker d e a → Tells arena served b.line b.value e a) →
-    HasAsked arena.shared d t old new → HasRun arena served b t old new
-told_runs arena served b d (came.Entered at) old new tells h =
+told_runs : (shared : SharedStart) (helpers : ℕ) (served : ℕ → Bool) (b : Boxed) (d : Deed) (t : Told) (old new : SessionState) →
+    ((e : Option Entry) (a : Answer) → EntersOrRefuses shared (entries_of new.seen) old.worker d e a → Tells (arena_now shared helpers new) served b.line b.value e a) →
+    HasAsked shared d t old new → HasRun (arena_now shared helpers new) served b t old new
+told_runs shared helpers served b d (came.Entered at) old new tells h =
     let e : Entry = record { worker = old.worker; deed = d; reply = h.0 } in
-    (receipt_of at e ∷ [], h.1.0, h.1.1, h.1.2, (e, refl, tells (Some e) (answer.Reply h.0) (refl, refl, refl)))
-told_runs arena served b d (came.Collected kept) old new tells h = absurd h
-told_runs arena served b d (came.Refused r) old new tells h =
-    let k = none_more old new h.1 in
-    ([], k.0, k.1, k.2, (refl, tells None (answer.Refused r) (r, h.0, refl)))
+    (receipt_of at e ∷ [], h.1.0, h.1.1, h.1.2, (e, refl, tells (Some e) (answer.Reply h.0) (refl, refl, refl)), h.2)
+told_runs shared helpers served b d (came.Collected kept) old new tells h = absurd h
+told_runs shared helpers served b d (came.Refused r) old new tells h =
+    let k = looked_none old new h.1 in
+    ([], k.0, k.1, k.2, (refl, tells None (answer.Refused r) (r, h.0, refl)), h.1.grown)
 
-pub asked_runs : (arena : Arena) (workers x : ℕ) (served : ℕ → Bool) (command : Command) (box : Option Value) (t : Told) (old new : SessionState) → served old.worker ≡ true → IsRunBy workers old.worker (record { line = line.Plain x command; value = box }) →
-    HasAsked arena.shared (deed.Plain command) t old new → HasRun arena served (record { line = line.Plain x command; value = box }) t old new
-asked_runs arena workers x served command box t old new is by =
-    told_runs arena served (record { line = line.Plain x command; value = box }) (deed.Plain command) t old new (λ e a told. asked_told arena workers x served (deed.Plain command) e a old by is told)
+pub asked_runs : (shared : SharedStart) (helpers workers x : ℕ) (served : ℕ → Bool) (command : Command) (box : Option Value) (t : Told) (old new : SessionState) → served old.worker ≡ true → IsRunBy workers old.worker (record { line = line.Plain x command; value = box }) →
+    HasAsked shared (deed.Plain command) t old new → HasRun (arena_now shared helpers new) served (record { line = line.Plain x command; value = box }) t old new
+asked_runs shared helpers workers x served command box t old new is by =
+    told_runs shared helpers served (record { line = line.Plain x command; value = box }) (deed.Plain command) t old new
+    (λ e a told. asked_told (arena_now shared helpers new) workers x served (deed.Plain command) e a old by is told)
 
 -- the same of a deed that makes a vertex
-pub made_runs : (arena : Arena) (workers x : ℕ) (served : ℕ → Bool) (b : Boxed) (making : Value → Deed) (t : Told) (old new : SessionState) → served old.worker ≡ true → runner_named workers x ≡ Some old.worker →
-    ((e : Option Entry) (a : Answer) → IsServed (served x) (IsMade arena.shared x making b.value e a) e a → Tells arena served b.line b.value e a) → HasMade arena.shared making b.value t old new → HasRun arena served b t old new
-made_runs arena workers x served b making t old new is by tells h = by_box b.value refl h where
+pub made_runs : (shared : SharedStart) (helpers workers x : ℕ) (served : ℕ → Bool) (b : Boxed) (making : Value → Deed) (t : Told) (old new : SessionState) → served old.worker ≡ true → runner_named workers x ≡ Some old.worker →
+    ((e : Option Entry) (a : Answer) → IsServed (served x) (IsMade shared (entries_of new.seen) x making b.value e a) e a → Tells (arena_now shared helpers new) served b.line b.value e a) →
+    HasMade shared making b.value t old new → HasRun (arena_now shared helpers new) served b t old new
+made_runs shared helpers workers x served b making t old new is by tells h = by_box b.value refl h where
   on : served x ≡ true
   on = served_by workers x served old by is
 
   same : x ≡ old.worker
   same = (named x workers old.worker by).1
 
-  by_box : (box : Option Value) → b.value ≡ box → HasMade arena.shared making box t old new → HasRun arena served b t old new
+  by_box : (box : Option Value) → b.value ≡ box → HasMade shared making box t old new → HasRun (arena_now shared helpers new) served b t old new
   by_box None none h =
       let k = none_more old new h.1 in
-      let told : Tells arena served b.line b.value None (answer.Refused refusal.Stock) = tells None (answer.Refused refusal.Stock)
-      (as_served (served x) (IsMade arena.shared x making b.value None (answer.Refused refusal.Stock)) None (answer.Refused refusal.Stock) on (subst (λ box. IsMade arena.shared x making box None (answer.Refused refusal.Stock)) (sym none) (refl, refl))) in
-      ([], k.0, k.1, k.2, subst (λ a. RunsOne arena served b a []) (sym h.0) (refl, told))
-  by_box (Some value) some h = told_runs arena served b (making value) t old new as_told h where
-    as_told : (e : Option Entry) (a : Answer) → EntersOrRefuses arena.shared old.worker (making value) e a → Tells arena served b.line b.value e a
+      let told : Tells (arena_now shared helpers new) served b.line b.value None (answer.Refused refusal.Stock) = tells None (answer.Refused refusal.Stock)
+      (as_served (served x) (IsMade shared (entries_of new.seen) x making b.value None (answer.Refused refusal.Stock)) None (answer.Refused refusal.Stock) on
+      (subst (λ box. IsMade shared (entries_of new.seen) x making box None (answer.Refused refusal.Stock)) (sym none) (refl, refl))) in
+      ([], k.0, k.1, k.2, subst (λ a. RunsOne (arena_now shared helpers new) served b a []) (sym h.0) (refl, told), subst (λ l. BeginsWith l old.seen) (sym h.1.6) (whole old.seen))
+  by_box (Some value) some h = told_runs shared helpers served b (making value) t old new as_told h where
+    as_told : (e : Option Entry) (a : Answer) → EntersOrRefuses shared (entries_of new.seen) old.worker (making value) e a → Tells (arena_now shared helpers new) served b.line b.value e a
     as_told e a h =
-        tells e a (as_served (served x) (IsMade arena.shared x making b.value e a) e a on
-        (subst (λ box. IsMade arena.shared x making box e a) (sym some) (subst (λ n. EntersOrRefuses arena.shared n (making value) e a) (sym same) h)))
+        tells e a (as_served (served x) (IsMade shared (entries_of new.seen) x making b.value e a) e a on
+        (subst (λ box. IsMade shared (entries_of new.seen) x making box e a) (sym some) (subst (λ n. EntersOrRefuses shared (entries_of new.seen) n (making value) e a) (sym same) h)))
 
 -- a line that isn't refused, and asks for a deed, is of a worker whose lines are run
 pub served_of : (served : Bool) (l : Line) (refused : Bool) → refused ≡ (if served then false else is_deed l) → refused ≡ false → is_deed l ≡ true → served ≡ true
@@ -219,10 +241,14 @@ served_of true l refused is not_refused asks = refl
 served_of false l refused is not_refused asks = absurd (false≢true (sym not_refused ∙ is ∙ asks))
 
 -- a collection
-pub collected_runs : (arena : Arena) (served : ℕ → Bool) (b : Boxed) (k : Kind) (t : Told) (s : SessionState) → ((e : Option Entry) (a : Answer) → IsCollected arena k e a → Tells arena served b.line b.value e a) → HasCollected arena k t → HasRun arena served b t s s
-collected_runs arena served b k (came.Entered at) s tells h = absurd h
-collected_runs arena served b k (came.Collected kept) s tells h = ([], refl, sym (append-nil s.receipts), refl, (refl, tells None (answer.Collected kept) (refl, inl (kept, h, refl))))
-collected_runs arena served b k (came.Refused r) s tells h = ([], refl, sym (append-nil s.receipts), refl, (refl, tells None (answer.Refused r) (refl, inr (r, h, refl))))
+pub collected_runs : (arena : Arena) (served : ℕ → Bool) (b : Boxed) (k : Kind) (t : Told) (old new : SessionState) → ((e : Option Entry) (a : Answer) → IsCollected arena k e a → Tells arena served b.line b.value e a) → HasCollected arena k t → HasLooked old new → HasRun arena served b t old new
+collected_runs arena served b k (came.Entered at) old new tells h looked = absurd h
+collected_runs arena served b k (came.Collected kept) old new tells h looked = let n = looked_none old new looked in ([], n.0, n.1, n.2, (refl, tells None (answer.Collected kept) (refl, inl (kept, h, refl))), looked.grown)
+collected_runs arena served b k (came.Refused r) old new tells h looked = let n = looked_none old new looked in ([], n.0, n.1, n.2, (refl, tells None (answer.Refused r) (refl, inr (r, h, refl))), looked.grown)
+
+-- and it made no subject
+pub looked_each : (old new : SessionState) (sessions : List SessionState) → HasLooked old new → AreFresh (subjects_spawned old.receipts) sessions → AreFresh (subjects_spawned new.receipts) sessions
+looked_each old new sessions looked = still_each old new sessions (ap subjects_spawned looked.kept.1)
 
 -- ---- many lines
 
@@ -256,24 +282,25 @@ pub mapped_at : {X Y : Type 0} (f : X → Y) (P : Y → Type 0) (xs : List X) (x
 mapped_at f P xs x ys all is h = all_next (λ x. P (f x)) xs x ys all is (mapped_each f P all h)
 
 -- Lines of worker x were run, came to this, and its lines are run behind them or not.
-pub record HasRunSo (arena : Arena) (workers x : ℕ) (served : Bool) (bs : List Boxed) (ts : List Told) (s : SessionState) : Type 0 where
+pub record HasRunSo (shared : SharedStart) (helpers workers x : ℕ) (served : Bool) (bs : List Boxed) (ts : List Told) (s : SessionState) : Type 0 where
   pub worker : s.worker ≡ x
   pub handed : s.handed ≡ 0
-  pub runs : Runs arena (has_thread workers) bs ts s.receipts
+  pub runs : Runs (arena_now shared helpers s) (has_thread workers) bs ts s.receipts
   pub behind : served_after (has_thread workers) bs ts x ≡ served
 
 -- a session ran one line more
-pub run_more : (arena : Arena) (workers x : ℕ) (served next : Bool) (bs : List Boxed) (ts : List Told) (old new : SessionState) (b : Boxed) (t : Told) → HasRunSo arena workers x served bs ts old → IsRunBy workers x b →
-    ((before : ℕ → Bool) → before old.worker ≡ served → IsRunBy workers old.worker b → HasRun arena before b t old new) →
-    ((before : ℕ → Bool) → before new.worker ≡ served → next ≡ served_past before b.line t new.worker) → HasRunSo arena workers x next (bs ++ b ∷ []) (ts ++ t ∷ []) new
-run_more arena workers x served next bs ts old new b t held by step past =
+pub run_more : (shared : SharedStart) (helpers workers x : ℕ) (served next : Bool) (bs : List Boxed) (ts : List Told) (old new : SessionState) (b : Boxed) (t : Told) → HasRunSo shared helpers workers x served bs ts old → IsRunBy workers x b →
+    ((before : ℕ → Bool) → before old.worker ≡ served → IsRunBy workers old.worker b → HasRun (arena_now shared helpers new) before b t old new) →
+    ((before : ℕ → Bool) → before new.worker ≡ served → next ≡ served_past before b.line t new.worker) → HasRunSo shared helpers workers x next (bs ++ b ∷ []) (ts ++ t ∷ []) new
+run_more shared helpers workers x served next bs ts old new b t held by step past =
     let before : ℕ → Bool = served_after (has_thread workers) bs ts in
     let h = step before (ap before held.worker ∙ held.behind) (subst (λ n. IsRunBy workers n b) (sym held.worker) by) in
     let worker : new.worker ≡ x = h.1 ∙ held.worker in
-    let more = runs_more arena (has_thread workers) bs ts old.receipts b t h.0 held.runs h.4 in
+    let runs = runs_wider shared helpers (entries_of old.seen) (entries_of new.seen) (begins_entries new.seen old.seen h.5) (has_thread workers) bs ts old.receipts held.runs in
+    let more = runs_more (arena_now shared helpers new) (has_thread workers) bs ts old.receipts b t h.0 runs h.4 in
     record {
       worker = worker;
       handed = h.3 ∙ held.handed;
-      runs = subst (λ r. Runs arena (has_thread workers) (bs ++ b ∷ []) (ts ++ t ∷ []) r) (sym h.2) more.0;
+      runs = subst (λ r. Runs (arena_now shared helpers new) (has_thread workers) (bs ++ b ∷ []) (ts ++ t ∷ []) r) (sym h.2) more.0;
       behind = (λ i. more.1 i x) ∙ ap (λ n. served_past before b.line t n) (sym worker) ∙ sym (past before (ap before worker ∙ held.behind));
     }

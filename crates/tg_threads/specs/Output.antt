@@ -16,9 +16,11 @@ use Rattle.tg_space.specs.declared.kind.Kind.TheVariants as kind
 use Rattle.tg_graph.specs.Heap.{nursery_of}
 use Rattle.tg_rows.specs.Spots.{LacksCellsFor}
 use Rattle.tg_rules.specs.Effect.{AddsEdge, LacksCellsToServe}
+use Rattle.tg_store.specs.Collecting.{IsSwept}
 use Rattle.tg_store.specs.Room.{LacksRoomToCollect}
 use Rattle.tg_store.specs.Store.{StoreState, graph_of_store}
-use Rattle.tg_shared.specs.Sessions.{AtSome, LeavesAtSome, SharedStart}
+use Rattle.tg_passes.specs.Passes.{BeginsWith}
+use Rattle.tg_shared.specs.Sessions.{AtSome, SharedStart, since}
 use Rattle.tg_journal.specs.declared.entry.Entry.{Entry}
 use Rattle.tg_journal.specs.History.{IsLegal}
 use Rattle.tg_entries.specs.Texts.{history_text}
@@ -36,13 +38,22 @@ use Rattle.tg_weave.specs.Telling.{end_text}
 
 -- ---- what the lines are run in
 
--- a store that was shared, of which each collection is made by so many helpers
+-- a store that was shared, of which each collection is made by so many helpers, and the entries that it got since
 pub record Arena : Type 0 where
   pub shared : SharedStart
   pub helpers : ℕ
+  pub entries : List Entry
 
-abbrev pub arena_of : SharedStart → ℕ → Arena
-arena_of shared helpers = record { shared = shared; helpers = helpers }
+abbrev pub arena_of : SharedStart → ℕ → List Entry → Arena
+arena_of shared helpers entries = record { shared = shared; helpers = helpers; entries = entries }
+
+-- This holds of some store that may have been behind the lock, and whose entries since it was shared are the first of these.
+abbrev pub AtFront : SharedStart → List Entry → (StoreState → Type 0) → Type 0
+AtFront shared entries holds = AtSome shared (λ s. BeginsWith entries (since shared s) × holds s)
+
+-- A collection left so many vertices: of two such stores with the same entries, it made the second out of the first.
+abbrev pub LeavesAtFront : SharedStart → List Entry → Kind → ℕ → Type 0
+LeavesAtFront shared entries k number = AtFront shared entries (λ old. AtFront shared entries (λ new. (new.entries ≡ old.entries) × IsSwept k old new number))
 
 -- the store had this opening, so many blocks at most, and no entry when it was shared
 pub record IsNewStore (opening : Plan) (blocks : ℕ) (shared : SharedStart) : Type 0 where
@@ -78,53 +89,53 @@ LacksCellsOf s x (deed.Create label law state) = LacksCellsFor s.heap.table (nur
 LacksCellsOf s x (deed.Spawn label law state) = LacksCellsFor s.heap.table (nursery_space (nursery_of s.heap x)) 1 x (graph_of_store s).made
 LacksCellsOf s x (deed.Plain command) = AddsEdge command × LacksCellsToServe s.heap.table (nursery_of s.heap x) x command
 
--- A refusal of the store, to this deed of a worker that is a subject: memory was wanting; or room in the heap, and then of a store
--- that may have been there the deed was allowed, and lacked cells.
-abbrev pub IsOfStore : SharedStart → ℕ → Deed → Refusal → Type 0
-IsOfStore shared x d refusal.Memory = Unit {0}
-IsOfStore shared x d refusal.Heap = AtSome shared (λ s. IsAllowed (graph_of_store s) x d × LacksCellsOf s x d)
-IsOfStore shared x d refusal.Worker = ⊥
-IsOfStore shared x d refusal.Vertices = ⊥
-IsOfStore shared x d refusal.Workers = ⊥
-IsOfStore shared x d refusal.Threads = ⊥
-IsOfStore shared x d refusal.Stock = ⊥
+-- A refusal of the store, to this deed of a worker that is a subject: memory ran out; or room in the heap did, and then of a store
+-- with the first of these entries the deed was allowed, and lacked cells.
+abbrev pub IsOfStore : SharedStart → List Entry → ℕ → Deed → Refusal → Type 0
+IsOfStore shared entries x d refusal.Memory = Unit {0}
+IsOfStore shared entries x d refusal.Heap = AtFront shared entries (λ s. IsAllowed (graph_of_store s) x d × LacksCellsOf s x d)
+IsOfStore shared entries x d refusal.Worker = ⊥
+IsOfStore shared entries x d refusal.Vertices = ⊥
+IsOfStore shared entries x d refusal.Workers = ⊥
+IsOfStore shared entries x d refusal.Threads = ⊥
+IsOfStore shared entries x d refusal.Stock = ⊥
 
 -- x asked for the deed: its entry has both, and the answer is the entry's reply; or else the store refused
-abbrev pub EntersOrRefuses : SharedStart → ℕ → Deed → Option Entry → Answer → Type 0
-EntersOrRefuses shared x d (Some e) a = (e.worker ≡ x) × (e.deed ≡ d) × (a ≡ told.Reply e.reply)
-EntersOrRefuses shared x d None a = (r : Refusal) × IsOfStore shared x d r × (a ≡ told.Refused r)
+abbrev pub EntersOrRefuses : SharedStart → List Entry → ℕ → Deed → Option Entry → Answer → Type 0
+EntersOrRefuses shared entries x d (Some e) a = (e.worker ≡ x) × (e.deed ≡ d) × (a ≡ told.Reply e.reply)
+EntersOrRefuses shared entries x d None a = (r : Refusal) × IsOfStore shared entries x d r × (a ≡ told.Refused r)
 
 -- x asked for a vertex, an object or a subject, with this box or with none
-abbrev pub IsMade : SharedStart → ℕ → (Value → Deed) → Option Value → Option Entry → Answer → Type 0
-IsMade shared x making (Some value) e a = EntersOrRefuses shared x (making value) e a
-IsMade shared x making None e a = IsRefused refusal.Stock e a
+abbrev pub IsMade : SharedStart → List Entry → ℕ → (Value → Deed) → Option Value → Option Entry → Answer → Type 0
+IsMade shared entries x making (Some value) e a = EntersOrRefuses shared entries x (making value) e a
+IsMade shared entries x making None e a = IsRefused refusal.Stock e a
 
 -- this is told where the worker's lines are run, and else that there is no such worker
 abbrev pub IsServed : Bool → Type 0 → Option Entry → Answer → Type 0
 IsServed true asked e a = asked
 IsServed false asked e a = IsRefused refusal.Worker e a
 
--- what a collection tells of the vertices that it left: of a full one the number, which it left of a store that may have been there
-abbrev pub IsCountTold : SharedStart → Kind → Option ℕ → Type 0
-IsCountTold shared kind.Full kept = (n : ℕ) × LeavesAtSome shared kind.Full n × (kept ≡ Some n)
-IsCountTold shared kind.Nursery kept = kept ≡ None
+-- what a collection tells of the vertices that it left: of a full one the number, of a store with the first of these entries
+abbrev pub IsCountTold : SharedStart → List Entry → Kind → Option ℕ → Type 0
+IsCountTold shared entries kind.Full kept = (n : ℕ) × LeavesAtFront shared entries kind.Full n × (kept ≡ Some n)
+IsCountTold shared entries kind.Nursery kept = kept ≡ None
 
--- A collection was refused: room in the heap was wanting of a store that may have been there, or else memory or threads were.
+-- A collection was refused: a store with the first of the arena's entries lacked room in the heap, or else memory or threads were lacking.
 pub record IsUncollected (arena : Arena) (k : Kind) (r : Refusal) : Type 0 where
   pub want : MayWant arena.helpers r
-  pub full : r ≡ refusal.Heap → AtSome arena.shared (λ s. LacksRoomToCollect k arena.helpers s.heap)
+  pub full : r ≡ refusal.Heap → AtFront arena.shared arena.entries (λ s. LacksRoomToCollect k arena.helpers s.heap)
 
 -- a collection has no entry
 abbrev pub IsCollected : Arena → Kind → Option Entry → Answer → Type 0
 IsCollected arena k e a =
-    (e ≡ None) × (((kept : Option ℕ) × IsCountTold arena.shared k kept × (a ≡ told.Collected kept)) ⊎ ((r : Refusal) × IsUncollected arena k r × (a ≡ told.Refused r)))
+    (e ≡ None) × (((kept : Option ℕ) × IsCountTold arena.shared arena.entries k kept × (a ≡ told.Collected kept)) ⊎ ((r : Refusal) × IsUncollected arena k r × (a ≡ told.Refused r)))
 
 -- What is told of a line, where the lines of these workers are run.
 abbrev pub Tells : Arena → (ℕ → Bool) → Line → Option Value → Option Entry → Answer → Type 0
 Tells arena served (line.Edge edge) box e a = ⊥
-Tells arena served (line.Create x label) box e a = IsServed (served x) (IsMade arena.shared x (create_of label) box e a) e a
-Tells arena served (line.Spawn x label) box e a = IsServed (served x) (IsMade arena.shared x (spawn_of label) box e a) e a
-Tells arena served (line.Plain x command) box e a = IsServed (served x) (EntersOrRefuses arena.shared x (deed.Plain command) e a) e a
+Tells arena served (line.Create x label) box e a = IsServed (served x) (IsMade arena.shared arena.entries x (create_of label) box e a) e a
+Tells arena served (line.Spawn x label) box e a = IsServed (served x) (IsMade arena.shared arena.entries x (spawn_of label) box e a) e a
+Tells arena served (line.Plain x command) box e a = IsServed (served x) (EntersOrRefuses arena.shared arena.entries x (deed.Plain command) e a) e a
 Tells arena served line.Full box e a = IsCollected arena kind.Full e a
 Tells arena served line.Minor box e a = IsCollected arena kind.Nursery e a
 
@@ -156,7 +167,8 @@ entry_race p entries replies = history_text p entries
 -- The text may be written for these lines: their opening is accepted, and there is a legal history of it whose entries are those of
 -- the command lines, one for each that has one and no other, each worker's in script order; and the replies tell in script order
 -- the reply of each entry where its line stands, a refusal for each command line without an entry, and one line for each
--- collection, where the store was one of that opening when it was shared. Of these the text is made.
+-- collection. The store was one of that opening when it was shared. A refusal for room in the heap, and the number of a collection, are
+-- of a store that may have been behind the lock with the first of these entries. Of the replies the text is made.
 pub record IsRaceOutput (race_text : RaceText) (start : Start) (lines : List Line) (text : List ℕ) : Type 0 where
   pub shared : SharedStart
   pub entries : List Entry
@@ -165,7 +177,7 @@ pub record IsRaceOutput (race_text : RaceText) (start : Start) (lines : List Lin
   pub new : IsNewStore (plan_of start lines) start.blocks shared
   pub plan : IsPlan (plan_of start lines)
   pub legal : IsLegal (scene_of start lines).graph entries
-  pub told : AreTold (arena_of shared start.helpers) (has_thread start.workers) (boxed start.stock (commands_of lines)) made replies
+  pub told : AreTold (arena_of shared start.helpers entries) (has_thread start.workers) (boxed start.stock (commands_of lines)) made replies
   pub each : HasEach entries made
   pub text_is : text ≡ race_text (plan_of start lines) entries replies
 

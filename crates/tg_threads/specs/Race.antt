@@ -24,6 +24,7 @@ use Rattle.tg_threads.specs.declared.threads.ThreadsFault.TheVariants as threads
 use Rattle.tg_threads.specs.declared.race.Opened.{Opened}
 use Rattle.tg_threads.specs.declared.race.Raced.{Raced}
 use Rattle.tg_weave.specs.Boxes.{boxed}
+use Rattle.tg_passes.specs.Passes.{BeginsWith, entries_of}
 use Rattle.tg_shared.specs.Sessions.{AreSharedOut, MayClose, SessionState, SharedStart, handed_of}
 use Rattle.tg_script.specs.Entering.{plan_of}
 use Rattle.tg_threads.specs.Output.{IsNewStore, IsRaceOutput, RaceText, arena_of}
@@ -150,7 +151,7 @@ pub record MayRace (opening : Plan) (entries : List Entry) (lines : List Line) :
 pub record RunsRace {P : Type 0} (helpers blocks : ℕ) (opening : Plan) (stock : List Value) (lines : List Line)
     (result : Result (Raced P) RaceFault) : Type 0 where
   pub raced : IfOk result (λ raced. (shared : SharedStart) × IsNewStore opening blocks shared × (raced.store.opening ≡ opening)
-      × AreRaced (arena_of shared helpers) opening.workers (boxed stock lines) raced.store.entries raced.told.items
+      × AreRaced (arena_of shared helpers raced.store.entries) opening.workers (boxed stock lines) raced.store.entries raced.told.items
       × (raced.store.handed ≡ 0))
   pub fault : IfErr result IsBeforeWriting
 
@@ -160,11 +161,13 @@ pub record MayCloseRace (start : SharedStart) (sessions : List SessionState) : T
   pub none_ended : start.may_end ≡ false
   pub none_handed : handed_of sessions ≡ 0
 
--- the store that is had back with these sessions: each entry is one of their receipts, and nothing was handed out
+-- The store that comes back with these sessions: each entry is one of their receipts, its entries begin with those that each has seen,
+-- and nothing was handed out.
 pub record IsClosedRace (start : SharedStart) (sessions : List SessionState) (store : StoreState) : Type 0 where
   pub opening : store.opening ≡ start.opening
   pub matching : MayClose store.entries 0 sessions
   pub shared_out : AreSharedOut store.entries sessions
+  pub seen : All (λ s. BeginsWith store.entries (entries_of s.seen)) sessions
   pub none_handed : store.handed ≡ 0
 
 -- the whole script was read, and a store of its opening has no entry yet

@@ -18,7 +18,8 @@ use Rattle.tg_text.specs.declared.answer.Answer.TheVariants as answer
 use Rattle.tg_text.specs.declared.answer.Refusal.TheVariants as refusal
 use Rattle.tg_shared.specs.declared.receipt.Receipt.{Receipt}
 use Rattle.tg_shared.specs.Receipts.{receipt_of}
-use Rattle.tg_shared.specs.Sessions.{AddsReceipt, AreFresh, AtKnown, KeepsReceipts, SessionState, SharedStart}
+use Rattle.tg_passes.specs.Passes.{BeginsWith, entries_of}
+use Rattle.tg_shared.specs.Sessions.{AddsReceipt, AreFresh, AtSeen, HasLooked, KeepsReceipts, SessionState, SharedStart}
 use Rattle.std.specs.declared.thread.PromisedHandle.{PromisedHandle}
 use Rattle.tg_threads.specs.declared.threads.Assigned.{Assigned}
 use Rattle.tg_threads.specs.declared.threads.ThreadsFault.{ThreadsFault}
@@ -31,7 +32,7 @@ use Rattle.tg_weave.specs.declared.work.Finished.{Finished}
 use Rattle.tg_weave.specs.Boxes.{Boxed, boxed_of}
 use Rattle.tg_weave.specs.Shares.{runner_of, lines_of, lines_in}
 use Rattle.tg_weave.specs.Telling.{IsThere, text_of_told}
-use Rattle.tg_threads.specs.Output.{Arena, Tells, IsCountTold, IsOfStore, IsUncollected, AreTold, HasEach, has_thread, is_retire_of}
+use Rattle.tg_threads.specs.Output.{Arena, Tells, IsCountTold, IsOfStore, IsUncollected, AreTold, HasEach, arena_of, has_thread, is_retire_of}
 
 -- ---- what a line comes to
 
@@ -64,11 +65,12 @@ RunsOne arena served b (came.Entered at) more = (e : Entry) × (more ≡ receipt
 RunsOne arena served b (came.Collected kept) more = (more ≡ []) × Tells arena served b.line b.value None (answer.Collected kept)
 RunsOne arena served b (came.Refused r) more = (more ≡ []) × Tells arena served b.line b.value None (answer.Refused r)
 
--- a session asked for the deed: exactly one receipt more, with it and the reply, or a refusal of the store
+-- A session asked for the deed: exactly one receipt more, with it and the reply; or a refusal of the store, which had the entries that
+-- the session has then seen. What the session has seen begins with what it had seen.
 abbrev pub HasAsked : SharedStart → Deed → Told → SessionState → SessionState → Type 0
-HasAsked shared d (came.Entered at) old new = (reply : Reply) × AddsReceipt old new at d reply
+HasAsked shared d (came.Entered at) old new = (reply : Reply) × AddsReceipt old new at d reply × BeginsWith new.seen old.seen
 HasAsked shared d (came.Collected kept) old new = ⊥
-HasAsked shared d (came.Refused r) old new = IsOfStore shared old.worker d r × KeepsReceipts old new
+HasAsked shared d (came.Refused r) old new = IsOfStore shared (entries_of new.seen) old.worker d r × HasLooked old new
 
 -- a session asked for a vertex, an object or a subject, with this box; without one it asked for nothing
 abbrev pub HasMade : SharedStart → (Value → Deed) → Option Value → Told → SessionState → SessionState → Type 0
@@ -78,12 +80,12 @@ HasMade shared making None t old new = (t ≡ came.Refused refusal.Stock) × Kee
 -- the heap was collected, or memory, room or threads were wanting
 abbrev pub HasCollected : Arena → Kind → Told → Type 0
 HasCollected arena k (came.Entered at) = ⊥
-HasCollected arena k (came.Collected kept) = IsCountTold arena.shared k kept
+HasCollected arena k (came.Collected kept) = IsCountTold arena.shared arena.entries k kept
 HasCollected arena k (came.Refused r) = IsUncollected arena k r
 
--- a session ran the line, where the lines of these workers are run
+-- A session ran the line, where the lines of these workers are run. What it has seen begins with what it had seen.
 abbrev pub HasRun : Arena → (ℕ → Bool) → Boxed → Told → SessionState → SessionState → Type 0
-HasRun arena served b t old new = (more : List Receipt) × (new.worker ≡ old.worker) × (new.receipts ≡ old.receipts ++ more) × (new.handed ≡ old.handed) × RunsOne arena served b t more
+HasRun arena served b t old new = (more : List Receipt) × (new.worker ≡ old.worker) × (new.receipts ≡ old.receipts ++ more) × (new.handed ≡ old.handed) × RunsOne arena served b t more × BeginsWith new.seen old.seen
 
 -- these lines were run one after the other, came to this, and these are the receipts
 abbrev pub Runs : Arena → (ℕ → Bool) → List Boxed → List Told → List Receipt → Type 0
@@ -96,10 +98,10 @@ abbrev pub IsRunBy : ℕ → ℕ → Boxed → Type 0
 IsRunBy workers x b = runner_of workers b.line ≡ Some x
 
 -- What is told of a line of a session's worker is this; or else there is a fault, and the worker is no subject of a store that may have
--- been behind the lock, and of which the session knows what it does.
-pub record IsToldOrGone (start : SharedStart) (session : SessionState) (IsTold : Told → Type 0) (result : Result Told ThreadsFault) : Type 0 where
+-- been behind the lock with exactly the entries that the session has then seen.
+pub record IsToldOrGone (start : SharedStart) (old new : SessionState) (IsTold : Told → Type 0) (result : Result Told ThreadsFault) : Type 0 where
   pub asked : IfOk result IsTold
-  pub gone : IfErr result (λ why. (why ≡ threads.NoSuchWorker) × AtKnown start session (λ s. ¬ IsSubject (graph_of_store s) session.worker))
+  pub gone : IfErr result (λ why. (why ≡ threads.NoSuchWorker) × AtSeen start new.seen (λ s. ¬ IsSubject (graph_of_store s) old.worker))
 
 -- the session never had a receipt
 abbrev pub HadNone : SessionState → Type 0
@@ -127,9 +129,13 @@ abbrev pub Brings : Arena → ℕ → ℕ → List Boxed → Finished SessionSta
 Brings arena workers x bs f =
     x < workers → All (IsRunBy workers x) bs → (f.session.worker ≡ x) × Runs arena (has_thread workers) bs f.told.items f.session.receipts × AreFresh (subjects_spawned f.session.receipts) f.spawned.items × (f.session.handed ≡ 0)
 
+-- the arena as a session has it that came back: with the entries that it has seen
+abbrev pub arena_seen : SharedStart → ℕ → Finished SessionState → Arena
+arena_seen shared helpers f = arena_of shared helpers (entries_of f.session.seen)
+
 -- it ran these lines, or else there is a fault, but for want of a thread there is none
-pub record RunsTasks (arena : Arena) (workers x : ℕ) (bs : List Boxed) (result : Result (Finished SessionState) ThreadsFault) : Type 0 where
-  pub brought : IfOk result (λ finished. Brings arena workers x bs finished)
+pub record RunsTasks (shared : SharedStart) (helpers workers x : ℕ) (bs : List Boxed) (result : Result (Finished SessionState) ThreadsFault) : Type 0 where
+  pub brought : IfOk result (λ finished. Brings (arena_seen shared helpers finished) workers x bs finished)
   pub fault : IfErr result (λ fault. fault ≢ threads.NoThread)
 
 -- the worker, and the lines that its thread is given
@@ -145,10 +151,11 @@ abbrev pub promised_by : {T P : Type 0} → PromisedHandle T (Assigned P) → �
 promised_by h = (h.promise.worker, map boxed_of h.promise.tasks.value.items)
 
 -- each of them ran its lines
-abbrev pub AllBring : Arena → ℕ → List (ℕ × List Boxed) → List (Finished SessionState) → Type 0
-AllBring arena workers [] all = all ≡ []
-AllBring arena workers (a ∷ given) all =
-    (f : Finished SessionState) × (more : List (Finished SessionState)) × (all ≡ f ∷ more) × Brings arena workers a.0 a.1 f × AllBring arena workers given more
+abbrev pub AllBring : SharedStart → ℕ → ℕ → List (ℕ × List Boxed) → List (Finished SessionState) → Type 0
+AllBring shared helpers workers [] all = all ≡ []
+AllBring shared helpers workers (a ∷ given) all =
+    (f : Finished SessionState) × (more : List (Finished SessionState)) × (all ≡ f ∷ more) × Brings (arena_seen shared helpers f) workers a.0 a.1 f
+    × AllBring shared helpers workers given more
 
 -- ---- what it is with the journal at hand
 

@@ -1,7 +1,6 @@
 //! The threads of the workers.
 ghost use Rattle.std.specs.Prelude.{◌≡◌, ◌≢◌, ℕ, IfOk, IfErr, map};
 ghost use Rattle.std.specs.List.{All};
-ghost use Rattle.tg_threads.specs.Output.{arena_of};
 ghost use Rattle.tg_threads.specs.Tasks.{AllBring, HadNone, RunsTasks, assigned_of, promised_by};
 ghost use Rattle.tg_weave.specs.Boxes.{boxed_of};
 
@@ -70,11 +69,10 @@ pub(crate) struct Assigned<P: Payload> {
 impl<L: Round, P: Payload> Promise<Result<Finished<L>, ThreadsFault>> for Assigned<P> {
     ghost use Rattle.std.specs.Prelude.{◌≢◌, IfErr, IfOk, map};
     ghost use Rattle.tg_threads.specs.declared.threads.ThreadsFault.TheVariants.{NoThread};
-    ghost use Rattle.tg_threads.specs.Output.{arena_of};
-    ghost use Rattle.tg_threads.specs.Tasks.{Brings};
+    ghost use Rattle.tg_threads.specs.Tasks.{Brings, arena_seen};
     ghost use Rattle.tg_weave.specs.Boxes.{boxed_of};
 
-    ghost kept_by = { λ p r. IfErr r (λ fault. fault ≢ NoThread) × IfOk r (λ finished. Brings (arena_of L.start p.helpers) L.start.opening.workers p.worker (map boxed_of p.tasks.value.items) finished) };
+    ghost kept_by = { λ p r. IfErr r (λ fault. fault ≢ NoThread) × IfOk r (λ finished. Brings (arena_seen L.start p.helpers finished) L.start.opening.workers p.worker (map boxed_of p.tasks.value.items) finished) };
 }
 
 /// Gives each worker a thread that runs its lines, and waits for all of them. What they bring back stands in the order
@@ -95,14 +93,14 @@ pub fn run_threads<
     works: Vec<Work<L, P>>,
 ) -> Result<Vec<Finished<L>>, ThreadsFault>
     requires fresh { All (λ w. HadNone w.session) works.items }
-    ensures { IfOk result (λ all. AllBring (arena_of L.start helpers) L.start.opening.workers (map assigned_of works.items) all.items) }
+    ensures { IfOk result (λ all. AllBring L.start helpers L.start.opening.workers (map assigned_of works.items) all.items) }
 {
     thread::scope(
         thread::scope_env(),
         rt,
         |scope| -> Result<Vec<Finished<L>>, ThreadsFault>
             requires { All (λ w. HadNone w.session) works.items }
-            ensures { IfOk result (λ all. AllBring (arena_of L.start helpers) L.start.opening.workers (map assigned_of works.items) all.items) }
+            ensures { IfOk result (λ all. AllBring L.start helpers L.start.opening.workers (map assigned_of works.items) all.items) }
         {
             let handles = start_all(rt, alloc, scope, store, turnstile, helpers, works)?;
             join_all(rt, alloc, handles)
@@ -171,7 +169,7 @@ fn start<
         assigned,
         move || -> Result<Finished<L>, ThreadsFault>
             requires { HadNone session }
-            ensures ran { RunsTasks (arena_of L.start helpers) L.start.opening.workers session.worker (map boxed_of tasks.items) result }
+            ensures ran { RunsTasks L.start helpers L.start.opening.workers session.worker (map boxed_of tasks.items) result }
         { run_tasks(rt, alloc, store, turnstile, helpers, session, tasks) },
     ) else {
         return Err(ThreadsFault::NoThread);
@@ -185,7 +183,7 @@ fn join_all<L: Round, P: Payload, R: Threads>(
     alloc: Global,
     handles: Vec<PromisedHandle<Result<Finished<L>, ThreadsFault>, Assigned<P>>>,
 ) -> Result<Vec<Finished<L>>, ThreadsFault>
-    ensures brought { (helpers : ℕ) → All (λ h. h.promise.helpers ≡ helpers) handles.items → IfOk result (λ all. AllBring (arena_of L.start helpers) L.start.opening.workers (map promised_by handles.items) all.items) }
+    ensures brought { (helpers : ℕ) → All (λ h. h.promise.helpers ≡ helpers) handles.items → IfOk result (λ all. AllBring L.start helpers L.start.opening.workers (map promised_by handles.items) all.items) }
     ensures fault { IfErr result (λ fault. fault ≢ ThreadsFault.NoThread) }
 {
     let mut all = Vec::new(alloc);

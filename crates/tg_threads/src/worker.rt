@@ -9,7 +9,8 @@ ghost use Rattle.tg_store.specs.Room.{LacksRoomToCollect};
 ghost use Rattle.tg_store.specs.Store.{graph_of_store};
 ghost use Rattle.tg_script.specs.Refusals.{create_answer};
 ghost use Rattle.tg_script.specs.Script.{MayWant, create_of, spawn_of};
-ghost use Rattle.tg_shared.specs.Sessions.{AtKnown, AtSome, LeavesAtSome};
+ghost use Rattle.tg_passes.specs.Passes.{entries_of};
+ghost use Rattle.tg_shared.specs.Sessions.{AtSeen, HasLooked, LeavesAtSeen};
 ghost use Rattle.tg_shared.specs.declared.receipt.Receipt.{Receipt as ReceiptOf};
 ghost use Rattle.tg_text.specs.declared.answer.Refusal.{Refusal as RefusalOf};
 ghost use Rattle.tg_threads.specs.Output.{arena_of, is_retire_of};
@@ -48,7 +49,7 @@ pub(crate) fn run_tasks<L: Round, P: Payload, G: Turnstile, R: Threads + Wait + 
     tasks: Vec<Task<P>>,
 ) -> Result<Finished<L>, ThreadsFault>
     requires fresh { HadNone session }
-    ensures ran { RunsTasks (arena_of L.start helpers) L.start.opening.workers session.worker (map boxed_of tasks.items) result }
+    ensures ran { RunsTasks L.start helpers L.start.opening.workers session.worker (map boxed_of tasks.items) result }
 {
     let mut told = Vec::with_capacity(alloc, tasks.len())?;
     let mut spawned = Vec::with_capacity(alloc, spawn_lines(tasks.as_slice()))?;
@@ -126,9 +127,9 @@ fn run_task<L: Round, P: Payload, R: Threads + Wait + Sync>(
 ) -> Result<Told, ThreadsFault>
     requires room { may_make_subject task ≡ true → vec_len spawned.old < vec_capacity spawned.old }
     ensures run { (workers : ℕ) (before : ℕ → Bool) → before session.old.worker ≡ served → IsRunBy workers session.old.worker (boxed_of task) →
-        IfOk result (λ told. HasRun (arena_of L.start helpers) before (boxed_of task) told session.old session.new) }
+        IfOk result (λ told. HasRun (arena_of L.start helpers (entries_of session.new.seen)) before (boxed_of task) told session.old session.new) }
     ensures spawned { KeepsSpawned (if may_make_subject task then 1 else 0) session.old session.new spawned.old spawned.new result }
-    ensures gone { IfErr result (λ why. (why ≡ ThreadsFault.NoSuchWorker) × AtKnown L.start session.old (λ s. ¬ IsSubject (graph_of_store s) session.old.worker)) }
+    ensures gone { IfErr result (λ why. (why ≡ ThreadsFault.NoSuchWorker) × AtSeen L.start session.new.seen (λ s. ¬ IsSubject (graph_of_store s) session.old.worker)) }
 {
     let Task { line, draft } = task;
     if is_refused(served, &line) {
@@ -151,7 +152,7 @@ fn apply<L: Round, P: Payload, R: Wait>(
     session: &mut Session<L>,
     command: Command,
 ) -> Result<Told, ThreadsFault>
-    ensures told { IsToldOrGone L.start session.old (λ told. HasAsked L.start (Deed.Plain command) told session.old session.new) result }
+    ensures told { IsToldOrGone L.start session.old session.new (λ told. HasAsked L.start (Deed.Plain command) told session.old session.new) result }
 {
     match session.call(rt, store, command) {
         Ok(_) => Ok(last_told(session)),
@@ -168,7 +169,7 @@ fn create<L: Round, P: Payload, R: Wait>(
     label: Label,
     draft: Option<Draft<P>>,
 ) -> Result<Told, ThreadsFault>
-    ensures told { IsToldOrGone L.start session.old (λ told. HasMade L.start (create_of label) draft told session.old session.new) result }
+    ensures told { IsToldOrGone L.start session.old session.new (λ told. HasMade L.start (create_of label) draft told session.old session.new) result }
 {
     let Some(draft) = draft else {
         return Ok(Told::Refused(Refusal::Stock));
@@ -193,7 +194,7 @@ fn spawn<L: Round, P: Payload, R: Wait>(
     draft: Option<Draft<P>>,
 ) -> Result<Told, ThreadsFault>
     requires room { vec_len spawned.old < vec_capacity spawned.old }
-    ensures told { IsToldOrGone L.start session.old (λ told. HasMade L.start (spawn_of label) draft told session.old session.new) result }
+    ensures told { IsToldOrGone L.start session.old session.new (λ told. HasMade L.start (spawn_of label) draft told session.old session.new) result }
     ensures spawned { KeepsSpawned 1 session.old session.new spawned.old spawned.new result }
 {
     let Some(draft) = draft else {
@@ -236,10 +237,11 @@ fn collect<L: Round, P: Payload, R: Threads + Wait + Sync>(
     rt: &R,
     store: &SharedStore<L, P>,
     helpers: Helpers,
-    session: &Session<L>,
+    session: &mut Session<L>,
     kind: Kind,
 ) -> Told
-    ensures { HasCollected (arena_of L.start helpers) kind result }
+    ensures collected { HasCollected (arena_of L.start helpers (entries_of session.new.seen)) kind result }
+    ensures looked { HasLooked session.old session.new }
 {
     match (collect_by(rt, store, helpers, session, kind, &NoGate), kind) {
         (Ok(kept), Kind::Full) => Told::Collected(Some(kept)),
@@ -251,20 +253,22 @@ fn collect<L: Round, P: Payload, R: Threads + Wait + Sync>(
 /// A race's collection, which a worker's thread asks its session for: by so many helpers, each of whom passes the gate.
 /// One helper is that thread, which collects alone and passes no gate. Answers how many vertices the heap then has.
 ///
-/// Of a store that may have been behind the lock `Heap` was due, where each of several helpers may leave a block open;
-/// `Threads` is answered of several helpers alone, where a thread couldn't be started; else `Memory` alone.
+/// `Heap` was due of a store with exactly the entries that the session has then seen, where each of several helpers may
+/// leave a block open. `Threads` is answered of several helpers alone, where a thread couldn't be started. The only
+/// other refusal is `Memory`.
 pub fn collect_by<L: Round, P: Payload, R: Threads + Wait + Sync, G: Gate>(
     rt: &R,
     store: &SharedStore<L, P>,
     helpers: Helpers,
-    session: &Session<L>,
+    session: &mut Session<L>,
     kind: Kind,
     gate: &G,
 ) -> Result<u64, Refusal>
-    ensures number { IfOk result (LeavesAtSome L.start kind) }
+    ensures number { IfOk result (LeavesAtSeen L.start session.new.seen kind) }
     ensures refused { IfErr result (MayWant helpers) }
-    ensures full { IfErr result (λ why. why ≡ Refusal.Heap → AtSome L.start (λ s.
+    ensures full { IfErr result (λ why. why ≡ Refusal.Heap → AtSeen L.start session.new.seen (λ s.
         LacksRoomToCollect kind helpers s.heap)) }
+    ensures looked { HasLooked session.old session.new }
 {
     let number = helpers.number();
     if number == 1 {

@@ -12,7 +12,7 @@ invariant-loop-subject g l = record {
   fresh : AreFresh (names_of (take l.subject-index l.fn.subjects)) l.sessions.items;
   parts : l.rest.parts + l.subject-index ≡ l.fn.rest.parts;
   amount : l.rest.amount ≡ 0;
-  none_noted : l.roll.entries ≡ [];
+  none_noted : l.roll.signed ≡ [];
   later : (j : ℕ) (d : Subject) → l.subject-index ≤ j → j < length l.fn.subjects → l.roll.below ≤ (slice_index_or l.fn.subjects j d).name;
   most : (made : ℕ) → All (λ s. s.name < made) l.fn.subjects → l.roll.below ≤ made;
 }

@@ -2,9 +2,11 @@ use Rattle.std.proofs.Common.{◌≡◌, ◌<◌, ◌≤◌, ◌+◌, ◌∙◌,
 use Rattle.std.specs.List.{All}
 use Rattle.std.specs.List.Sorted.{IsPermutation}
 use Rattle.tg_store.specs.Store.{StoreState}
-use Rattle.tg_shared.specs.Closing.{IsGivenBack}
+use Rattle.tg_passes.specs.declared.signed.Maker.TheVariants.{Keeper}
+use Rattle.tg_passes.specs.Passes.{entries_by}
+use Rattle.tg_shared.specs.Closing.{IsGivenBack, IsSignedBy}
 use Rattle.tg_shared.specs.Sessions.{AreSharedOut, HasAll, SessionState, count_of, handed_of, held_from, parts_of, sessions_made}
-use Rattle.tg_shared.proofs.Sharing.{among, as_counted, still_among}
+use Rattle.tg_shared.proofs.Sharing.{among, as_counted, still_among, unended}
 use Rattle.tg_shared.proofs.shared.close.Goals as goal
 
 lt-le : {a b d : ℕ} → a < b → b ≤ d → a < d
@@ -29,7 +31,8 @@ returns-in-Ok g c =
       count = λ no. subst (λ (s : StoreState). length s.entries ≡ start + handed_of items + count_of items) same (as_counted start locked.entered (handed_of items) (count_of items) here c.in-Ok.ensures.count (none no));
       shared_out = λ no. subst (λ (s : StoreState). start + handed_of items ≡ held_from g.L.Round.start s → AreSharedOut (drop (held_from g.L.Round.start s) s.entries) items) same (c.in-Ok.ensures.shared_out (none no));
       none_handed = λ no. subst (λ (s : StoreState). handed_of items ≡ 0 → held_from g.L.Round.start s ≡ start) same (c.in-Ok.ensures.none_handed (none no));
-      single = λ never. subst (λ (s : StoreState). All (HasAll (drop start s.entries)) items) same (c.in-Ok.ensures.single never);
+      single = λ never. subst (λ (s : StoreState). All (HasAll (drop start s.entries)) items) same (unended (drop start locked.store.entries) (entries_by Keeper locked.signed) items (c.into_locked-locked.ensures.grown_by.none_ended never) c.in-Ok.ensures.single);
+      signed = (locked.signed, subst (λ (s : StoreState). IsSignedBy g.L.Round.start s items locked.signed) same c.in-Ok.ensures.signed);
       whole = λ is no. subst (λ (s : StoreState). AreSharedOut (drop start s.entries) items) same (c.in-Ok.ensures.whole is (none no));
       all = subst (λ (s : StoreState). parts_of items ≡ sessions_made g.L.Round.start s.entries) same (c.in-Ok.ensures.all ∙ c.into_locked-locked.ensures.sessions);
       missing = tt;
@@ -48,6 +51,7 @@ returns-in-Err g c =
       shared_out = λ _. tt;
       none_handed = λ _. tt;
       single = λ _. tt;
+      signed = tt;
       whole = λ _ _. tt;
       missing = λ is. (
         locked.store,

@@ -2,9 +2,11 @@ use Rattle.std.proofs.Common.{◌≡◌, ◌≤◌, ◌+◌, ◌∙◌, ℕ, Lis
 use Rattle.std.specs.List.{All}
 use Rattle.std.specs.List.Sorted.{IsPermutation}
 use Rattle.tg_store.specs.Store.{StoreState}
-use Rattle.tg_shared.specs.Closing.{IsGivenBack}
+use Rattle.tg_passes.specs.declared.signed.Maker.TheVariants.{Keeper}
+use Rattle.tg_passes.specs.Passes.{entries_by}
+use Rattle.tg_shared.specs.Closing.{IsGivenBack, IsSignedBy}
 use Rattle.tg_shared.specs.Sessions.{HasAll, SessionState, count_of, handed_of, parts_of, sessions_made}
-use Rattle.tg_shared.proofs.Sharing.{among, as_counted, still_among}
+use Rattle.tg_shared.proofs.Sharing.{among, as_counted, still_among, unended}
 use Rattle.tg_shared.proofs.shared.reclaim.Goals as goal
 
 pub returns-in-Ok : goal.returns-in-Ok
@@ -27,7 +29,8 @@ returns-in-Ok g c =
       count = λ no.
           subst (λ (s : StoreState). parts_of items ≡ sessions_made g.L.Round.start s.entries → length s.entries ≡ start + handed_of items + count_of items) same
           (λ all. as_counted start locked.entered (handed_of items) (count_of items) (length locked.store.entries) (sums.count (all ∙ sym made)) (c.into_locked-locked.ensures.none_ended no));
-      single = λ never. subst (λ (s : StoreState). All (HasAll (drop start s.entries)) items) same (c.in-Ok.ensures.single never);
+      single = λ never. subst (λ (s : StoreState). All (HasAll (drop start s.entries)) items) same (unended (drop start locked.store.entries) (entries_by Keeper locked.signed) items (c.into_locked-locked.ensures.grown_by.none_ended never) c.in-Ok.ensures.single);
+      signed = (locked.signed, subst (λ (s : StoreState). IsSignedBy g.L.Round.start s items locked.signed) same c.in-Ok.ensures.signed);
       mismatch = tt;
       handed_back = tt;
     }
@@ -40,6 +43,7 @@ returns-in-Err g c =
       within = tt;
       count = λ _. tt;
       single = λ _. tt;
+      signed = tt;
       mismatch = (
         c.back_behind_its_lock.ensures.1 ∙ c.in-Err.ensures.only,
         (

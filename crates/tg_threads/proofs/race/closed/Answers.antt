@@ -2,7 +2,7 @@ use Rattle.std.proofs.Common.{◌≡◌, ◌∙◌, ℕ, List, ap, arith, drop, 
 use Rattle.std.proofs.Math.Nat.{le-max_right}
 use Rattle.tg_journal.specs.declared.entry.Entry.{Entry}
 use Rattle.tg_shared.specs.Sessions.{AreSharedOut, MayClose, SessionState, held_from}
-use Rattle.tg_threads.proofs.RaceLaws.{unclosed}
+use Rattle.tg_threads.proofs.RaceLaws.{seen_fronts, unclosed}
 use Rattle.tg_threads.proofs.race.closed.Goals as goal
 
 pub returns-in-Ok : goal.returns-in-Ok
@@ -18,6 +18,7 @@ returns-in-Ok g c =
         matching = subst (λ (n : ℕ). MayClose entries n items) since c.in-Ok.ensures.back.matching;
         shared_out = subst (λ (n : ℕ). AreSharedOut (drop n entries) items) since
             (c.in-Ok.ensures.shared_out c.requires.none_ended (omega (arith, first, c.requires.none_handed, since)));
+        seen = seen_fronts start c.in-Ok.store items c.requires.new c.in-Ok.ensures.signed.0 c.in-Ok.ensures.signed.1;
         none_handed = omega (arith, le-max_right (length start.entries) c.in-Ok.store.handed, since);
       };
       due = tt;

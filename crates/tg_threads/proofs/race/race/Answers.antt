@@ -27,7 +27,7 @@ returns-clause-output g c = λ bytes before known taken.
       limits = came.1.limits ∙ ap (λ (l : BlockLimits). l.max_blocks) c.in_ok-opened.ensures.limits;
       none = came.1.none;
     } in
-    let same = raced_same (arena_of shared start.helpers) c.in_ok-opened.opened.store.opening.workers start.workers start.stock c.as_slice.result.now (commands_of lines) store.entries ts
+    let same = raced_same (arena_of shared start.helpers store.entries) c.in_ok-opened.opened.store.opening.workers start.workers start.stock c.as_slice.result.now (commands_of lines) store.entries ts
     c.in_ok-opened.ensures.new.0 (c.as_slice.ensures.value ∙ whole.2) came.3 in (
       opens.0,
       opens.1,

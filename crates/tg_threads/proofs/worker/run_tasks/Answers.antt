@@ -7,8 +7,8 @@ use Rattle.tg_weave.proofs.ShareLaws.{all_came, map_push, one_more}
 use Rattle.tg_threads.specs.Tasks.{IsRunBy, Runs, may_make_subject, served_past}
 use Rattle.tg_weave.specs.declared.task.Task.{Task}
 use Rattle.tg_weave.specs.declared.task.Told.{Told}
-use Rattle.tg_threads.specs.Output.{arena_of, has_thread}
-use Rattle.tg_threads.proofs.RunLaws.{HasRunSo, mapped_at, none_spawned, run_more}
+use Rattle.tg_threads.specs.Output.{has_thread}
+use Rattle.tg_threads.proofs.RunLaws.{HasRunSo, arena_now, mapped_at, none_spawned, run_more}
 use Rattle.tg_threads.proofs.worker.run_tasks.Goals as goal
 
 -- there is room for each line that is left
@@ -54,10 +54,10 @@ loop-task-preserved g c =
           let workers = g.L.Round.start.opening.workers in
           let asked : c.worker-in-loop-task.result ≡ c.run_task.new.session.worker = c.worker-in-loop-task.ensures in
           let by = mapped_at boxed_of (IsRunBy workers x) c.loop-task.yielded c.in-Some.task c.next.new.self.rest.items c.args.tasks.items left all in
-          let more = run_more (arena_of g.L.Round.start c.args.helpers) workers x c.loop-task.served c.is_served_past-served.result (map boxed_of c.loop-task.yielded) c.loop-task.told.items c.loop-task.session c.run_task.new.session (boxed_of c.in-Some.task) c.in_ok-one.one
+          let more = run_more g.L.Round.start c.args.helpers workers x c.loop-task.served c.is_served_past-served.result (map boxed_of c.loop-task.yielded) c.loop-task.told.items c.loop-task.session c.run_task.new.session (boxed_of c.in-Some.task) c.in_ok-one.one
           (c.loop-task.invariant.runs low all) by (λ before is ran. c.in_ok-one.ensures.run workers before is ran) (λ before is. c.is_served_past-served.ensures before (ap before asked ∙ is) ∙ ap (λ (n : ℕ). served_past before c.in-Some.task.line c.in_ok-one.one n) asked) in
-          let P : List Boxed → Type 0 = λ bs. HasRunSo (arena_of g.L.Round.start c.args.helpers) workers x c.is_served_past-served.result bs (c.loop-task.told.items ++ c.in_ok-one.one ∷ []) c.run_task.new.session in
-          let Q : List Told → Type 0 = λ ts. HasRunSo (arena_of g.L.Round.start c.args.helpers) workers x c.is_served_past-served.result (map boxed_of (c.loop-task.yielded ++ c.in-Some.task ∷ [])) ts c.run_task.new.session in
+          let P : List Boxed → Type 0 = λ bs. HasRunSo g.L.Round.start c.args.helpers workers x c.is_served_past-served.result bs (c.loop-task.told.items ++ c.in_ok-one.one ∷ []) c.run_task.new.session in
+          let Q : List Told → Type 0 = λ ts. HasRunSo g.L.Round.start c.args.helpers workers x c.is_served_past-served.result (map boxed_of (c.loop-task.yielded ++ c.in-Some.task ∷ [])) ts c.run_task.new.session in
           subst Q (sym c.in_ok-push.ensures.items) (subst P (sym (map_push boxed_of c.loop-task.yielded c.in-Some.task)) more);
     }
 
@@ -69,7 +69,7 @@ returns g c =
         brought = λ low by.
             let workers = g.L.Round.start.opening.workers in
             let i = c.loop-task.invariant.runs low by in
-            (i.worker, subst (λ (ts : List (Task _)). Runs (arena_of g.L.Round.start c.args.helpers) (has_thread workers) (map boxed_of ts) c.loop-task.told.items c.loop-task.session.receipts) all i.runs, c.loop-task.invariant.spawned, i.handed);
+            (i.worker, subst (λ (ts : List (Task _)). Runs (arena_now g.L.Round.start c.args.helpers c.loop-task.session) (has_thread workers) (map boxed_of ts) c.loop-task.told.items c.loop-task.session.receipts) all i.runs, c.loop-task.invariant.spawned, i.handed);
         fault = tt;
       };
     }

@@ -4,7 +4,7 @@ use Rattle.tg_model.specs.declared.value.Value.{Value}
 use Rattle.tg_script.specs.Script.{spawn_of}
 use Rattle.tg_shared.specs.Sessions.{AreFresh, SessionState}
 use Rattle.tg_threads.specs.Tasks.{HasMade, subjects_spawned}
-use Rattle.tg_threads.proofs.RunLaws.{has_receipt, not_made_asked, not_spawned, of_some, ok_where, one_spawned, still_each}
+use Rattle.tg_threads.proofs.RunLaws.{has_receipt, heap_front, not_made_asked, not_spawned, ok_where, one_spawned, still_each}
 use Rattle.tg_threads.proofs.worker.spawn.Goals as goal
 
 pub returns-in-Err-clause-told : goal.returns-in-Err-clause-told
@@ -13,7 +13,7 @@ returns-in-Err-clause-told g c =
     let new = c.spawn.new.self in
     record {
       asked = subst (λ (box : Option Value). IfOk c.not_made.result (λ t. HasMade g.L.Round.start (spawn_of c.args.label) box t old new)) (sym c.in-Some.is)
-          (not_made_asked g.L.Round.start (spawn_of c.args.label c.in-Some.draft) c.in-Err.refused.why c.not_made.result old new (of_some g.L.Round.start old _ c.in-Err.ensures.refusals.heap_full) c.not_made.ensures.fault c.in-Err.ensures.refusals.full (c.in-Err.ensures.workers_full) (c.in-Err.ensures.refused)
+          (not_made_asked g.L.Round.start (spawn_of c.args.label c.in-Some.draft) c.in-Err.refused.why c.not_made.result old new (heap_front g.L.Round.start new.seen _ c.in-Err.ensures.refusals.heap_full) c.not_made.ensures.fault c.in-Err.ensures.refusals.full (c.in-Err.ensures.workers_full) (c.in-Err.ensures.refused)
           c.not_made.ensures.refused c.not_made.ensures.entered);
       gone = search rules;
     }
@@ -26,7 +26,7 @@ returns-in-Ok-clause-spawned g c =
     let held = c.args.spawned.now.items in
     record {
       each = λ had. subst (λ (ss : List SessionState). AreFresh (subjects_spawned new.receipts) ss) (sym c.push_reserved.ensures.items)
-          (one_spawned old new fresh _ (spawn_of c.args.label c.in-Some.draft) _ held refl c.in-Ok.ensures.receipt.3.0.0 c.in-Ok.ensures.fresh had);
+          (one_spawned old new fresh _ (spawn_of c.args.label c.in-Some.draft) _ held refl c.in-Ok.ensures.receipt.receipt c.in-Ok.ensures.fresh had);
       kept = c.push_reserved.ensures.capacity;
       fits = search rules;
     }
@@ -43,4 +43,4 @@ returns-in-Err-clause-spawned g c =
     }
 
 pub last_told-requires : goal.last_told-requires
-last_told-requires g c = has_receipt c.args.session.now.receipts c.spawn.new.self.receipts _ c.in-Ok.ensures.receipt.3.0.0.1
+last_told-requires g c = has_receipt c.args.session.now.receipts c.spawn.new.self.receipts _ c.in-Ok.ensures.receipt.receipt.1

@@ -1,5 +1,4 @@
-use Rattle.std.proofs.Common.{◌≡◌, [], ◌∷◌, true, arith, rules, refl, sym, ap, ◌∙◌, subst}
-use Rattle.tg_passes.specs.Passes.{Sees}
+use Rattle.std.proofs.Common.{arith, sym, ap, ◌∙◌}
 use Rattle.tg_passes.proofs.Rolling.{joins_as, looks_as, splits_as}
 use Rattle.tg_passes.proofs.pass.Roll.look.Goals as goal
 

@@ -6,10 +6,10 @@ pub invariant_of-self : goal.invariant_of-self
 invariant_of-self g c =
     let kept = c.collect_with.ensures.history in (
       locked_same g.L.Round.start c.self.inside.store c.collect_with.new.store _ _ _ _ _ c.self.invariant.0 kept.entries kept.opening kept.limits kept.handed,
-      rolled_same g.L.Round.start c.self.inside.store c.collect_with.new.store c.self.inside.register.roll c.self.invariant.1 kept.entries kept.opening,
+      rolled_same g.L.Round.start c.self.inside.store c.collect_with.new.store c.self.inside.register.roll c.self.inside.entered c.self.invariant.1 kept.entries kept.opening,
     )
 
 pub returns-clause-collected : goal.returns-clause-collected
 returns-clause-collected g c =
     let told = c.collect_with.ensures in
-    collected c.args.kind c.args.helpers c.self.inside.store c.collect_with.new.store c.self.inside.sessions c.self.inside.entered c.args.self.now c.collect_with.result c.self.view_is told.swept told.blocks told.history
+    collected c.args.kind c.args.helpers c.self.inside.store c.collect_with.new.store c.self.inside.sessions c.self.inside.entered c.self.inside.register.roll.signed c.args.self.now c.collect_with.result c.self.view_is told.swept told.blocks told.history

@@ -4,16 +4,15 @@ use Rattle.std.proofs.lemmas.Result.{err_from_is_err_and}
 use Rattle.tg_rights.specs.RightSet.{RightSet}
 use Rattle.tg_model.specs.Graph.{ProtectionGraph, IsSubject, listing_of}
 use Rattle.tg_journal.specs.declared.entry.Entry.{Entry}
-use Rattle.tg_passes.specs.Passes.{RollState}
 use Rattle.tg_store.specs.declared.fault.ApplyFault.TheVariants.{NoSuchWorker}
 use Rattle.tg_store.specs.Leaving.{HasLeft, removal, retiring}
 use Rattle.tg_store.specs.Store.{StoreState, graph_of_store}
-use Rattle.tg_shared.specs.Serving.{EndsWorker}
+use Rattle.tg_shared.specs.Serving.{EndsWorker, HasNoted}
 use Rattle.tg_shared.specs.Sessions.{LockedState, SessionState}
-use Rattle.tg_shared.proofs.Balances.{goes_on_more}
+use Rattle.tg_shared.proofs.Balances.{goes_on_more, locked_as}
 use Rattle.tg_shared.proofs.Calls.{ok_not_err}
-use Rattle.tg_shared.proofs.Knowing.{known_with, or_may_end, own_leaving, rolled_more, seen_with, stays_out}
-use Rattle.tg_shared.proofs.Leavings.{entries_fit, gone_left, locked_left}
+use Rattle.tg_shared.proofs.Knowing.{gone_noted, noted_as, noted_before, noted_none, rolled_more, stays_gone}
+use Rattle.tg_shared.proofs.Leavings.{entries_fit, gone_left, leaving_own, locked_left}
 use Rattle.tg_shared.proofs.Replies.{ends}
 use Rattle.tg_shared.proofs.locked.Locked.leave.Goals as goal
 
@@ -57,28 +56,45 @@ left_as : (old new : StoreState) (x y : ℕ) (row : List (ℕ × RightSet)) → 
 left_as old new x y row left named is = left.entries ∙ (λ i. old.entries ++ (map (removal (named i)) (sym is i) ++ retiring (named i) ∷ []))
 
 pub note_leaving-requires-clause-still : goal.note_leaving-requires-clause-still
-note_leaving-requires-clause-still g c = λ sees entered retired. or_may_end g.L.Round.start.may_end (λ no.
+note_leaving-requires-clause-still g c = λ sees retired gone.
     ok_not_err c.in_ok-count.count NoSuchWorker ((c.in_ok-count.ensures.no_such_worker (graph_of_store c.self.inside.store) refl).1
     (subst (λ (w : ℕ). ¬ IsSubject (graph_of_store c.self.inside.store) w) (c.in_ok-make_room_for.ensures.receipts.0 ∙ sym c.worker-worker.ensures)
-    (stays_out g.L.Round.start c.self.inside.store c.self.inside.register.roll c.make_room_for.new.self c.self.invariant.0.3 c.journal.ensures.faithful c.self.invariant.1 sees entered retired no))))
+    (stays_gone g.L.Round.start c.self.inside.store c.self.inside.register.roll.signed c.self.invariant.0.3 c.journal.ensures.faithful c.self.invariant.1.grown c.make_room_for.new.self sees gone)))
 
 pub note_leaving-requires-clause-gone : goal.note_leaving-requires-clause-gone
-note_leaving-requires-clause-gone g c = λ sees.
+note_leaving-requires-clause-gone g c =
     let left : HasLeft c.worker-worker.result c.self.inside.store c.leave.new.self = c.in_ok-count.ensures.left in
     let ready : SessionState = c.make_room_for.new.self in
     let named : c.worker-worker.result ≡ ready.worker = c.worker-worker.ensures ∙ sym c.in_ok-make_room_for.ensures.receipts.0 in
-    known_with g.L.Round.start c.self.inside.store c.leave.new.self c.self.inside.register.roll ready _ (λ s. ¬ IsSubject (graph_of_store s) ready.worker) c.self.invariant.1 sees
-    (left_as c.self.inside.store c.leave.new.self c.worker-worker.result ready.worker c.in_ok-row.row left named (c.in_ok-row.ensures.edges (graph_of_store c.self.inside.store) refl)) (own_leaving ready.worker c.in_ok-row.row) c.self.invariant.0.3
-    (goes_on_more c.self.inside.store c.leave.new.self _ left.entries left.opening g.L.Round.start c.self.invariant.0.3 left.limits (λ _. left.handed)) c.journal-2.ensures.faithful
+    gone_noted g.L.Round.start c.self.inside.store c.leave.new.self c.self.inside.register.roll.signed ready.worker (map (removal ready.worker) c.in_ok-row.row) (retiring ready.worker) c.self.invariant.1.grown
+    (left_as c.self.inside.store c.leave.new.self c.worker-worker.result ready.worker c.in_ok-row.row left named (c.in_ok-row.ensures.edges (graph_of_store c.self.inside.store) refl)) left.opening (leaving_own ready.worker c.in_ok-row.row) refl
+    (goes_on_more c.self.inside.store c.leave.new.self _ left.entries left.opening g.L.Round.start c.self.invariant.0.3 left.limits (λ _. left.handed)) c.journal.ensures.faithful c.journal-2.ensures.faithful
     (subst (λ (x : ℕ). ¬ IsSubject (graph_of_store c.leave.new.self) x) named (gone_left c.self.inside.store c.leave.new.self c.worker-worker.result left))
 
-pub returns-clause-seen : goal.returns-clause-seen
-returns-clause-seen g c =
+pub returns-clause-signed : goal.returns-clause-signed
+returns-clause-signed g c =
     let ready : SessionState = c.make_room_for.new.self in
-    let named : c.worker-worker.result ≡ ready.worker = c.worker-worker.ensures ∙ sym c.in_ok-make_room_for.ensures.receipts.0 in
-    seen_with g.L.Round.start c.self.inside.store c.leave.new.self c.self.inside.register.roll c.note_leaving.new.register.roll c.args.session.now c.note_leaving.new.self _ c.self.invariant.1 c.self.invariant.0.3
-    (left_as c.self.inside.store c.leave.new.self c.worker-worker.result ready.worker c.in_ok-row.row c.in_ok-count.ensures.left named (c.in_ok-row.ensures.edges (graph_of_store c.self.inside.store) refl))
-    (ap (λ (r : RollState). r.entries) c.note_leaving.ensures.roll) c.note_leaving.ensures.seen
+    let keeps = c.in_ok-make_room_for.ensures.receipts in
+    let named : c.worker-worker.result ≡ ready.worker = c.worker-worker.ensures ∙ sym keeps.0 in
+    subst (λ (b : LockedState). HasNoted b (locked_as c.leave.new.self c.self.inside.sessions c.self.inside.entered c.note_leaving.new.register.roll.signed) c.args.session.now c.note_leaving.new.self) c.self.view_is
+    (noted_before (locked_as c.self.inside.store c.self.inside.sessions c.self.inside.entered c.self.inside.register.roll.signed) (locked_as c.leave.new.self c.self.inside.sessions c.self.inside.entered c.note_leaving.new.register.roll.signed) c.args.session.now ready c.note_leaving.new.self keeps.0 keeps.5
+    (noted_as (locked_as c.self.inside.store c.self.inside.sessions c.self.inside.entered c.self.inside.register.roll.signed) c.leave.new.self c.self.inside.sessions c.self.inside.entered ready c.note_leaving.new.self c.self.inside.register.roll c.note_leaving.new.register.roll (map (removal ready.worker) c.in_ok-row.row ++ retiring ready.worker ∷ []) refl
+    (left_as c.self.inside.store c.leave.new.self c.worker-worker.result ready.worker c.in_ok-row.row c.in_ok-count.ensures.left named (c.in_ok-row.ensures.edges (graph_of_store c.self.inside.store) refl)) c.note_leaving.ensures.signed))
+
+pub returns-in_err-row-clause-signed : goal.returns-in_err-row-clause-signed
+returns-in_err-row-clause-signed g c =
+    let v : LockedState = c.args.self.now in
+    noted_none v v.store v.sessions v.entered v.signed c.args.session.now c.args.session.now refl refl refl
+
+pub returns-in_err-make_room_for-clause-signed : goal.returns-in_err-make_room_for-clause-signed
+returns-in_err-make_room_for-clause-signed g c =
+    let v : LockedState = c.args.self.now in
+    noted_none v v.store v.sessions v.entered v.signed c.args.session.now c.make_room_for.new.self refl refl c.in_err-make_room_for.ensures.receipts.5
+
+pub returns-in_err-count-clause-signed : goal.returns-in_err-count-clause-signed
+returns-in_err-count-clause-signed g c =
+    subst (λ (b : LockedState). HasNoted b (locked_as c.leave.new.self c.self.inside.sessions c.self.inside.entered c.self.inside.register.roll.signed) c.args.session.now c.make_room_for.new.self) c.self.view_is
+    (noted_none (locked_as c.self.inside.store c.self.inside.sessions c.self.inside.entered c.self.inside.register.roll.signed) c.leave.new.self c.self.inside.sessions c.self.inside.entered c.self.inside.register.roll.signed c.args.session.now c.make_room_for.new.self c.in_err-count.ensures.refused.entries refl c.in_ok-make_room_for.ensures.receipts.5)
 
 pub invariant_of-self-2 : goal.invariant_of-self-2
 invariant_of-self-2 g c =
@@ -88,6 +104,6 @@ invariant_of-self-2 g c =
     let named : c.worker-worker.result ≡ ready.worker = c.worker-worker.ensures ∙ sym c.in_ok-make_room_for.ensures.receipts.0 in (
       locked_left c.self.inside.store c.leave.new.self c.worker-worker.result c.in_ok-count.ensures.left g.L.Round.start (length g.L.Round.start.entries) c.self.inside.sessions c.self.inside.register.book.total c.note_leaving.new.register.book.total c.self.inside.rest.parts g.L.Ledger.parts c.self.invariant.0
           (c.note_leaving.ensures.book ∙ ap (λ (es : List (ℕ × RightSet)). c.self.inside.register.book.total + (length es + 1)) row) (c.self.invariant.0.2.0, c.self.invariant.0.2.1 ∙ sym c.in_ok-count.ensures.left.handed),
-      rolled_more g.L.Round.start c.self.inside.store c.leave.new.self c.self.inside.register.roll c.note_leaving.new.register.roll _ c.self.invariant.1
-          (left_as c.self.inside.store c.leave.new.self c.worker-worker.result ready.worker c.in_ok-row.row c.in_ok-count.ensures.left named row) c.in_ok-count.ensures.left.opening c.note_leaving.ensures.roll,
+      rolled_more g.L.Round.start c.self.inside.store c.leave.new.self c.self.inside.register.roll c.note_leaving.new.register.roll ready.worker c.self.inside.entered _ c.self.invariant.1
+          (left_as c.self.inside.store c.leave.new.self c.worker-worker.result ready.worker c.in_ok-row.row c.in_ok-count.ensures.left named row) c.in_ok-count.ensures.left.opening (leaving_own ready.worker c.in_ok-row.row) c.note_leaving.ensures.signed.roll,
     )

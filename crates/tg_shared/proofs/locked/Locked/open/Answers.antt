@@ -51,7 +51,7 @@ sessions_of-requires g c =
     record {
       parts = (few_enough (length c.subjects.result.now) (graph_of_store c.args.store).made c.args.store.opening.limit c.open-book.result.1.parts low within parts, c.open-book.ensures.amount, within_word c.args.store.opening.limit g.L.Ledger.parts faithful.plan.limits.1 (sym c.requires.shareable.parts.0 ∙ c.requires.shareable.parts.1));
       rising = c.subjects.ensures.well_formed;
-      none_yet = c.open-roll.ensures;
+      none_yet = c.open-roll.ensures.roll;
     }
 
 pub invariant_of-locked : goal.invariant_of-locked
@@ -79,7 +79,7 @@ invariant_of-locked g c =
           made = at_most c.len.result (length (graph_of_store c.args.store).subjects) (graph_of_store c.args.store).made (number ∙ names) (active_made c.args.store faithful);
         },
         first,
-        ((c.in-Ok.ensures.rest.1 ∙ sym c.new-entered.ensures.0, λ _. c.new-entered.ensures.0), c.new-handed.ensures.0 ∙ c.start.ensures.start ∙ c.journal-2.ensures.start),
+        (c.in-Ok.ensures.rest.1, c.new-handed.ensures.0 ∙ c.start.ensures.start ∙ c.journal-2.ensures.start),
         goes_on_start start c.args.store c.requires.shareable.start c.journal.ensures.within,
         number ∙ names ∙ at_start ∙ sym made,
       ),

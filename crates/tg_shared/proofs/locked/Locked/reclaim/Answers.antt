@@ -9,9 +9,11 @@ use Rattle.tg_journal.specs.declared.entry.Entry.{Entry}
 use Rattle.std.specs.List.{All}
 use Rattle.std.proofs.lemmas.List.Elements.{All-nil, All-push, All-weaker}
 use Rattle.std.proofs.lemmas.List.Sorted.{All-permutation}
-use Rattle.tg_passes.specs.Passes.{RollState, Sees}
+use Rattle.tg_passes.specs.declared.signed.Maker.TheVariants.{Keeper}
+use Rattle.tg_passes.specs.declared.signed.Signed.{Signed}
+use Rattle.tg_passes.specs.Passes.{RollState, Sees, entries_by}
 use Rattle.tg_store.specs.Store.{StoreState}
-use Rattle.tg_shared.specs.Sessions.{AreSharedOut, GoesOn, HasAll, HasMade, IsBalanced, IsRolled, LockedState, MayClose, SessionState, SharedStart, count_of, handed_of, held_from, knowledge, parts_of}
+use Rattle.tg_shared.specs.Sessions.{AreSharedOut, GoesOn, HasAllUnlessEnded, HasGrownBy, HasMade, IsBalanced, LockedState, MayClose, SessionState, SharedStart, count_of, handed_of, held_from, knowledge, parts_of, since}
 use Rattle.tg_shared.proofs.Knowing.{has_all}
 use Rattle.tg_shared.proofs.Balances.{not_both}
 use Rattle.tg_shared.proofs.Orders.{may_close_shuffled}
@@ -80,8 +82,8 @@ its_receipts xs x start before now held more =
 pub entries_since-entries-requires : goal.entries_since-entries-requires
 entries_since-entries-requires g c =
     let start : ℕ = length g.L.Round.start.entries in
-    let within : start + c.self.inside.entered ≤ length c.self.inside.store.entries = entered_within (length c.self.inside.store.entries) start c.self.inside.register.book.total c.self.inside.rest.amount c.self.inside.entered c.self.invariant.0.0.counted c.audit.ensures.bound c.self.invariant.0.2.0.0 in
-    first_within (length c.journal-journal.result.now.entries) (length c.self.inside.store.entries) c.self.inside.start start c.number.result c.self.inside.entered (ap (λ (es : List Entry). length es) c.journal-journal.ensures.entries) c.self.invariant.0.1 c.number.ensures within
+    let within : start + c.self.inside.entered ≤ length c.self.inside.store.entries = entered_within (length c.self.inside.store.entries) start c.self.inside.register.book.total c.self.inside.rest.amount c.self.inside.entered c.self.invariant.0.0.counted c.audit.ensures.bound c.self.invariant.0.2.0 in
+    first_within (length c.journal-journal.result.now.entries) (length c.self.inside.store.entries) c.self.inside.start start c.self.inside.entered c.self.inside.entered (ap (λ (es : List Entry). length es) c.journal-journal.ensures.entries) c.self.invariant.0.1 refl within
 
 pub are_refused-requires : goal.are_refused-requires
 are_refused-requires g c = record {
@@ -105,8 +107,8 @@ returns-then-are_refused g c =
     refused.0 (closes c.args.self.store.entries c.journal-journal.result.now.entries (held_from g.L.Round.start c.args.self.store) c.max-since.result sorted c.as_slice.result.now
     (sym entries) (sym since) (sym c.as_slice.ensures.value) (may_close_shuffled c.args.self.store.entries (held_from g.L.Round.start c.args.self.store) items sorted moved may)) in
     let counted : here ≡ start + c.self.inside.register.book.total = sym (ap (λ (b : LockedState). length b.store.entries) c.self.view_is) ∙ c.self.invariant.0.0.counted in
-    let entered : c.number.result ≡ c.args.self.entered = c.number.ensures ∙ ap (λ (b : LockedState). b.entered) c.self.view_is in
-    let within : start + c.args.self.entered ≤ here = entered_within here start c.self.inside.register.book.total c.self.inside.rest.amount c.args.self.entered counted c.audit.ensures.bound (c.self.invariant.0.2.0.0 ∙ ap (λ (b : LockedState). b.entered) c.self.view_is) in
+    let entered : c.self.inside.entered ≡ c.args.self.entered = ap (λ (b : LockedState). b.entered) c.self.view_is in
+    let within : start + c.args.self.entered ≤ here = entered_within here start c.self.inside.register.book.total c.self.inside.rest.amount c.args.self.entered counted c.audit.ensures.bound (c.self.invariant.0.2.0 ∙ ap (λ (b : LockedState). b.entered) c.self.view_is) in
     let few : count_of items ≤ c.entries_since-entries.result =
     subst (λ (n : ℕ). n ≤ c.entries_since-entries.result) (ap count_of c.as_slice.ensures.value ∙ sum_by-IsPermutation (λ (s : SessionState). length s.receipts) items sorted moved) refused.1 in
     record {
@@ -122,8 +124,9 @@ returns-then-are_refused g c =
       whole = λ _ _. tt;
       mismatch = ((λ _. none), (λ _. refl));
       only = refl;
-      single = λ _. tt;
-      counted = (made_since c.entries_since-entries.result (length c.journal-journal.result.now.entries) here c.self.inside.start start c.number.result c.args.self.entered (count_of items) c.entries_since-entries.ensures (ap (λ (es : List Entry). length es) entries) c.self.invariant.0.1 entered within).0 few;
+      single = tt;
+      signed = tt;
+      counted = (made_since c.entries_since-entries.result (length c.journal-journal.result.now.entries) here c.self.inside.start start c.self.inside.entered c.args.self.entered (count_of items) c.entries_since-entries.ensures (ap (λ (es : List Entry). length es) entries) c.self.invariant.0.1 entered within).0 few;
     }
 
 pub invariant_of-self : goal.invariant_of-self
@@ -134,7 +137,7 @@ invariant_of-self g c =
       (
         subst (λ (n : ℕ). IsBalanced c.self.inside.store start c.self.inside.sessions n c.audit.new.share.parts g.L.Ledger.parts) (sym c.audit.ensures.total) rest,
         c.self.invariant.0.1,
-        ((c.audit.ensures.amount ∙ c.self.invariant.0.2.0.0, c.self.invariant.0.2.0.1), c.self.invariant.0.2.1),
+        (c.audit.ensures.amount ∙ c.self.invariant.0.2.0, c.self.invariant.0.2.1),
         c.self.invariant.0.3,
         c.self.invariant.0.4,
       ),
@@ -142,12 +145,16 @@ invariant_of-self g c =
     )
 
 -- each session's receipts are all entries of its worker, in whatever order the sessions stand
-singles : (start : SharedStart) (s t : StoreState) (roll : RollState) (sorted items : List SessionState) → s ≡ t → IsRolled start s roll → start.may_end ≡ false → IsPermutation sorted items → All (λ x. Sees roll.entries (knowledge x) × HasMade x) sorted
-    → All (HasAll (drop (length start.entries) t.entries)) items
-singles start s t roll sorted items same held never moved each =
-    let here : All (HasAll (drop (length start.entries) t.entries)) sorted =
-    All-weaker (λ x. Sees roll.entries (knowledge x) × HasMade x) (HasAll (drop (length start.entries) t.entries)) (λ x told. has_all start t roll x (subst (λ (b : StoreState). IsRolled start b roll) same held) never told.0 told.1) sorted each in
-    All-permutation (HasAll (drop (length start.entries) t.entries)) sorted items moved here
+singles : (start : SharedStart) (s : StoreState) (signed : List Signed) (sorted items : List SessionState) → HasGrownBy start s signed → IsPermutation sorted items → All (λ x. Sees signed (knowledge x) × HasMade x) sorted
+    → All (HasAllUnlessEnded (entries_by Keeper signed) (since start s)) items
+singles start s signed sorted items grew moved each =
+    All-permutation (HasAllUnlessEnded (entries_by Keeper signed) (since start s)) sorted items moved
+    (All-weaker (λ x. Sees signed (knowledge x) × HasMade x) (HasAllUnlessEnded (entries_by Keeper signed) (since start s)) (λ x told. has_all start s signed x grew told.0 told.1) sorted each)
+
+-- and each of them sees all entries
+all_see : (signed : List Signed) (sorted items : List SessionState) → IsPermutation sorted items → All (λ x. Sees signed (knowledge x) × HasMade x) sorted → All (λ x. Sees signed (knowledge x)) items
+all_see signed sorted items moved each =
+    All-permutation (λ x. Sees signed (knowledge x)) sorted items moved (All-weaker (λ x. Sees signed (knowledge x) × HasMade x) (λ x. Sees signed (knowledge x)) (λ x told. told.0) sorted each)
 
 pub loop-session-init : goal.loop-session-init
 loop-session-init g c = record {
@@ -157,7 +164,7 @@ loop-session-init g c = record {
   fits = rest_fits c.self.inside.sessions c.audit.new.share.parts g.L.Ledger.parts (ap (λ (n : ℕ). c.self.inside.sessions + n) c.audit.ensures.parts ∙ c.self.invariant.0.0.cut);
   none_handed = λ _. refl;
   same_roll = refl;
-  single = All-nil (λ (s : SessionState). Sees c.self.inside.register.roll.entries (knowledge s) × HasMade s);
+  single = All-nil (λ (s : SessionState). Sees c.self.inside.register.roll.signed (knowledge s) × HasMade s);
 }
 
 pub loop-session-preserved : goal.loop-session-preserved
@@ -171,8 +178,8 @@ loop-session-preserved g c =
       fits = c.give_up.ensures.fits;
       none_handed = λ is. none_more xs x (c.loop-session.invariant.none_handed is) (c.give_up.ensures.none_handed is);
       same_roll = c.give_up.ensures.same_roll ∙ c.loop-session.invariant.same_roll;
-      single = All-push (λ (s : SessionState). Sees c.self.inside.register.roll.entries (knowledge s) × HasMade s) xs x c.loop-session.invariant.single
-          (subst (λ (r : RollState). Sees r.entries (knowledge x)) (c.give_up.ensures.same_roll ∙ c.loop-session.invariant.same_roll) c.give_up.ensures.sees, c.give_up.ensures.own);
+      single = All-push (λ (s : SessionState). Sees c.self.inside.register.roll.signed (knowledge s) × HasMade s) xs x c.loop-session.invariant.single
+          (subst (λ (r : RollState). Sees r.signed (knowledge x)) (c.give_up.ensures.same_roll ∙ c.loop-session.invariant.same_roll) c.give_up.ensures.sees, c.give_up.ensures.own);
     }
 
 pub returns : goal.returns
@@ -185,7 +192,7 @@ returns g c =
     let here : ℕ = length c.args.self.store.entries in
     let entries : c.self.inside.store.entries ≡ c.args.self.store.entries = ap (λ (b : LockedState). b.store.entries) c.self.view_is in
     let made : c.self.inside.sessions ≡ c.args.self.sessions = ap (λ (b : LockedState). b.sessions) c.self.view_is in
-    let amount : c.audit.new.share.amount ≡ c.args.self.entered = c.audit.ensures.amount ∙ c.self.invariant.0.2.0.0 ∙ ap (λ (b : LockedState). b.entered) c.self.view_is in
+    let amount : c.audit.new.share.amount ≡ c.args.self.entered = c.audit.ensures.amount ∙ c.self.invariant.0.2.0 ∙ ap (λ (b : LockedState). b.entered) c.self.view_is in
     let rest : List SessionState = c.loop-session.session-iterator.rest.items in
     let done : rest ≡ [] = nil_from_length rest (sym c.loop-session.session-iterator.rest.ok.0 ∙ c.in-None.ensures.steps.0) in
     let all : c.loop-session.yielded ≡ sorted = sym (append-nil c.loop-session.yielded) ∙ (ap (λ (l : List SessionState). c.loop-session.yielded ++ l) (sym done) ∙ c.loop-session.invariant.left ∙ c.into_iter-session-iterator.ensures.into_iter_gives.0) in
@@ -203,17 +210,20 @@ returns g c =
     let least : start + c.args.self.entered + handed_of items + count_of items ≤ here = once.0 c.audit-2.ensures.bound in
     let out : c.start.result ≡ c.args.self.store.handed = c.start.ensures.start ∙ c.journal-journal.ensures.start ∙ ap (λ (b : LockedState). b.store.handed) c.self.view_is in
     let since : c.max-since.result ≡ held_from g.L.Round.start c.args.self.store = c.max-since.ensures ∙ (λ i. max (c.self.invariant.0.1 i) (out i)) in
-    let entered : c.number.result ≡ c.args.self.entered = c.number.ensures ∙ ap (λ (b : LockedState). b.entered) c.self.view_is in
+    let entered : c.self.inside.entered ≡ c.args.self.entered = ap (λ (b : LockedState). b.entered) c.self.view_is in
     let within : start + c.args.self.entered ≤ here = entered_within here start c.audit.new.self.total c.audit.new.share.amount c.args.self.entered counted (subst (λ (n : ℕ). n ≤ c.audit.new.self.total) (sym c.audit.ensures.amount) (subst (λ (n : ℕ). c.self.inside.rest.amount ≤ n) (sym c.audit.ensures.total) c.audit.ensures.bound)) amount in
     let few : count_of c.as_slice.result.now ≤ c.entries_since-entries.result =
     subst (λ (n : ℕ). n ≤ c.entries_since-entries.result) (sym (ap count_of c.as_slice.ensures.value ∙ count_same))
-    ((made_since c.entries_since-entries.result (length c.journal-journal.result.now.entries) here c.self.inside.start start c.number.result c.args.self.entered (count_of items) c.entries_since-entries.ensures (ap (λ (es : List Entry). length es) (c.journal-journal.ensures.entries ∙ entries)) c.self.invariant.0.1 entered within).1
+    ((made_since c.entries_since-entries.result (length c.journal-journal.result.now.entries) here c.self.inside.start start c.self.inside.entered c.args.self.entered (count_of items) c.entries_since-entries.ensures (ap (λ (es : List Entry). length es) (c.journal-journal.ensures.entries ∙ entries)) c.self.invariant.0.1 entered within).1
     (fewer start c.args.self.entered (handed_of items) (count_of items) here least)) in
     let may : MayClose c.args.self.store.entries (held_from g.L.Round.start c.args.self.store) items =
     may_close_shuffled c.args.self.store.entries (held_from g.L.Round.start c.args.self.store) sorted items (IsPermutation-sym items sorted moved_to)
     (closes c.journal-journal.result.now.entries c.args.self.store.entries c.max-since.result (held_from g.L.Round.start c.args.self.store) c.as_slice.result.now sorted (c.journal-journal.ensures.entries ∙ entries) since c.as_slice.ensures.value
     (c.are_refused.ensures.closes c.if-are_refused.false few)) in
     let since_then : ℕ = held_from g.L.Round.start c.args.self.store in
+    let grew : HasGrownBy g.L.Round.start c.args.self.store c.args.self.signed = subst (λ (b : LockedState). HasGrownBy g.L.Round.start b.store b.signed) c.self.view_is c.self.invariant.1.grown in
+    let each : All (λ s. Sees c.args.self.signed (knowledge s) × HasMade s) sorted =
+    subst (λ (b : LockedState). All (λ s. Sees b.signed (knowledge s) × HasMade s) sorted) c.self.view_is (subst (All (λ s. Sees c.self.inside.register.roll.signed (knowledge s) × HasMade s)) all c.loop-session.invariant.single) in
     let inside : c.args.self.store.handed ≤ here = subst (λ (b : LockedState). b.store.handed ≤ length b.store.entries) c.self.view_is c.journal-journal.ensures.within in
     let count : parts ≡ c.args.self.sessions → here ≡ start + c.args.self.entered + handed_of items + count_of items =
     λ as_many. once.1 (c.audit-2.ensures.whole (given.1 (as_many ∙ sym made))) in
@@ -241,8 +251,8 @@ returns g c =
       whole = λ is none as_many.
           let held = from_start none as_many (none_out is) in
           subst (λ (n : ℕ). AreSharedOut (drop n c.args.self.store.entries) items) held (out_to none as_many (gone_none start (handed_of items) since_then (none_out is) held));
-      single = λ never. singles g.L.Round.start c.self.inside.store c.args.self.store c.self.inside.register.roll sorted items (ap (λ (b : LockedState). b.store) c.self.view_is) c.self.invariant.1 never (IsPermutation-sym items sorted moved_to)
-          (subst (All (λ s. Sees c.self.inside.register.roll.entries (knowledge s) × HasMade s)) all c.loop-session.invariant.single);
+      single = singles g.L.Round.start c.args.self.store c.args.self.signed sorted items grew (IsPermutation-sym items sorted moved_to) each;
+      signed = record { grown = grew; sees = all_see c.args.self.signed sorted items (IsPermutation-sym items sorted moved_to) each };
       mismatch = ((λ none. absurd (not_both false none refl)), (λ no. absurd (no may)));
       only = tt;
       counted = tt;

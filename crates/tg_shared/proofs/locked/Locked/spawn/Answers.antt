@@ -1,4 +1,4 @@
-use Rattle.std.proofs.Common.{◌≡◌, ◌≤◌, ◌∙◌, ◌+◌, ℕ, false, length, Err, add-zero, ap, arith, refl, subst, sym}
+use Rattle.std.proofs.Common.{◌≡◌, ◌≢◌, ◌<◌, ◌≤◌, ◌∙◌, ◌+◌, ◌++◌, ◌∷◌, [], ℕ, List, false, length, Err, add-zero, ap, arith, refl, subst, sym}
 use Rattle.std.proofs.lemmas.Result.{err_from_is_err_and}
 use Rattle.tg_model.specs.declared.command.Deed.{Deed}
 use Rattle.tg_model.specs.declared.reply.Reply.{Reply}
@@ -6,13 +6,19 @@ use Rattle.tg_store.specs.declared.fault.CreateRefused.{CreateRefused}
 use Rattle.tg_store.specs.Made.{MayRefuse}
 use Rattle.tg_store.specs.Store.{Enters, StoreState, graph_of_store}
 use Rattle.tg_shared.specs.declared.session.Session.{Session}
-use Rattle.tg_shared.specs.Serving.{IsMadeAndNoted, NotesRefusal}
+use Rattle.tg_shared.specs.Serving.{HasNoted, IsMadeAndNoted, NotesRefusal}
 use Rattle.tg_shared.specs.Sessions.{LockedState, made_subject}
-use Rattle.tg_passes.specs.Passes.{PassState, RollState}
-use Rattle.tg_shared.proofs.Balances.{balanced_spawned, goes_on_more, grown, made_more, made_named, named_next, part_left, parts_left, within_word}
+use Rattle.tg_journal.specs.declared.entry.Entry.{Entry}
+use Rattle.tg_journal.proofs.HistoryLaws.{IsSound-opened}
+use Rattle.tg_passes.specs.declared.signed.Maker.{Maker}
+use Rattle.tg_passes.specs.declared.signed.Maker.TheVariants as maker
+use Rattle.tg_passes.specs.declared.signed.Signed.{Signed}
+use Rattle.tg_passes.specs.Passes.{PassState, RollState, entries_by, sign}
+use Rattle.tg_passes.proofs.Signing.{by_append, by_other}
+use Rattle.tg_shared.proofs.Balances.{balanced_spawned, goes_on_more, grown, locked_as, made_more, made_named, named_next, part_left, parts_left, within_word}
 use Rattle.tg_shared.proofs.Calls.{err_here}
-use Rattle.tg_shared.proofs.Knowing.{rolled_issued, rolled_more, seen_with, since_rolled, stays_out}
-use Rattle.tg_shared.proofs.Makings.{entered_as, locked_noted, refused_noted, rolled_noted, seen_noted}
+use Rattle.tg_shared.proofs.Knowing.{none_named, noted_as, one_own, rolled_issued, rolled_more, stays_gone}
+use Rattle.tg_shared.proofs.Makings.{entered_as, locked_noted, refused_noted, rolled_noted, signed_noted}
 use Rattle.tg_shared.proofs.Replies.{refusals_made, refusals_none, refusals_same}
 use Rattle.tg_shared.proofs.locked.Locked.spawn.Goals as goal
 
@@ -29,41 +35,40 @@ invariant_of-self g c =
       locked_noted g.L.Round.start c.self.inside.store c.make.new.store c.args.session.now c.make.new.session _ _ _ _ _ _ deed _ told.noted
           (λ none. let same = told.nothing none in (same.0, ap (λ b. b.book.total) same.1)) (λ reply is. entered_as (λ r. made_subject deed r ≡ false) _ reply is (λ _. refl) (λ _. refl))
           told.refusals.opening told.refusals.limits told.refusals.handed c.self.invariant.0,
-      rolled_noted g.L.Round.start c.self.inside.store c.make.new.store c.args.session.now c.make.new.session c.self.inside.register.roll c.make.new.register.roll deed _ c.self.invariant.1 told.refusals.opening
-          (λ reply is. (told.noted reply is).0.entry) told.rolled (λ none. let same = told.nothing none in (same.0.0.entries, ap (λ b. b.roll) same.1)),
+      rolled_noted g.L.Round.start c.self.inside.store c.make.new.store c.args.session.now c.make.new.session c.self.inside.register.roll c.make.new.register.roll c.self.inside.entered deed _ c.self.invariant.1 told.refusals.opening
+          (λ reply is. (told.noted reply is).0.entry) told.signed (λ none. let same = told.nothing none in (same.0.0.entries, ap (λ b. b.roll) same.1)),
     )
 
 pub make-requires-clause-out : goal.make-requires-clause-out
-make-requires-clause-out g c = stays_out g.L.Round.start c.self.inside.store c.self.inside.register.roll c.args.session.now c.self.invariant.0.3 c.journal.ensures.faithful c.self.invariant.1
+make-requires-clause-out g c = stays_gone g.L.Round.start c.self.inside.store c.self.inside.register.roll.signed c.self.invariant.0.3 c.journal.ensures.faithful c.self.invariant.1.grown c.args.session.now
 
-pub returns-in_err-name-clause-seen : goal.returns-in_err-name-clause-seen
-returns-in_err-name-clause-seen g c =
+pub returns-in_err-name-clause-signed : goal.returns-in_err-name-clause-signed
+returns-in_err-name-clause-signed g c =
     let deed : Deed = Deed.Spawn c.args.label c.args.draft.law c.args.draft.state in
     let told = c.in_err-name.ensures in
-    seen_noted g.L.Round.start c.self.inside.store c.make.new.store c.args.session.now c.make.new.session c.self.inside.register.roll c.make.new.register.roll deed _ c.self.invariant.1 c.self.invariant.0.3
-    (λ reply is. (told.noted reply is).0.entry) told.rolled (λ none. (told.nothing none).0.1.5)
+    subst (λ (b : LockedState). HasNoted b (locked_as c.make.new.store c.self.inside.sessions c.self.inside.entered c.make.new.register.roll.signed) c.args.session.now c.make.new.session) c.self.view_is
+    (signed_noted (locked_as c.self.inside.store c.self.inside.sessions c.self.inside.entered c.self.inside.register.roll.signed) c.make.new.store c.self.inside.sessions c.self.inside.entered c.args.session.now c.make.new.session c.self.inside.register.roll c.make.new.register.roll deed _ refl
+    (λ reply is. (told.noted reply is).0.entry) told.signed (λ none. let nothing = told.nothing none in (nothing.0.0.entries, ap (λ b. b.roll) nothing.1, nothing.0.1.5)))
 
-pub returns-clause-seen : goal.returns-clause-seen
-returns-clause-seen g c =
+pub returns-clause-signed : goal.returns-clause-signed
+returns-clause-signed g c =
     let told = c.in_ok-name.ensures in
-    let rolled = told.rolled (Reply.Name c.in_ok-name.name) refl in
-    seen_with g.L.Round.start c.self.inside.store c.make.new.store c.self.inside.register.roll c.make.new.register.roll c.args.session.now c.make.new.session _ c.self.invariant.1 c.self.invariant.0.3
-    (told.noted (Reply.Name c.in_ok-name.name) refl).0.entry (ap (λ (r : RollState). r.entries) rolled.1) rolled.0
+    let entered : ℕ = c.self.inside.entered in
+    subst (λ (b : LockedState). HasNoted b (locked_as c.make.new.store (c.self.inside.sessions + 1) entered c.issue-pass.new.self.signed) c.args.session.now c.make.new.session) c.self.view_is
+    (subst (λ (l : List Signed). HasNoted (locked_as c.self.inside.store c.self.inside.sessions entered c.self.inside.register.roll.signed) (locked_as c.make.new.store (c.self.inside.sessions + 1) entered l) c.args.session.now c.make.new.session) (sym c.issue-pass.ensures.signed)
+    (noted_as (locked_as c.self.inside.store c.self.inside.sessions entered c.self.inside.register.roll.signed) c.make.new.store (c.self.inside.sessions + 1) entered c.args.session.now c.make.new.session c.self.inside.register.roll c.make.new.register.roll _ refl
+    (told.noted (Reply.Name c.in_ok-name.name) refl).0.entry (told.signed (Reply.Name c.in_ok-name.name) refl)))
 
 pub issue-pass-requires : goal.issue-pass-requires
 issue-pass-requires g c =
     let told = c.in_ok-name.ensures in
     let noted = told.noted (Reply.Name c.in_ok-name.name) refl in
-    let rolled = told.rolled (Reply.Name c.in_ok-name.name) refl in
+    let rolled = told.signed (Reply.Name c.in_ok-name.name) refl in
     let next = named_next c.self.inside.store c.make.new.store (length g.L.Round.start.entries) c.self.inside.sessions c.self.inside.register.book.total c.self.inside.rest.parts g.L.Ledger.parts _ _ c.args.label c.args.draft.law c.args.draft.state c.self.invariant.0.0 noted.0.entry (told.made.name (graph_of_store c.self.inside.store) refl) told.refusals.opening in
-    bound_next c.make.new.register.roll.below c.self.inside.register.roll.below c.in_ok-name.name (graph_of_store c.self.inside.store).made (ap (λ (r : RollState). r.below) rolled.1) c.self.invariant.1.below next
+    bound_next c.make.new.register.roll.below c.self.inside.register.roll.below c.in_ok-name.name (graph_of_store c.self.inside.store).made (ap (λ (r : RollState). r.below) rolled.roll) c.self.invariant.1.below next
 
 pub returns-clause-fresh_seen : goal.returns-clause-fresh_seen
-returns-clause-fresh_seen g c = λ no.
-    let told = c.in_ok-name.ensures in
-    let rolled = told.rolled (Reply.Name c.in_ok-name.name) refl in
-    let held = rolled_more g.L.Round.start c.self.inside.store c.make.new.store c.self.inside.register.roll c.make.new.register.roll _ c.self.invariant.1 (told.noted (Reply.Name c.in_ok-name.name) refl).0.entry told.refusals.opening rolled.1 in
-    c.new.ensures.seen ∙ ap (λ (p : PassState). p.seen) c.issue-pass.ensures.pass ∙ sym (since_rolled g.L.Round.start c.make.new.store c.make.new.register.roll held no)
+returns-clause-fresh_seen g c = c.new.ensures.seen ∙ ap (λ (p : PassState). p.seen) c.issue-pass.ensures.pass ∙ sym c.issue-pass.ensures.signed
 
 pub split_off-share-requires-clause-has_parts : goal.split_off-share-requires-clause-has_parts
 split_off-share-requires-clause-has_parts g c =
@@ -75,12 +80,46 @@ split_off-share-requires-clause-left_backed g c = λ last.
     absurd
     (parts_left c.self.inside.store c.make.new.store _ _ _ _ _ _ _ c.args.label c.args.draft.law c.args.draft.state c.self.invariant.0.0 (told.noted (Reply.Name c.in_ok-name.name) refl).0.entry (told.made.name (graph_of_store c.self.inside.store) refl) told.refusals.opening c.journal.ensures.faithful last)
 
+at_least : (name made : ℕ) → name ≡ made → made ≤ name
+at_least name made is = omega arith
+
+abbrev name_of : Maker → ℕ
+name_of (maker.Session worker) = worker
+name_of maker.Keeper = 0
+
+name_in : {v w : ℕ} → maker.Session v ≡ maker.Session w → v ≡ w
+name_in same = ap name_of same
+
+-- the session of a vertex that is made next made none of the entries up to its making
+unnamed_more : (worker name : ℕ) (all next : List Signed) (e : Entry) → worker ≢ name → entries_by (maker.Session name) all ≡ [] → next ≡ all ++ sign (maker.Session worker) e ∷ [] → entries_by (maker.Session name) next ≡ []
+unnamed_more worker name all next e apart none is =
+    ap (entries_by (maker.Session name)) is ∙ by_append (maker.Session name) all (sign (maker.Session worker) e ∷ [])
+    ∙ (λ i. none i ++ by_other (maker.Session worker) (maker.Session name) e (λ same. apart (name_in same)) i)
+
+not_next : (worker name made : ℕ) → worker < made → name ≡ made → worker ≢ name
+not_next worker name made low is same = omega arith
+
 pub new-requires : goal.new-requires
 new-requires g c =
     let limit = c.journal.ensures.faithful.plan.limits.1 in
+    let old : StoreState = c.self.inside.store in
+    let graph = graph_of_store old in
+    let told = c.in_ok-name.ensures in
+    let noted = told.noted (Reply.Name c.in_ok-name.name) refl in
+    let next : c.in_ok-name.name ≡ graph.made = named_next old c.make.new.store (length g.L.Round.start.entries) c.self.inside.sessions c.self.inside.register.book.total c.self.inside.rest.parts g.L.Ledger.parts _ _ c.args.label c.args.draft.law c.args.draft.state c.self.invariant.0.0 noted.0.entry (told.made.name graph refl) told.refusals.opening in
+    let apart : c.args.session.now.worker ≢ c.in_ok-name.name = λ same. (told.refusals.no_such_worker graph refl).1
+    (λ here. not_next c.args.session.now.worker c.in_ok-name.name graph.made ((IsSound-opened old.opening old.entries c.journal.ensures.faithful.plan c.journal.ensures.faithful.legal).subjects_made c.args.session.now.worker here) next same) in
+    let none : entries_by (maker.Session c.in_ok-name.name) c.self.inside.register.roll.signed ≡ [] =
+    none_named g.L.Round.start old c.self.inside.register.roll.signed c.self.invariant.0.3 c.journal.ensures.faithful c.self.invariant.1.grown c.in_ok-name.name (at_least c.in_ok-name.name graph.made next) in
+    let seen : c.issue-pass.result.seen ≡ c.make.new.register.roll.signed = ap (λ (p : PassState). p.seen) c.issue-pass.ensures.pass in
     record {
       share = (c.split_off-share.ensures.parts, c.split_off-share.ensures.amount, within_word c.self.inside.store.opening.limit g.L.Ledger.parts limit c.self.invariant.0.0.enough);
-      pass = (ap (λ (p : PassState). p.worker) c.issue-pass.ensures.pass, ap (λ (p : PassState). p.made) c.issue-pass.ensures.pass);
+      pass = (
+        ap (λ (p : PassState). p.maker) c.issue-pass.ensures.pass,
+        ap (λ (p : PassState). p.made) c.issue-pass.ensures.pass,
+        ap (entries_by (maker.Session c.in_ok-name.name)) seen
+            ∙ unnamed_more c.args.session.now.worker c.in_ok-name.name c.self.inside.register.roll.signed c.make.new.register.roll.signed _ apart none (ap (λ (r : RollState). r.signed) (told.signed (Reply.Name c.in_ok-name.name) refl).roll),
+      );
     }
 
 pub invariant_of-self-2 : goal.invariant_of-self-2
@@ -92,13 +131,13 @@ invariant_of-self-2 g c =
       (
         balanced_spawned c.self.inside.store c.make.new.store _ _ _ _ _ _ _ c.args.label c.args.draft.law c.args.draft.state c.self.invariant.0.0 entry (told.made.name (graph_of_store c.self.inside.store) refl) told.refusals.opening _ _ noted.1 c.split_off-share.ensures.parts_left,
         c.self.invariant.0.1,
-        ((sym (add-zero c.split_off-share.new.self.amount) ∙ c.split_off-share.ensures.amount_left ∙ c.self.invariant.0.2.0.0, c.self.invariant.0.2.0.1), c.self.invariant.0.2.1 ∙ sym told.refusals.handed),
+        (sym (add-zero c.split_off-share.new.self.amount) ∙ c.split_off-share.ensures.amount_left ∙ c.self.invariant.0.2.0, c.self.invariant.0.2.1 ∙ sym told.refusals.handed),
         goes_on_more c.self.inside.store c.make.new.store _ entry told.refusals.opening g.L.Round.start c.self.invariant.0.3 told.refusals.limits (λ _. told.refusals.handed),
         one_more c.self.inside.sessions _ _ c.self.invariant.0.4 (made_more g.L.Round.start c.self.inside.store c.make.new.store c.args.session.now.worker deed (Reply.Name c.in_ok-name.name) entry (grown g.L.Round.start c.self.inside.store c.self.invariant.0.3)),
       ),
-      rolled_issued g.L.Round.start c.make.new.store c.make.new.register.roll c.issue-pass.new.self c.in_ok-name.name
-          (rolled_more g.L.Round.start c.self.inside.store c.make.new.store c.self.inside.register.roll c.make.new.register.roll _ c.self.invariant.1 entry told.refusals.opening (told.rolled (Reply.Name c.in_ok-name.name) refl).1)
-          c.issue-pass.ensures.entries c.issue-pass.ensures.below
+      rolled_issued g.L.Round.start c.make.new.store c.make.new.register.roll c.issue-pass.new.self c.self.inside.entered c.in_ok-name.name
+          (rolled_more g.L.Round.start c.self.inside.store c.make.new.store c.self.inside.register.roll c.make.new.register.roll c.args.session.now.worker c.self.inside.entered _ c.self.invariant.1 entry told.refusals.opening (one_own c.args.session.now.worker _ refl) (told.signed (Reply.Name c.in_ok-name.name) refl).roll)
+          c.issue-pass.ensures.signed c.issue-pass.ensures.below
           (made_named c.self.inside.store c.make.new.store (length g.L.Round.start.entries) c.self.inside.sessions c.self.inside.register.book.total c.self.inside.rest.parts g.L.Ledger.parts _ _ c.args.label c.args.draft.law c.args.draft.state c.self.invariant.0.0 entry (told.made.name (graph_of_store c.self.inside.store) refl) told.refusals.opening),
     )
 

@@ -1,16 +1,23 @@
-use Rattle.std.proofs.Common.{◌∙◌, sym}
+use Rattle.std.proofs.Common.{◌≡◌, ◌∙◌, ap, sym}
 use Rattle.std.proofs.lemmas.Result.{IfOk-weaker}
-use Rattle.tg_shared.specs.Sessions.{LeavesAtSome}
-use Rattle.tg_shared.proofs.Calls.{err_told, found_with}
+use Rattle.tg_shared.specs.Sessions.{LeavesAtSeen, LockedState, SessionState}
+use Rattle.tg_shared.proofs.Calls.{Held, err_told, found, found_with}
+use Rattle.tg_shared.proofs.Knowing.{looked_all, seen_only}
 use Rattle.tg_shared.proofs.session.Session.collect.Goals as goal
 
 pub returns : goal.returns
 returns g c =
+    let start = g.L.Round.start in
     let told = c.collect-left.ensures in
-    let same = c.deref.ensures ∙ sym c.deref_mut.ensures.value in
+    let looks = c.look.ensures in
+    let v : LockedState = c.deref_mut-2.result.now in
+    let held : Held start v = found start c.deref.result.now v (c.deref.ensures ∙ sym c.deref_mut-2.ensures.value) c.store.ensures.gone_on c.store.ensures.faithful c.store.ensures.grown_by in
+    let after : Held start c.collect-left.new.self = found start c.deref-2.result.now c.collect-left.new.self c.deref-2.ensures c.store-2.ensures.gone_on c.store-2.ensures.faithful c.store-2.ensures.grown_by in
+    let seen : c.look.new.session.seen ≡ v.signed = ap (λ (s : SessionState). s.seen) looks.session ∙ ap (λ (b : LockedState). b.signed) (sym (c.deref_mut-2.ensures.value ∙ looks.same)) in
     record {
-      number = IfOk-weaker c.collect-left.result _ (LeavesAtSome g.L.Round.start c.args.kind) (λ n swept.
-          let after = found_with g.L.Round.start _ c.deref-2.result.now c.collect-left.new.self c.deref-2.ensures c.store-2.ensures.gone_on c.store-2.ensures.faithful (told.collected.history.entries, swept) in
-          found_with g.L.Round.start _ c.deref.result.now c.deref_mut.result.now same c.store.ensures.gone_on c.store.ensures.faithful after) told.collected.swept;
-      full = err_told c.collect-left.result _ _ (λ is. found_with g.L.Round.start _ c.deref.result.now c.deref_mut.result.now same c.store.ensures.gone_on c.store.ensures.faithful (told.full is));
+      number = IfOk-weaker c.collect-left.result _ (LeavesAtSeen start c.look.new.session.seen c.args.kind)
+          (λ n swept. found_with start c.look.new.session.seen _ v held seen (found_with start c.look.new.session.seen _ c.collect-left.new.self after (seen ∙ sym told.collected.signed) swept)) told.collected.swept;
+      full = err_told c.collect-left.result _ _ (λ is. found_with start c.look.new.session.seen _ v held seen (told.full is));
+      looked = looked_all c.args.self.now c.look.new.session c.deref_mut.result.now.signed looks.session looks.sees;
+      same = seen_only c.args.self.now c.look.new.session c.deref_mut.result.now.signed looks.session;
     }

@@ -1,10 +1,20 @@
-use Rattle.std.proofs.Common.{◌∙◌, sym, refl}
-use Rattle.tg_store.specs.Store.{StoreState, graph_of_store}
-use Rattle.tg_shared.proofs.Calls.{found}
+use Rattle.std.proofs.Common.{◌≡◌, ◌∙◌, ap, refl, subst, sym}
+use Rattle.tg_store.specs.Held.{IsHeldOver}
+use Rattle.tg_store.specs.Store.{graph_of_store}
+use Rattle.tg_shared.specs.Sessions.{LockedState, SessionState}
+use Rattle.tg_shared.proofs.Calls.{Held, found, found_with}
+use Rattle.tg_shared.proofs.Knowing.{looked_all, seen_only}
 use Rattle.tg_shared.proofs.session.Session.label.Goals as goal
 
 pub returns : goal.returns
 returns g c =
-    let s : StoreState = c.deref-2.result.now.store in
-    let held = found g.L.Round.start c.deref.result.now c.deref-2.result.now (c.deref.ensures ∙ sym c.deref-2.ensures) c.store.ensures.gone_on c.store.ensures.faithful in
-    record { held = (s, held.0, held.1, c.label.ensures.held (graph_of_store s) refl) }
+    let v : LockedState = c.deref-2.result.now in
+    let looks = c.look.ensures in
+    let held : Held g.L.Round.start v = found g.L.Round.start c.deref.result.now v (c.deref.ensures ∙ sym c.deref-2.ensures) c.store.ensures.gone_on c.store.ensures.faithful c.store.ensures.grown_by in
+    let seen : c.look.new.session.seen ≡ v.signed = ap (λ (s : SessionState). s.seen) looks.session ∙ ap (λ (b : LockedState). b.signed) (sym (c.deref-2.ensures ∙ looks.same)) in
+    record {
+      held = found_with g.L.Round.start c.look.new.session.seen _ v held seen
+          (subst (λ w. IsHeldOver (graph_of_store v.store) w c.args.target c.label.result) (ap (λ (s : SessionState). s.worker) looks.session) (c.label.ensures.held (graph_of_store v.store) refl));
+      looked = looked_all c.args.self.now c.look.new.session c.deref_mut.result.now.signed looks.session looks.sees;
+      same = seen_only c.args.self.now c.look.new.session c.deref_mut.result.now.signed looks.session;
+    }

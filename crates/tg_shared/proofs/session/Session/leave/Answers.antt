@@ -1,48 +1,34 @@
 -- The worker has left a store that may have been behind the lock.
-use Rattle.std.proofs.Common.{◌≡◌, ◌∙◌, refl, sym, subst}
-use Rattle.std.proofs.lemmas.Result.{on_ok_weaker}
-use Rattle.tg_store.specs.Leaving.{leaving}
-use Rattle.tg_store.specs.Store.{StoreState, IsFaithful, graph_of_store}
-use Rattle.tg_shared.specs.Serving.{EndsWorker, NotesLeaving}
-use Rattle.tg_shared.specs.Sessions.{HasLeftAtSome, HasSeen, IsKnown, LockedState, SessionState, knowledge}
-use Rattle.tg_shared.proofs.Calls.{both_told, err_told, found, still}
-use Rattle.tg_shared.proofs.Knowing.{has_seen_all}
-use Rattle.tg_shared.proofs.Leavings.{legal_more, retired_left}
+use Rattle.std.proofs.Common.{◌∙◌, refl, sym, subst}
+use Rattle.std.proofs.lemmas.Result.{on_err_weaker, on_ok_weaker}
+use Rattle.tg_store.specs.Store.{IsFaithful, graph_of_store}
+use Rattle.tg_shared.specs.Sessions.{HasLeftAtSeen, LockedState, SessionState}
+use Rattle.tg_shared.proofs.Calls.{both_told, found, still}
+use Rattle.tg_shared.proofs.Knowing.{kept_all, looked_none}
+use Rattle.tg_shared.proofs.Leavings.{retired_left}
+use Rattle.tg_shared.proofs.Replies.{IsReady, has_left, is_ready, none_here, refused_ready}
 use Rattle.tg_shared.proofs.session.Session.leave.Goals as goal
+
+pub returns-then-retired-clause-refused : goal.returns-then-retired-clause-refused
+returns-then-retired-clause-refused g c = looked_none c.args.self.now c.args.self.now (kept_all c.args.self.now) c.retired.ensures.own
 
 pub returns : goal.returns
 returns g c =
+    let start = g.L.Round.start in
     let old : SessionState = c.args.self.now in
     let ready : SessionState = c.look.new.session in
-    let s : StoreState = c.deref_mut-2.result.now.store in
+    let new : SessionState = c.leave-left.new.session in
+    let v : LockedState = c.deref_mut-2.result.now in
+    let w : LockedState = c.leave-left.new.self in
     let told = c.leave-left.ensures in
-    let same = c.deref.ensures ∙ sym c.deref_mut-2.ensures.value in
-    let held = found g.L.Round.start c.deref.result.now c.deref_mut-2.result.now same c.store.ensures.gone_on c.store.ensures.faithful in
-    let after : IsFaithful c.leave-left.new.self.store = subst (λ (b : LockedState). IsFaithful b.store) c.deref-2.ensures c.store-2.ensures.faithful in
-    let as_before : ready ≡ old = c.look.ensures.same_session in
-    let known : IsKnown g.L.Round.start (knowledge old) s =
-    subst (λ (b : SessionState). IsKnown g.L.Round.start (knowledge b) s) as_before (subst (λ (b : LockedState). IsKnown g.L.Round.start (knowledge ready) b.store) (sym c.deref_mut-2.ensures.value) c.look.ensures.known) in
-    let noted : NotesLeaving s old c.leave-left.new.session c.leave-left.result = subst (λ (b : SessionState). NotesLeaving s b c.leave-left.new.session c.leave-left.result) as_before told.noted in
-    let ended : EndsWorker old.worker s c.leave-left.new.self.store c.leave-left.result = subst (λ (b : SessionState). EndsWorker b.worker s c.leave-left.new.self.store c.leave-left.result) as_before told.ended in
-    let seen : HasSeen g.L.Round.start c.leave-left.new.self.store old c.leave-left.new.session = subst (λ (b : SessionState). HasSeen g.L.Round.start c.leave-left.new.self.store b c.leave-left.new.session) as_before told.seen in
+    let is_so : IsReady start v old ready = is_ready start c.deref_mut.result.now v old old ready (c.deref_mut-2.ensures.value ∙ c.look.ensures.same)
+    (found start c.deref.result.now v (c.deref.ensures ∙ sym c.deref_mut-2.ensures.value) c.store.ensures.gone_on c.store.ensures.faithful c.store.ensures.grown_by) (kept_all old) c.look.ensures.sees c.look.ensures.session in
+    let after : IsFaithful w.store = subst (λ (b : LockedState). IsFaithful b.store) c.deref-2.ensures c.store-2.ensures.faithful in
     record {
-      left = both_told c.leave-left.result _ _ _ (HasLeftAtSome g.L.Round.start old c.leave-left.new.session) (λ receipts left number count. (
-        s,
-        held.0,
-        held.1,
-        (
-          (
-            receipts,
-            legal_more s c.leave-left.new.self.store (leaving (graph_of_store s) old.worker) left.entries left.opening after,
-            count,
-            has_seen_all g.L.Round.start s c.leave-left.new.self.store old c.leave-left.new.session _ _ held.0 left.entries receipts.5 seen,
-          ),
-          known,
-        ),
-      )) noted.receipts ended.left (ended.count (graph_of_store s) refl);
-      gone = on_ok_weaker c.leave-left.result (λ receipts. receipts.4 ∙ retired_left old.retired (graph_of_store s) old.worker) noted.receipts;
-      refused = noted.refused;
-      no_such_worker = err_told c.leave-left.result _ _ (λ is. (s, held.0, held.1, ((ended.no_such_worker (graph_of_store s) refl).0 is, known)));
-      never_full = ended.never_full;
+      left = both_told c.leave-left.result _ _ _ (HasLeftAtSeen start old new) (λ receipts left number count. has_left start v w old ready new number is_so told.signed receipts left count after) told.noted.receipts told.ended.left (told.ended.count (graph_of_store v.store) refl);
+      gone = on_ok_weaker c.leave-left.result (λ receipts. receipts.4 ∙ retired_left ready.retired (graph_of_store v.store) ready.worker) told.noted.receipts;
+      refused = on_err_weaker c.leave-left.result (λ keeps. (refused_ready start v old ready new is_so keeps).0) told.noted.refused;
+      no_such_worker = none_here c.leave-left.result start v old ready new is_so told.noted.refused (told.ended.no_such_worker (graph_of_store v.store) refl);
+      never_full = told.ended.never_full;
       retired = still c.retired.result old.retired c.retired.ensures.is c.if-retired.false;
     }

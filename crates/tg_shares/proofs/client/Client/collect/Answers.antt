@@ -1,13 +1,37 @@
-use Rattle.std.proofs.Common.{◌≡◌, ◌∙◌, sym}
+use Rattle.std.proofs.Common.{◌≡◌, ◌∙◌, ap, sym}
 use Rattle.std.proofs.lemmas.Result.{IfOk-weaker}
-use Rattle.tg_shared.specs.Sessions.{LeavesAtSome}
-use Rattle.tg_shared.proofs.Calls.{found_with}
+use Rattle.tg_shared.specs.Sessions.{LeavesAtSeen, LockedState, SessionState}
+use Rattle.tg_shared.proofs.Calls.{Held, err_told, found, found_with}
+use Rattle.tg_shared.proofs.Knowing.{looked_all, seen_only}
 use Rattle.tg_shares.proofs.client.Client.collect.Goals as goal
 
 pub returns-clause-number : goal.returns-clause-number
 returns-clause-number g c =
+    let start = g.L.Round.start in
     let told = c.collect-left.ensures in
-    let same : c.deref.result.now.locked ≡ c.deref_mut.result.now.locked = λ i. ((c.deref.ensures ∙ sym c.deref_mut.ensures.value) i).locked in
-    IfOk-weaker c.collect-left.result _ (LeavesAtSome g.L.Round.start c.args.kind) (λ n swept.
-    let after = found_with g.L.Round.start _ c.deref-2.result.now.locked c.collect-left.new.self.locked (λ i. (c.deref-2.ensures i).locked) c.store-2.ensures.gone_on c.store-2.ensures.faithful (told.collected.history.entries, swept) in
-    found_with g.L.Round.start _ c.deref.result.now.locked c.deref_mut.result.now.locked same c.store.ensures.gone_on c.store.ensures.faithful after) told.collected.swept
+    let looks = c.look.ensures in
+    let v : LockedState = c.deref_mut-2.result.now.locked in
+    let w : LockedState = c.collect-left.new.self.locked in
+    let held : Held start v = found start c.deref.result.now.locked v (λ i. ((c.deref.ensures ∙ sym c.deref_mut-2.ensures.value) i).locked) c.store.ensures.gone_on c.store.ensures.faithful c.store.ensures.grown_by in
+    let after : Held start w = found start c.deref-2.result.now.locked w (λ i. (c.deref-2.ensures i).locked) c.store-2.ensures.gone_on c.store-2.ensures.faithful c.store-2.ensures.grown_by in
+    let seen : c.look.new.client.session.seen ≡ v.signed = ap (λ (s : SessionState). s.seen) looks.session ∙ ap (λ (b : LockedState). b.signed) (sym ((λ i. (c.deref_mut-2.ensures.value i).locked) ∙ looks.same)) in
+    IfOk-weaker c.collect-left.result _ (LeavesAtSeen start c.look.new.client.session.seen c.args.kind)
+    (λ n swept. found_with start c.look.new.client.session.seen _ v held seen (found_with start c.look.new.client.session.seen _ w after (seen ∙ sym told.collected.signed) swept)) told.collected.swept
+
+pub returns-clause-full : goal.returns-clause-full
+returns-clause-full g c =
+    let start = g.L.Round.start in
+    let looks = c.look.ensures in
+    let v : LockedState = c.deref_mut-2.result.now.locked in
+    let held : Held start v = found start c.deref.result.now.locked v (λ i. ((c.deref.ensures ∙ sym c.deref_mut-2.ensures.value) i).locked) c.store.ensures.gone_on c.store.ensures.faithful c.store.ensures.grown_by in
+    let seen : c.look.new.client.session.seen ≡ v.signed = ap (λ (s : SessionState). s.seen) looks.session ∙ ap (λ (b : LockedState). b.signed) (sym ((λ i. (c.deref_mut-2.ensures.value i).locked) ∙ looks.same)) in
+    err_told c.collect-left.result _ _ (λ is. found_with start c.look.new.client.session.seen _ v held seen (c.collect-left.ensures.full is))
+
+pub returns-clause-looked : goal.returns-clause-looked
+returns-clause-looked g c = looked_all c.args.self.now.session c.look.new.client.session c.deref_mut.result.now.locked.signed c.look.ensures.session c.look.ensures.sees
+
+pub returns-clause-same : goal.returns-clause-same
+returns-clause-same g c = λ i. record {
+  session = seen_only c.args.self.now.session c.look.new.client.session c.deref_mut.result.now.locked.signed c.look.ensures.session i;
+  purse = c.look.ensures.same_purse i;
+}

@@ -11,9 +11,6 @@ returns-in-Err-clause-never_full g c = λ why.
     name_left c.args.self.now.till.left.vertices c.args.client.now.purse.vertices c.args.self.now.locked.store c.args.self.now.covered c.requires.share.0 c.tell.ensures.left
     (c.in-Err.ensures.refusals.no_more (graph_of_store c.args.self.now.locked.store) refl why).1
 
-pub returns-in-Err-clause-refused : goal.returns-in-Err-clause-refused
-returns-in-Err-clause-refused g c = c.in-Err.ensures.noted.refused (returns-in-Err-clause-never_full g c)
-
 pub invariant_of-self : goal.invariant_of-self
 invariant_of-self g c =
     let held : Holds c.args.self.now.till c.args.self.now.locked = record { covered = c.args.self.now.covered; paid = c.args.self.now.paid } in
