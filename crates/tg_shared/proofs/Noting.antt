@@ -31,9 +31,9 @@ pub left_signed : (roll looked now : RollState) (worker first named : ℕ) (row 
 left_signed roll looked now worker first named row taken e same named_is same_roll before all is =
     sym
     (
-      (λ i. (before i).signed ++ sign (Session (named_is i)) (is i) ∷ [])
-      ∙ sign_more (Session first) looked.signed (map (removal first) taken) (retiring first)
-      ∙ (λ i. (same_roll i).signed ++ sign_all (Session (same i)) (map (removal (same i)) (all i) ++ retiring (same i) ∷ []))
+    (λ i. (before i).signed ++ sign (Session (named_is i)) (is i) ∷ [])
+    ∙ sign_more (Session first) looked.signed (map (removal first) taken) (retiring first)
+    ∙ (λ i. (same_roll i).signed ++ sign_all (Session (same i)) (map (removal (same i)) (all i) ++ retiring (same i) ∷ []))
     )
 
 pub gone_moved : (start : SharedStart) (p q : List Signed) (v w : ℕ) → p ≡ q → v ≡ w → IsGone start p v → IsGone start q w

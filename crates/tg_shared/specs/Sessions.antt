@@ -194,11 +194,11 @@ AtSeen start seen holds = AtSome start (λ s. HasGrownBy start s seen × holds s
 abbrev pub graph_seen : SharedStart → List Signed → ProtectionGraph
 graph_seen start seen = graph_after (start_of start.opening) (start.entries ++ entries_of seen)
 
--- After these entries since the start the worker was made before, and is no subject any more.
+-- After these entries since the start the worker has been made, and is no subject any more.
 abbrev pub IsGone : SharedStart → List Signed → ℕ → Type 0
 IsGone start seen worker = AtSeen start seen (λ s. (worker < (graph_of_store s).made) × (¬ IsSubject (graph_of_store s) worker))
 
--- The session made exactly its own of the entries that it has seen, and the keeper made none of its worker, unless it may end nobody.
+-- The session made exactly its own of the entries that it has seen. If the keeper may end workers, it made none of this worker.
 pub record IsOnItsOwn (start : SharedStart) (session : SessionState) : Type 0 where
   pub own : entries_by (Session session.worker) session.seen ≡ session.made
   pub alone : start.may_end ≡ true → own_entries session.worker (entries_by Keeper session.seen) ≡ []

@@ -34,14 +34,14 @@ impl<L: Round> Session<L> {
     /// session has then seen, and was legal there: the reply is the rules' on the graph after them.
     ///
     /// A refused call keeps the receipts, and its refusal was due of a store with exactly the entries that the session
-    /// has then seen (`AtSeen`): there was no such worker, or the command was allowed and a cell was lacking. Memory may
-    /// run out at any call. After a retire that the session entered itself, the call always reports that there is no such
-    /// worker, and takes no lock.
+    /// has then seen (`AtSeen`): there was no such worker, or the command was allowed and a cell was lacking. Memory
+    /// may run out at any call. After a retire that the session entered itself, the call always reports that there is
+    /// no such worker, and takes no lock.
     ///
-    /// What a session has seen has who made each entry, and begins with what it had seen before. The session's own among
-    /// these entries are exactly those that its calls made, and [`close`](crate::close) compares what each session has
-    /// seen with the journal. So a worker that entered no retire, and that the keeper didn't end, is never reported
-    /// missing:
+    /// What a session has seen has who made each entry, and begins with what it had seen before. The session's own
+    /// among these entries are exactly those that its calls made, and [`close`](crate::close) compares what each
+    /// session has seen with the journal. So a worker that entered no retire, and that the keeper didn't end, is never
+    /// reported missing:
     /// [`a_session_without_a_retire_is_a_subject`](crate::laws::a_session_without_a_retire_is_a_subject).
     pub fn call<P: Payload, R: Wait>(
         &mut self,
@@ -70,9 +70,9 @@ impl<L: Round> Session<L> {
     /// Makes a vertex of the session's subject, by one call of [`Locked::create`](crate::Locked::create) under the
     /// lock. A name, and `VerticesFull`, have added exactly one receipt, with this create and that answer. Its entry
     /// came next after the entries since the start that the session has then seen, and was legal there. A call that is
-    /// refused otherwise keeps the receipts, and its refusal was due of a store with exactly the entries that the session
-    /// has then seen, unless memory ran out. What the session knows of these [`call`](Session::call) says. A refused
-    /// draft is handed back.
+    /// refused otherwise keeps the receipts, and its refusal was due of a store with exactly the entries that the
+    /// session has then seen, unless memory ran out. What the session knows of these [`call`](Session::call) says. A
+    /// refused draft is handed back.
     pub fn create<P: Payload, R: Wait>(
         &mut self,
         rt: &R,
@@ -193,9 +193,9 @@ impl<L: Round> Session<L> {
     }
 
     /// The rights that the session's subject holds over a vertex, by one call of
-    /// [`Locked::label`](crate::Locked::label) under the lock: the label of the graph after exactly the entries since the
-    /// start that the session has then seen. It makes no entry and no receipt.
-    /// [`close`](crate::close) compares these entries with the journal, so the label is of the journal up to there:
+    /// [`Locked::label`](crate::Locked::label) under the lock: the label of the graph after exactly the entries since
+    /// the start that the session has then seen. It makes no entry and no receipt. [`close`](crate::close) compares
+    /// these entries with the journal, so the label is of the journal up to there:
     /// [`an_answer_is_of_the_closed_journal`](crate::laws::an_answer_is_of_the_closed_journal).
     pub fn label<P: Payload, R: Wait>(
         &mut self,

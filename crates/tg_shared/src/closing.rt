@@ -52,8 +52,8 @@ impl<L: Round, P: Payload> Locked<L, P> {
     /// entries.
     ///
     /// `single` says this of each single session whose worker the keeper didn't end, whatever the other sessions did. A
-    /// session that handed out no receipt and took over nobody has receipts of all entries of its worker since the store
-    /// was shared.
+    /// session that handed out no receipt and took over nobody has receipts of all entries of its worker since the
+    /// store was shared.
     ///
     /// `signed` says who made each entry since the store was shared: each session made exactly its own, and the entries
     /// begin with those that the session has seen. So what a session was answered after the entries that it had seen is

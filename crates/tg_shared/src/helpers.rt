@@ -43,9 +43,9 @@ impl<L: Round> Session<L> {
     /// of [`Locked::collect_with`](crate::Locked::collect_with) under the lock, and all threads that were started have
     /// ended before the lock is let go. Answers how many vertices the heap then has.
     ///
-    /// `HeapFull` was due of a store with exactly the entries that the session has then seen, where each helper may leave
-    /// a block open. `NoThread` is answered where a thread couldn't be started, and never of one helper alone. The only
-    /// other refusal is `OutOfMemory`. It makes no entry and no receipt.
+    /// `HeapFull` was due of a store with exactly the entries that the session has then seen, where each helper may
+    /// leave a block open. `NoThread` is answered where a thread couldn't be started, and never of one helper alone.
+    /// The only other refusal is `OutOfMemory`. It makes no entry and no receipt.
     pub fn collect_with<P: Payload, R: Threads + Wait + Sync, G: Gate>(
         &mut self,
         rt: &R,

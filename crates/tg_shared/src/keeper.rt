@@ -99,8 +99,8 @@ impl<L: Round> Keeper<L> {
     /// Hands out the entries that the store behind the lock holds, by one call of
     /// [`Locked::take_journal`](crate::Locked::take_journal) under the lock, at any moment and whatever the sessions
     /// do. What is handed out begins where the part before it ended (`joined`), so no entry is in two parts or in none:
-    /// all parts, in the order in which they were taken, are the journal. It ends with the last entry that the keeper has
-    /// then seen (`held`). The store has to be shared so as to be handed out in parts. Takes no memory.
+    /// all parts, in the order in which they were taken, are the journal. It ends with the last entry that the keeper
+    /// has then seen (`held`). The store has to be shared so as to be handed out in parts. Takes no memory.
     pub fn take_journal<P: Payload, R: Wait>(
         &mut self,
         rt: &R,
@@ -122,14 +122,14 @@ impl<L: Round> Keeper<L> {
     /// Ends a worker whose session is elsewhere, whether that comes back or not, by one call of
     /// [`Locked::end`](crate::Locked::end) under the lock: the worker gives up each edge that it has, by rising name,
     /// and retires. Answers how many edges these were. The entries by which this worker leaves came next after all
-    /// entries that the keeper had seen then, and were legal there (`ended`). They are exactly what the keeper made more,
-    /// so the named worker stopped being a subject, and no other did. [`close_with`](crate::close_with) compares what
-    /// the keeper made with the journal. From then on each call of the worker's session answers that there is no such
-    /// worker; the receipts that it has stay right, and it is closed with as before, or the store is had back without it
-    /// ([`reclaim`](crate::reclaim)). The store has to be shared so that its keeper may end workers.
+    /// entries that the keeper had seen then, and were legal there (`ended`). They are exactly what the keeper made
+    /// more, so the named worker stopped being a subject, and no other did. [`close_with`](crate::close_with) compares
+    /// what the keeper made with the journal. From then on each call of the worker's session answers that there is no
+    /// such worker; the receipts that it has stay right, and it is closed with as before, or the store is had back
+    /// without it ([`reclaim`](crate::reclaim)). The store has to be shared so that its keeper may end workers.
     ///
-    /// If the call is refused, the keeper has made no entry, so nobody is ended (`refused`). Memory ran out, or there was
-    /// no such worker after exactly the entries that the keeper has then seen. Nothing is refused on the way.
+    /// If the call is refused, the keeper has made no entry, so nobody is ended (`refused`). Memory ran out, or there
+    /// was no such worker after exactly the entries that the keeper has then seen. Nothing is refused on the way.
     pub fn end<P: Payload, R: Wait>(
         &mut self,
         rt: &R,
@@ -153,9 +153,9 @@ impl<L: Round> Keeper<L> {
     }
 
     /// The picture of what the active subjects reach, by one call of [`Locked::picture`](crate::Locked::picture) under
-    /// the lock: that of the graph after exactly the entries that the keeper has then seen. Sessions wait while all rows
-    /// that are reached are gone over; questions are asked of the picture afterwards, without the lock. It makes no entry
-    /// and no receipt. Fails only when out of memory.
+    /// the lock: that of the graph after exactly the entries that the keeper has then seen. Sessions wait while all
+    /// rows that are reached are gone over; questions are asked of the picture afterwards, without the lock. It makes
+    /// no entry and no receipt. Fails only when out of memory.
     pub fn picture<P: Payload, R: Wait>(
         &mut self,
         rt: &R,

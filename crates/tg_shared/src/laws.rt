@@ -87,11 +87,11 @@ pub fn who_left_stays_away()
         later.opening ≡ new.opening → later.entries ≡ new.entries ++ entries → ¬ IsSubject (graph_of_store later) worker }
 {}
 
-/// What a session knows bounds what its calls are refused for. Its worker was a subject when the store was shared, or was
-/// made by a spawn whose entry the session has seen. While no retire is among the entries that the session made, and the
-/// keeper made none of its worker, the worker is a subject of each store with exactly the entries that the session has
-/// seen. So none of its calls is answered that there is no such worker. A round whose keeper may end nobody needs no
-/// premise on the keeper.
+/// What a session knows bounds what its calls are refused for. Its worker was a subject when the store was shared, or
+/// was made by a spawn whose entry the session has seen. While no retire is among the entries that the session made,
+/// and the keeper made none of its worker, the worker is a subject of each store with exactly the entries that the
+/// session has seen. So none of its calls is answered that there is no such worker. A round whose keeper may end nobody
+/// needs no premise on the keeper.
 pub fn a_session_without_a_retire_is_a_subject()
     ensures from_the_start { (start : SharedStart) (session : SessionState) → Contains (subjects_at start) session.worker → IsOnItsOwn start session → retired_behind false session.made ≡ false →
         ¬ AtSeen start session.seen (λ s. ¬ IsSubject (graph_of_store s) session.worker) }
@@ -100,8 +100,8 @@ pub fn a_session_without_a_retire_is_a_subject()
         ¬ AtSeen start session.seen (λ s. ¬ IsSubject (graph_of_store s) session.worker) }
 {}
 
-/// Where a retire is among the entries that a session made, its worker is a subject of no store with exactly the entries
-/// that the session has seen.
+/// Where a retire is among the entries that a session made, its worker is a subject of no store with exactly the
+/// entries that the session has seen.
 pub fn a_session_with_a_retire_has_no_subject()
     ensures { (start : SharedStart) (session : SessionState) (s : StoreState) → GoesOn start s → IsFaithful s → HasGrownBy start s session.seen → IsOnItsOwn start session →
         retired_behind false session.made ≡ true → ¬ IsSubject (graph_of_store s) session.worker }
@@ -112,22 +112,22 @@ pub fn what_a_session_has_seen_grows()
     ensures { (start : SharedStart) (old new : SessionState) (deed : Deed) (reply : Reply) → IsAnswered start old new deed reply → BeginsWith new.seen old.seen }
 {}
 
-/// What a session knows of a store with exactly the entries that it has seen, if the keeper made none of its worker: the
-/// entries of its worker since the start are exactly those that its own calls made.
+/// What a session knows of a store with exactly the entries that it has seen, if the keeper made none of its worker:
+/// the entries of its worker since the start are exactly those that its own calls made.
 pub fn a_session_knows_its_own_entries()
     ensures { (start : SharedStart) (session : SessionState) (s : StoreState) → HasGrownBy start s session.seen → IsOnItsOwn start session → own_entries session.worker (since start s) ≡ session.made }
 {}
 
-/// An answer without an entry is an answer on the closed journal. Of a store with exactly the entries that a session, or
-/// the keeper, has seen there is one graph. When the round is closed, and the entries since the start begin with these,
-/// that graph is the one after so many entries of the journal.
+/// An answer without an entry is an answer on the closed journal. Of a store with exactly the entries that a session,
+/// or the keeper, has seen there is one graph. When the round is closed, and the entries since the start begin with
+/// these, that graph is the one after so many entries of the journal.
 pub fn an_answer_is_of_the_closed_journal()
     ensures { (start : SharedStart) (s closed : StoreState) (signed seen : List Signed) → GoesOn start s → HasGrownBy start s seen → GoesOn start closed → HasGrownBy start closed signed → BeginsWith signed seen →
         (graph_of_store s ≡ graph_seen start seen) × (graph_of_store s ≡ graph_after (start_of closed.opening) (take (length start.entries + length seen) closed.entries)) }
 {}
 
-/// The label that a session was answered is the one that the closed journal's graph has, after as many entries since the
-/// store was shared as the session had seen then.
+/// The label that a session was answered is the one that the closed journal's graph has, after as many entries since
+/// the store was shared as the session had seen then.
 pub fn a_label_is_of_the_closed_journal()
     ensures { (start : SharedStart) (closed : StoreState) (signed seen : List Signed) (worker target : ℕ) (label : Option RightSet) → AtSeen start seen (λ s. IsHeldOver (graph_of_store s) worker target label) →
         GoesOn start closed → HasGrownBy start closed signed → BeginsWith signed seen →

@@ -5,11 +5,11 @@
 //!
 //! ```text
 //!     session 0   [receipts, pass] --call--+
-//!                                          |      +--lock--------------------------+
-//!     session 1   [receipts, pass] --call--+----> | store: heap and journal        |
-//!                                          |      | book: how many entries since   |
-//!     session 2   [receipts, pass] --call--+      | roll: which entries since      |
-//!                                                 +--------------------------------+
+//!                                          |      +--lock------------------------------+
+//!     session 1   [receipts, pass] --call--+----> | store: heap and journal            |
+//!                                          |      | book: how many entries since       |
+//!     keeper      [numbers, pass]  --call--+      | roll: which entries since, by whom |
+//!                                                 +------------------------------------+
 //! ```
 //!
 //! A call that makes an entry of the journal leaves a [`Receipt`] with the session: the entry and its place. So a
@@ -17,12 +17,12 @@
 //! the journal's entry at its place, and hands out the store.
 //!
 //! What a call does to the value behind the lock stands in the contracts of [`Locked`], the type that is locked: each
-//! of its calls is one call of the store and makes at most one receipt. A caller of a session is told of its own
-//! receipts, and that its answer was right of some store that may have been behind the lock: of the shared one, gone on
-//! (see 'What a session can know' in docs/ARCHITECTURE.md). If the keeper may end nobody, that store has exactly the
-//! entries of the session's worker that the session's own calls made, by its pass (see 'How a session knows its own
-//! entries' there). Whenever the lock is free, the store is that one and keeps its promise ([`Locked::store`]), and the
-//! book that stands beside it has counted each entry since.
+//! of its calls is one call of the store and makes at most one receipt. The clauses of a session speak of its own
+//! receipts, and of a store with exactly the entries that the session has then seen since the start: its answer was
+//! right of such a store (see 'What a session can know' in docs/ARCHITECTURE.md). Its own entries among these are
+//! exactly those that its calls made, by its pass (see 'How a session knows its own entries' there), and [`close`] says
+//! that the journal begins with what each session has seen. Whenever the lock is free, the store is the shared one,
+//! gone on, and keeps its promise ([`Locked::store`]), and the book that stands beside it has counted each entry since.
 //!
 //! A session may make a subject, and is answered its session ([`Session::spawn`]), which is owed to [`close`] like the
 //! others. A subject that retires makes no entry any more; its session is owed all the same.
@@ -35,8 +35,8 @@
 //! entries nor receipts.
 //!
 //! A client may hang, and its session with it. The keeper ends its worker by its name, where the store was shared so
-//! ([`Keeper::end`]): what was entered for it counts behind the lock and with the keeper, so who has the keeper is told
-//! of each entry at the close ([`close_with`]). And a store is had back though a session is lost ([`reclaim`]): then
+//! ([`Keeper::end`]). What was entered for it is the keeper's in the roll, so who has the keeper knows of each entry at
+//! the close who made it ([`close_with`]). And a store is had back though a session is lost ([`reclaim`]): then
 //! the receipts that came are no more than the entries.
 //!
 //! The book is that of a ledger ([`std::sync::ledger`]). That there are as many receipts as entries, where a close

@@ -66,9 +66,9 @@ impl<L: Round, P: Payload> Locked<L, P> {
 
     /// The store. What holds whenever the lock is free is told here: the store's own promise, that its journal is a
     /// legal history of its opening and its heap stands for the graph after it; and it is the store that was shared,
-    /// gone on: with its opening and its limits, with all entries from before, and with exactly those since that the roll
-    /// has (`grown_by`). One session was made for each subject that it had then, and one for each that was made since. No
-    /// worker was ended if its start lets nobody.
+    /// gone on: with its opening and its limits, with all entries from before, and with exactly those since that the
+    /// roll has (`grown_by`). One session was made for each subject that it had then, and one for each that was made
+    /// since. No worker was ended if its start lets nobody.
     pub fn store(&self) -> &Store<P>
         ensures same { result.now ≡ self.now.store }
         ensures faithful { IsFaithful self.now.store }
@@ -100,9 +100,10 @@ impl<L: Round, P: Payload> Locked<L, P> {
         self.entered
     }
 
-    /// The keeper looks at all entries since the start, and has then seen them. It is otherwise as it was, and so is what
-    /// is behind the lock. The entries that the keeper made are exactly the keeper's among all, which begin with those
-    /// that it had seen (`sees`). The store holds its entries from the place on at which the keeper's last part ended.
+    /// The keeper looks at all entries since the start, and has then seen them. It is otherwise as it was, and so is
+    /// what is behind the lock. The entries that the keeper made are exactly the keeper's among all, which begin with
+    /// those that it had seen (`sees`). The store holds its entries from the place on at which the keeper's last part
+    /// ended.
     pub fn tell(&mut self, keeper: &mut Keeper<L>)
         ensures sees { Sees self.old.signed (keeper_knowledge keeper.old) }
         ensures next { keeper.old.next ≡ self.old.store.handed }
@@ -114,8 +115,8 @@ impl<L: Round, P: Payload> Locked<L, P> {
     }
 
     /// The session looks at all entries since the start, and has then seen them. It is otherwise as it was, and so is
-    /// what is behind the lock. The entries that its own calls made are exactly its own among all, which begin with those
-    /// that it had seen (`sees`).
+    /// what is behind the lock. The entries that its own calls made are exactly its own among all, which begin with
+    /// those that it had seen (`sees`).
     pub fn look(&mut self, session: &mut Session<L>)
         ensures sees { Sees self.old.signed (knowledge session.old) }
         ensures same { self.new ≡ self.old }
@@ -287,8 +288,8 @@ impl<L: Round, P: Payload> Locked<L, P> {
 
     /// Ends a worker, whose session may be anywhere, by one call of the store: it gives up each edge that it has, by
     /// rising name, and retires. Answers how many edges these were. Each of these entries is noted as the keeper's, and
-    /// no session has a receipt of it; the worker's own is answered that there is no such worker from then on. Whether it
-    /// is refused or not, the keeper has then seen all entries.
+    /// no session has a receipt of it; the worker's own is answered that there is no such worker from then on. Whether
+    /// it is refused or not, the keeper has then seen all entries.
     ///
     /// Room for all entries is made first: 80 bytes for each edge, and 16 for its listing. `NoSuchWorker` is answered
     /// exactly where no worker has the name; else `OutOfMemory` alone. What is behind the lock is then as it was, and

@@ -54,8 +54,8 @@ pub(crate) struct Register<L: Round> {
     pub(crate) roll: Roll<Rolled<L>>,
 }
 
-/// What a round is opened with: the blank of its sessions' ledger, that of its keeper's, and a blank roll. The roll takes
-/// a word of memory, and the others take no bytes.
+/// What a round is opened with: the blank of its sessions' ledger, that of its keeper's, and a blank roll. The roll
+/// takes a word of memory, and the others take no bytes.
 #[derive(Drop)]
 pub struct Blanks {
     pub sessions: Blank,

@@ -101,9 +101,9 @@ impl<L: Round, P: Payload> SharedStore<L, P> {
     }
 
     /// What was behind the lock, as [`into_locked`](SharedStore::into_locked) hands it out, for who still has the
-    /// keeper: the entries that were made for workers that were ended are exactly those that the keeper made (`sees`), and
-    /// the store holds its entries from that place on at which the keeper's last part ended. The keeper has then seen all
-    /// entries, and is otherwise as it was.
+    /// keeper: the entries that were made for workers that were ended are exactly those that the keeper made (`sees`),
+    /// and the store holds its entries from that place on at which the keeper's last part ended. The keeper has then
+    /// seen all entries, and is otherwise as it was.
     pub fn into_locked_with(self, keeper: &mut Keeper<L>) -> Locked<L, P>
         ensures faithful { IsFaithful result.store }
         ensures gone_on { GoesOn L.start result.store }
@@ -182,11 +182,11 @@ pub fn close<L: Round, P: Payload>(
 ///
 /// The journal has grown by as many entries as the keeper made for workers that it ended, and as there are receipts. Of
 /// the entries since the store was shared the keeper made exactly those that it has, each session exactly its own, and
-/// all begin with those that each has seen (`signed`). A session whose worker isn't among those that the keeper ended has
-/// receipts of all entries of its worker, if it handed out none and took over nobody (`single`). Of a store that was
-/// shared whole, if the keeper ended nobody, each entry made since stands in exactly one receipt, and the receipts of
-/// each session are all its entries (`whole`). The store holds its entries from that place on at which the keeper's last
-/// part ended. The keeper has then seen all entries, and is otherwise as it was. What is refused is refused as by
+/// all begin with those that each has seen (`signed`). A session whose worker isn't among those that the keeper ended
+/// has receipts of all entries of its worker, if it handed out none and took over nobody (`single`). Of a store that
+/// was shared whole, if the keeper ended nobody, each entry made since stands in exactly one receipt, and the receipts
+/// of each session are all its entries (`whole`). The store holds its entries from that place on at which the keeper's
+/// last part ended. The keeper has then seen all entries, and is otherwise as it was. What is refused is refused as by
 /// [`close`].
 pub fn close_with<L: Round, P: Payload>(
     store: SharedStore<L, P>,

@@ -114,8 +114,12 @@ new-requires g c =
     let seen : c.issue-pass.result.seen ≡ c.make.new.register.roll.signed = ap (λ (p : PassState). p.seen) c.issue-pass.ensures.pass in
     record {
       share = (c.split_off-share.ensures.parts, c.split_off-share.ensures.amount, within_word c.self.inside.store.opening.limit g.L.Ledger.parts limit c.self.invariant.0.0.enough);
-      pass = (ap (λ (p : PassState). p.maker) c.issue-pass.ensures.pass, ap (λ (p : PassState). p.made) c.issue-pass.ensures.pass, ap (entries_by (maker.Session c.in_ok-name.name)) seen
-          ∙ unnamed_more c.args.session.now.worker c.in_ok-name.name c.self.inside.register.roll.signed c.make.new.register.roll.signed _ apart none (ap (λ (r : RollState). r.signed) (told.signed (Reply.Name c.in_ok-name.name) refl).roll));
+      pass = (
+        ap (λ (p : PassState). p.maker) c.issue-pass.ensures.pass,
+        ap (λ (p : PassState). p.made) c.issue-pass.ensures.pass,
+        ap (entries_by (maker.Session c.in_ok-name.name)) seen
+            ∙ unnamed_more c.args.session.now.worker c.in_ok-name.name c.self.inside.register.roll.signed c.make.new.register.roll.signed _ apart none (ap (λ (r : RollState). r.signed) (told.signed (Reply.Name c.in_ok-name.name) refl).roll),
+      );
     }
 
 pub invariant_of-self-2 : goal.invariant_of-self-2

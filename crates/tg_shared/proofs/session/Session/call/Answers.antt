@@ -14,11 +14,15 @@ use Rattle.tg_shared.proofs.session.Session.call.Goals as goal
 
 pub returns-then-retired : goal.returns-then-retired
 returns-then-retired g c = (
-  (refl, (λ _. tt), record {
-    looked = looked_none c.args.self.now c.args.self.now (kept_all c.args.self.now) c.retired.ensures.own;
-    no_such_worker = λ _. c.retired.ensures.gone c.if-retired.true;
-    full = λ is. absurd (worker_not_full is);
-  }),
+  (
+    refl,
+    (λ _. tt),
+    record {
+      looked = looked_none c.args.self.now c.args.self.now (kept_all c.args.self.now) c.retired.ensures.own;
+      no_such_worker = λ _. c.retired.ensures.gone c.if-retired.true;
+      full = λ is. absurd (worker_not_full is);
+    },
+  ),
   record { receipt = tt; retired = λ _. refl },
 )
 
@@ -58,11 +62,15 @@ returns-in_err-apply g c =
     let looks = refused_ready start v old ready c.apply.new.session is_so served.refused.1 in
     let named : ready.worker ≡ old.worker = is_so.looked.kept.0 in
     let answer = c.from_residual-in_err-apply.result in (
-      (refl, (λ _. tt), refused_here answer given.0 _ _ given.1 (record {
-        looked = looks.0;
-        no_such_worker = λ why. found_with start c.apply.new.session.seen (λ x. ¬ IsSubject (graph_of_store x) old.worker) v is_so.held looks.1 (subst (λ (n : ℕ). ¬ IsSubject (graph_of_store s) n) named ((served.no_such_worker (graph_of_store s) refl).0 (refused_as given.2 why)));
-        full = λ why. found_with start c.apply.new.session.seen (λ x. Permits (graph_of_store x).label (graph_of_store x).value old.worker c.args.command × AddsEdge c.args.command × LacksCellsToServe x.heap.table (nursery_of x.heap old.worker) old.worker c.args.command) v is_so.held looks.1
-            (subst (λ (n : ℕ). Permits (graph_of_store s).label (graph_of_store s).value n c.args.command × AddsEdge c.args.command × LacksCellsToServe s.heap.table (nursery_of s.heap n) n c.args.command) named (served.full (graph_of_store s) refl (refused_as given.2 why)));
-      })),
+      (
+        refl,
+        (λ _. tt),
+        refused_here answer given.0 _ _ given.1 (record {
+          looked = looks.0;
+          no_such_worker = λ why. found_with start c.apply.new.session.seen (λ x. ¬ IsSubject (graph_of_store x) old.worker) v is_so.held looks.1 (subst (λ (n : ℕ). ¬ IsSubject (graph_of_store s) n) named ((served.no_such_worker (graph_of_store s) refl).0 (refused_as given.2 why)));
+          full = λ why. found_with start c.apply.new.session.seen (λ x. Permits (graph_of_store x).label (graph_of_store x).value old.worker c.args.command × AddsEdge c.args.command × LacksCellsToServe x.heap.table (nursery_of x.heap old.worker) old.worker c.args.command) v is_so.held looks.1
+              (subst (λ (n : ℕ). Permits (graph_of_store s).label (graph_of_store s).value n c.args.command × AddsEdge c.args.command × LacksCellsToServe s.heap.table (nursery_of s.heap n) n c.args.command) named (served.full (graph_of_store s) refl (refused_as given.2 why)));
+        }),
+      ),
       record { receipt = tt; retired = still c.retired.result old.retired c.retired.ensures.is c.if-retired.false },
     )

@@ -3,21 +3,14 @@ use Rattle.std.proofs.Common.{◌∙◌, refl, sym, subst}
 use Rattle.std.proofs.lemmas.Result.{on_err_weaker, on_ok_weaker}
 use Rattle.tg_store.specs.Store.{IsFaithful, graph_of_store}
 use Rattle.tg_shared.specs.Sessions.{HasLeftAtSeen, LockedState, SessionState}
-use Rattle.tg_shared.proofs.Calls.{both_told, err_as, found, still, worker_not_full}
+use Rattle.tg_shared.proofs.Calls.{both_told, found, still}
 use Rattle.tg_shared.proofs.Knowing.{kept_all, looked_none}
 use Rattle.tg_shared.proofs.Leavings.{retired_left}
 use Rattle.tg_shared.proofs.Replies.{IsReady, has_left, is_ready, none_here, refused_ready}
 use Rattle.tg_shared.proofs.session.Session.leave.Goals as goal
 
-pub returns-then-retired : goal.returns-then-retired
-returns-then-retired g c = record {
-  left = tt;
-  gone = tt;
-  refused = looked_none c.args.self.now c.args.self.now (kept_all c.args.self.now) c.retired.ensures.own;
-  no_such_worker = λ _. c.retired.ensures.gone c.if-retired.true;
-  never_full = λ is. absurd (worker_not_full (err_as is));
-  retired = λ _. refl;
-}
+pub returns-then-retired-clause-refused : goal.returns-then-retired-clause-refused
+returns-then-retired-clause-refused g c = looked_none c.args.self.now c.args.self.now (kept_all c.args.self.now) c.retired.ensures.own
 
 pub returns : goal.returns
 returns g c =

@@ -1,4 +1,4 @@
-use Rattle.std.proofs.Common.{◌≡◌, ◌∙◌, refl, sym, subst}
+use Rattle.std.proofs.Common.{◌≡◌, ◌∙◌, refl, rules, sym, subst}
 use Rattle.std.proofs.lemmas.Result.{IfErr-weaker, IfOk-weaker}
 use Rattle.tg_store.specs.Store.{IsFaithful}
 use Rattle.tg_shared.specs.Sessions.{LockedState, MayNote, SessionState}
@@ -17,9 +17,11 @@ pub returns-in-Err-clause-refused : goal.returns-in-Err-clause-refused
 returns-in-Err-clause-refused g c = λ _ _. looked_none c.args.self.now c.make_ready.new.self c.make_ready.ensures.receipts c.make_ready.ensures.own
 
 pub spawn-spawned-requires : goal.spawn-spawned-requires
-spawn-spawned-requires g c = record {
-  notable = subst (λ (s : SessionState). MayNote s c.args.draft.state) (sym c.look.ensures.session) (record { room = c.in_default.ensures.notable.room; copy = c.in_default.ensures.notable.copy });
-}
+spawn-spawned-requires g c =
+    let state : c.as_slice.result.now ≡ c.args.draft.state = search rules in
+    record {
+      notable = subst (λ (s : SessionState). MayNote s c.args.draft.state) (sym c.look.ensures.session) (record { room = c.in_default.ensures.notable.room; copy = c.in_default.ensures.notable.copy ∙ state });
+    }
 
 pub returns : goal.returns
 returns g c =
