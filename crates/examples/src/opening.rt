@@ -4,7 +4,7 @@ use crate::fault::StoryFault;
 use std::alloc::Global;
 use tg_model::{Edge, Opening};
 use tg_payload::{CellPayload, Draft, values_of};
-use tg_rights::Label;
+use tg_rights::{Label, Right, Rights};
 use tg_store::{Limits, StoreFault};
 
 // At most 16 blocks of 64 cells stand in the heap, and at most 4 in one space of it.
@@ -21,6 +21,21 @@ const MOST_VERTICES: u64 = 8;
 /// The label with the rights of these letters. `BadLabel` where one of them names no right, or there is none.
 pub fn label(letters: &str) -> Result<Label, StoryFault> {
     Label::read_text(letters.as_bytes()).ok_or(StoryFault::BadLabel)
+}
+
+/// The right to grant.
+pub fn grant() -> Label {
+    Label::new(Rights::of(Right::G)).unwrap()
+}
+
+/// The right to write.
+pub fn write_right() -> Label {
+    Label::new(Rights::of(Right::W)).unwrap()
+}
+
+/// The rights to read and to write.
+pub fn read_and_write() -> Label {
+    Label::new(Rights::of(Right::R).union(Rights::of(Right::W))).unwrap()
 }
 
 /// How large a heap may become.

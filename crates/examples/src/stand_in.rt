@@ -14,5 +14,6 @@ mod laws;
 mod opening;
 mod story;
 
+pub use desk::read_right;
 pub use fault::DeskFault;
 pub use story::run_story;

@@ -1,6 +1,6 @@
 -- Pieces of a line that are read one after another.
-use Rattle.std.proofs.Common.{◌≡◌, ◌∙◌, ℕ, ◌+◌, ◌<◌, List, [], ◌∷◌, ◌++◌, length, take, get_or, Option, Some, None, OnSome, ap, sym, subst, append-nil, append_assoc}
-use Rattle.std.proofs.lemmas.List.{take_more, flat_map_more}
+use Rattle.std.proofs.Common.{◌≡◌, ◌∙◌, ℕ, ◌+◌, ◌<◌, List, [], ◌∷◌, ◌++◌, length, take, drop, get_or, Option, Some, None, OnSome, ap, sym, subst, append-nil, append_assoc}
+use Rattle.std.proofs.lemmas.List.{take-append-drop, take_more, flat_map_more}
 use Rattle.std.proofs.KnownBytes.{Consumes-nil, Consumes-kept, Consumes-trans}
 use Rattle.std.specs.Io.KnownBytes.{Consumes, IsAtEnd, Keeps}
 use Rattle.std.specs.List.{flat_map}
@@ -41,6 +41,14 @@ loses_none held a = record { piece = []; taken = Consumes-nil a; same = append-n
 -- a text that the bytes at hand begin with, once more of them were read
 pub loses_read : (held now new text : List ℕ) (a b : Option (List ℕ)) → Fetches held a now b → now ≡ text ++ new → Loses held a text new b
 loses_read held now new text a b f is = record { piece = f.piece; taken = f.taken; same = sym f.held_is ∙ is }
+
+-- the same, where they are shown to begin with it, and it is dropped from their front
+pub loses_front : (held now shown new text : List ℕ) (a b : Option (List ℕ)) → Fetches held a now b → shown ≡ now → take (length text) shown ≡ text →
+    new ≡ drop (length text) now → Loses held a text new b
+loses_front held now shown new text a b f is begins left =
+    let front : take (length text) now ≡ text = ap (take (length text)) (sym is) ∙ begins in
+    loses_read held now new text a b f
+    (sym (take-append-drop (length text) now) ∙ ap (λ (x : List ℕ). x ++ drop (length text) now) front ∙ ap (λ (x : List ℕ). text ++ x) (sym left))
 
 -- a text behind another
 pub loses_more : (held now new first second : List ℕ) (a b c : Option (List ℕ)) → Loses held a first now b → Loses now b second new c → Loses held a (first ++ second) new c

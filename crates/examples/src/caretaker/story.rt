@@ -5,7 +5,8 @@
 //! on again.
 
 use crate::fault::StoryFault;
-use crate::opening::{label, limits};
+use crate::opening::{grant, limits, read_and_write};
+use crate::stand_in::read_right;
 use crate::tell::{tell_audit, tell_reply};
 use std::alloc::Global;
 use tg_model::{Command, Edge, Opening, Reply};
@@ -33,6 +34,14 @@ enum Step {
     GiveBack,
     GiveUp,
     Collect,
+}
+
+// Who asks for what, as it is told.
+#[derive(Clone, Copy)]
+struct Asked {
+    worker: u64,
+    words: &'static str,
+    command: Command,
 }
 
 // The visitor reads the document, before and after a collection and a write of the caretaker. It gives the right back,
@@ -68,41 +77,25 @@ pub fn run_story<P: Payload, R: Print + AllocGlobal>(
     rt: &R,
     boxes: Boxes<P>,
 ) -> Result<(), StoryFault> {
-    let rights = label("g")?;
     let Boxes {
         caretaker,
         visitor,
         document,
     } = boxes;
-    let mut store = open_store(rt.alloc(), caretaker, visitor, rights)?;
-    let told = tell_story(rt, &mut store, document);
+    let mut store = open_store(rt.alloc(), caretaker, visitor)?;
+    let told = match make(rt.alloc(), &mut store, document) {
+        Ok(document) => tell_story(rt, &mut store, document),
+        Err(fault) => Err(StoryFault::Store(fault)),
+    };
     store.let_go();
     told
 }
 
-// Tells the story in the store.
-fn tell_story<P: Payload, R: Print + AllocGlobal>(
-    rt: &R,
-    store: &mut Store<P>,
-    document: P,
-) -> Result<(), StoryFault> {
-    let document = make_document(rt, store, document)?;
-    tell(rt, store, document)?;
-    let entries = audited(rt.alloc(), store)?;
-    Ok(tell_audit(rt, entries)?)
-}
-
-// A store with two workers, of whom the caretaker has these rights over the visitor.
-fn open_store<P: Payload>(
-    alloc: Global,
-    caretaker: P,
-    visitor: P,
-    rights: Label,
-) -> Result<Store<P>, StoreFault> {
-    let limits = limits()?;
+// A store with two workers, of whom the caretaker has the right to grant over the visitor.
+fn open_store<P: Payload>(alloc: Global, caretaker: P, visitor: P) -> Result<Store<P>, StoreFault> {
     let drafts = drafts_of(alloc, caretaker, visitor)?;
-    let opening = opening_of(alloc, &drafts, rights)?;
-    Ok(Store::open(alloc, opening, limits, drafts)?)
+    let opening = opening_of(alloc, &drafts)?;
+    Ok(Store::open(alloc, opening, limits()?, drafts)?)
 }
 
 // What the two workers store, by rising name.
@@ -118,52 +111,35 @@ fn drafts_of<P: Payload>(
 }
 
 // Workers who store what is in the drafts, and an edge from the caretaker to the visitor.
-fn opening_of<P: Payload>(
-    alloc: Global,
-    drafts: &[Draft<P>],
-    rights: Label,
-) -> Result<Opening, StoreFault> {
+fn opening_of<P: Payload>(alloc: Global, drafts: &[Draft<P>]) -> Result<Opening, StoreFault> {
     let values = values_of(alloc, drafts)?;
-    let mut edges = Vec::new(alloc);
-    edges.push(Edge {
+    let edge = Edge {
         from: CARETAKER,
         to: VISITOR,
-        label: rights,
-    })?;
+        label: grant(),
+    };
+    let edges = vec![in alloc; edge]?;
     Ok(Opening::new(WORKERS, edges, values, MOST_VERTICES)?)
 }
 
-// The caretaker makes the document, which it may read and write. Answers its name.
-fn make_document<P: Payload, R: Print + AllocGlobal>(
-    rt: &R,
-    store: &mut Store<P>,
-    document: P,
-) -> Result<u64, StoryFault> {
-    let name = make(rt.alloc(), store, label("rw")?, document)?;
-    tell_reply(rt, "caretaker makes a document", &Reply::Name(name))?;
-    Ok(name)
+// Makes the document, which the caretaker may read and write, and answers its name.
+fn make<P: Payload>(alloc: Global, store: &mut Store<P>, document: P) -> Result<u64, StoreFault> {
+    let draft = Draft::new(alloc, document)?;
+    Ok(store.create(CARETAKER, read_and_write(), draft)?)
 }
 
-// Makes a vertex over which the caretaker has the rights, and answers its name.
-fn make<P: Payload>(
-    alloc: Global,
-    store: &mut Store<P>,
-    rights: Label,
-    payload: P,
-) -> Result<u64, StoreFault> {
-    Ok(store.create(CARETAKER, rights, Draft::new(alloc, payload)?)?)
-}
-
-// Tells what becomes of the document, one step after the other.
-fn tell<P: Payload, R: Print>(
+// Tells what becomes of the document, one step after the other, and audits the journal.
+fn tell_story<P: Payload, R: Print + AllocGlobal>(
     rt: &R,
     store: &mut Store<P>,
     document: u64,
 ) -> Result<(), StoryFault> {
+    println!(rt; "caretaker makes a document: ok, its name is {document}")?;
     for step in &STEPS {
         act(rt, store, *step, document)?;
     }
-    Ok(())
+    let entries = audited(rt.alloc(), store)?;
+    tell_audit(rt, entries)
 }
 
 // Has the one whose step it is ask for it, and prints the reply.
@@ -173,52 +149,60 @@ fn act<P: Payload, R: Print>(
     step: Step,
     document: u64,
 ) -> Result<(), StoryFault> {
-    match step {
-        Step::HandOn => hand_on(rt, store, document),
-        Step::Read => ask(rt, store, VISITOR, "visitor reads", read(document)),
-        Step::Write => ask(rt, store, CARETAKER, "caretaker writes 2", write(document)),
-        Step::WriteAsVisitor => ask(rt, store, VISITOR, "visitor writes 2", write(document)),
-        Step::GiveBack => give_up(rt, store, VISITOR, "visitor gives r back", document, "r"),
-        Step::GiveUp => give_up(
-            rt,
-            store,
-            CARETAKER,
-            "caretaker gives up rw",
-            document,
-            "rw",
-        ),
-        Step::Collect => collect(rt, store),
+    match step.asked(document) {
+        Some(asked) => ask(rt, store, asked.worker, asked.words, asked.command),
+        None => collect(rt, store),
     }
 }
 
-// The caretaker hands the right to read the document on to the visitor.
-fn hand_on<P: Payload, R: Print>(
-    rt: &R,
-    store: &mut Store<P>,
-    document: u64,
-) -> Result<(), StoryFault> {
-    let grant = Command::Grant {
-        via: VISITOR,
-        target: document,
-        rights: label("r")?,
-    };
-    ask(rt, store, CARETAKER, "caretaker hands r on", grant)
+impl Step {
+    // Who asks for what; `None` for a collection.
+    fn asked(self, document: u64) -> Option<Asked> {
+        let (worker, words, command) = match self {
+            Step::HandOn => (CARETAKER, "caretaker hands r on", hand_on(document)),
+            Step::Read => (VISITOR, "visitor reads", read(document)),
+            Step::Write => (CARETAKER, "caretaker writes 2", write(document)),
+            Step::WriteAsVisitor => (VISITOR, "visitor writes 2", write(document)),
+            Step::GiveBack => (
+                VISITOR,
+                "visitor gives r back",
+                give_up(document, read_right()),
+            ),
+            Step::GiveUp => (
+                CARETAKER,
+                "caretaker gives up rw",
+                give_up(document, read_and_write()),
+            ),
+            Step::Collect => return None,
+        };
+        Some(Asked {
+            worker,
+            words,
+            command,
+        })
+    }
 }
 
-// The worker gives up the rights of these letters over the target.
-fn give_up<P: Payload, R: Print>(
-    rt: &R,
-    store: &mut Store<P>,
-    worker: u64,
-    words: &str,
-    target: u64,
-    letters: &str,
-) -> Result<(), StoryFault> {
-    let remove = Command::Remove {
+// The right to read the target is handed on to the visitor.
+fn hand_on(target: u64) -> Command {
+    Command::Grant {
+        via: VISITOR,
         target,
-        rights: label(letters)?,
-    };
-    ask(rt, store, worker, words, remove)
+        rights: read_right(),
+    }
+}
+
+fn read(target: u64) -> Command {
+    Command::Read { target }
+}
+
+// Writes 2.
+fn write(target: u64) -> Command {
+    Command::Write { target, value: 2 }
+}
+
+fn give_up(target: u64, rights: Label) -> Command {
+    Command::Remove { target, rights }
 }
 
 // Puts a command of the worker to the store, and prints the reply. A denial is a reply.
@@ -229,40 +213,21 @@ fn ask<P: Payload, R: Print>(
     words: &str,
     command: Command,
 ) -> Result<(), StoryFault> {
-    let reply = reply_to(store, worker, command)?;
-    Ok(tell_reply(rt, words, &reply)?)
-}
-
-fn reply_to<P: Payload>(
-    store: &mut Store<P>,
-    worker: u64,
-    command: Command,
-) -> Result<Reply, StoreFault> {
-    Ok(store.apply(worker, command)?)
+    match store.apply(worker, command) {
+        Ok(reply) => tell_reply(rt, words, &reply),
+        Err(fault) => Err(StoryFault::Store(StoreFault::from(fault))),
+    }
 }
 
 // Collects, and prints how many vertices are left.
 fn collect<P: Payload, R: Print>(rt: &R, store: &mut Store<P>) -> Result<(), StoryFault> {
-    let left = left_by_collection(store)?;
+    let left = store.collect(Kind::Full).map_err(StoreFault::from)?;
     println!(rt; "full collection: {left} vertices are left")?;
     Ok(())
-}
-
-fn left_by_collection<P: Payload>(store: &mut Store<P>) -> Result<u64, StoreFault> {
-    Ok(store.collect(Kind::Full)?)
 }
 
 // Audits the store's own journal, and answers how many entries it has.
 fn audited<P: Payload>(alloc: Global, store: &Store<P>) -> Result<u64, StoreFault> {
     let audited = store.audit(alloc)?;
     Ok(audited.entries())
-}
-
-fn read(target: u64) -> Command {
-    Command::Read { target }
-}
-
-// Writes 2.
-fn write(target: u64) -> Command {
-    Command::Write { target, value: 2 }
 }

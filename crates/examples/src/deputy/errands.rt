@@ -1,11 +1,10 @@
 //! What each of the three does with its session.
 
 use super::opening::HAND;
-use crate::sessions::reply_to;
+use crate::opening::write_right;
 use std::sync::Wait;
 use tg_model::{Command, Reply};
 use tg_payload::Payload;
-use tg_rights::Label;
 use tg_shared::{Round, Session, SharedStore};
 use tg_store::{Kind, StoreFault};
 
@@ -30,22 +29,23 @@ fn is_done<L: Round, P: Payload, R: Wait>(
     session: &mut Session<L>,
     command: Command,
 ) -> Result<bool, StoreFault> {
-    let reply = reply_to(rt, store, session, command)?;
-    Ok(matches!(reply, Reply::Done))
+    match session.call(rt, store, command) {
+        Ok(reply) => Ok(matches!(reply, Reply::Done)),
+        Err(fault) => Err(StoreFault::from(fault)),
+    }
 }
 
-/// Hands rights of the client over the paper on to the deputy's hand. Answers whether that was done.
+/// Hands the client's right to write to the paper on to the deputy's hand. Answers whether that was done.
 pub fn hand_on<L: Round, P: Payload, R: Wait>(
     rt: &R,
     store: &SharedStore<L, P>,
     client: &mut Session<L>,
     paper: u64,
-    rights: Label,
 ) -> Result<bool, StoreFault> {
     let grant = Command::Grant {
         via: HAND,
         target: paper,
-        rights,
+        rights: write_right(),
     };
     is_done(rt, store, client, grant)
 }

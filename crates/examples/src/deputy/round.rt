@@ -5,7 +5,7 @@ use super::errands::{Errands, hand_on, read_and_collect, run_errands};
 use super::opening::{open_store, opening};
 use super::tell::Ending;
 use crate::fault::StoryFault;
-use crate::opening::{cell, label};
+use crate::opening::{cell, read_and_write};
 use crate::sessions::make;
 use std::alloc::Global;
 use std::marker::Brand;
@@ -13,7 +13,6 @@ use std::sync::Wait;
 use std::thread::{Threads, join};
 use tg_journal::{Journal, audit};
 use tg_payload::CellPayload;
-use tg_rights::Label;
 use tg_shared::{Blanks, Round, Session, Shared, SharedStore, close};
 use tg_store::{Store, StoreFault};
 
@@ -23,9 +22,14 @@ pub fn run_round<R: Threads + Wait + Sync>(
     rt: &R,
     alloc: Global,
 ) -> Result<(Ending, u64), StoryFault> {
-    let store = open_store(alloc, label("g")?)?;
-    let parts = store.opening().max_vertices() + 1;
-    share::<Brand, R>(rt, alloc, Blanks::new(alloc, parts)?, store)
+    let store = open_store(alloc)?;
+    match Blanks::new(alloc, store.opening().max_vertices() + 1) {
+        Ok(blanks) => share::<Brand, R>(rt, alloc, blanks, store),
+        Err(fault) => {
+            store.let_go();
+            Err(StoryFault::from(fault))
+        }
+    }
 }
 
 // Shares the store, tells the story, closes and audits.
@@ -37,8 +41,10 @@ fn share<L: Round + Send + Sync, R: Threads + Wait + Sync>(
 ) -> Result<(Ending, u64), StoryFault>
     requires shareable { MayShare L.name L.parts L.keeper L.start blanks store }
 {
-    let shared = SharedStore::<L, CellPayload>::new(alloc, blanks, store)?;
-    tell_and_close(rt, alloc, shared)
+    match SharedStore::<L, CellPayload>::new(alloc, blanks, store) {
+        Ok(shared) => tell_and_close(rt, alloc, shared),
+        Err(refused) => Err(StoryFault::from(refused)),
+    }
 }
 
 // Tells the story, closes and audits.
@@ -63,19 +69,19 @@ fn close_and_audit<L: Round>(
     store: SharedStore<L, CellPayload>,
     sessions: Vec<Session<L>>,
 ) -> Result<u64, StoryFault> {
-    let store = close(store, sessions)?;
-    let entries = audited(alloc, store.journal());
-    store.let_go();
-    entries
+    match close(store, sessions) {
+        Ok(store) => {
+            let entries = audited(alloc, store.journal());
+            store.let_go();
+            Ok(entries?)
+        }
+        Err(refused) => Err(StoryFault::from(refused)),
+    }
 }
 
 // How many entries the journal has, which is a legal history of the opening that the program makes anew.
-fn audited(alloc: Global, journal: &Journal) -> Result<u64, StoryFault> {
-    Ok(audited_from(alloc, label("g")?, journal)?)
-}
-
-fn audited_from(alloc: Global, rights: Label, journal: &Journal) -> Result<u64, StoreFault> {
-    let kept = opening(alloc, rights)?;
+fn audited(alloc: Global, journal: &Journal) -> Result<u64, StoreFault> {
+    let kept = opening(alloc)?;
     audit(alloc, &kept, journal.entries())?;
     Ok(journal.len())
 }
@@ -88,7 +94,7 @@ fn tell<L: Round + Send + Sync, R: Threads + Wait + Sync>(
     sessions: &mut [Session<L>],
 ) -> Result<Ending, StoryFault> {
     match sessions {
-        [deputy, client, hand] => tell_of_three(rt, alloc, store, deputy, client, hand),
+        [deputy, client, hand] => Ok(tell_of_three(rt, alloc, store, deputy, client, hand)?),
         _ => Err(StoryFault::NoSession),
     }
 }
@@ -101,11 +107,11 @@ fn tell_of_three<L: Round + Send + Sync, R: Threads + Wait + Sync>(
     deputy: &mut Session<L>,
     client: &mut Session<L>,
     hand: &mut Session<L>,
-) -> Result<Ending, StoryFault> {
+) -> Result<Ending, StoreFault> {
     let ledger = make_own(rt, alloc, store, deputy)?;
     let paper = make_and_hand_on(rt, alloc, store, client)?;
     let (errands, read) = work(rt, store, deputy, client, hand, ledger, paper);
-    Ok(ended(ledger, paper, errands, read)?)
+    ended(ledger, paper, errands, read)
 }
 
 // Makes a vertex that the session's subject may read and write.
@@ -114,8 +120,8 @@ fn make_own<L: Round, R: Wait>(
     alloc: Global,
     store: &SharedStore<L, CellPayload>,
     session: &mut Session<L>,
-) -> Result<u64, StoryFault> {
-    Ok(make(rt, store, session, label("rw")?, cell(alloc, 0)?)?)
+) -> Result<u64, StoreFault> {
+    make(rt, store, session, read_and_write(), cell(alloc, 0)?)
 }
 
 // Makes the client's paper, over which the client hands w on to the deputy's hand.
@@ -124,9 +130,9 @@ fn make_and_hand_on<L: Round, R: Wait>(
     alloc: Global,
     store: &SharedStore<L, CellPayload>,
     client: &mut Session<L>,
-) -> Result<u64, StoryFault> {
+) -> Result<u64, StoreFault> {
     let paper = make_own(rt, alloc, store, client)?;
-    let _granted = hand_on(rt, store, client, paper, label("w")?)?;
+    let _granted = hand_on(rt, store, client, paper)?;
     Ok(paper)
 }
 

@@ -22,8 +22,13 @@ use tg_store::{Kind, Store, StoreFault};
 /// Opens a store, shares it, serves in it on threads, has it back and audits its journal. What comes of it is printed.
 pub fn run_story<R: Threads + Wait + Sync + Print + AllocGlobal>(rt: &R) -> Result<(), StoryFault> {
     let store = open_store(rt.alloc())?;
-    let parts = store.opening().max_vertices() + 1;
-    share::<Brand, R>(rt, Blanks::new(rt.alloc(), parts)?, store)
+    match Blanks::new(rt.alloc(), store.opening().max_vertices() + 1) {
+        Ok(blanks) => share::<Brand, R>(rt, blanks, store),
+        Err(fault) => {
+            store.let_go();
+            Err(StoryFault::from(fault))
+        }
+    }
 }
 
 // A store with the service alone, in which at most 12 vertices may ever be made.
@@ -39,7 +44,7 @@ fn opening_of(alloc: Global, drafts: &[Draft<SumPayload>]) -> Result<Opening, St
     Ok(Opening::new(1, Vec::new(alloc), values, 12)?)
 }
 
-// Shares the store, serves, has it back with all sessions but the one that hangs, and audits the journal.
+// Shares the store, and serves.
 fn share<L: Round + Send + Sync, R: Threads + Wait + Sync + Print + AllocGlobal>(
     rt: &R,
     blanks: Blanks,
@@ -48,14 +53,27 @@ fn share<L: Round + Send + Sync, R: Threads + Wait + Sync + Print + AllocGlobal>
     requires shareable { MayShare L.name L.parts L.keeper L.start blanks store }
     requires may_end { L.start.may_end ≡ true }
 {
+    match SharedStore::<L, SumPayload>::new(rt.alloc(), blanks, store) {
+        Ok(shared) => serve_and_audit(rt, shared),
+        Err(refused) => Err(StoryFault::from(refused)),
+    }
+}
+
+// Serves, has the store back with all sessions but the one that hangs, and audits the journal.
+fn serve_and_audit<L: Round + Send + Sync, R: Threads + Wait + Sync + Print + AllocGlobal>(
+    rt: &R,
+    shared: Shared<L, SumPayload>,
+) -> Result<(), StoryFault>
+    requires may_end { L.start.may_end ≡ true }
+{
     let Shared {
         store,
         mut sessions,
         mut keeper,
-    } = SharedStore::<L, SumPayload>::new(rt.alloc(), blanks, store)?;
+    } = shared;
     let served = serve(rt, &store, &mut keeper, &mut sessions);
     let entries = reclaim_and_audit(rt.alloc(), store, sessions);
-    Ok(tell_audit(rt, served.and(entries)?)?)
+    tell_audit(rt, served.and(entries)?)
 }
 
 // Has the store back with the sessions that there are. How many entries its journal has, which passed its audit.
@@ -64,10 +82,14 @@ fn reclaim_and_audit<L: Round>(
     store: SharedStore<L, SumPayload>,
     sessions: Vec<Session<L>>,
 ) -> Result<u64, StoryFault> {
-    let store = reclaim(store, sessions)?;
-    let entries = audited(alloc, &store);
-    store.let_go();
-    Ok(entries?)
+    match reclaim(store, sessions) {
+        Ok(store) => {
+            let entries = audited(alloc, &store);
+            store.let_go();
+            Ok(entries?)
+        }
+        Err(refused) => Err(StoryFault::from(refused)),
+    }
 }
 
 fn audited(alloc: Global, store: &Store<SumPayload>) -> Result<u64, StoreFault> {
@@ -104,22 +126,21 @@ fn serve_clients<L: Round + Send + Sync, R: Threads + Wait + Sync + Print + Allo
     let documents = welcome_three(rt, store, service, clients, rights)?;
     let hung = welcome_and_lose(rt, store, service, clients, rights)?;
     let left = work_at_once(rt, store, clients, documents, rights)?;
-    tell_all(rt, store, keeper, service, left, documents, hung)
+    tell_leave(rt, left)?;
+    tell_all(rt, store, keeper, service, documents, hung)
 }
 
-// Tells what one saw as it left and what each wrote, and ends the one that hangs.
+// Tells what each wrote, and ends the one that hangs.
 fn tell_all<L: Round, P: Payload, R: Wait + Print>(
     rt: &R,
     store: &SharedStore<L, P>,
     keeper: &mut Keeper<L>,
     service: &mut Session<L>,
-    left: Leave,
     documents: [u64; 3],
     hung: Place,
 ) -> Result<(), StoryFault>
     requires may_end { L.start.may_end ≡ true }
 {
-    tell_leave(rt, left)?;
     for document in &documents {
         tell_document(rt, store, service, *document)?;
     }

@@ -4,13 +4,12 @@ use super::desk::{Desk, OWNER, read_right};
 use super::fault::DeskFault;
 use super::opening::{CLIENT, FRIEND, open_desk, opening};
 use crate::fault::StoryFault;
-use crate::opening::label;
+use crate::opening::{grant, read_and_write};
 use crate::tell::{tell_audit, tell_reply};
 use std::alloc::Global;
 use tg_journal::audit;
 use tg_model::{Command, Reply};
 use tg_payload::Payload;
-use tg_rights::Label;
 use tg_store::StoreFault;
 
 // The steps of the story: what the owner does, and what the client and its friend ask for.
@@ -65,32 +64,30 @@ impl Step {
 /// Opens a desk, tells the story at it, and audits the journal. Each step is a line on standard output.
 pub fn run_story<R: Print + AllocGlobal>(rt: &R) -> Result<(), StoryFault> {
     let alloc = rt.alloc();
-    let mut desk = open_desk(alloc, label("g")?, label("rw")?)?;
+    let mut desk = open_desk(alloc, grant(), read_and_write())?;
     let told = tell_story(rt, &mut desk);
     desk.let_go();
     told
 }
 
+// Takes the steps, one after the other, and audits the journal.
 fn tell_story<P: Payload, R: Print + AllocGlobal>(
     rt: &R,
     desk: &mut Desk<P>,
 ) -> Result<(), StoryFault> {
-    tell(rt, desk)?;
-    let entries = audited(rt.alloc(), desk)?;
-    Ok(tell_audit(rt, entries)?)
-}
-
-// Takes the steps, one after the other, and prints the replies. A denial is a reply.
-fn tell<P: Payload, R: Print>(rt: &R, desk: &mut Desk<P>) -> Result<(), StoryFault> {
     for step in &STEPS {
         act(rt, desk, *step)?;
     }
-    Ok(())
+    let entries = audited(rt.alloc(), desk)?;
+    tell_audit(rt, entries)
 }
 
+// Takes the step, and prints the reply. A denial is a reply.
 fn act<P: Payload, R: Print>(rt: &R, desk: &mut Desk<P>, step: Step) -> Result<(), StoryFault> {
-    let reply = answer(desk, step)?;
-    Ok(tell_reply(rt, step.words(), &reply)?)
+    match answer(desk, step) {
+        Ok(reply) => tell_reply(rt, step.words(), &reply),
+        Err(fault) => Err(StoryFault::Desk(fault)),
+    }
 }
 
 fn answer<P: Payload>(desk: &mut Desk<P>, step: Step) -> Result<Reply, DeskFault> {
@@ -132,16 +129,8 @@ fn hand_on(target: u64) -> Command {
 }
 
 // How many entries the journal has, which is a legal history of the opening that the program makes anew.
-fn audited<P: Payload>(alloc: Global, desk: &Desk<P>) -> Result<u64, StoryFault> {
-    Ok(audited_from(alloc, label("g")?, desk)?)
-}
-
-fn audited_from<P: Payload>(
-    alloc: Global,
-    rights: Label,
-    desk: &Desk<P>,
-) -> Result<u64, StoreFault> {
-    let kept = opening(alloc, rights)?;
+fn audited<P: Payload>(alloc: Global, desk: &Desk<P>) -> Result<u64, StoreFault> {
+    let kept = opening(alloc, grant())?;
     let journal = desk.store().journal();
     audit(alloc, &kept, journal.entries())?;
     Ok(journal.len())

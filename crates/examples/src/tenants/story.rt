@@ -6,7 +6,8 @@ ghost use Rattle.tg_shares.specs.Shares.{MayShareOut};
 
 use super::opening::open_store;
 use crate::fault::StoryFault;
-use crate::opening::{cell, label};
+use crate::opening::{cell, read_and_write};
+use std::io;
 use std::marker::Brand;
 use std::sync::Wait;
 use std::sync::ledger::Ledger;
@@ -46,9 +47,13 @@ fn share_out<R: Wait + Print + AllocGlobal>(
 ) -> Result<(), StoryFault>
     requires { (graph_of_store store).made + 2 ≤ store.opening.limit }
 {
-    let parts = store.opening().max_vertices() + 1;
-    let blanks = Blanks::new(rt.alloc(), parts)?;
-    share::<Brand, Brand, Brand, R>(rt, blanks, PurseBlanks::new(WHOLE), store)
+    match Blanks::new(rt.alloc(), store.opening().max_vertices() + 1) {
+        Ok(blanks) => share::<Brand, Brand, Brand, R>(rt, blanks, PurseBlanks::new(WHOLE), store),
+        Err(fault) => {
+            store.let_go();
+            Err(StoryFault::from(fault))
+        }
+    }
 }
 
 fn share<L: Round, V: Ledger, E: Ledger, R: Wait + Print + AllocGlobal>(
@@ -109,9 +114,9 @@ fn tenant_of<L: Round, V: Ledger, E: Ledger>(
     purse: &mut Purse<V, E>,
     share: Portion,
 ) -> Option<Client<L, V, E>> {
-    match (sessions.pop(), purse.split_off(share)) {
-        (Some(session), Ok(purse)) => Some(Client { session, purse }),
-        _ => None,
+    match purse.split_off(share) {
+        Ok(purse) => sessions.pop().map(|session| Client { session, purse }),
+        Err(_) => None,
     }
 }
 
@@ -125,12 +130,17 @@ fn work<L: Round, V: Ledger, E: Ledger, R: Wait + Print + AllocGlobal>(
     let document = make(rt, store, tenant)?;
     println!(rt; "tenant {worker} makes document {document}")?;
     for number in 1..4 {
-        match write(rt, store, tenant, document, number) {
-            Ok(()) => println!(rt; "it writes {number}")?,
-            Err(fault) => println!(rt; "it doesn't write {number}: {fault}")?,
-        }
+        tell_write(rt, number, write(rt, store, tenant, document, number))?;
     }
     Ok(())
+}
+
+// Prints what came of a write.
+fn tell_write<R: Print>(rt: &R, number: u64, outcome: Result<(), StoryFault>) -> io::Result<()> {
+    match outcome {
+        Ok(()) => println!(rt; "it writes {number}"),
+        Err(fault) => println!(rt; "it doesn't write {number}: {fault}"),
+    }
 }
 
 // Makes a document, if the purse can pay for a vertex and an entry. Answers its name.
@@ -139,16 +149,14 @@ fn make<L: Round, V: Ledger, E: Ledger, R: Wait + AllocGlobal>(
     store: &MeteredStore<L, V, E, CellPayload>,
     tenant: &mut Client<L, V, E>,
 ) -> Result<u64, StoryFault> {
-    let rights = label("rw")?;
-    let draft = cell(rt.alloc(), 0)?;
     tenant
         .purse
         .may_make(tenant.session.worker(), Portion::none())?;
-    Ok(
-        tenant
-            .create(rt, store, rights, draft)
-            .map_err(StoreFault::from)?,
-    )
+    let draft = cell(rt.alloc(), 0)?;
+    match tenant.create(rt, store, read_and_write(), draft) {
+        Ok(name) => Ok(name),
+        Err(refused) => Err(StoryFault::Store(StoreFault::from(refused))),
+    }
 }
 
 // Writes a number to the document, if the purse can pay for an entry.
@@ -161,5 +169,8 @@ fn write<L: Round, V: Ledger, E: Ledger, R: Wait>(
 ) -> Result<(), StoryFault> {
     tenant.purse.may_enter(tenant.session.worker())?;
     let command = Command::Write { target, value };
-    Ok(tenant.call(rt, store, command).map_err(StoreFault::from)?)
+    match tenant.call(rt, store, command) {
+        Ok(()) => Ok(()),
+        Err(fault) => Err(StoryFault::Store(StoreFault::from(fault))),
+    }
 }
