@@ -1,4 +1,5 @@
-# temporary.sh: what the benchmarks in sh share. A script reads it in with `.`, once `here` names the script's own folder.
+# temporary.sh: what the scripts in sh share that prove a program of their own. A script reads it in with `.`, once `here` names the
+# script's own folder and `top` the repository's.
 #
 # look_at_words MOST WORD..: for --help it prints the comment at the script's head, and ends. It refuses any other option, and more
 # words than MOST. A script calls it before it starts any work.
@@ -23,12 +24,12 @@ refuse_word() {
 }
 
 # take_crates PROGRAM CRATE..: puts these crates and all that they stand on, and beside them the script's own program (`main.rt.in`,
-# a name that the gate passes over), into a temporary folder, which is gone when the script ends. The program may use each
+# a name that the gate passes over, or the file that `source` names), into a temporary folder, which is gone when the script ends. The program may use each
 # of the crates that are named. From then on `build` names the folder, and `program` the folder of the program in it. What is
 # proved of a crate comes along with its times, so that it isn't proved again.
 take_crates() {
     take_libraries "$@"
-    cp "$here/main.rt.in" "$program/src/main.rt"
+    cp "${source:-$here/main.rt.in}" "$program/src/main.rt"
 }
 
 # take_tests CRATE CRATE..: the same for a crate of tests, whose files stand in the script's folder `tests` with `.in` behind their
@@ -45,29 +46,16 @@ take_tests() {
 take_libraries() {
     name=$1
     shift
-    top=$(cd "$here/../.." && pwd)
     build=$(mktemp -d)
     trap 'rm -rf "$build"' EXIT INT TERM
     program=$build/crates/$name
     mkdir -p "$program/src"
     cp "$top/HANDLES" "$build/"
     echo "$name: $*" > "$build/crates.txt"
-    for library in $(with_those_below "$@"); do
+    own=$(for library in "$@"; do test ! -d "$top/crates/$library" || echo "$library"; done)
+    libraries=$("$top/tools/crates" with $own)
+    "$top/tools/crates" line $libraries | tac >> "$build/crates.txt"
+    for library in $libraries; do
         cp -a "$top/crates/$library" "$build/crates/"
-        grep "^$library[: ]" "$top/crates.txt" >> "$build/crates.txt"
     done
-}
-
-# The crates, and all of the repository that they stand on, by crates.txt.
-with_those_below() {
-    awk -v wanted="$*" '
-        /^#/ { next }
-        { name = $1; sub(/:$/, "", name); sub(/^[^:]*:/, ""); below[name] = $0 }
-        function take(name,    names, count, i) {
-            if (!(name in below) || taken[name]++) return
-            print name
-            count = split(below[name], names, " ")
-            for (i = 1; i <= count; i++) take(names[i])
-        }
-        END { count = split(wanted, all, " "); for (i = 1; i <= count; i++) take(all[i]) }' "$top/crates.txt"
 }

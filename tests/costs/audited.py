@@ -9,20 +9,24 @@ For each size two texts are audited, with and without these entries; their diffe
 costs. PROGRAM is crates/tgaudit/out/tgaudit unless it is given. Exit status 1 where the second costs more, or a run ended otherwise
 than well. Where valgrind isn't here, nothing is run."""
 import sys
+from argparse import Namespace
+from pathlib import Path
 
-from counted import HERE, instructions, run
+sys.dont_write_bytecode = True
+sys.path.insert(0, str(Path(__file__).resolve().parents[2] / "tools"))
+from repository.counted import instructions, run_check
 
 FEW, MANY = 1_000, 50_000
 TIMES = 100
 MOST_TIMES = 1.5
 
 
-def text(entries):
+def text(entries: list[str]) -> list[str]:
     """The lines of a history of one worker that has these entries."""
     return ["kovshenul entries 1", "opening 1 100000", "worker c0", *entries, f"entries {len(entries)}"]
 
 
-def of_one(program, size):
+def of_one(program: str, size: int) -> float:
     """The instructions of a create and a remove beside as many vertices that stay."""
     stay = [f"0 create r c0 = ok {name}" for name in range(1, size + 1)]
     names = range(size + 1, size + 1 + TIMES)
@@ -30,7 +34,8 @@ def of_one(program, size):
     return (instructions(program, [], text(stay + rounds)) - instructions(program, [], text(stay))) / TIMES
 
 
-def count(asked):
+def count(asked: Namespace) -> int:
+    """Prints both counts; returns the status."""
     few, many = (of_one(asked.program, size) for size in (FEW, MANY))
     told = f"beside {FEW:,} vertices: {few:.0f} instructions; {MANY:,}: {many:.0f}, {many / few:.2f} times as many"
     print(f"audited: a create and a remove {told}", flush=True)
@@ -38,4 +43,4 @@ def count(asked):
 
 
 if __name__ == "__main__":
-    sys.exit(run("audited", __doc__, count, program="tgaudit"))
+    sys.exit(run_check(__doc__, count, program="tgaudit"))

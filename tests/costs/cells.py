@@ -2,7 +2,7 @@
 """cells.py [--write] [PROGRAM]
 
 Counts, under valgrind, what a full collection takes for a vertex, by one thread and by two helpers, and says whether that is at most
-1.02 times what is stored in bench/cells.figures. No clause speaks of it: a call that the compiler no longer lays out where it
+1.02 times what is stored in tests/costs/cells.figures. No clause speaks of it: a call that the compiler no longer lays out where it
 stands gives the same heap, and shows here alone. The heaps:
 
   rows     64 workers with 546 objects each
@@ -16,13 +16,21 @@ each other, each script is run three times then, and the least counts.
 --write makes the figures anew, beside the kit that built the program: with another kit they are to be. PROGRAM is
 crates/tgstore/out/tgstore unless it is given. Exit status 1 where a collection takes more, or a run ended otherwise than it is to.
 Where valgrind isn't here, nothing is run."""
-import os
-import subprocess
 import sys
+from argparse import Namespace
+from collections.abc import Callable
+from pathlib import Path
 
-from counted import instructions, run
+sys.dont_write_bytecode = True
+sys.path.insert(0, str(Path(__file__).resolve().parents[2] / "tools"))
+from repository.counted import instructions, run_check
+from repository.kit import version
+from repository.tree import read_text, write_text
 
-FIGURES = os.path.join(os.path.dirname(os.path.abspath(__file__)), "cells.figures")
+FIGURES = Path(__file__).resolve().parent / "cells.figures"
+
+# How many workers there are, how many objects, and the lines that make them.
+Shape = tuple[int, int, list[str]]
 FEW, MANY = 5, 25
 MOST_TIMES = 1.02
 HELPERS = (1, 2)
@@ -33,12 +41,12 @@ NODES = 16_383
 STEP = 10_001
 
 
-def rows():
+def rows() -> Shape:
     """How many workers and objects there are, and what makes them."""
     return WORKERS, WORKERS * OBJECTS, [f"{worker} create rw" for worker in range(WORKERS) for _ in range(OBJECTS)]
 
 
-def tree_of(name_of):
+def tree_of(name_of: Callable[[int], int]) -> Shape:
     """A worker makes the nodes, joins each but the root to its parent, and then holds the root alone."""
     made = ["0 create rg"] * NODES
     joined = [f"0 grant {name_of((node - 1) // 2)} {name_of(node)} r" for node in range(1, NODES)]
@@ -46,52 +54,52 @@ def tree_of(name_of):
     return 1, NODES, made + joined + left
 
 
-def tree():
+def tree() -> Shape:
+    """The children before their parents."""
     return tree_of(lambda node: NODES - node)
 
 
-def random():
+def random() -> Shape:
+    """The same tree, whose places are in no order."""
     return tree_of(lambda node: 1 + node * STEP % NODES)
 
 
 SHAPES = {"rows": rows, "tree": tree, "random": random}
 
 
-def kit():
-    """What the kit says of itself."""
-    return subprocess.run(["rt", "version"], capture_output=True, text=True, check=True).stdout.strip()
-
-
-def of_a_vertex(program, shape, helpers):
+def of_a_vertex(program: str, shape: str, helpers: int) -> float:
+    """The instructions of a full collection for a vertex."""
     workers, objects, before = SHAPES[shape]()
     options = ["--workers", str(workers), "--stock", f"c{objects}", "--helpers", str(helpers)]
     few, many = (least(TIMES[helpers], program, options, before + ["full"] * fulls) for fulls in (FEW, MANY))
     return (many - few) / (MANY - FEW) / (workers + objects)
 
 
-def least(times, program, options, lines):
+def least(times: int, program: str, options: list[str], lines: list[str]) -> int:
+    """The least instructions of so many runs."""
     return min(instructions(program, options, lines) for _ in range(times))
 
 
-def read_figures():
-    with open(FIGURES, encoding="utf-8") as lines:
-        made_by, *rest = lines.read().splitlines()
+def read_figures() -> tuple[str, dict[tuple[str, int], float]]:
+    """The kit that made the stored figures, and each of them by its shape and the number of helpers."""
+    made_by, *rest = read_text(FIGURES).splitlines()
     words = [line.split() for line in rest]
     return made_by, {(shape, int(helpers)): float(figure) for shape, helpers, figure in words}
 
 
-def write_figures(program):
+def write_figures(program: str) -> int:
+    """Makes the figures anew; returns the status."""
     made = [f"{shape} {helpers} {of_a_vertex(program, shape, helpers):.1f}" for shape in SHAPES for helpers in HELPERS]
-    with open(FIGURES, "w", encoding="utf-8") as out:
-        out.write("\n".join([kit(), *made]) + "\n")
+    write_text(FIGURES, "\n".join([version(), *made]) + "\n")
     print("\n".join(made))
     return 0
 
 
-def check(program):
+def check(program: str) -> int:
+    """Compares with the stored figures; returns the status."""
     made_by, known = read_figures()
-    if made_by != kit():
-        print(f"cells: the figures are of another kit, {made_by}: bench/cells.py --write makes them anew")
+    if made_by != version():
+        print(f"cells: the figures are of another kit, {made_by}: tests/costs/cells.py --write makes them anew")
         return 1
     failed = 0
     for (shape, helpers), figure in known.items():
@@ -103,9 +111,10 @@ def check(program):
     return 1 if failed else 0
 
 
-def count(asked):
+def count(asked: Namespace) -> int:
+    """Does what the command line asks for; returns the status."""
     return write_figures(asked.program) if asked.write else check(asked.program)
 
 
 if __name__ == "__main__":
-    sys.exit(run("cells", __doc__, count, {"--write": {"action": "store_true"}}))
+    sys.exit(run_check(__doc__, count, {"--write": {"action": "store_true"}}))

@@ -30,10 +30,15 @@ For each size two scripts are run, with and without the commands that are counte
 one costs. PROGRAM is crates/tgstore/out/tgstore unless it is given; --only leaves out what hasn't the text in its name. Exit
 status 1 where one costs more, or a run ended otherwise than it is to. Where valgrind isn't here, nothing is run."""
 import sys
+from argparse import Namespace
+from collections.abc import Callable
 from dataclasses import dataclass
+from pathlib import Path
 
+sys.dont_write_bytecode = True
+sys.path.insert(0, str(Path(__file__).resolve().parents[2] / "tools"))
 from cells import NODES, tree
-from counted import instructions, run
+from repository.counted import instructions, run_check
 
 TIMES = 100
 # A row with so many edges has an index.
@@ -44,40 +49,40 @@ LONG = 40
 class Counted:
     """A script without the commands that are counted, these commands, and how often each of them is there."""
 
-    options: list
-    before: list
-    rounds: list
+    options: list[str]
+    before: list[str]
+    rounds: list[str]
     times: int = TIMES
 
 
-def rounds_of(first):
+def rounds_of(first: int) -> list[str]:
     """Rounds of a create, a remove and a nursery collection; the first vertex has this name."""
     names = range(first, first + TIMES)
     return [line for name in names for line in ("0 create r", f"0 remove {name} r", "minor")]
 
 
-def beside_a_hole(row, collections):
+def beside_a_hole(row: int, collections: list[str]) -> Counted:
     """Such rounds beside a row that these collections move to Old, and whose first edge is given up then."""
     before = ["0 create r"] * row + collections + ["0 remove 1 r"]
     return Counted(["--workers", "1", "--stock", f"c{row + TIMES}"], before, rounds_of(row + 1))
 
 
-def minors(row):
+def minors(row: int) -> Counted:
     return beside_a_hole(row, ["full"])
 
 
-def learnt(row):
+def learnt(row: int) -> Counted:
     return beside_a_hole(row, ["minor", "minor"])
 
 
-def marks(row):
+def marks(row: int) -> Counted:
     """Worker 0 has an old object, 2, that comes to name a young one while the row of worker 1 comes to Old."""
     young = row + 3
     before = ["0 create g", "full", *["1 create r"] * row, "minor", "0 create r", f"0 grant 2 {young} r", "minor"]
     return Counted(["--workers", "2", "--stock", f"c{row + 2}"], before, ["minor"], times=1)
 
 
-def noted(row):
+def noted(row: int) -> Counted:
     """Every third edge is given up and another one made in its place, and all of these come to Old."""
     again = range(1, row + 1, 3)
     before = ["0 create r"] * row + ["full"] + [f"0 remove {name} r" for name in again] + ["0 create r"] * len(again)
@@ -85,75 +90,75 @@ def noted(row):
     return Counted(["--workers", "1", "--stock", f"c{2 * row}"], before, ["minor"], times=1)
 
 
-def long_row(name):
+def long_row(name: int) -> list[str]:
     """An object with this name and a long row."""
     return ["0 create g", *(f"0 grant {name} {to} r" for to in range(1, LONG + 1))]
 
 
-def long_rows(count):
+def long_rows(count: int) -> list[str]:
     """So many objects with long rows, all of which lie in Old."""
     first = LONG + 1
     made = [line for name in range(first, first + count) for line in long_row(name)]
     return ["--workers", "1", "--stock", "c1000"], ["0 create r"] * LONG + made + ["full"]
 
 
-def rows(others):
+def rows(others: int) -> Counted:
     """One of these rows after the other gets an edge to a new vertex."""
     first, new = LONG + 1, LONG + others + 2
     given = [f"0 grant {first + i % (others + 1)} {new + i} r" for i in range(TIMES)]
     return Counted(*long_rows(others + 1), [line for grant in given for line in ("0 create r", grant, "minor")])
 
 
-def grown(others):
+def grown(others: int) -> Counted:
     """Objects that are new get long rows."""
     new = LONG + others + 1
     rounds = [line for name in range(new, new + 10) for line in (*long_row(name), "minor")]
     return Counted(*long_rows(others), rounds, times=10)
 
 
-def removes(row):
+def removes(row: int) -> Counted:
     names = range(row, row - TIMES, -1)
     return Counted(["--workers", "1", "--stock", f"c{row}"], ["0 create r"] * row, [f"0 remove {name} r" for name in names])
 
 
-def holes(row):
+def holes(row: int) -> Counted:
     """The name that is given up is the one that was made last, whose edge stands last."""
     names = range(row, row + TIMES)
     rounds = [line for name in names for line in (f"0 remove {name} r", "0 create r")]
     return Counted(["--workers", "1", "--stock", f"c{row + TIMES}"], ["0 create r"] * row, rounds)
 
 
-def young(workers):
+def young(workers: int) -> Counted:
     """All are made by the workers one after the other, and collected once."""
     before = [f"{worker} create r" for worker in range(workers) for _ in range(30_000 // workers)]
     return Counted(["--workers", str(workers), "--stock", "c30000"], before, ["full"], times=1)
 
 
-def bare(names):
+def bare(names: int) -> Counted:
     """Objects that name so many others each."""
     made = tree()[2] if names else ["0 create rg"] * NODES
     return Counted(["--workers", "1", "--stock", f"c{NODES}"], made + ["full"], ["full"] * 20, times=20)
 
 
-def spawns(others):
+def spawns(others: int) -> Counted:
     """Rounds in which worker 0 spawns one, which retires, beside so many others."""
     names = range(others, others + TIMES)
     rounds = [line for name in names for line in ("0 spawn r", f"{name} retire")]
     return Counted(["--workers", str(others), "--stock", f"c{TIMES}"], [], rounds)
 
 
-def parties(others):
+def parties(others: int) -> Counted:
     return Counted(["--workers", str(others + 1)], [], ["0 list"] * TIMES)
 
 
-def late(others):
+def late(others: int) -> Counted:
     """Ten are spawned, of whom all but the last retire: so its place isn't its name, which has two digits."""
     *gone, last = range(others + 1, others + 11)
     before = ["0 spawn r", *(line for name in gone for line in (f"{name} retire", "0 spawn r"))]
     return Counted(["--workers", str(others + 1), "--stock", "c10"], before, [f"{last} list"] * TIMES)
 
 
-def hints(worker):
+def hints(worker: int) -> Counted:
     """The worker, 0 or 70, takes what it has from an object that it made first, and whose row is long, too. The index of another row
     comes first. All names have two digits."""
     made = ["1 create r"] * LONG + ["0 create rwtg"] * 28 + ["0 spawn r"] + ["70 create rwtg"] * 28
@@ -168,10 +173,10 @@ def hints(worker):
 class Check:
     """What is counted, what it is counted beside, and how often the first count the second may be."""
 
-    script: object
+    script: Callable[[int], Counted]
     what: str
     unit: str
-    sizes: tuple
+    sizes: tuple[int, int]
     most_times: float = 1.5
 
 
@@ -193,13 +198,13 @@ CHECKS = {
 }
 
 
-def of_one(program, counted):
+def of_one(program: str, counted: Counted) -> float:
     """The instructions of one round."""
     options, before, rounds = counted.options, counted.before, counted.rounds
     return (instructions(program, options, before + rounds) - instructions(program, options, before)) / counted.times
 
 
-def is_bounded(program, name):
+def is_bounded(program: str, name: str) -> bool:
     """Whether much beside it makes it little dearer."""
     check = CHECKS[name]
     (little, much), unit = check.sizes, check.unit
@@ -210,10 +215,11 @@ def is_bounded(program, name):
     return not failed
 
 
-def count(asked):
+def count(asked: Namespace) -> int:
+    """Tries each check that is asked for; returns the status."""
     kept = [is_bounded(asked.program, name) for name in CHECKS if asked.only in name]
     return 0 if all(kept) else 1
 
 
 if __name__ == "__main__":
-    sys.exit(run("growth", __doc__, count, {"--only": {"default": ""}}))
+    sys.exit(run_check(__doc__, count, {"--only": {"default": ""}}))

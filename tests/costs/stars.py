@@ -13,8 +13,12 @@ more takes, so neither the start of the process nor the script counts. PROGRAM i
 --most leaves out scripts that make more. Exit status 1 if a star takes
 more, or if a run doesn't end well. Without valgrind nothing is run."""
 import sys
+from argparse import Namespace
+from pathlib import Path
 
-from counted import instructions, run
+sys.dont_write_bytecode = True
+sys.path.insert(0, str(Path(__file__).resolve().parents[2] / "tools"))
+from repository.counted import instructions, run_check
 
 SIZES = (1_000, 10_000, 80_000)
 MOST_TIMES = 20
@@ -22,7 +26,7 @@ ONE = "1 r 2"
 STARS = ("* r 2", "1 * *")
 
 
-def of_script(program, size, *questions):
+def of_script(program: str, size: int, *questions: str) -> int:
     """The instructions of a run with these questions on a script that makes so many objects."""
     options = ["--workers", "2", "--stock", f"c{size}"]
     for question in questions:
@@ -30,7 +34,7 @@ def of_script(program, size, *questions):
     return instructions(program, options, ["edge 1 0 t"] + ["0 create rg"] * size)
 
 
-def is_bounded(program, size):
+def is_bounded(program: str, size: int) -> bool:
     """Whether each star costs little more than one question does."""
     first = of_script(program, size, ONE)
     one = of_script(program, size, ONE, ONE) - first
@@ -42,10 +46,11 @@ def is_bounded(program, size):
     return is_kept
 
 
-def count(asked):
+def count(asked: Namespace) -> int:
+    """Tries each size that is asked for; returns the status."""
     kept = [is_bounded(asked.program, size) for size in SIZES if size <= asked.most]
     return 0 if all(kept) else 1
 
 
 if __name__ == "__main__":
-    sys.exit(run("stars", __doc__, count, {"--most": {"type": int, "default": 80_000}}, program="tgcould"))
+    sys.exit(run_check(__doc__, count, {"--most": {"type": int, "default": 80_000}}, program="tgcould"))

@@ -1,4 +1,4 @@
-"""Each request for memory that tgaudit, tgcould and tgdot make, refused in turn: rows/held/run tries them."""
+"""Each request for memory that tgaudit, tgcould and tgdot make, refused in turn: tests/held/run tries them."""
 import os
 import re
 import subprocess

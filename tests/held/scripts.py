@@ -1,4 +1,4 @@
-"""The scripts of rows/held: each is a list of lines, with the words and the numbers of helpers that it is run with."""
+"""The scripts of tests/held: each is a list of lines, with the words and the numbers of helpers that it is run with."""
 import itertools
 from dataclasses import dataclass
 

@@ -1,5 +1,5 @@
 #!/usr/bin/env python3
-"""run.py [PROGRAM] [--only WORD] [-- WORD ..]
+"""hostile.py [PROGRAM] [--only WORD] [-- WORD ..]
 
 Runs the store on scripts of 1 MiB that are made to be slow, one after the other, and prints for each how many lines it has, how
 many bytes are written for it and the processor time of the whole program. No script has a `list`, whose replies may come to
@@ -11,9 +11,13 @@ import itertools
 import os
 import sys
 import tempfile
+from pathlib import Path
 
-HERE = os.path.dirname(os.path.abspath(__file__))
-BUILT = os.path.join(HERE, "..", "..", "crates", "tgstore", "out", "tgstore")
+sys.dont_write_bytecode = True
+sys.path.insert(0, str(Path(__file__).resolve().parents[2] / "tools"))
+from repository.tree import Tree
+
+BUILT = str(Tree().program("tgstore"))
 MOST_BYTES = 1_048_576
 MOST_SECONDS = 1.0
 GREATEST = 18_446_744_073_709_551_615

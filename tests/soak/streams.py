@@ -8,8 +8,8 @@ Runs the program on streams that fail, and asserts what was written and how it e
   a standard input, output or error that is closed, outputs that are full, and one whose reader is gone;
   a client that writes a part of a line, or a line, and waits, while the program is stopped and goes on.
 
-It prints how many runs there were of each, and stops at the first that is wrong. What is wanted is a run on files, whose replies rows/
-have. No call is slow here but by a stop, no descriptor is without waiting, and none is a terminal: these are left out. PROGRAM is
+It prints how many runs there were of each, and stops at the first that is wrong. What is wanted is a run on files, whose
+replies tests/runs has. No call is slow here but by a stop, no descriptor is without waiting, and none is a terminal: these are left out. PROGRAM is
 crates/tgstore/out/tgstore unless it is given."""
 import argparse
 import itertools
@@ -22,9 +22,13 @@ import sys
 import tempfile
 import threading
 import time
+from pathlib import Path
 
-HERE = os.path.dirname(os.path.abspath(__file__))
-BUILT = os.path.join(HERE, "..", "crates", "tgstore", "out", "tgstore")
+sys.dont_write_bytecode = True
+sys.path.insert(0, str(Path(__file__).resolve().parents[2] / "tools"))
+from repository.tree import Tree
+
+BUILT = str(Tree().program("tgstore"))
 MOST_SECONDS = 60
 WAYS = [[], ["--helpers", "2"], ["--race"]]
 SMALL = ["0 write 3 7", "0 read 3", "0 append 3 7", "0 append 12 7", "0 inspect 3"]

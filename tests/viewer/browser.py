@@ -24,7 +24,7 @@ class Browser:
     """One page in a browser of its own. What it logs and asks for is kept in `events`."""
 
     def __init__(self, program):
-        self.room = tempfile.TemporaryDirectory(prefix="watch-browser-", ignore_cleanup_errors=True)
+        self.room = tempfile.TemporaryDirectory(prefix="viewer-browser-", ignore_cleanup_errors=True)
         read_here, write_there = os.pipe()
         read_there, write_here = os.pipe()
         # The browser reads from its file 3 and writes to its file 4.

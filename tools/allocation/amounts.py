@@ -1,5 +1,5 @@
-"""What a growth is asked for: whether a body asks for more than there is, so as to be refused. wrong/wants runs it, and
-its head says the rule.
+"""What a growth is asked for: whether a body asks for more than there is, so as to be refused. tools/check_allocation
+runs it, and its head says the rule.
 
 An amount is allowed where it is
   - a number or a constant of at most MOST;
@@ -15,15 +15,15 @@ place (NAMED), word by word as it stands there. An amount is asked for
   - by a `while` that compares by `<`: what it is compared with, where something grows in it and no `len()` does.
     Another `while` and a `loop` in which something grows stand in a named place.
 So that nothing is multiplied, in a loop a growth asks for one, and a function in which something grows by more than one
-is called only where that stands in wrong/repeated: there it takes what is its own of what the loop goes through, an
-entry's text or a row's edges, or gives back what it took. No loop in which something grows stands in another one; a
+is called only where that stands in allocation/repeated: there it takes what is its own of what the loop goes through,
+an entry's text or a row's edges, or gives back what it took. No loop in which something grows stands in another one; a
 closure with a parameter counts as a loop. No list is asked for room by its own length. What makes elements of nothing
 (MAKERS) isn't called, no type is an iterator or an allocator, no function that takes an amount is handed on as a value,
 and one in which something grows doesn't call itself.
 
 Which function a call is of is told by its words (growths.py): where these leave several, each of them is held. What
-remains: how often a loop that stands in NAMED goes round, and what a call in wrong/repeated takes each time, no rule
-says."""
+remains: how often a loop that stands in NAMED goes round, and what a call in allocation/repeated takes each time, no
+rule says."""
 import re
 from copy import copy
 from pathlib import Path
@@ -367,7 +367,7 @@ class Amounts:
 
 
 def read_repeated(path: Path) -> set[Place]:
-    """The file, the function and the call of each line of wrong/repeated."""
+    """The file, the function and the call of each line of allocation/repeated."""
     found: set[Place] = set()
     for line in path.read_text().splitlines():
         where, _, calls = line.partition(":")

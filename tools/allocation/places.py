@@ -1,4 +1,4 @@
-"""The named places: where a text may stand that the rules of wants.py and amounts.py don't allow, word by word as it
+"""The named places: where a text may stand that the rules of refusals.py and amounts.py don't allow, word by word as it
 stands there, and why. What is named and isn't there is a fault, too."""
 
 # A file, a function in it, and words that stand there.

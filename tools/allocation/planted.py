@@ -1,4 +1,5 @@
-"""The texts by which wrong/wants tries itself: each wrong one has to be found where it stands, and no right one."""
+"""The texts by which tools/check_allocation tries itself: each wrong one has to be found where it is, and no right
+one."""
 
 # What is put behind a source.
 WRONG = [

@@ -1,5 +1,5 @@
-"""Where a source writes a want, and whether it may: wrong/wants runs it, and its head says the rule. Told by the words
-alone."""
+"""Where a source reports that memory or a thread is lacking, and whether it may. tools/check_allocation runs this, and
+its head says the rule. Only the words are looked at."""
 from collections.abc import Iterator
 
 from .places import HANDED_ALONE, NOTED, NOTED_OTHERWISE, PINNED, PLACES

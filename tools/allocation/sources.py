@@ -1,4 +1,5 @@
-"""What wrong/wants and amounts.py read: the tokens of a source that are code, and what stands in which bracket."""
+"""What tools/check_allocation and amounts.py read: the tokens of a source that are code, and what is in which
+bracket."""
 import re
 from collections.abc import Iterable, Iterator
 

@@ -5,59 +5,39 @@ It builds the program beside it (`main.rt.in`), unproved, with the crates that i
 the sessions are put in no order. What a run with a close counts more than one without is the close's, with the drop of the sessions and of
 the store in both. It wants valgrind and a C compiler."""
 import argparse
-import os
-import re
-import shutil
-import subprocess
 import sys
 import tempfile
 from pathlib import Path
 
-HERE = Path(__file__).resolve().parent
-TOP = HERE.parent.parent
-sys.path.insert(0, str(TOP / "wrong"))
-from tool.kit import Kit
-from tool.tree import Tree
+sys.dont_write_bytecode = True
+sys.path.insert(0, str(Path(__file__).resolve().parents[3] / "tools"))
+from repository.counted import counted
+from repository.unproved import build_beside
 
+HERE = Path(__file__).resolve().parent
 USES = "tg_rights tg_model tg_payload tg_journal tg_store tg_shared"
 FEW, MANY, MOST_TIMES = 10_000, 100_000, 15
 
 
-def built(folder):
-    """The program, in the folder."""
-    for crate in Tree(TOP).crates:
-        shutil.copytree(TOP / "crates" / crate, folder / "crates" / crate, ignore=shutil.ignore_patterns("out"))
-    source = folder / "crates/closes/src"
-    source.mkdir(parents=True)
-    shutil.copy(HERE / "main.rt.in", source / "main.rt")
-    (folder / "crates.txt").write_text(f"closes: {USES}\n{(TOP / 'crates.txt').read_text()}")
-    tree = Tree(folder)
-    refused = Kit(tree, folder / "crates").build_program(tree, "closes", folder)
-    if refused is not None:
-        sys.exit(f"closes: {refused[-2000:]}")
-    return folder / "closes"
-
-
-def instructions(program, sessions, word, said):
+def instructions(program: Path, sessions: int, word: str, said: str) -> int:
     """How many instructions a run takes, which has to say this."""
-    counter = ["valgrind", "--tool=cachegrind", "--cache-sim=no", "--cachegrind-out-file=/dev/null"]
-    run = subprocess.run([*counter, program], input=f"{sessions} {word}\n", capture_output=True, text=True)
-    counted = re.search(r"I\s+refs:\s+([\d,]+)", run.stderr)
-    if run.stdout.strip() != said or not counted:
-        sys.exit(f"closes: {sessions} {word}: {run.stdout.strip()}\n{run.stderr}")
-    return int(counted[1].replace(",", ""))
+    run = counted([program], f"{sessions} {word}\n".encode())
+    if run.output.decode().strip() != said:
+        sys.exit(f"closes: {sessions} {word}: it said {run.output.decode().strip()}, and not {said}")
+    return run.instructions
 
 
-def of_close(program, sessions):
+def of_close(program: Path, sessions: int) -> int:
     """The instructions of a close with so many sessions. The journal has a spawn and a retire of each."""
     with_close = instructions(program, sessions, "close", str(2 * sessions))
     return with_close - instructions(program, sessions, "keep", "0")
 
 
-def main():
+def main() -> int:
+    """Prints both counts; returns the status."""
     argparse.ArgumentParser(usage=__doc__).parse_args()
-    with tempfile.TemporaryDirectory() as folder:
-        program = built(Path(folder))
+    with tempfile.TemporaryDirectory() as room:
+        program = build_beside(USES, HERE / "main.rt.in", Path(room) / "closes")
         few, many = (of_close(program, sessions) for sessions in (FEW, MANY))
     print(f"close: {few:,} instructions with {FEW:,} sessions, {many:,} with {MANY:,}: {many / few:.2f} times as many")
     return 0 if many <= MOST_TIMES * few else 1

@@ -14,9 +14,11 @@ import subprocess
 import sys
 from pathlib import Path
 
-CRATES = Path(__file__).resolve().parent.parent.parent / "crates"
-TGCOULD = CRATES / "tgcould" / "out" / "tgcould"
-TGSTORE = CRATES / "tgstore" / "out" / "tgstore"
+sys.dont_write_bytecode = True
+sys.path.insert(0, str(Path(__file__).resolve().parents[3] / "tools"))
+from repository.tree import Tree
+
+TGCOULD, TGSTORE = (Tree().program(name) for name in ("tgcould", "tgstore"))
 LETTERS = "rwtgaluv"
 MOST_SUBJECTS = 64
 

@@ -1,13 +1,14 @@
 #!/bin/sh
 # run.sh [SEED [GRAPHS]]: holds could_hold against a closure written apart, over random graphs of 2 to 5 vertices with
 # silent sets (200,000 of them, twelve questions each), and replays each witness by rules written apart; who_could,
-# what_could, a View and needs have to answer as it does. Then it tells how long a question takes on large pictures, in
-# plain Rust too, and a view. It proves, builds and runs the program beside it in a temporary folder.
+# what_could, a View and needs have to answer as it does. It proves, builds and runs the program beside it in a
+# temporary folder.
 set -eu
 here=$(cd "$(dirname "$0")" && pwd)
 seed=${1:-1}
 graphs=${2:-200000}
-. "$here/../temporary.sh"
+top=$(cd "$here/../../.." && pwd)
+. "$top/tools/temporary.sh"
 look_at_words 2 "$@"
 take_crates could anyhow tg_rights tg_model tg_could
 rustc -O -o "$build/closure" "$here/closure.rs"
@@ -15,9 +16,3 @@ rustc -O -o "$build/closure" "$here/closure.rs"
 cd "$program"
 rt run < "$build/questions" > "$build/answers"
 "$build/closure" "$seed" "$graphs" "$build/answers"
-rustc -O -o "$build/rival" "$here/rival.rs"
-for size in "100000 300000" "1000000 3000000"; do
-    echo "big $size $seed 16" | rt run
-    "$build/rival" $size "$seed" 16
-    echo "view $size $seed 1000000" | rt run
-done

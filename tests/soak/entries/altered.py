@@ -1,5 +1,5 @@
 #!/usr/bin/env python3
-"""Tries the built tgaudit on texts of histories, whole and altered: bench/entries/altered.py [SEED [TEXTS]]
+"""Tries the built tgaudit on texts of histories, whole and altered: tests/soak/entries/altered.py [SEED [TEXTS]]
 
 Of each random legal history the text is handed in as it is, which must pass, and then once for each kind of alteration: a reply, a worker, a name,
 two lines swapped, one lost, one twice, the end cut. plain.py says by the rules of the plain model what is wrong with each, which is what tgaudit
@@ -13,10 +13,12 @@ import sys
 from collections import Counter
 from pathlib import Path
 
+sys.dont_write_bytecode = True
+sys.path.insert(0, str(Path(__file__).resolve().parents[3] / "tools"))
 from plain import history_at_random, judge
+from repository.tree import Tree
 
-ROOT = Path(__file__).resolve().parent.parent.parent
-PROGRAM = ROOT / "crates" / "tgaudit" / "out" / "tgaudit"
+PROGRAM = Tree().program("tgaudit")
 
 
 def pick(draw, lines):

@@ -6,7 +6,7 @@ import sys
 from pathlib import Path
 from typing import List, Optional, Tuple
 
-sys.path.append(str(Path(__file__).resolve().parents[2] / "bindings" / "python" / "kovshenul"))
+sys.path.append(str(Path(__file__).resolve().parents[3] / "bindings" / "python" / "kovshenul"))
 from _rules import LETTERS, Denial, Full, Graph, Stored  # noqa: E402
 
 MOST_SUBJECTS = 64

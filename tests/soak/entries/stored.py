@@ -1,7 +1,7 @@
 #!/usr/bin/env python3
-"""Has the built tgaudit audit what tgstore answers to the stored scripts: bench/entries/stored.py
+"""Has the built tgaudit audit what tgstore answers to the stored scripts: tests/soak/entries/stored.py
 
-Of each row of rows/scripts the text of its history is put together out of the lines, the replies that are stored, and the boxes of its stock; it
+Of each row of tests/runs/scripts the text of its history is put together out of the lines, the replies that are stored, and the boxes of its stock; it
 must pass. A collection has no entry, and neither has a line that was refused, but for want of vertices or of room for a subject."""
 import argparse
 import re
@@ -10,33 +10,23 @@ import sys
 from itertools import takewhile
 from pathlib import Path
 
+sys.dont_write_bytecode = True
+sys.path.insert(0, str(Path(__file__).resolve().parents[3] / "tools"))
 from plain import VERSION, judge
+from repository.rows import Row, rows_in
+from repository.tree import Tree
 
-ROOT = Path(__file__).resolve().parent.parent.parent
-PROGRAM = ROOT / "crates" / "tgaudit" / "out" / "tgaudit"
+PROGRAM = Tree().program("tgaudit")
 NEW = {"c": "c0", "s": "s0", "m": "m0", "l": "l4"}
 NO_ENTRY = re.compile(r"refused (memory|heap|stock|threads|worker)\n")
 
 
-def pieces(file):
-    """The text of a file, or of the pieces that stand for it."""
-    if file.exists():
-        return file.read_text()
-    file = file.with_name(f"{file.name}.pieces")
-    text = ""
-    for line in file.read_text().splitlines() if file.exists() else []:
-        first, last, piece = line.split(" ", 2)
-        text += "".join(piece.replace("\\n", "\n").replace("#", str(number)) for number in range(int(first), int(last) + 1))
-    return text
-
-
-def history_of(row):
+def history_of(row: Row) -> tuple[str, int]:
     """The text of the history that a row's script and its replies tell."""
-    words = (row / "args").read_text().split("\n") if (row / "args").exists() else []
-    said = dict(zip(words[::2], words[1::2]))
+    said = dict(zip(row.words[::2], row.words[1::2]))
     workers, limit = int(said.get("--workers", 2)), int(said.get("--vertices", 1_000_000))
     boxes = [NEW[kind] for kind, count in re.findall(r"([csml])([0-9]*)", said.get("--stock", "")) for _ in range(int(count or 1))]
-    lines, replies = pieces(row / "stdin").splitlines(keepends=True), pieces(row / "stdout").splitlines(keepends=True)
+    lines, replies = (row.stored(file).decode().splitlines(keepends=True) for file in ("stdin", "stdout"))
     edges = list(takewhile(lambda line: line.startswith("edge "), lines))
     text = [VERSION, f"opening {workers} {limit}\n", *["worker c0\n"] * workers]
     if replies:
@@ -56,7 +46,7 @@ def history_of(row):
 def main():
     argparse.ArgumentParser(usage=__doc__).parse_args()
     rows, entries = 0, 0
-    for row in sorted((ROOT / "rows" / "scripts").iterdir()):
+    for row in rows_in("scripts"):
         text, count = history_of(row)
         if count == 0:
             continue

@@ -1,7 +1,7 @@
 #!/usr/bin/env python3
 """refused.py [--tests FILE] [--alone] [--program FILE] [WORD ..]
 
-Runs each test of bench/memory/tests that has each request refused in turn, and then the program on eight small scripts: once
+Runs each test of tests/soak/memory/tests that has each request refused in turn, and then the program on eight small scripts: once
 for every request that it makes, with that one refused. A request is a call for memory, for the start of a thread, or for its attributes. A test must
 pass; of the program what_is_wrong of runs.py is asked. Where nothing is refused each thread that was started must be joined;
 and with one thread as much memory must be given back as where nothing is refused. Then the program is run with two requests refused, with three,

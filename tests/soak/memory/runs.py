@@ -2,12 +2,15 @@
 import os
 import subprocess
 import sys
+from pathlib import Path
 
+sys.dont_write_bytecode = True
+sys.path.insert(0, str(Path(__file__).resolve().parents[3] / "tools"))
 from orders import Race, has_order
+from repository.tree import Tree
 
 HERE = os.path.dirname(os.path.abspath(__file__))
-CRATES = os.path.join(HERE, "..", "..", "crates")
-PROGRAM = os.path.join(CRATES, "tgstore", "out", "tgstore")
+PROGRAM = str(Tree().program("tgstore"))
 
 # How long a run may take, in seconds.
 MOST_SECONDS = 60

@@ -4,7 +4,8 @@
 # nothing. With what `rt check` keeps of the crates it takes some minutes, and else as long as their proofs.
 set -eu
 here=$(cd "$(dirname "$0")" && pwd)
-. "$here/../temporary.sh"
+top=$(cd "$here/../../.." && pwd)
+. "$top/tools/temporary.sh"
 look_at_words 1 "$@"
 take_tests memory_tests tg_rights tg_model tg_payload tg_journal tg_store tg_helpers tg_shared tg_text tg_script tg_threads
 (cd "$program" && rt test)
