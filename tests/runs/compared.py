@@ -119,8 +119,8 @@ def check(row: Row, program: Path, wanted: Wanted, words: Sequence[str] = ()) ->
 
 
 def check_entries(row: Row, program: Path, auditor: Path) -> str | None:
-    """Runs the program on the row with --entries. Compares the text with the entries of the row, which a race has in any
-    order; hands it to tgaudit; and compares the answer."""
+    """Runs the program on the row with --entries. Compares the text with the entries of the row, which a race has in
+    any order. Then hands it to tgaudit, and compares the answer."""
     wanted = Wanted.of(row)
     ran = run(row, program, wanted.stdin, ["--entries"])
     order = sorted if row.name.startswith("races/") else list
@@ -164,7 +164,8 @@ def first_difference(name: Sequence[str], program: Path, *parts: tuple[str, byte
     for what, stored, written in parts:
         if stored != written:
             lines, others = stored.split(b"\n"), written.split(b"\n")
-            at = next((at for at, two in enumerate(zip(lines, others)) if two[0] != two[1]), min(len(lines), len(others)))
+            pairs = enumerate(zip(lines, others))
+            at = next((at for at, (ours, theirs) in pairs if ours != theirs), min(len(lines), len(others)))
             by = f"{' '.join(name)} by {program.parent.name}/{program.name}"
             told = [f"\n{sign} {shown(of, at)}" for sign, of in (("<", lines), (">", others))]
             return f"{by} FAILED: {what}, line {at + 1}: < as stored, > as it ran:{''.join(told)}"
