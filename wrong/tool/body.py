@@ -251,11 +251,9 @@ FIELDS = {
 def bodies_of(tree: Tree) -> dict[str, Body]:
     """Every body of the tree, by name."""
     found: dict[str, Body] = {}
-    for path in sorted((tree.top / "wrong").glob("*/*.edit")):
-        crate = path.parent.name
-        if crate == CONTROLS:
-            continue
-        if not tree.folder(crate).is_dir():
+    for path in sorted((tree.top / "crates").glob("*/mutants/*.edit")):
+        crate = path.parent.parent.name
+        if crate not in tree.crates:
             raise BadInput(f"{path.parent}: there is no crate {crate}")
         body = read_body(path, crate)
         if body.name in found:

@@ -64,7 +64,7 @@ def sums_of(tree: Tree) -> dict[str, str]:
     made = {}
     for crate in tree.crates:
         digest = hashlib.sha256()
-        for folder in (f"crates/{crate}", f"wrong/{crate}", *(f"crates/{lower}/specs" for lower in tree.below(crate))):
+        for folder in (f"crates/{crate}", *(f"crates/{lower}/specs" for lower in tree.below(crate))):
             for part in parts_below(tree, folder):
                 digest.update(part)
         made[crate] = digest.hexdigest()

@@ -97,7 +97,7 @@ class BodiesOfATree(InARoom):
 
     def setUp(self):
         super().setUp()
-        self.put({"crates.txt": "high: low\nlow: # no library\n", "wrong/low/one.edit": WHAT + EDIT})
+        self.put({"crates.txt": "high: low\nlow: # no library\n", "crates/low/mutants/one.edit": WHAT + EDIT})
         for crate in ("high", "low"):
             self.put({f"crates/{crate}/src/lib.rt": ""})
         self.tree = Tree(self.top)
@@ -108,13 +108,13 @@ class BodiesOfATree(InARoom):
         self.assertEqual([(body.crate, body.wanted) for body in controls_of(self.tree)], [("low", "proves")])
 
     def test_a_name_is_of_one_body(self):
-        self.put({"wrong/high/one.edit": WHAT + EDIT})
-        told = f"{self.top}/wrong/low/one.edit: {self.top}/wrong/high/one.edit has the same name"
+        self.put({"crates/high/mutants/one.edit": WHAT + EDIT})
+        told = f"{self.top}/crates/low/mutants/one.edit: {self.top}/crates/high/mutants/one.edit has the same name"
         with self.assertRaises(BadInput) as bad:
             bodies_of(self.tree)
         self.assertEqual(str(bad.exception), told)
 
     def test_a_folder_is_a_crates(self):
-        self.put({"wrong/none/two.edit": WHAT + EDIT})
-        with self.assertRaisesRegex(BadInput, "wrong/none: there is no crate none$"):
+        self.put({"crates/none/mutants/two.edit": WHAT + EDIT})
+        with self.assertRaisesRegex(BadInput, "crates/none/mutants: there is no crate none$"):
             bodies_of(self.tree)

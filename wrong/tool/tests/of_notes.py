@@ -135,7 +135,7 @@ class WhichCratesChanged(InARoom):
         self.assertEqual(self.changed_with("crates/low/src/lib.rt"), {"low"})
 
     def test_a_body_changes_its_crate(self):
-        self.assertEqual(self.changed_with("wrong/high/name.edit"), {"high"})
+        self.assertEqual(self.changed_with("crates/high/mutants/name.edit"), {"high"})
 
     def test_specs_change_the_crates_above(self):
         self.assertEqual(self.changed_with("crates/low/specs/Lib.antt"), {"low", "high"})
