@@ -10,17 +10,21 @@ With --only it runs the scripts alone whose name has the word. It asserts nothin
 PROGRAM is crates/tgstore/out/tgstore unless it is given."""
 import argparse
 import os
-import re
 import statistics
 import subprocess
 import sys
 import tempfile
 from concurrent.futures import ThreadPoolExecutor
+from pathlib import Path
 
+sys.dont_write_bytecode = True
+sys.path.insert(0, str(Path(__file__).resolve().parents[1] / "tools"))
 from mixture.mixture import WORKERS, Mixture
+from repository.counted import counted
+from repository.tree import Tree
 
 HERE = os.path.dirname(os.path.abspath(__file__))
-BUILT = os.path.join(HERE, "..", "crates", "tgstore", "out", "tgstore")
+BUILT = str(Tree().program("tgstore"))
 PLAIN = ("reference", "boxed")
 
 
@@ -167,13 +171,9 @@ def seconds(command, script, output):
 
 def instructions(command, script, output):
     """The instructions of one run, in millions."""
-    valgrind = ["valgrind", "--tool=cachegrind", "--cache-sim=no", "--cachegrind-out-file=/dev/null"]
-    with open(script, "rb") as source, open(output, "wb") as sink:
-        ran = subprocess.run(valgrind + command, stdin=source, stdout=sink, stderr=subprocess.PIPE, text=True)
-    counted = re.search(r"I\s+refs:\s+([\d,]+)", ran.stderr)
-    if ran.returncode or not counted:
-        sys.exit(f"{command[0]}: {ran.stderr[-500:]}")
-    return int(counted[1].replace(",", "")) / 1e6
+    run = counted(command, read(script))
+    Path(output).write_bytes(run.output)
+    return run.instructions / 1e6
 
 
 def read(path):

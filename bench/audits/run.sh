@@ -3,9 +3,9 @@
 # bindings/check has built. Three runs of each; the line with the ratio in the middle is printed. It wants a C compiler, sort and sed.
 set -eu
 here=$(cd "$(dirname "$0")" && pwd)
-. "$here/../temporary.sh"
-look_at_words 0 "$@"
 top=$(cd "$here/../.." && pwd)
+. "$top/tools/temporary.sh"
+look_at_words 0 "$@"
 built=$(mktemp -d)
 trap 'rm -rf "$built"' EXIT
 "${CC:-cc}" -O2 -Wall -Wextra -I"$top/bindings" -o "$built/audits" "$here/audits.c" "$top/bindings/out/libkovshenul.a"

@@ -10,12 +10,15 @@ valgrind, what a full collection and one of the nurseries take for a vertex that
 prints how many times as much the second is. It wants a C compiler."""
 import argparse
 import os
-import re
 import subprocess
 import sys
 import tempfile
 from pathlib import Path
 from statistics import median
+
+sys.dont_write_bytecode = True
+sys.path.insert(0, str(Path(__file__).resolve().parents[2] / "tools"))
+from repository.counted import counted
 
 HERE = Path(__file__).resolve().parent
 BINDINGS = HERE.parent.parent / "bindings"
@@ -40,9 +43,7 @@ def ran(words):
 
 
 def instructions(program, vertices, steps):
-    counter = ["valgrind", "--tool=cachegrind", "--cache-sim=no", "--cachegrind-out-file=/dev/null"]
-    said = ran([*counter, program, vertices, steps]).stderr
-    return int(re.search(r"I\s+refs:\s+([\d,]+)", said)[1].replace(",", ""))
+    return counted([program, str(vertices), steps]).instructions
 
 
 def count(program):

@@ -4,7 +4,8 @@
 # in a temporary folder. The two take turns; a number is the best of five. It wants cc and awk.
 set -eu
 here=$(cd "$(dirname "$0")" && pwd)
-. "$here/../temporary.sh"
+top=$(cd "$here/../.." && pwd)
+. "$top/tools/temporary.sh"
 look_at_words 0 "$@"
 take_crates copies tg_rights tg_model tg_word tg_block tg_closed tg_space tg_remember tg_evac
 for proof in "$here"/*.antt.in; do

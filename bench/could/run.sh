@@ -1,21 +1,16 @@
 #!/bin/sh
-# run.sh [SEED [GRAPHS]]: holds could_hold against a closure written apart, over random graphs of 2 to 5 vertices with
-# silent sets (200,000 of them, twelve questions each), and replays each witness by rules written apart; who_could,
-# what_could, a View and needs have to answer as it does. Then it tells how long a question takes on large pictures, in
-# plain Rust too, and a view. It proves, builds and runs the program beside it in a temporary folder.
+# run.sh [SEED]: how long a question of what could come about takes on large pictures, in plain Rust too (rival.rs), and a view of
+# them. It proves, builds and runs the program of tests/soak/could in a temporary folder. It wants rustc.
 set -eu
 here=$(cd "$(dirname "$0")" && pwd)
 seed=${1:-1}
-graphs=${2:-200000}
-. "$here/../temporary.sh"
-look_at_words 2 "$@"
+top=$(cd "$here/../.." && pwd)
+. "$top/tools/temporary.sh"
+look_at_words 1 "$@"
+source=$top/tests/soak/could/main.rt.in
 take_crates could anyhow tg_rights tg_model tg_could
-rustc -O -o "$build/closure" "$here/closure.rs"
-"$build/closure" "$seed" "$graphs" > "$build/questions"
-cd "$program"
-rt run < "$build/questions" > "$build/answers"
-"$build/closure" "$seed" "$graphs" "$build/answers"
 rustc -O -o "$build/rival" "$here/rival.rs"
+cd "$program"
 for size in "100000 300000" "1000000 3000000"; do
     echo "big $size $seed 16" | rt run
     "$build/rival" $size "$seed" 16

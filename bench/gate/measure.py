@@ -31,12 +31,12 @@ import sys
 import tempfile
 import threading
 import time
+from pathlib import Path
 
-TOP = os.path.abspath(os.path.join(os.path.dirname(os.path.abspath(__file__)), "..", ".."))
 sys.dont_write_bytecode = True
-sys.path.insert(0, f"{TOP}/wrong")
-from tool.processor import seconds_in, seconds_of_children, words_of
-from tool.tree import Tree
+sys.path.insert(0, str(Path(__file__).resolve().parents[2] / "tools"))
+from repository.processor import seconds_in, seconds_of_children, words_of
+from repository.tree import TOP, Tree
 
 STAGES = ("proofs", "tests", "edits")
 SLOW = 15

@@ -9,7 +9,8 @@
 # It wants cc and awk. Where ghc is found, GHC's own collector with one thread and with two stands below (GcBench.hs).
 set -eu
 here=$(cd "$(dirname "$0")" && pwd)
-. "$here/../temporary.sh"
+top=$(cd "$here/../.." && pwd)
+. "$top/tools/temporary.sh"
 test "$*" = --instructions || look_at_words 0 "$@"
 take_crates helpers tg_rights tg_model tg_word tg_block tg_space tg_remember tg_evac tg_race tg_parallel
 for proof in "$here"/*.antt.in; do
@@ -22,8 +23,7 @@ cc -O2 -pthread -o "$build/copier" "$here/copier.c"
 
 # How many instructions so many collections take, of a heap of this shape by this way, with all before them.
 instructions() {
-    valgrind --tool=cachegrind --cache-sim=no --cachegrind-out-file=/dev/null "$program/out/helpers" "$@" 2>&1 |
-        awk '/I +refs:/ { gsub(",", ""); print $NF }'
+    "$top/tools/instructions" "$program/out/helpers" "$@" < /dev/null
 }
 
 if test "${1-}" = --instructions; then

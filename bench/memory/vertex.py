@@ -11,10 +11,15 @@ import re
 import subprocess
 import sys
 import tempfile
+from pathlib import Path
+
+sys.dont_write_bytecode = True
+sys.path.insert(0, str(Path(__file__).resolve().parents[2] / "tools"))
+from repository.tree import Tree
 
 HERE = os.path.dirname(os.path.abspath(__file__))
 BENCH = os.path.dirname(HERE)
-BUILT = os.path.join(BENCH, "..", "crates", "tgstore", "out", "tgstore")
+BUILT = str(Tree().program("tgstore"))
 PLAIN = ("reference", "boxed")
 VERTICES = (28_672, 32_767)
 

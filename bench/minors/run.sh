@@ -4,7 +4,8 @@
 # program beside it, with the crates that it needs, in a temporary folder. A number is the best of five. It wants awk.
 set -eu
 here=$(cd "$(dirname "$0")" && pwd)
-. "$here/../temporary.sh"
+top=$(cd "$here/../.." && pwd)
+. "$top/tools/temporary.sh"
 look_at_words 0 "$@"
 take_crates minors tg_rights tg_model tg_word tg_block tg_closed tg_space tg_remember tg_nursery tg_payload tg_index tg_rows tg_graph tg_rules tg_evac tg_journal tg_store
 (cd "$program" && rt run) > "$build/built" 2>&1 || { cat "$build/built"; exit 1; }

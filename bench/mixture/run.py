@@ -13,7 +13,10 @@ import sys
 import tempfile
 from pathlib import Path
 
+sys.dont_write_bytecode = True
+sys.path.insert(0, str(Path(__file__).resolve().parents[2] / "tools"))
 from mixture import Mixture
+from repository.counted import counted
 
 HERE = Path(__file__).resolve().parent
 BINDINGS = HERE.parent.parent / "bindings"
@@ -35,15 +38,15 @@ def rival(folder):
     return program
 
 
-def told(words, counted):
+def told(words, is_counted):
     """What a run prints; or its millions of instructions, and the sum."""
-    counter = ["valgrind", "--tool=cachegrind", "--cache-sim=no", "--cachegrind-out-file=/dev/null"] if counted else []
-    run = subprocess.run([*counter, *words], capture_output=True, text=True)
-    refs = re.search(r"I\s+refs:\s+([\d,]+)", run.stderr)
-    if run.returncode or counted and not refs:
+    if is_counted:
+        run = counted(words)
+        return f"{re.match('sum [0-9a-f]+', run.output.decode())[0]}, {run.instructions / 1e6:.1f} million instructions"
+    run = subprocess.run(words, capture_output=True, text=True)
+    if run.returncode:
         sys.exit(f"mixture: status {run.returncode}: {run.stderr[-500:]}")
-    total = re.match(r"sum [0-9a-f]+", run.stdout)[0]
-    return f"{total}, {int(refs[1].replace(',', '')) / 1e6:.1f} million instructions" if counted else run.stdout.strip()
+    return run.stdout.strip()
 
 
 def main():

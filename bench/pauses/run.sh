@@ -7,7 +7,8 @@
 # and for the calls' 99th percentile the middle one. It wants awk.
 set -eu
 here=$(cd "$(dirname "$0")" && pwd)
-. "$here/../temporary.sh"
+top=$(cd "$here/../.." && pwd)
+. "$top/tools/temporary.sh"
 look_at_words 0 "$@"
 take_crates pauses tg_rights tg_model tg_word tg_block tg_closed tg_space tg_remember tg_nursery tg_payload tg_index tg_rows tg_graph tg_rules tg_evac tg_journal tg_store tg_race tg_parallel tg_helpers tg_shared
 mkdir -p "$program/proofs/run_asked"

@@ -4,7 +4,8 @@
 # crates that it needs, in a temporary folder, and tells what came of each client's calls.
 set -eu
 here=$(cd "$(dirname "$0")" && pwd)
-. "$here/../temporary.sh"
+top=$(cd "$here/../.." && pwd)
+. "$top/tools/temporary.sh"
 look_at_words 0 "$@"
 take_crates shares tg_rights tg_model tg_payload tg_journal tg_store tg_shared tg_shares
 (cd "$program" && rt try --steps 1000 --seconds 900)

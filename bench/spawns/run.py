@@ -2,44 +2,28 @@
 """run.py [ROUNDS]: what eight sessions hold that spawn 1,600 subjects in each round, in 625 rounds unless it is given.
 
 It builds the program beside it (`main.rt.in`), unproved, with the crates that it needs, and prints what it has behind the seventh round, some
-10,000 subjects, and behind the last: the bytes that it holds, as the counter of rows/held tells them, and what is resident, with glibc's
+10,000 subjects, and behind the last: the bytes that it holds, as the counter of tests/held tells them, and what is resident, with glibc's
 malloc as it is, and as docs/LASTING.md advises, with one arena and both thresholds at 64 KiB. It wants Linux and a C compiler."""
 import argparse
 import os
 import re
-import shutil
 import struct
 import subprocess
 import sys
 import tempfile
 from pathlib import Path
 
-HERE = Path(__file__).resolve().parent
-TOP = HERE.parent.parent
-sys.path.insert(0, str(TOP / "wrong"))
-from tool.kit import Kit
-from tool.tree import Tree
+sys.dont_write_bytecode = True
+sys.path.insert(0, str(Path(__file__).resolve().parents[2] / "tools"))
+from repository.tree import TOP
+from repository.unproved import build_beside
 
+HERE = Path(__file__).resolve().parent
 USES = "tg_rights tg_model tg_payload tg_journal tg_store tg_shared"
 # So many subjects are spawned in a round, and behind so many rounds it is looked for the first time.
 SUBJECTS, FIRST = 1_600, 7
 
 ADVISED = {"MALLOC_ARENA_MAX": "1", "MALLOC_MMAP_THRESHOLD_": "65536", "MALLOC_TRIM_THRESHOLD_": "65536"}
-
-
-def built(folder):
-    """The program, in the folder."""
-    for crate in Tree(TOP).crates:
-        shutil.copytree(TOP / "crates" / crate, folder / "crates" / crate, ignore=shutil.ignore_patterns("out"))
-    source = folder / "crates/spawns/src"
-    source.mkdir(parents=True)
-    shutil.copy(HERE / "main.rt.in", source / "main.rt")
-    (folder / "crates.txt").write_text(f"spawns: {USES}\n{(TOP / 'crates.txt').read_text()}")
-    tree = Tree(folder)
-    refused = Kit(tree, folder / "crates").build_program(tree, "spawns", folder)
-    if refused is not None:
-        sys.exit(f"spawns: {refused[-2000:]}")
-    return folder / "spawns"
 
 
 def resident(process):
@@ -68,7 +52,7 @@ def counted(program, rounds, folder):
     """How many bytes it holds behind so many rounds, when it has read that there are no more."""
     library, told = folder / "counter.so", folder / "told"
     compiler = os.environ.get("CC", "cc").split()
-    subprocess.run([*compiler, "-O2", "-shared", "-fPIC", "-o", library, TOP / "rows/held/counter.c"], check=True)
+    subprocess.run([*compiler, "-O2", "-shared", "-fPIC", "-o", library, TOP / "tests/held/counter.c"], check=True)
     told.write_bytes(bytes(4096))
     with_counter = os.environ | {"LD_PRELOAD": str(library), "HELD_TELL": str(told)}
     subprocess.run([program], input="\n" * rounds, text=True, check=True, stdout=subprocess.DEVNULL, env=with_counter)
@@ -85,7 +69,7 @@ def main():
     words.add_argument("rounds", nargs="?", type=int, default=625)
     rounds = words.parse_args().rounds
     with tempfile.TemporaryDirectory() as folder:
-        program = built(Path(folder))
+        program = build_beside(USES, HERE / "main.rt.in", Path(folder) / "spawns")
         tell("held", *(counted(program, number, Path(folder)) for number in (FIRST, rounds)), "bytes", rounds)
         for name, more in (("as it is", {}), ("as advised", ADVISED)):
             tell(f"resident, malloc {name}", *held(program, rounds, more), "KB", rounds)

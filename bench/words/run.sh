@@ -3,7 +3,8 @@
 # It proves, builds and runs the program beside it, with the crates that it needs, in a temporary folder.
 set -eu
 here=$(cd "$(dirname "$0")" && pwd)
-. "$here/../temporary.sh"
+top=$(cd "$here/../.." && pwd)
+. "$top/tools/temporary.sh"
 look_at_words 0 "$@"
 take_crates words tg_rights tg_model tg_word tg_block tg_closed tg_space
 cd "$program"

@@ -1,4 +1,4 @@
-"""Plays a small story, and writes its journal as a script of the store's own: journal.py | watch/page --workers 3 --stock sl >run.html
+"""Plays a small story, and writes its journal as a script of the store's own: journal.py | viewer/page --workers 3 --stock sl >run.html
 
 Each create takes a box of the stock. A box begins with 0, and a log of it keeps four numbers: of objects that begin so, the page
 has the journal's own replies.

@@ -30,7 +30,7 @@ helps() {
     for word in "$@"; do
         case $word in
         -h | --help)
-            sed -n '2,/^[^#]/s/^# \{0,1\}//p' "$here/$(basename "$0")"
+            sed -n '2,/^[^#]/s/^# \{0,1\}//p' "$0"
             exit 0
             ;;
         esac
@@ -58,19 +58,9 @@ sum() {
     sha256sum | cut -d ' ' -f 1
 }
 
-# The crates on which tg_c stands, lowest first, and tg_c behind them.
+# The crates on which tg_c stands, lowest first, and tg_c after them.
 crates_of_library() {
-    awk -F: '
-        function visit(name, used, count, at) {
-            if (name in seen || !(name in uses)) return
-            seen[name] = 1
-            count = split(uses[name], used, " ")
-            for (at = 1; at <= count; at++) visit(used[at])
-            print name
-        }
-        { sub(/#.*/, "") }
-        NF > 1 { split($1, head, " "); uses[head[1]] = $2 }
-        END { visit("tg_c") }' "$top/crates.txt"
+    "$top/tools/crates" with tg_c
 }
 
 # The files of a crate's folder, as sources of it.
@@ -87,9 +77,9 @@ sum_of_text() {
         export LC_ALL=C
         {
             rt version
-            for name in $(crates_of_library); do
-                grep "^${name}[ :]" crates.txt
-                files_of_crate "crates/$name" | sort | tr '\n' '\0' | xargs -0 sha256sum
+            tools/crates line $(crates_of_library) | while read -r line; do
+                echo "$line"
+                files_of_crate "crates/${line%%[ :]*}" | sort | tr '\n' '\0' | xargs -0 sha256sum
             done
         } | sum
     )

@@ -16,8 +16,9 @@ COUNTER = ("valgrind", "--tool=cachegrind", "--cache-sim=no", "--cachegrind-out-
 INSTRUCTIONS = re.compile(r"I\s+refs:\s+([\d,]+)")
 
 
-class CountFailed(Exception):
-    """A run ended with another status than 0, or valgrind counted nothing. The message has the status and the errors."""
+class CountFailed(SystemExit):
+    """A run ended with another status than 0, or valgrind counted nothing. The message has the status and the errors. A
+    script that doesn't catch it ends with the message and status 1."""
 
 
 @dataclass(frozen=True)
@@ -59,7 +60,7 @@ Check = Callable[[Namespace], int]
 def run_check(usage: str, check: Check, options: Mapping[str, dict] | None = None, program: str = "tgstore") -> int:
     """Reads the command line, runs the check, and returns its status. The command line may name the program, else it is
     the built one with this name. `options` has what argparse gets for each further option. Without valgrind nothing is
-    run, and the status is 0. If a run fails, the status is 1."""
+    run, and the status is 0."""
     name = Path(sys.argv[0]).name
     parser = argparse.ArgumentParser(usage=usage)
     parser.add_argument("program", nargs="?", default=str(Tree().program(program)))
@@ -69,8 +70,4 @@ def run_check(usage: str, check: Check, options: Mapping[str, dict] | None = Non
     if not can_count():
         print(f"{name}: valgrind isn't here: left out")
         return 0
-    try:
-        return check(asked)
-    except CountFailed as error:
-        print(f"{name}: {error}", file=sys.stderr)
-        return 1
+    return check(asked)

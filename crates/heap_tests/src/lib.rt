@@ -1,5 +1,5 @@
 //! Tests of the heap below the store, and of the race of a collection. Those of the plain graph and of audits are rows
-//! of `rows/audit` and `rows/could`.
+//! of `tests/runs/audit` and `tests/runs/could`.
 //!
 //! They stand here and not beside what they test, since a crate with tests is proved twice. A test is named for what it
 //! shows; each file has one topic. Nothing here is called by any crate.

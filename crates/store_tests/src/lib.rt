@@ -3,7 +3,7 @@
 //!
 //! They stand here and not beside what they test, since a crate with tests is proved twice. A test is named for what it
 //! shows; each file has one topic. Nothing here is called by any crate. What a whole script is answered is no test
-//! here: such scripts are rows of `rows/`, which the program is run on.
+//! here: such scripts are rows of `tests/runs/`, which the program is run on.
 #![tactic(auto)]
 
 #[cfg(test)]

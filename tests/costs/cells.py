@@ -1,0 +1,120 @@
+#!/usr/bin/env python3
+"""cells.py [--write] [PROGRAM]
+
+Counts, under valgrind, what a full collection takes for a vertex, by one thread and by two helpers, and says whether that is at most
+1.02 times what is stored in tests/costs/cells.figures. No clause speaks of it: a call that the compiler no longer lays out where it
+stands gives the same heap, and shows here alone. The heaps:
+
+  rows     64 workers with 546 objects each
+  tree     objects that name two others each, the children before their parents
+  random   the same tree, whose places are in no order
+
+Two scripts are run, with 5 collections and with 25; their difference over 20 times the number of vertices is what one takes. Where two
+helpers work, all that both do is counted, so it is a helper's walk that is seen, and not how they share it; since they wait for
+each other, each script is run three times then, and the least counts.
+
+--write makes the figures anew, beside the kit that built the program: with another kit they are to be. PROGRAM is
+crates/tgstore/out/tgstore unless it is given. Exit status 1 where a collection takes more, or a run ended otherwise than it is to.
+Where valgrind isn't here, nothing is run."""
+import sys
+from argparse import Namespace
+from collections.abc import Callable
+from pathlib import Path
+
+sys.dont_write_bytecode = True
+sys.path.insert(0, str(Path(__file__).resolve().parents[2] / "tools"))
+from repository.counted import instructions, run_check
+from repository.kit import version
+from repository.tree import read_text, write_text
+
+FIGURES = Path(__file__).resolve().parent / "cells.figures"
+
+# How many workers there are, how many objects, and the lines that make them.
+Shape = tuple[int, int, list[str]]
+FEW, MANY = 5, 25
+MOST_TIMES = 1.02
+HELPERS = (1, 2)
+TIMES = {1: 1, 2: 3}
+WORKERS, OBJECTS = 64, 546
+NODES = 16_383
+# A step that has no divisor with the number of nodes: it goes over all of them, in no order that a reader would see.
+STEP = 10_001
+
+
+def rows() -> Shape:
+    """How many workers and objects there are, and what makes them."""
+    return WORKERS, WORKERS * OBJECTS, [f"{worker} create rw" for worker in range(WORKERS) for _ in range(OBJECTS)]
+
+
+def tree_of(name_of: Callable[[int], int]) -> Shape:
+    """A worker makes the nodes, joins each but the root to its parent, and then holds the root alone."""
+    made = ["0 create rg"] * NODES
+    joined = [f"0 grant {name_of((node - 1) // 2)} {name_of(node)} r" for node in range(1, NODES)]
+    left = [f"0 remove {name_of(node)} rg" for node in range(1, NODES)]
+    return 1, NODES, made + joined + left
+
+
+def tree() -> Shape:
+    """The children before their parents."""
+    return tree_of(lambda node: NODES - node)
+
+
+def random() -> Shape:
+    """The same tree, whose places are in no order."""
+    return tree_of(lambda node: 1 + node * STEP % NODES)
+
+
+SHAPES = {"rows": rows, "tree": tree, "random": random}
+
+
+def of_a_vertex(program: str, shape: str, helpers: int) -> float:
+    """The instructions of a full collection for a vertex."""
+    workers, objects, before = SHAPES[shape]()
+    options = ["--workers", str(workers), "--stock", f"c{objects}", "--helpers", str(helpers)]
+    few, many = (least(TIMES[helpers], program, options, before + ["full"] * fulls) for fulls in (FEW, MANY))
+    return (many - few) / (MANY - FEW) / (workers + objects)
+
+
+def least(times: int, program: str, options: list[str], lines: list[str]) -> int:
+    """The least instructions of so many runs."""
+    return min(instructions(program, options, lines) for _ in range(times))
+
+
+def read_figures() -> tuple[str, dict[tuple[str, int], float]]:
+    """The kit that made the stored figures, and each of them by its shape and the number of helpers."""
+    made_by, *rest = read_text(FIGURES).splitlines()
+    words = [line.split() for line in rest]
+    return made_by, {(shape, int(helpers)): float(figure) for shape, helpers, figure in words}
+
+
+def write_figures(program: str) -> int:
+    """Makes the figures anew; returns the status."""
+    made = [f"{shape} {helpers} {of_a_vertex(program, shape, helpers):.1f}" for shape in SHAPES for helpers in HELPERS]
+    write_text(FIGURES, "\n".join([version(), *made]) + "\n")
+    print("\n".join(made))
+    return 0
+
+
+def check(program: str) -> int:
+    """Compares with the stored figures; returns the status."""
+    made_by, known = read_figures()
+    if made_by != version():
+        print(f"cells: the figures are of another kit, {made_by}: tests/costs/cells.py --write makes them anew")
+        return 1
+    failed = 0
+    for (shape, helpers), figure in known.items():
+        now = of_a_vertex(program, shape, helpers)
+        is_more = now > MOST_TIMES * figure
+        failed += is_more
+        told = f"{now:.1f} instructions a vertex; {figure} is stored: {now / figure:.3f} times"
+        print(f"cells: {shape} by {helpers}: {told}{', FAILED' * is_more}", flush=True)
+    return 1 if failed else 0
+
+
+def count(asked: Namespace) -> int:
+    """Does what the command line asks for; returns the status."""
+    return write_figures(asked.program) if asked.write else check(asked.program)
+
+
+if __name__ == "__main__":
+    sys.exit(run_check(__doc__, count, {"--write": {"action": "store_true"}}))

@@ -1,0 +1,77 @@
+"""Each request for memory that tgaudit, tgcould and tgdot make, refused in turn: tests/held/run tries them."""
+import os
+import re
+import subprocess
+from dataclasses import dataclass
+
+SCRIPT = b"edge 0 1 tg\n0 create rw\n0 grant 1 2 r\n0 list\n1 read 2\n0 create l\n"
+TEXT = b"kovshenul entries 1\nopening 1 9\nworker l4:1,2\n0 create rl c0 = ok 1\n0 list = ok 1:rl\n0 read 1 = ok 0\nentries 3\n"
+LISTED = 400
+LISTING = b"".join([
+    b"kovshenul entries 1\nopening 1 900\nworker c0\n",
+    *(b"0 create r c0 = ok %d\n" % name for name in range(1, LISTED + 1)),
+    b"0 list = ok", *(b" %d:r" % name for name in range(1, LISTED + 1)), b"\n",
+    b"entries %d\n" % (LISTED + 1),
+])
+OPTIONS = ["--workers", "2", "--vertices", "50", "--stock", "c9"]
+
+
+@dataclass
+class Runs:
+    """A program, its words and what it reads, of which each request is refused in turn."""
+    program: str
+    words: list
+    text: bytes
+
+
+RUNS = [
+    Runs("tgaudit", [], TEXT),
+    Runs("tgaudit", [], LISTING),
+    Runs("tgaudit", [], TEXT.replace(b"ok 0", b"ok 1")),
+    Runs("tgaudit", ["--help"], b""),
+    Runs("tgaudit", ["--unknown"], b""),
+    Runs("tgcould", [*OPTIONS, "--ask", "1 r 3", "--ask", "* r 2", "--never", "new w 2"], SCRIPT),
+    Runs("tgcould", [*OPTIONS, "--as-if", "1 3 l", "--silent", "0", "--never", "1 * *"], SCRIPT),
+    Runs("tgcould", [*OPTIONS, "--ask", "1 r 3"], SCRIPT + b"0 retired\n"),
+    Runs("tgcould", ["--help"], b""),
+    Runs("tgcould", ["--ask"], b""),
+    Runs("tgdot", OPTIONS, SCRIPT),
+    Runs("tgdot", [*OPTIONS, "--steps", "--from", "2"], SCRIPT),
+    Runs("tgdot", ["--unknown"], b""),
+]
+
+
+def run(runs, path, environment, seconds):
+    """The status of a run, and what it wrote."""
+    ran = subprocess.run([path, *runs.words], input=runs.text, env=environment, capture_output=True, timeout=seconds, check=False)
+    return ran.returncode, ran.stdout, ran.stderr
+
+
+def is_right(runs, whole, ran):
+    """Whether a run with a refused request is as one without, or out of memory, of which tgaudit tells the line too; a front of
+    the output may be there."""
+    status, output, errors = ran
+    if ran == whole:
+        return True
+    told = re.fullmatch(rf"{runs.program}: (line \d+: )?out of memory\n".encode(), errors)
+    return status == 1 and told is not None and whole[1].startswith(output)
+
+
+def check(counter, folder, seconds):
+    """Refuses each request of each of the runs, and answers how many runs there were, and what is wrong with the wrong ones."""
+    count, wrong = 0, []
+    for runs in RUNS:
+        path = os.path.join(folder, runs.program, "out", runs.program)
+        if not os.access(path, os.X_OK):
+            wrong.append(f"{runs.program} isn't built")
+            continue
+        whole, number = run(runs, path, counter.environment(0), seconds), 0
+        requests = counter.told()[0]
+        while number < requests:
+            number += 1
+            ran = run(runs, path, counter.environment(number), seconds)
+            count += 1
+            if not is_right(runs, whole, ran):
+                words = " ".join([runs.program, *runs.words])
+                wrong.append(f"{words}, request {number} of {requests} refused: status {ran[0]}, {ran[2][:200]}")
+    return count, wrong

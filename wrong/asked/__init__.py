@@ -1,2 +1,0 @@
-"""What `wrong/wants` reads: the words of sources, their functions and calls, what grows in them, and the amounts that
-are asked for."""
