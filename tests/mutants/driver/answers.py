@@ -1,10 +1,11 @@
 """The form of the files below a crate's proofs/: answers, each after its goal; lemmas; and holes in their place."""
 import re
+from collections.abc import Callable
 
 from .source import Function
 
 # The file of a function's answers, that of the invariants of its loops, and that of a proof that is written by hand.
-ANSWERS, INVARIANTS, PROOF = "Answers.antt", "Invariants.antt", "Proof.antt"
+OF_FUNCTION = ANSWERS, INVARIANTS, PROOF = "Answers.antt", "Invariants.antt", "Proof.antt"
 
 # A proof with a hole in its place. The checker then takes the function by its contract.
 HOLE = """use Rattle.{crate}.proofs.{module}.Statement.{{statement}}
@@ -45,7 +46,7 @@ def answered_clauses(text: str) -> set[str]:
     return {named_ensures(goal) for goal in re.findall(r"^pub (returns\S*)", text, re.M)}
 
 
-def with_answers(text: str, is_kept: "Callable[[str], bool]") -> str:
+def with_answers(text: str, is_kept: Callable[[str], bool]) -> str:
     """The answers of the text to goals that are kept. What is imported from the goals of the function, and not used
     any more, goes too: without a clause its paths are gone."""
     parts = re.split(r"^(?=pub |[^\s]+ : )", text, flags=re.M)

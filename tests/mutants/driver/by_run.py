@@ -1,4 +1,4 @@
-"""What a test, a stored script, a count of instructions or `tools/wants` has to find, since no contract can refuse it."""
+"""What a test, a stored script, a count of instructions or `tools/check_allocation` has to find, since no contract can refuse it."""
 import re
 import shutil
 import subprocess
@@ -12,9 +12,7 @@ from .mutant import Mutant
 from .verdict import Outcome, Verdict
 
 # A line that reports a failure.
-FAILURE = r"^\w+: (\S+ .*FAILED.*)|^wants: (.* [1-9][0-9]* faults)"
-# The programs for which a row asks.
-PROGRAMS = ("tgstore", "tgcould")
+FAILURE = r"^\w+: (\S+ .*FAILED.*|.*, [1-9]\d* failed|.*, [1-9]\d* faults)$"
 
 
 def try_by_run(tree: Tree, mutant: Mutant) -> Verdict:
@@ -26,15 +24,17 @@ def try_by_run(tree: Tree, mutant: Mutant) -> Verdict:
                 failed, said = fails_test(made.folder(crate), test)
                 outcome, said = Outcome.FOUND if failed else Outcome.NOT_FOUND, on_one_line(said)
             case ("held", script):
-                outcome, said = try_script(made, "tgstore", [f"{tree.top}/rows/held/run", "--only", script, f"{name}/tgstore"])
+                command = [f"{tree.top}/tests/held/run", "--only", script, f"{name}/tgstore"]
+                outcome, said = try_script(made, "tgstore", command)
             case ("row", program, row):
-                outcome, said = try_script(made, program, [f"{tree.top}/rows/run", "--only", row, name])
+                outcome, said = try_script(made, program, [f"{tree.top}/tests/runs/run", "--only", row, name])
             case ("counted", script, *names):
                 only = [word for name in names for word in ("--only", name)]
-                command = [f"{tree.top}/bench/{script}.py", *only, f"{name}/tgstore"]
+                command = [f"{tree.top}/tests/costs/{script}.py", *only, f"{name}/tgstore"]
                 outcome, said = try_script(made, "tgstore", command, is_counted=True)
-            case ("wants",):
-                outcome, said = run_script([f"{tree.top}/wrong/wants", "--tree", name])
+            case ("allocation",):
+                shutil.copytree(tree.top / "tools", Path(name) / "tools")
+                outcome, said = run_script([f"{name}/tools/check_allocation"])
     return Verdict(mutant, outcome, f"{' '.join(mutant.found)}: {said}")
 
 
@@ -50,14 +50,10 @@ def plant_tree(tree: Tree, mutant: Mutant, room: Path) -> Tree:
 
 
 def try_script(tree: Tree, program: str, command: list[str], is_counted: bool = False) -> tuple[Outcome, str]:
-    """What a run of stored scripts finds of the program of the tree, which is built first. A row asks for all programs:
-    the others fail at once."""
+    """What a run of stored scripts finds of the program of the tree, which is built first."""
     errors = build_program(tree, program, tree.top, is_counted)
     if errors is not None:
         return Outcome.NOT_JUDGED, f"{program} isn't built: {on_one_line(errors)}"
-    for other in PROGRAMS:
-        if other != program:
-            (tree.top / other).symlink_to("/bin/false")
     return run_script(command)
 
 
@@ -67,7 +63,7 @@ def run_script(command: list[str]) -> tuple[Outcome, str]:
     said = ran.stdout + ran.stderr
     failed = re.search(FAILURE, said, re.M)
     if failed and ran.returncode != 0:
-        return Outcome.FOUND, failed[1] or failed[2]
+        return Outcome.FOUND, failed[1]
     return Outcome.NOT_FOUND if ran.returncode == 0 else Outcome.NOT_JUDGED, on_one_line(said)
 
 

@@ -66,78 +66,54 @@ class Mutant:
 
 @dataclass
 class Entry:
-    """A key of a file, with the number and the text of its line. The text may go on in the lines after it."""
+    """A key of a file with the number of its line, and the parts of its text."""
 
     number: int
-    line: str
     key: str
     parts: list[str]
-    is_block: bool = False
 
     @property
     def text(self) -> str:
-        """All of its text: the lines of a block, or the parts of one line."""
-        return ("\n" if self.is_block else " ").join(self.parts)
-
-    def goes_on(self, number: int, line: str) -> bool:
-        """Whether the line with this number is a further part of the text."""
-        if self.is_block:
-            return line.startswith("|") and number == self.number + len(self.parts) + 1
-        return self.key in FIELDS and line.startswith("  ")
+        """All of its text: lines of source, or else the parts of one line."""
+        return ("\n" if self.key in ("old", "new") else " ").join(self.parts)
 
 
 def entries_of(path: Path) -> list[Entry]:
-    """The keys of a file in their order, each with all of its text."""
+    """The keys of a file in their order. A text goes on in lines with a bar, or with two spaces, in front."""
     found: list[Entry] = []
     for number, line in enumerate(read_text(path).split("\n"), 1):
-        key, colon, text = line.partition(":")
-        if not line.strip():
-            continue
-        if found and found[-1].goes_on(number, line):
-            found[-1].parts.append(line[1:].removeprefix(" ") if found[-1].is_block else line.strip())
-        elif colon and key in ("old", "new"):
-            text = text.removeprefix(" ")
-            found.append(Entry(number, line, key, [text] if text else [], is_block=not text))
-        elif colon and (key == "file" or key in FIELDS):
-            found.append(Entry(number, line, key, [text.strip()]))
-        else:
-            raise not_in_form(path, number, line)
+        if found and line.startswith("|" if found[-1].key in ("old", "new") else "  "):
+            found[-1].parts.append(line[1:].removeprefix(" "))
+        elif key := re.match(r"(\w+):(?: |$)", line):
+            found.append(Entry(number, key[1], [line[key.end() :]] if line[key.end() :] else []))
+        elif line.strip():
+            raise BadInput(f"{path}:{number}: not of the form that 'tests/mutants/run --help' has: {line[:80]}")
     return found
-
-
-def not_in_form(path: Path, number: int, line: str) -> BadInput:
-    """The fault of a line that isn't expected where it stands."""
-    return BadInput(f"{path}:{number}: not of the form of a mutant ('tests/mutants/run --help' has it): {line[:80]}")
 
 
 def read_mutant(path: Path, crate: str) -> Mutant:
     """The mutant in the file, or BadInput with the line that isn't of the form."""
-    words: dict[str, Entry] = {}
+    fields: dict[str, object] = {}
     edits: list[Edit] = []
     file, old = "", None
     for entry in entries_of(path):
-        match entry.key:
-            case "file" if old is None:
-                file = entry.text
-            case "old" if file and old is None:
-                old = entry
-            case "new" if old is not None:
-                edits.append(Edit(file, old.text, entry.text, old.number))
-                old = None
-            case word if word in FIELDS and word not in words:
-                words[word] = entry
-            case _:
-                raise not_in_form(path, entry.number, entry.line)
-    missing = [word for word in ("what", "found" if "found" in words else "check") if word not in words]
-    missing += ["refused"] * (not {"found", "refused", "wanted"} & words.keys())
-    if missing or not edits or old is not None:
-        raise BadInput(f"{path}: it lacks {', '.join(missing) or 'an edit, an old: and a new: text'}")
-    fields = {}
-    for word, entry in words.items():
-        read, form = FIELDS[word]
-        if (read_as := read(entry.text)) is None:
-            raise BadInput(f"{path}:{entry.number}: '{word}:' is followed by {form}, and not by: {entry.text[:80]}")
-        fields.update(read_as)
+        key, where = entry.key, f"{path}:{entry.number}: '{entry.key}:'"
+        if key == "file" and old is None:
+            file = entry.text
+        elif key == "old" and file and old is None:
+            old = entry
+        elif key == "new" and old is not None:
+            edits.append(Edit(file, old.text, entry.text, old.number))
+            old = None
+        elif key not in FORMS or FORMS[key].field in fields:
+            raise BadInput(f"{where} isn't expected here: 'tests/mutants/run --help' has the form")
+        elif (parts := re.fullmatch(FORMS[key].form, entry.text)) is None:
+            raise BadInput(f"{where} is followed by {FORMS[key].told}, and not by: {entry.text[:80]}")
+        else:
+            fields[FORMS[key].field] = FORMS[key].read(parts)
+    needed = ("what", "found") if "found" in fields else ("what", "function", "clauses")
+    if "wanted" not in fields and not fields.keys() >= set(needed) or not edits or old is not None:
+        raise BadInput(f"{path}: it lacks one of what:, check: and refused:, or found:, file:, old:, new:")
     return Mutant(path.stem, crate, path, edits=tuple(edits), **fields)
 
 
@@ -146,45 +122,36 @@ def names_in(text: str) -> tuple[str, ...]:
     return tuple(name.strip() for name in text.split(",") if name.strip())
 
 
-def refusal_in(text: str) -> dict[str, object] | None:
-    """The clauses that have to refuse a mutant, which stand after their function. Its path may have colons."""
-    function, _, clauses = text.rpartition(": ")
-    return {"clauses": names_in(clauses)} if function and names_in(clauses) else None
+@dataclass(frozen=True)
+class Form:
+    """What follows a key: the field of a mutant that it is for, its form and how that is told, and what reads it."""
+
+    field: str
+    form: str
+    told: str
+    read: Callable[[re.Match[str]], object] = lambda parts: parts[0]
 
 
-def public_in(text: str) -> dict[str, object] | None:
-    """The public function and its clauses."""
-    parts = re.fullmatch(r"(\S+) of (\w+): (.+)", text)
-    return {"public": Public(parts[1], parts[2], names_in(parts[3]))} if parts else None
-
-
-# The scripts that count instructions, and fail where something costs more than it may.
-COUNTERS = ("growth", "takes", "cells")
-
-
-def finder_in(text: str) -> dict[str, object] | None:
-    """What has to find a mutant in a run."""
-    match words := tuple(text.split()):
-        case ("test", _, _) | ("held", _) | ("row", _, _) | ("wants",):
-            return {"found": words}
-        case ("counted", script, *names) if script in COUNTERS and len(names) <= 1:
-            return {"found": words}
-    return None
-
-
-# The lines of a file beside those of its edits: what reads the text, and its form.
-FIELDS: dict[str, tuple[Callable[[str], dict[str, object] | None], str]] = {
-    "what": (lambda text: {"what": text}, "a text"),
-    "kind": (lambda text: {"kind": text}, "a text"),
-    "check": (lambda text: {"function": text} if re.fullmatch(r"[\w:]+", text) else None, "'FUNCTION'"),
-    "refused": (refusal_in, "'FUNCTION: CLAUSE, CLAUSE'"),
-    "public": (public_in, "'FUNCTION of CRATE: CLAUSE, CLAUSE.FIELD'"),
-    "breaks": (lambda text: {"breaks": names_in(text)}, "'GOAL, GOAL'"),
-    "found": (
-        finder_in,
-        "'test CRATE NAME', 'held NAME', 'row PROGRAM GROUP/NAME', 'counted SCRIPT NAME' or 'wants'",
+FOUND = r"test \w+ \w+|held \S+|row \w+ \S+|counted (?:growth|takes|cells)(?: \w+)?|allocation"
+FORMS = {
+    "what": Form("what", r".+", "a text"),
+    "kind": Form("kind", r".+", "a text"),
+    "check": Form("function", r"[\w:]+", "'FUNCTION'"),
+    "refused": Form("clauses", r"[\w:]+: (\S.*)", "'FUNCTION: CLAUSE, CLAUSE'", lambda parts: names_in(parts[1])),
+    "public": Form(
+        "public",
+        r"(\S+) of (\w+): (.+)",
+        "'FUNCTION of CRATE: CLAUSE, CLAUSE.FIELD'",
+        lambda parts: Public(parts[1], parts[2], names_in(parts[3])),
     ),
-    "wanted": (lambda text: {"wanted": text}, "an outcome"),
+    "breaks": Form("breaks", r"[^:;]+", "'GOAL, GOAL'", lambda parts: names_in(parts[0])),
+    "found": Form(
+        "found",
+        FOUND,
+        "'test CRATE NAME', 'held NAME', 'row PROGRAM GROUP/NAME', 'counted SCRIPT NAME' or 'allocation'",
+        lambda parts: tuple(parts[0].split()),
+    ),
+    "wanted": Form("wanted", r".+", "an outcome"),
 }
 
 

@@ -7,28 +7,13 @@ from pathlib import Path
 
 from repository.tree import Tree, files_below, proof_of, read_text, write_text
 
-from .answers import (
-    ANSWERS,
-    INVARIANTS,
-    PROOF,
-    answered_clauses,
-    for_function,
-    hole_for,
-    names_unfolded,
-    named_ensures,
-    stated,
-    with_answers,
-)
+from .answers import ANSWERS, INVARIANTS, OF_FUNCTION, PROOF, answered_clauses, for_function, hole_for
+from .answers import named_ensures, names_unfolded, stated, with_answers
 from .mutant import Mutant
-from .source import (
-    UNNAMED,
-    Function,
-    functions_as_they_are,
-    functions_of,
-    is_end_of,
-    with_clauses,
-    without_body,
-)
+from .source import UNNAMED, Function, functions_as_they_are, functions_of, is_end_of, with_clauses, without_body
+
+# The attribute of a function whose goals aren't searched for.
+NO_SEARCH = "#[tactic(none)]"
 
 # Answers of a function: the file, and the goal that one shows, or '' for all of the file.
 Answers = frozenset[tuple[str, str]]
@@ -36,11 +21,13 @@ Answers = frozenset[tuple[str, str]]
 
 @dataclass(frozen=True)
 class Trial:
-    """A mutant as it is tried without some of the answers of its function, or the right function in the same way."""
+    """A mutant as it is tried without some of the answers of its function, or the right function in the same way. If it
+    isn't searched, only these answers are checked."""
 
     mutant: Mutant
     aside: Answers = frozenset()
     is_right: bool = False
+    is_searched: bool = True
 
 
 @dataclass(frozen=True)
@@ -78,6 +65,13 @@ def copy_of(tree: Tree, mutant: Mutant) -> Copy | None:
         return None
     wrong = planted[len(before) : len(planted) - len(after)]
     return Copy(function, tuple(lines[function.first : function.end]), tuple(wrong))
+
+
+def has_answers(tree: Tree, mutant: Mutant) -> bool:
+    """Whether the function of a mutant that has a copy has answers."""
+    copy = copy_of(tree, mutant)
+    proof = tree.proof(mutant.crate, copy.function.path) if copy else None
+    return proof is not None and any((proof / file).exists() for file in (ANSWERS, INVARIANTS))
 
 
 def plant(tree: Tree, room: Path, trials: list[Trial]) -> tuple[Path, list[Standing]]:
@@ -140,7 +134,7 @@ def with_proof(tree: Tree, folder: Path, trial: Trial, copy: Copy, number: int) 
             write_text(file, for_function(read_text(file), mutant.crate, function.path, path))
             keep_answers(file, trial.aside, left_out)
     renamed = re.sub(rf"\bfn {function.name}\b", f"fn {name}", "\n".join(lines), count=1)
-    return ["", *renamed.split("\n")], Standing(trial, path, clauses)
+    return ["", *[NO_SEARCH] * (not trial.is_searched), *renamed.split("\n")], Standing(trial, path, clauses)
 
 
 def take_by_contract(folder: Path, crate: str, checked: list[str], copies: dict[str, list[list[str]]]) -> None:
@@ -157,7 +151,7 @@ def take_by_contract(folder: Path, crate: str, checked: list[str], copies: dict[
         if function.path in taken:
             proof = proof_of(folder, function.path)
             proof.mkdir(parents=True, exist_ok=True)
-            for file in (ANSWERS, INVARIANTS):
+            for file in OF_FUNCTION:
                 (proof / file).unlink(missing_ok=True)
             write_text(proof / PROOF, hole_for(crate, function))
     for file in {function.file for function in there}:
@@ -176,5 +170,5 @@ def take_by_statement(proofs: Path) -> None:
     texts = {file: read_text(proofs / file) for file in files_below(proofs, ".antt")}
     unfolded = {name for text in texts.values() for name in names_unfolded(text)}
     for file, text in texts.items():
-        if Path(file).name not in (ANSWERS, INVARIANTS, PROOF):
+        if Path(file).name not in OF_FUNCTION:
             write_text(proofs / file, stated(text, unfolded))

@@ -11,7 +11,7 @@ from repository.tree import Tree
 from .answers import clause_of
 from .check import LIMIT, FunctionReport, Report
 from .mutant import Mutant
-from .scratch import Standing, Trial, copy_of, plant
+from .scratch import Standing, Trial, copy_of, has_answers, plant
 
 # How often a mutant is checked, each time without the answers that didn't fit the last time.
 ROUNDS = 4
@@ -76,27 +76,41 @@ def groups_of(tree: Tree, mutants: Iterable[Mutant], most: int) -> list[list[Mut
 
 
 def try_group(tree: Tree, check: Check, mutants: list[Mutant]) -> list[Verdict]:
-    """The verdicts on mutants of one crate. A mutant whose function has answers that don't fit is tried without them,
-    and so is the right function: that the search finds no proof says something only if it finds that of the right one."""
+    """The verdicts on mutants of one crate. First the answers of functions are checked. Then a mutant is searched
+    without those that don't fit, beside its right function without the same ones. That the search finds no proof says
+    something only if it finds that of the right function."""
     verdicts: list[Verdict] = []
-    trials = [Trial(mutant) for mutant in mutants]
-    for number in range(ROUNDS):
-        rights = {key_of(trial): replace(trial, is_right=True) for trial in trials if number}
-        in_place = [trial for trial in (*trials, *rights.values()) if copy_of(tree, trial.mutant) is None]
-        together = [trial for trial in (*trials, *rights.values()) if trial not in in_place]
-        told: dict[Trial, Told] = {}
-        for group in (together, *([trial] for trial in in_place)):
-            told.update(checked(tree, check, group) if group else {})
+    trials = [Trial(mutant, is_searched=not has_answers(tree, mutant)) for mutant in mutants]
+    is_known_slow: set[Mutant] = set()
+    for rounds_left in reversed(range(ROUNDS)):
+        rights = {
+            key_of(trial): replace(trial, is_right=True)
+            for trial in trials
+            if trial.is_searched and (trial.aside or trial.mutant in is_known_slow)
+        }
+        told = checked_apart(tree, check, [*trials, *rights.values()])
         again = []
         for trial in trials:
-            right = told[rights[key_of(trial)]] if number else None
+            right = told.get(rights.get(key_of(trial)))
             more = misfits(told[trial], trial)
-            if number + 1 < ROUNDS and (more or needs_right(trial, told[trial]) and not right):
-                again.append(replace(trial, aside=trial.aside | more))
+            is_slow = bool(needs_right(trial, told[trial]) and not right)
+            if rounds_left and not told[trial].error and (more or is_slow or not trial.is_searched):
+                is_known_slow |= {trial.mutant} if is_slow else set()
+                again.append(replace(trial, aside=trial.aside | more, is_searched=True))
             else:
                 verdicts.append(Verdict(trial.mutant, *judged(told[trial], right)))
         trials = again
     return verdicts
+
+
+def checked_apart(tree: Tree, check: Check, trials: list[Trial]) -> dict[Trial, Told]:
+    """What is said of each of these trials: of those in copies of functions together, of the others one by one."""
+    together = [trial for trial in trials if copy_of(tree, trial.mutant)]
+    told = checked(tree, check, together) if together else {}
+    for trial in trials:
+        if trial not in told:
+            told.update(checked(tree, check, [trial]))
+    return told
 
 
 def key_of(trial: Trial) -> tuple[object, ...]:

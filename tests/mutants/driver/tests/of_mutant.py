@@ -6,28 +6,19 @@ from .stored import InARoom
 
 WHAT = "what: a user suffers\ncheck: pack\nrefused: pack: bits\n"
 EDIT = "file: src/words.rt\nold: left\nnew: right\n"
-NOT_IN_FORM = "not of the form of a mutant ('tests/mutants/run --help' has it): "
 
 # Files that are no mutants, and what is said of each after the name of the file.
 BAD_FILES = {
-    f"{WHAT}by: chance\n{EDIT}": f":4: {NOT_IN_FORM}by: chance",
-    f"{WHAT}what: again\n{EDIT}": f":4: {NOT_IN_FORM}what: again",
-    f"{WHAT}old: left\nnew: right\n": f":4: {NOT_IN_FORM}old: left",
-    f"{WHAT}file: src/words.rt\nnew: right\n": f":5: {NOT_IN_FORM}new: right",
-    f"{WHAT}file: src/words.rt\nold:\n| left\n\n| left\nnew: right\n": f":8: {NOT_IN_FORM}| left",
-    f"{WHAT}file: src/words.rt\nold: left\n": ": it lacks an edit, an old: and a new: text",
-    "what: a user suffers\n" + EDIT: ": it lacks check, refused",
-    f"check: pack\nwanted: proved\n{EDIT}": ": it lacks what",
-    f"what: a user suffers\ncheck: a, b\nrefused: a: bits\n{EDIT}": (
-        ":2: 'check:' is followed by 'FUNCTION', and not by: a, b"
-    ),
-    f"what: a user suffers\ncheck: pack\nrefused: pack\n{EDIT}": (
-        ":3: 'refused:' is followed by 'FUNCTION: CLAUSE, CLAUSE', and not by: pack"
-    ),
-    f"what: a user suffers\nfound: by chance\n{EDIT}": (
-        ":2: 'found:' is followed by 'test CRATE NAME', 'held NAME', 'row PROGRAM GROUP/NAME', 'counted SCRIPT NAME' or "
-        "'wants', and not by: by chance"
-    ),
+    f"{WHAT}by chance\n{EDIT}": r":4: not of the form that .* has: by chance",
+    f"{WHAT}by: chance\n{EDIT}": r":4: 'by:' isn't expected here",
+    f"{WHAT}what: again\n{EDIT}": r":4: 'what:' isn't expected here",
+    f"{WHAT}old: left\nnew: right\n": r":4: 'old:' isn't expected here",
+    f"{WHAT}file: src/words.rt\nnew: right\n": r":5: 'new:' isn't expected here",
+    f"{WHAT}file: src/words.rt\nold: left\n": r": it lacks one of ",
+    f"what: a user suffers\n{EDIT}": r": it lacks one of ",
+    f"what: a user suffers\ncheck: a, b\nrefused: a: bits\n{EDIT}": r":2: 'check:' is followed by 'FUNCTION', and not by: a, b",
+    f"what: a user suffers\ncheck: pack\nrefused: pack\n{EDIT}": r":3: 'refused:' is followed by 'FUNCTION: CLAUSE",
+    f"what: a user suffers\nfound: by chance\n{EDIT}": r":2: 'found:' is followed by 'test CRATE NAME', ",
 }
 
 
@@ -41,9 +32,8 @@ class FileOfAMutant(InARoom):
 
     def test_the_error_of_a_bad_file_names_its_line(self):
         for text, said in BAD_FILES.items():
-            with self.subTest(text=text), self.assertRaises(BadInput) as bad:
+            with self.subTest(text=text), self.assertRaisesRegex(BadInput, f"/name.edit{said}"):
                 self.read(text)
-            self.assertEqual(str(bad.exception), f"{self.top}/name.edit{said}")
 
     def test_the_error_of_an_edit_that_does_not_fit_names_its_line(self):
         mutant = self.read(WHAT + EDIT)
@@ -65,7 +55,7 @@ class FileOfAMutant(InARoom):
         self.assertEqual(edits, [("left\n  right\n", "right", 5), ("a: b", "c", 10)])
 
     def test_a_run_stands_in_the_place_of_clauses(self):
-        for found in ("test tg_graph grows", "held some_script", "row tgstore group/name", "counted takes", "wants"):
+        for found in ("test tg_graph grows", "held some_script", "row tgstore group/name", "counted takes", "allocation"):
             mutant = self.read(f"what: a user suffers\nfound: {found}\n{EDIT}")
             self.assertEqual((" ".join(mutant.found), mutant.function, mutant.clauses), (found, "", ()))
 

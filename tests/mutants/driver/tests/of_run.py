@@ -10,7 +10,7 @@ from repository.tree import Tree
 
 from .. import by_run, due, trying
 from ..check import Report, report_of
-from ..due import Kept, drawn, lemmas_of, stated_in, sum_of
+from ..due import Kept, drawn, stated_in, texts_below
 from ..mutant import Public
 from ..rooms import sweep
 from ..source import functions_as_they_are
@@ -48,7 +48,7 @@ class WithoutAToolchain(OfASmallCrate):
 
     def setUp(self) -> None:
         super().setUp()
-        patched = unittest.mock.patch.object(due, "toolchain", lambda: "this one")
+        patched = unittest.mock.patch.object(due, "version_once", lambda: "this one")
         self.addCleanup(patched.stop)
         patched.start()
 
@@ -66,7 +66,7 @@ class WhatIsDue(WithoutAToolchain):
         """Whether the mutant is due, if it was kept before a file had this text."""
         self.kept.keep(Tree(self.top), self.mutant)
         self.put({file: text})
-        for one in (functions_as_they_are, stated_in, lemmas_of):
+        for one in (functions_as_they_are, stated_in, texts_below):
             one.cache_clear()
         return self.kept.due(Tree(self.top), [self.mutant]) == [self.mutant]
 
@@ -96,12 +96,6 @@ class WhatIsDue(WithoutAToolchain):
         self.put({"kept": "no folder"})
         self.kept.keep(self.tree, self.mutant)
         self.assertEqual(self.kept.due(self.tree, [self.mutant]), [self.mutant])
-
-    def test_the_sums_of_several_trees_are_kept(self):
-        first = sum_of(Tree(self.top), self.mutant)
-        self.assertTrue(self.is_due("name.edit", "changed"))
-        self.kept.keep(Tree(self.top), self.mutant)
-        self.assertEqual(self.kept.of(self.mutant), [sum_of(Tree(self.top), self.mutant), first])
 
 
 class WhatIsTried(WithoutAToolchain):
@@ -148,8 +142,6 @@ class FoundByARun(InARoom):
     def told(self, script: str, errors: str | None = None) -> tuple[Outcome, str]:
         """What becomes of a mutant, by a script and the errors of the build."""
         self.put({"crates.txt": "", "script": script})
-        for program in self.top.glob("tg*"):
-            program.unlink()
         with unittest.mock.patch.object(by_run, "build_program", lambda *_: errors):
             return by_run.try_script(Tree(self.top), "tgstore", ["bash", f"{self.top}/script"])
 
@@ -157,11 +149,13 @@ class FoundByARun(InARoom):
         for script, errors, wanted in (
             ("exit 1", "src/main.rt: error\n", (Outcome.NOT_JUDGED, "tgstore isn't built: src/main.rt: error ")),
             ("echo 'held: a_row of 3 FAILED: 1 for 2'; exit 1", None, (Outcome.FOUND, "a_row of 3 FAILED: 1 for 2")),
-            ("echo rows: 1 as stored", None, (Outcome.NOT_FOUND, "rows: 1 as stored ")),
+            ("echo runs: 3 passed, 1 failed; exit 1", None, (Outcome.FOUND, "3 passed, 1 failed")),
+            ("echo runs: 0 passed, 0 failed; exit 1", None, (Outcome.NOT_JUDGED, "runs: 0 passed, 0 failed ")),
+            ("echo runs: 1 passed, 0 failed", None, (Outcome.NOT_FOUND, "runs: 1 passed, 0 failed ")),
+            ("echo allocation: 3 files, 2 faults; exit 1", None, (Outcome.FOUND, "3 files, 2 faults")),
             ("echo no such row >&2; exit 2", None, (Outcome.NOT_JUDGED, "no such row ")),
         ):
             self.assertEqual(self.told(script, errors), wanted)
-        self.assertEqual((self.top / "tgcould").readlink(), Path("/bin/false"))
 
 
 class Table(OfASmallCrate):

@@ -4,6 +4,8 @@ from ..verdict import Outcome, Verdict, groups_of, try_group
 from .stored import OfASmallCrate, mutant_with
 
 WHOLE = "only=1 holes=0\n"
+# what is said of a function that isn't searched, whose answers fit
+FITTING = "fn small::{0}: no proof: expected answers\n" + WHOLE
 OPEN = "fn small::{0}: no proof: expected answers; `search` did not prove `returns-clause-even`\n"
 OTHER = "fn small::{0}: no proof: expected answers; `search` did not prove `returns-clause-sum`\n"
 BAD_ANSWER = "./proofs/{0}/Answers.antt:7:1: error: `returns-clause-even`: the two types differ\nfn small::{0}: not proved\n"
@@ -30,7 +32,7 @@ class Verdicts(OfASmallCrate):
             (("even",), "", Outcome.NOT_JUDGED),
         ):
             with self.subTest(clauses=clauses, says=says):
-                self.assertEqual(self.verdict(says + WHOLE, clauses=clauses).outcome, outcome)
+                self.assertEqual(self.verdict(FITTING, says + WHOLE, clauses=clauses).outcome, outcome)
 
     def test_what_does_not_compile_is_not_judged(self):
         verdict = self.verdict("src/lib.rt:7:5: error: cannot find value `numbers`\n")
@@ -45,8 +47,9 @@ class Verdicts(OfASmallCrate):
         ):
             with self.subTest(second=second):
                 self.assertEqual(self.verdict(BAD_ANSWER + WHOLE, second + WHOLE).outcome, outcome)
-                functions, texts = self.asked[1]
+                (_, before), (functions, texts) = self.asked
                 self.assertEqual(functions, ["twice_2", "twice_3"])
+                self.assertEqual([text["src/lib.rt"].count("#[tactic(none)]") for text in (before, texts)], [1, 0])
                 self.assertNotIn("even", texts["proofs/twice_2/Answers.antt"] + texts["proofs/twice_3/Answers.antt"])
 
     def test_the_right_function_has_to_be_found_in_a_third_of_the_limit(self):
@@ -59,7 +62,7 @@ class Verdicts(OfASmallCrate):
         slow = f"checked small::a, 1 of 2\nchecked small::{{0}}, 2 of 2\n{OPEN}"
         self.seconds = [1, 2 + LIMIT]
         for second, outcome in ((slow + RIGHT, Outcome.REFUSED), (slow + RIGHT_NOT, Outcome.NOT_JUDGED)):
-            self.assertEqual(self.verdict(slow + WHOLE, second + WHOLE).outcome, outcome)
+            self.assertEqual(self.verdict(FITTING, slow + WHOLE, second + WHOLE).outcome, outcome)
 
     def test_answers_that_are_named_have_to_be_those_that_do_not_fit(self):
         for breaks, outcome in (
@@ -71,9 +74,9 @@ class Verdicts(OfASmallCrate):
             self.assertEqual(verdict.outcome, outcome)
 
     def test_what_does_not_compile_together_is_tried_in_halves(self):
-        self.says = ["error: no\n", "error: no\n", OPEN + WHOLE]
+        self.says = ["error: no\n", "error: no\n", FITTING, OPEN + WHOLE]
         verdicts = try_group(self.tree, self.check, [mutant_with("numbers", name="a"), mutant_with(name="b")])
-        self.assertEqual([functions for functions, _ in self.asked], [["twice_2", "twice_3"], ["twice_2"], ["twice_2"]])
+        self.assertEqual([functions for functions, _ in self.asked], [["twice_2", "twice_3"], *[["twice_2"]] * 3])
         self.assertEqual([verdict.outcome for verdict in verdicts], [Outcome.NOT_JUDGED, Outcome.REFUSED])
 
     def test_groups_are_of_one_crate_and_of_copies(self):
