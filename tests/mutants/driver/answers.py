@@ -1,6 +1,7 @@
 """The form of the files below a crate's proofs/: answers, each after its goal; lemmas; and holes in their place."""
 import re
 from collections.abc import Callable
+from textwrap import dedent, indent
 
 from .source import Function
 
@@ -8,7 +9,7 @@ from .source import Function
 OF_FUNCTION = ANSWERS, INVARIANTS, PROOF = "Answers.antt", "Invariants.antt", "Proof.antt"
 
 # A proof with a hole in its place. The checker then takes the function by its contract.
-HOLE = """use Rattle.{crate}.proofs.{module}.Statement.{{statement}}
+HOLE = """use {module}.Statement.{{statement}}
 
 pub {name}_spec : {{M : Type 1}} → statement M
 {name}_spec = ?
@@ -17,12 +18,12 @@ pub {name}_spec : {{M : Type 1}} → statement M
 
 def hole_for(crate: str, function: Function) -> str:
     """The text of a proof of the function that is a hole."""
-    return HOLE.format(crate=crate, module=module_of(function.path), name=function.name)
+    return HOLE.format(module=module_of(crate, function.path), name=function.name)
 
 
-def module_of(path: str) -> str:
-    """The module below a crate's proofs that has the proof of the function with the path."""
-    return path.replace("::", ".")
+def module_of(crate: str, path: str) -> str:
+    """The module of the proof of a function of a crate."""
+    return f"Rattle.{crate}.proofs.{path.replace('::', '.')}"
 
 
 def clause_of(goal: str) -> str:
@@ -66,8 +67,7 @@ def with_answers(text: str, is_kept: Callable[[str], bool]) -> str:
 
 def for_function(text: str, crate: str, path: str, to: str) -> str:
     """A file of a function's proof as one of a function with another path, whose goals it then names."""
-    own = re.compile(rf"\bRattle\.{crate}\.proofs\.{re.escape(module_of(path))}\b")
-    return own.sub(f"Rattle.{crate}.proofs.{module_of(to)}", text)
+    return re.sub(rf"\b{re.escape(module_of(crate, path))}\b", module_of(crate, to), text)
 
 
 def stated(text: str, unfolded: set[str]) -> str:
@@ -78,7 +78,7 @@ def stated(text: str, unfolded: set[str]) -> str:
     for part in re.split(r"^(?=[^\s)\]}])", text, flags=re.M):
         if part.startswith("module "):
             first, _, inner = part.partition("\n")
-            part = f"{first}\n{indented(stated(re.sub('^  ', '', inner, flags=re.M), unfolded))}"
+            part = f"{first}\n{indent(stated(dedent(inner), unfolded), '  ')}"
         if lemma and re.match(rf"{re.escape(lemma)}[\s{{]|unfolding ", part):
             continue
         kept.append(part)
@@ -89,11 +89,6 @@ def stated(text: str, unfolded: set[str]) -> str:
         elif not part.startswith("--"):
             lemma = None
     return "".join(kept)
-
-
-def indented(text: str) -> str:
-    """The text two columns further right, but for empty lines."""
-    return "".join(f"  {line}" if line.strip() else line for line in text.splitlines(keepends=True))
 
 
 def names_unfolded(text: str) -> set[str]:

@@ -1,4 +1,5 @@
-"""What a test, a stored script, a count of instructions or `tools/check_allocation` has to find, since no contract can refuse it."""
+"""What a test, a stored script, a count of instructions or `tools/check_allocation` has to find, since no contract can
+refuse it."""
 import re
 import shutil
 import subprocess

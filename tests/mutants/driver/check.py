@@ -3,7 +3,7 @@ module knows the words of that output."""
 import re
 import subprocess
 from collections.abc import Iterable
-from dataclasses import dataclass, field
+from dataclasses import dataclass, field, replace
 from pathlib import Path
 
 from repository.kit import home, last_of, library_options
@@ -32,14 +32,17 @@ MISFIT = re.compile(r"^\./proofs/(\S+)/([\w.]+):\d+:\d+: error: (?:`([^`]+)`: |.
 
 @dataclass
 class FunctionReport:
-    """What a check says of a function: the goals that it left open, and the answers that don't fit, by file and goal."""
+    """What a check says of a function: the goals that it left open, and the goals of answers that don't fit."""
 
     path: str
     is_proved: bool
     said: str
     seconds: float = 0
     open_goals: list[str] = field(default_factory=list)
-    misfits: set[tuple[str, str]] = field(default_factory=set)
+    misfits: set[str] = field(default_factory=set)
+    # why nothing is said of it; and the clauses that have to refuse a mutant there, as goals name them
+    error: str = ""
+    clauses: tuple[str, ...] = ()
 
     @property
     def holds(self) -> bool:
@@ -56,9 +59,12 @@ class Report:
     functions: list[FunctionReport]
     seconds: float
 
-    def of(self, name: str) -> FunctionReport | None:
-        """What is said of the function with this name, which may be the end of a path."""
-        return next((function for function in self.functions if is_end_of(name, function.path)), None)
+    def of(self, name: str, clauses: tuple[str, ...] = ()) -> FunctionReport:
+        """What is said of the function with this name, which may be the end of a path, and has these clauses."""
+        found = next((function for function in self.functions if is_end_of(name, function.path)), None)
+        error = f"the check says nothing of {name}: 'check:' has to name a function" if self.is_whole else self.error
+        report = found if found and self.is_whole else FunctionReport(name, False, "", error=error)
+        return replace(report, clauses=clauses)
 
 
 def check(tree: Tree, libraries: Path, crate: str, folder: Path, functions: list[str]) -> Report:
@@ -93,7 +99,7 @@ def function_report(path: str, line: str, said: str, seconds: dict[str, float]) 
     report.open_goals += dict.fromkeys(re.findall(r"`([^`]+)`", unproved))
     for at, file, goal, others in MISFIT.findall(said):
         if at == path.replace("::", "/") and file in (ANSWERS, INVARIANTS):
-            report.misfits |= {(file, name) for name in (goal, *others.split(", ")) if name}
+            report.misfits |= {name for name in (goal, *others.split(", ")) if name}
     return report
 
 

@@ -13,7 +13,7 @@ from repository.tree import Tree, files_below, read_text
 from .answers import OF_FUNCTION
 from .mutant import Mutant
 from .scratch import copy_of
-from .source import functions_as_they_are, without_bodies
+from .source import functions_of, without_bodies
 
 
 class Kept:
@@ -66,7 +66,7 @@ def stated_in(tree: Tree, crate: str) -> str:
     source = tree.source(crate)
     parts = [texts_below(tree.folder(crate) / "specs", ".antt")]
     for file in files_below(source, ".rt"):
-        there = [function for function in functions_as_they_are(source) if function.file == file]
+        there = [function for function in functions_of(source) if function.file == file]
         parts += [file, without_bodies(read_text(source / file), there)]
     return sum_over(parts)
 

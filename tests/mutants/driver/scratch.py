@@ -10,24 +10,23 @@ from repository.tree import Tree, files_below, proof_of, read_text, write_text
 from .answers import ANSWERS, INVARIANTS, OF_FUNCTION, PROOF, answered_clauses, for_function, hole_for
 from .answers import named_ensures, names_unfolded, stated, with_answers
 from .mutant import Mutant
-from .source import UNNAMED, Function, functions_as_they_are, functions_of, is_end_of, with_clauses, without_body
+from .source import UNNAMED, Function, functions_of, is_end_of, with_clauses, without_body
 
 # The attribute of a function whose goals aren't searched for.
-NO_SEARCH = "#[tactic(none)]"
-
-# Answers of a function: the file, and the goal that one shows, or '' for all of the file.
-Answers = frozenset[tuple[str, str]]
+NO_SEARCH = "#[tactic(none)]\n"
 
 
 @dataclass(frozen=True)
 class Trial:
-    """A mutant as it is tried without some of the answers of its function, or the right function in the same way. If it
-    isn't searched, only these answers are checked."""
+    """A mutant as it is tried without some of the answers of its function, alone or beside its right function; or the
+    right function in the same way. If it isn't searched, only its answers are checked."""
 
     mutant: Mutant
-    aside: Answers = frozenset()
+    # the goals of these answers
+    aside: frozenset[str] = frozenset()
     is_right: bool = False
     is_searched: bool = True
+    is_beside: bool = False
 
 
 @dataclass(frozen=True)
@@ -54,7 +53,7 @@ def copy_of(tree: Tree, mutant: Mutant) -> Copy | None:
     """What a copy of the function needs, if the function is all that the mutant changes, and doesn't call itself. A
     function of a trait's `impl` has no copy."""
     files = {edit.file for edit in mutant.edits}
-    there = functions_as_they_are(tree.source(mutant.crate))
+    there = functions_of(tree.source(mutant.crate))
     found = [one for one in there if is_end_of(mutant.function, one.path)]
     if len(found) != 1 or files != {f"src/{found[0].file}"} or found[0].calls_itself:
         return None
@@ -101,19 +100,14 @@ def plant_in_place(tree: Tree, folder: Path, trial: Trial) -> None:
         for file, text in mutant.planted(lambda file: tree.text(mutant.crate, file)).items():
             write_text(folder / file, text)
     for file in files_below(folder / "proofs", ".antt"):
-        at, _, name = file.rpartition("/")
-        if is_end_of(mutant.function, at.replace("/", "::")):
+        if is_end_of(mutant.function, file.rpartition("/")[0].replace("/", "::")):
             keep_answers(folder / "proofs" / file, trial.aside, set())
 
 
-def keep_answers(path: Path, aside: Answers, left_out: set[str]) -> None:
+def keep_answers(path: Path, aside: frozenset[str], left_out: set[str]) -> None:
     """Takes answers away from a file of a function's proof: those set aside, and those to clauses that are left out."""
-    if (path.name, "") in aside:
-        path.unlink()
-    elif path.name == ANSWERS:
-        kept = with_answers(
-            read_text(path), lambda goal: (path.name, goal) not in aside and named_ensures(goal) not in left_out
-        )
+    if path.name != PROOF:
+        kept = with_answers(read_text(path), lambda goal: goal not in aside and named_ensures(goal) not in left_out)
         write_text(path, kept)
 
 
@@ -134,7 +128,8 @@ def with_proof(tree: Tree, folder: Path, trial: Trial, copy: Copy, number: int) 
             write_text(file, for_function(read_text(file), mutant.crate, function.path, path))
             keep_answers(file, trial.aside, left_out)
     renamed = re.sub(rf"\bfn {function.name}\b", f"fn {name}", "\n".join(lines), count=1)
-    return ["", *[NO_SEARCH] * (not trial.is_searched), *renamed.split("\n")], Standing(trial, path, clauses)
+    text = renamed if trial.is_searched else NO_SEARCH + re.sub(r"^ *#\[tactic\(.*\n", "", renamed, flags=re.M)
+    return ["", *text.split("\n")], Standing(trial, path, clauses)
 
 
 def take_by_contract(folder: Path, crate: str, checked: list[str], copies: dict[str, list[list[str]]]) -> None:
@@ -142,26 +137,18 @@ def take_by_contract(folder: Path, crate: str, checked: list[str], copies: dict[
     its proof, since `--only` proves what a function calls, too, and nothing that runs in its body. A function of a
     trait's `impl`, and one that calls itself, keeps both. Puts the copies of a function after it."""
     there = functions_of(folder / "src")
-    taken = {
-        function.path
-        for function in there
-        if not function.calls_itself and not any(is_end_of(name, function.path) for name in checked)
-    }
-    for function in there:
-        if function.path in taken:
+    for function in sorted(there, key=lambda function: function.first, reverse=True):
+        file = folder / "src" / function.file
+        lines = read_text(file).split("\n")
+        lines[function.end : function.end] = [line for copy in copies.get(function.path, ()) for line in copy]
+        if not function.calls_itself and not any(is_end_of(name, function.path) for name in checked):
+            lines[function.first : function.end] = without_body(lines[function.first : function.end])
             proof = proof_of(folder, function.path)
             proof.mkdir(parents=True, exist_ok=True)
-            for file in OF_FUNCTION:
-                (proof / file).unlink(missing_ok=True)
+            for name in OF_FUNCTION:
+                (proof / name).unlink(missing_ok=True)
             write_text(proof / PROOF, hole_for(crate, function))
-    for file in {function.file for function in there}:
-        lines = read_text(folder / "src" / file).split("\n")
-        for function in sorted((one for one in there if one.file == file), key=lambda one: one.first, reverse=True):
-            own = lines[function.first : function.end]
-            own = without_body(own) if function.path in taken else own
-            added = [line for copy in copies.get(function.path, ()) for line in copy]
-            lines[function.first : function.end] = own + added
-        write_text(folder / "src" / file, "\n".join(lines))
+        write_text(file, "\n".join(lines))
 
 
 def take_by_statement(proofs: Path) -> None:

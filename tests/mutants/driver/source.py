@@ -42,13 +42,8 @@ def is_end_of(word: str, path: str) -> bool:
 
 
 @lru_cache(maxsize=None)
-def functions_as_they_are(source: Path) -> tuple[Function, ...]:
-    """The functions in the files below a folder that doesn't change."""
-    return tuple(functions_of(source))
-
-
 def functions_of(source: Path) -> list[Function]:
-    """The functions in the files below a folder."""
+    """The functions in the files below a folder, as they are when this is first asked."""
     texts = {file: read_text(source / file) for file in files_below(source, ".rt")}
     modules = {file: module_of(file) for file in texts}
     types = {name: modules[file] for file, text in texts.items() for name in TYPE.findall(text)}

@@ -29,7 +29,7 @@ class OutputOfACheck(unittest.TestCase):
 
     def test_a_function_is_named_by_the_end_of_its_path_alone(self):
         self.assertEqual(said("open_goals").of("NumberSet::lengthen_9").path, "number_set::NumberSet::lengthen_9")
-        self.assertIsNone(said("open_goals").of("lengthen"))
+        self.assertIn("says nothing of lengthen", said("open_goals").of("lengthen").error)
 
     def test_a_hole_below_does_not_matter(self):
         self.assertTrue(all(said("holes").of(name).holds for name in ("words::unpack_2", "words::with_place_3")))
@@ -37,14 +37,14 @@ class OutputOfACheck(unittest.TestCase):
     def test_an_answer_that_does_not_fit_is_of_its_function(self):
         for name, goal in (("pack_6", "returns-in-To-clause-reads"), ("unpack_10", "returns-clause-packs")):
             function = said("broken_answers").of(f"words::{name}")
-            self.assertEqual((function.holds, function.misfits), (False, {("Answers.antt", goal)}))
+            self.assertEqual((function.holds, function.misfits), (False, {goal}))
 
     def test_an_answer_that_uses_what_is_gone_does_not_fit(self):
         settle = said("gone_answers").of("Store::settle")
-        self.assertEqual(settle.misfits, {("Answers.antt", "invariant_of-self-2"), ("Answers.antt", "returns-clause-swept")})
-        line = "./proofs/twice/Answers.antt:4:1: error: 2 declarations that depend on `p`, .., was not checked: sum, even\n"
+        self.assertEqual(settle.misfits, {"invariant_of-self-2", "returns-clause-swept"})
+        line = "./proofs/twice/Answers.antt:4:1: error: 2 that depend on `p`, .., was not checked: sum, even\n"
         report = report_of([(line, 1.0), ("fn small::twice: not proved\n", 1.0), ("only=1 holes=0\n", 1.0)])
-        self.assertEqual(report.of("twice").misfits, {("Answers.antt", "sum"), ("Answers.antt", "even")})
+        self.assertEqual(report.of("twice").misfits, {"sum", "even"})
 
     def test_what_does_not_compile_is_not_whole(self):
         report = said("compile_error")

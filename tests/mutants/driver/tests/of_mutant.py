@@ -16,7 +16,7 @@ BAD_FILES = {
     f"{WHAT}file: src/words.rt\nnew: right\n": r":5: 'new:' isn't expected here",
     f"{WHAT}file: src/words.rt\nold: left\n": r": it lacks one of ",
     f"what: a user suffers\n{EDIT}": r": it lacks one of ",
-    f"what: a user suffers\ncheck: a, b\nrefused: a: bits\n{EDIT}": r":2: 'check:' is followed by 'FUNCTION', and not by: a, b",
+    f"what: a user suffers\ncheck: a, b\n{EDIT}": r":2: 'check:' is followed by 'FUNCTION', and not by: a, b",
     f"what: a user suffers\ncheck: pack\nrefused: pack\n{EDIT}": r":3: 'refused:' is followed by 'FUNCTION: CLAUSE",
     f"what: a user suffers\nfound: by chance\n{EDIT}": r":2: 'found:' is followed by 'test CRATE NAME', ",
 }
@@ -37,8 +37,8 @@ class FileOfAMutant(InARoom):
 
     def test_the_error_of_an_edit_that_does_not_fit_names_its_line(self):
         mutant = self.read(WHAT + EDIT)
-        for text, times in {"": "stands 0 times", "left, left": "stands 2 times", None: "has no file src/words.rt"}.items():
-            with self.assertRaisesRegex(BadInput, f"/name.edit:5: .*{times}"):
+        for text, said in {"": "stands 0 times", "left, left": "stands 2 times", None: "has no file src/wo"}.items():
+            with self.assertRaisesRegex(BadInput, f"/name.edit:5: .*{said}"):
                 mutant.planted(lambda _, text=text: text)
 
     def test_each_line_is_read(self):
@@ -55,7 +55,7 @@ class FileOfAMutant(InARoom):
         self.assertEqual(edits, [("left\n  right\n", "right", 5), ("a: b", "c", 10)])
 
     def test_a_run_stands_in_the_place_of_clauses(self):
-        for found in ("test tg_graph grows", "held some_script", "row tgstore group/name", "counted takes", "allocation"):
+        for found in ("test tg_graph grows", "held a_script", "row tgstore group/name", "counted takes", "allocation"):
             mutant = self.read(f"what: a user suffers\nfound: {found}\n{EDIT}")
             self.assertEqual((" ".join(mutant.found), mutant.function, mutant.clauses), (found, "", ()))
 
@@ -75,7 +75,7 @@ class MutantsOfATree(InARoom):
         self.assertEqual(found, [("one", "low")])
 
     def test_a_name_is_of_one_mutant_and_a_folder_of_a_crate(self):
-        files = {"crates/high/mutants/one.edit": "has the same name", "crates/none/mutants/two.edit": "has no crate none"}
+        files = {"crates/high/mutants/one.edit": "the same name", "crates/none/mutants/two.edit": "no crate none"}
         for file, said in files.items():
             self.put({"crates.txt": "high: low\nlow:\n", "crates/low/mutants/one.edit": WHAT + EDIT, file: WHAT + EDIT})
             with self.assertRaisesRegex(BadInput, said):

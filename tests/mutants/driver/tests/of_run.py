@@ -13,9 +13,9 @@ from ..check import Report, report_of
 from ..due import Kept, drawn, stated_in, texts_below
 from ..mutant import Public
 from ..rooms import sweep
-from ..source import functions_as_they_are
+from ..source import functions_of
 from ..table import public_clauses, table_of
-from ..trying import Asked, try_mutants
+from ..trying import Run
 from ..verdict import Outcome
 from .stored import ANSWERS, LEMMAS, LIB, InARoom, OfASmallCrate, mutant_with
 
@@ -28,18 +28,21 @@ impl Row {
     {
         self.count
     }
-
     fn hidden(&self) -> u64
         ensures { result ≡ 1 }
     {
         1
     }
 }
-
 pub trait Counts {
     fn count(&self) -> u64
         ensures most { result ≤ 9 };
 }
+"""
+RUN = """
+import sys, tempfile, time
+from driver.rooms import in_a_room
+in_a_room(lambda: (tempfile.mkdtemp(), print("begun", flush=True), time.sleep(60)))
 """
 
 
@@ -56,19 +59,17 @@ class WithoutAToolchain(OfASmallCrate):
 class WhatIsDue(WithoutAToolchain):
     """A mutant of which a file has changed that its verdict rests on."""
 
-    def setUp(self) -> None:
-        super().setUp()
-        self.put({"name.edit": "", "crates.txt": "small: low\nlow:\n", "crates/low/src/lib.rt": LIB})
-        self.mutant = mutant_with(path=self.top / "name.edit")
-        self.kept = Kept(self.top / "kept")
-
     def is_due(self, file: str, text: str) -> bool:
         """Whether the mutant is due, if it was kept before a file had this text."""
-        self.kept.keep(Tree(self.top), self.mutant)
-        self.put({file: text})
-        for one in (functions_as_they_are, stated_in, texts_below):
-            one.cache_clear()
-        return self.kept.due(Tree(self.top), [self.mutant]) == [self.mutant]
+        self.put({"name.edit": "", "crates.txt": "small: low\nlow:\n", "crates/low/src/lib.rt": LIB})
+        mutant, kept = mutant_with(path=self.top / "name.edit"), Kept(self.top / "kept")
+        for changed in ({}, {file: text}):
+            self.put(changed)
+            for one in (functions_of, stated_in, texts_below):
+                one.cache_clear()
+            if not changed:
+                kept.keep(Tree(self.top), mutant)
+        return kept.due(Tree(self.top), [mutant]) == [mutant]
 
     def test_it_is_due_if_what_it_rests_on_changes(self):
         for file, text in {
@@ -83,52 +84,52 @@ class WhatIsDue(WithoutAToolchain):
 
     def test_it_is_not_due_if_another_body_or_proof_changes(self):
         for file, text in {
-            "name.edit": "",
             "crates/small/src/lib.rt": LIB.replace("    number\n}", "    number + 0\n}"),
             "crates/small/proofs/same/Answers.antt": ANSWERS,
             "crates/low/src/lib.rt": LIB.replace("    number + number\n", "    2 * number\n"),
             "crates/low/proofs/Lemmas.antt": LEMMAS,
-            "crates/small/out/rlib": "built",
         }.items():
             self.assertFalse(self.is_due(file, text), file)
 
     def test_without_a_folder_all_are_due(self):
         self.put({"kept": "no folder"})
-        self.kept.keep(self.tree, self.mutant)
-        self.assertEqual(self.kept.due(self.tree, [self.mutant]), [self.mutant])
+        self.assertTrue(self.is_due("more", ""))
 
 
 class WhatIsTried(WithoutAToolchain):
     """All mutants; or those that are due, within a time."""
 
-    def run_of(self, names: list[str], is_limited: bool, seconds: list[float]) -> tuple[bool, str]:
-        """Whether all came out as wanted, and what is reported, if the clock of processor time shows these seconds."""
+    def run_of(self, names: str, is_limited: bool, seconds: list[float]) -> str:
+        """What is reported of mutants that are refused, if the clock of processor time shows these seconds."""
         mutants = [mutant_with(name=name, path=self.top / "crates.txt") for name in names]
 
-        def check(_asked: Asked, _crate: str, _folder: Path, functions: list[str]) -> Report:
-            """What is said of functions that are refused."""
-            lines = [f"fn small::{name}: no proof: `search` did not prove `returns-clause-even`\n" for name in functions]
+        def check(_run: Run, _crate: str, _folder: Path, functions: list[str]) -> Report:
+            """What is said of these functions."""
+            lines = [f"fn small::{name}: `search` did not prove `returns-clause-even`\n" for name in functions]
             return report_of((line, 0.0) for line in (*lines, "only=1 holes=0\n"))
 
         clock = iter(seconds)
-        with redirect_stdout(StringIO()) as told, unittest.mock.patch.object(Asked, "check", check), \
-                unittest.mock.patch.multiple(trying, MOST=1, seconds_of_children=lambda: next(clock, seconds[-1])):
-            is_right = try_mutants(Asked(self.tree, self.top, 1), Kept(self.top / "kept"), mutants, is_limited)
-        return is_right, told.getvalue()
+        patch = unittest.mock.patch
+        with redirect_stdout(StringIO()) as told, patch.object(Run, "check", check), patch.object(trying, "MOST", 1):
+            with patch.object(trying, "seconds_of_children", lambda: next(clock, seconds[-1])):
+                run = Run(self.tree, self.top, 1, is_limited, began=0)
+                self.assertTrue(run.try_mutants(Kept(self.top / "kept"), mutants))
+        return told.getvalue()
 
     def test_what_was_tried_is_not_due(self):
-        self.assertTrue(self.run_of(["a"], True, [0])[0])
-        told = self.run_of(["a"], True, [0])[1]
-        self.assertIn("1 mutants, 0 are due, 0 tried\n", told)
+        self.run_of("a", True, [0])
+        self.assertIn("1 in all, 0 due, 0 tried\n", told := self.run_of("a", True, [0]))
         self.assertIn("\n0 refused, 0 found by tests, 0 not\n", told)
 
     def test_the_time_ends_a_limited_run(self):
-        # (a group reads the clock four times: the first takes 400 seconds, and 600 are left no more for another)
-        told = self.run_of(["a", "b", "c"], True, [0, 0, 0, 400])[1]
-        self.assertIn("3 mutants, 3 are due, 1 tried: a sample drawn by ", told)
+        # (the first group takes 400 seconds of 600: too few are left for another one)
+        self.assertIn("3 in all, 3 due, 1 tried; a sample drawn by ", self.run_of("abc", True, [0, 400]))
+
+    def test_what_is_due_is_tried_within_the_time(self):
+        self.assertIn("3 in all, 3 due, 3 tried\n", self.run_of("abc", True, [0, 100]))
 
     def test_all_are_tried_without_a_limit(self):
-        self.assertIn("\n3 refused, ", self.run_of(["a", "b", "c"], False, [0, 0, 0, 4000])[1])
+        self.assertIn("\n3 refused, ", self.run_of("abc", False, [0, 4000]))
 
     def test_a_commit_draws_the_order(self):
         mutants = [mutant_with(name=name) for name in "abcdefgh"]
@@ -171,15 +172,7 @@ class Table(OfASmallCrate):
         below = mutant_with(name="below", function="same", clauses=("ensures",), public=public)
         rows = [row for row in table_of(self.tree, [own, below]).split("\n") if row.startswith("| ")]
         wanted = ["| `twice` | `sum` | below, own |", "| `twice` | `even` | below (part) |"]
-        head, kinds = "| Function | Clause | Mutants |", "| Kind | Crate | Mutant |"
-        self.assertEqual(rows, [head, *wanted, kinds, "| off by one | `small` | own |"])
-
-
-RUN = """
-import sys, tempfile, time
-from driver.rooms import in_a_room
-in_a_room(lambda: (tempfile.mkdtemp(), print("begun", flush=True), time.sleep(60)))
-"""
+        self.assertEqual([row for row in rows if "`" in row], [*wanted, "| off by one | `small` | own |"])
 
 
 class WhatARunLeaves(InARoom):

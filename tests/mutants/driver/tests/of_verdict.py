@@ -8,7 +8,7 @@ WHOLE = "only=1 holes=0\n"
 FITTING = "fn small::{0}: no proof: expected answers\n" + WHOLE
 OPEN = "fn small::{0}: no proof: expected answers; `search` did not prove `returns-clause-even`\n"
 OTHER = "fn small::{0}: no proof: expected answers; `search` did not prove `returns-clause-sum`\n"
-BAD_ANSWER = "./proofs/{0}/Answers.antt:7:1: error: `returns-clause-even`: the two types differ\nfn small::{0}: not proved\n"
+BAD_ANSWER = "./proofs/{0}/Answers.antt:7:1: error: `returns-clause-even`: types differ\nfn small::{0}: not proved\n"
 RIGHT, RIGHT_NOT = "fn small::{1}: proved\n", OPEN.replace("{0}", "{1}")
 
 
@@ -53,7 +53,7 @@ class Verdicts(OfASmallCrate):
                 self.assertNotIn("even", texts["proofs/twice_2/Answers.antt"] + texts["proofs/twice_3/Answers.antt"])
 
     def test_the_right_function_has_to_be_found_in_a_third_of_the_limit(self):
-        slow = f"checked small::a, 1 of 2\nchecked small::{{0}}, 2 of 3\nchecked small::{{1}}, 3 of 3\n{OPEN}{RIGHT}{WHOLE}"
+        slow = f"checked s::a, 1 of 2\nchecked s::{{0}}, 2 of 3\nchecked s::{{1}}, 3 of 3\n{OPEN}{RIGHT}{WHOLE}"
         for seconds, outcome in ((LIMIT / 3, Outcome.REFUSED), (LIMIT / 3 + 1, Outcome.NOT_JUDGED)):
             self.seconds = [1, 2, 2 + seconds]
             self.assertEqual(self.verdict(BAD_ANSWER + WHOLE, slow).outcome, outcome)
@@ -82,6 +82,7 @@ class Verdicts(OfASmallCrate):
     def test_groups_are_of_one_crate_and_of_copies(self):
         self.put({"crates.txt": "small:\nother:\n", "crates/other/src/lib.rt": self.tree.text("small", "src/lib.rt")})
         alone = mutant_with(name="alone", function="none")
-        of = [mutant_with(name="a"), alone, mutant_with(name="b", crate="other"), mutant_with(name="c"), mutant_with(name="d")]
+        others = [mutant_with(name=name) for name in "acd"]
+        of = [others[0], alone, mutant_with(name="b", crate="other"), *others[1:]]
         names = [[mutant.name for mutant in group] for group in groups_of(self.tree, of, 2)]
         self.assertEqual(names, [["a", "c"], ["alone"], ["b"], ["d"]])
