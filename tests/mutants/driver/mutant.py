@@ -3,6 +3,7 @@ import re
 from collections.abc import Callable
 from dataclasses import dataclass
 from pathlib import Path
+from typing import NamedTuple
 
 from repository.tree import BadInput, Tree, read_text
 
@@ -122,9 +123,8 @@ def names_in(text: str) -> tuple[str, ...]:
     return tuple(name.strip() for name in text.split(",") if name.strip())
 
 
-@dataclass(frozen=True)
-class Form:
-    """What follows a key: the field of a mutant that it is for, its form and how that is told, and what reads it."""
+class Form(NamedTuple):
+    """What follows a key: the field of a mutant that it is for, its form, how that is told, and what reads it."""
 
     field: str
     form: str
@@ -132,25 +132,17 @@ class Form:
     read: Callable[[re.Match[str]], object] = lambda parts: parts[0]
 
 
-FOUND = r"test \w+ \w+|held \S+|row \w+ \S+|counted (?:growth|takes|cells)(?: \w+)?|allocation"
+PUBLIC = "'FUNCTION of CRATE: CLAUSE, CLAUSE.FIELD'"
+FOUND = "'test CRATE NAME', 'held NAME', 'row PROGRAM GROUP/NAME', 'counted SCRIPT NAME' or 'allocation'"
+FOUND_BY = r"test \w+ \w+|held \S+|row \w+ \S+|counted (?:growth|takes|cells)(?: \w+)?|allocation"
 FORMS = {
     "what": Form("what", r".+", "a text"),
     "kind": Form("kind", r".+", "a text"),
     "check": Form("function", r"[\w:]+", "'FUNCTION'"),
     "refused": Form("clauses", r"[\w:]+: (\S.*)", "'FUNCTION: CLAUSE, CLAUSE'", lambda parts: names_in(parts[1])),
-    "public": Form(
-        "public",
-        r"(\S+) of (\w+): (.+)",
-        "'FUNCTION of CRATE: CLAUSE, CLAUSE.FIELD'",
-        lambda parts: Public(parts[1], parts[2], names_in(parts[3])),
-    ),
+    "public": Form("public", r"(\S+) of (\w+): (.+)", PUBLIC, lambda of: Public(of[1], of[2], names_in(of[3]))),
     "breaks": Form("breaks", r"[^:;]+", "'GOAL, GOAL'", lambda parts: names_in(parts[0])),
-    "found": Form(
-        "found",
-        FOUND,
-        "'test CRATE NAME', 'held NAME', 'row PROGRAM GROUP/NAME', 'counted SCRIPT NAME' or 'allocation'",
-        lambda parts: tuple(parts[0].split()),
-    ),
+    "found": Form("found", FOUND_BY, FOUND, lambda parts: tuple(parts[0].split())),
     "wanted": Form("wanted", r".+", "an outcome"),
 }
 

@@ -104,33 +104,26 @@ def head_in(lines: list[str]) -> tuple[int, str]:
     return first, re.match(" *", lines[first])[0]
 
 
-def contract_of(lines: list[str]) -> tuple[int, list[tuple[str, list[str]]], int]:
-    """The line at which the contract of a function begins, its parts, and the line after it. A part has its lines, and
-    the name of its clause if that is an `ensures`."""
+def with_clauses(lines: list[str], wanted: tuple[str, ...], answered: set[str]) -> tuple[list[str], set[str], str]:
+    """The lines of a function with those of its `ensures` that are wanted, the names of the others, and the clause that
+    is left if it is the only one. The goals of an only clause don't name it. So that its answers still do, another one
+    is kept with it."""
     first, indent = head_in(lines)
     end = next((number for number in range(first, len(lines)) if lines[number] == indent + "{"), first + 1)
-    parts: list[tuple[str, list[str]]] = [("", [])]
+    # the parts of the contract, each with the name of its clause if it is an `ensures`
+    parts: list[tuple[str, list[str]]] = [("", lines[: first + 1])]
     for line in lines[first + 1 : end]:
         begins = CLAUSE.match(line)
         if begins and begins[1] == indent + "    ":
             parts.append(((begins[3] or UNNAMED) if begins[2] == "ensures" else "", []))
         parts[-1][1].append(line)
-    return first + 1, parts, end
-
-
-def with_clauses(lines: list[str], wanted: tuple[str, ...], answered: set[str]) -> tuple[list[str], set[str], str]:
-    """The lines of a function with those of its `ensures` that are wanted, the names of the others, and the clause that
-    is left if it is the only one. The goals of an only clause don't name it. So that its answers still do, another one
-    is kept with it."""
-    first, parts, end = contract_of(lines)
     clauses = [clause for clause, _ in parts if clause]
     there = [clause for clause in clauses if clause in wanted]
     others = [clause for clause in clauses if clause not in wanted]
     if len(there) == 1 and there[0] in answered and others:
         there.append(next((clause for clause in reversed(others) if clause not in answered), others[-1]))
     kept = [line for clause, part in parts if not clause or clause in there for line in part]
-    left_out = {clause for clause in clauses if clause not in there}
-    return lines[:first] + kept + lines[end:], left_out, there[0] if len(there) == 1 else ""
+    return kept + lines[end:], set(clauses) - set(there), there[0] if len(there) == 1 else ""
 
 
 def without_body(lines: list[str]) -> list[str]:

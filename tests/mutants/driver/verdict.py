@@ -74,9 +74,10 @@ def try_group(tree: Tree, check: Check, mutants: list[Mutant]) -> list[Verdict]:
         for trial in trials:
             report, right = said[trial], said.get(rights.get(key_of(trial)))
             aside = trial.aside | report.misfits
-            lacks_right = not right and not report.holds and (aside or report.seconds > LIMIT)
-            if rounds_left and not report.error and (aside != trial.aside or lacks_right or not trial.is_searched):
-                again.append(replace(trial, aside=aside, is_searched=True, is_beside=bool(lacks_right)))
+            is_beside = bool(aside or report.seconds > LIMIT) and not trial.mutant.breaks
+            is_settled = trial.is_searched and aside == trial.aside and (right or report.holds or not is_beside)
+            if rounds_left and not report.error and not is_settled:
+                again.append(replace(trial, aside=aside, is_searched=True, is_beside=is_beside))
             else:
                 verdicts.append(Verdict(trial.mutant, *judged(trial, report, right)))
         trials = again

@@ -70,8 +70,8 @@ class Verdicts(OfASmallCrate):
             (("returns-clause-sum",), Outcome.NOT_JUDGED),
             (("returns-clause-even", "returns-clause-sum"), Outcome.NOT_JUDGED),
         ):
-            verdict = self.verdict(BAD_ANSWER + WHOLE, OPEN + RIGHT_NOT + WHOLE, breaks=breaks)
-            self.assertEqual(verdict.outcome, outcome)
+            self.assertEqual(self.verdict(BAD_ANSWER + WHOLE, OPEN + WHOLE, breaks=breaks).outcome, outcome)
+            self.assertEqual(self.asked[1][0], ["twice_2"])
 
     def test_what_does_not_compile_together_is_tried_in_halves(self):
         self.says = ["error: no\n", "error: no\n", FITTING, OPEN + WHOLE]
