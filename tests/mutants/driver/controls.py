@@ -1,18 +1,7 @@
-"""Whether the driver itself is right: its tests hold, and the mutants of controls/ come out as it is known."""
-import unittest
-
+"""Whether the mutants of controls/ come out as it is known."""
 from .mutant import controls
 from .trying import Run
 from .verdict import Outcome, try_group
-
-
-def are_tests_right() -> bool:
-    """Whether each test holds. Reports those that fail."""
-    result = unittest.TestResult()
-    unittest.defaultTestLoader.loadTestsFromName("driver.tests").run(result)
-    for test, trace in (*result.failures, *result.errors):
-        print(f"mutants: the driver's own test {test.id()} fails: {trace.strip().splitlines()[-1]}")
-    return result.wasSuccessful()
 
 
 def are_controls_right(run: Run) -> bool:

@@ -11,7 +11,7 @@ from repository.tree import Tree
 from .answers import clause_of
 from .check import LIMIT, FunctionReport, Report
 from .mutant import Mutant
-from .scratch import Standing, Trial, copy_of, has_answers, plant
+from .scratch import Trial, copy_of, has_answers, plant
 
 # How often a mutant is checked, each time without the answers that didn't fit the last time.
 ROUNDS = 4

@@ -1,5 +1,5 @@
-"""The tests of the driver, which each run tries. They take a second, and ask nothing of the toolchain: what its checker
-wrote is stored in controls/said. `PYTHONPATH=../../tools python3 -B -m unittest driver.tests` tries them alone."""
+"""The tests of the driver. They take a second, and ask nothing of the toolchain: what its checker wrote is stored in
+controls/said. `PYTHONPATH=../../tools python3 -B -m unittest driver.tests` in tests/mutants runs them."""
 import unittest
 
 from . import of_check, of_mutant, of_run, of_scratch, of_verdict
