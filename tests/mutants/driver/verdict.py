@@ -13,6 +13,9 @@ from .check import LIMIT, FunctionReport, Report
 from .mutant import Mutant
 from .scratch import Trial, copy_of, has_answers, plant
 
+# What a mutant may name in the place of the answers that don't fit it: any of them.
+ANY = ("any",)
+
 # How often a mutant is checked, each time without the answers that didn't fit the last time.
 ROUNDS = 4
 
@@ -122,7 +125,7 @@ def judged(trial: Trial, report: FunctionReport, right: FunctionReport | None) -
         return (Outcome.ELSEWHERE, said) if refusing else (Outcome.NOT_JUDGED, f"no goal is open: {report.said[:200]}")
     if not trial.aside and report.seconds <= LIMIT:
         return Outcome.REFUSED, said
-    if trial.mutant.breaks and trial.aside != set(trial.mutant.breaks):
+    if trial.mutant.breaks not in ((), ANY) and trial.aside != set(trial.mutant.breaks):
         return Outcome.NOT_JUDGED, f"other answers don't fit: its line has to be 'breaks: {goals}'"
     if trial.mutant.breaks or right and right.holds and right.seconds <= LIMIT / 3:
         return Outcome.REFUSED, f"{said}, without {goals or 'a limit'}"

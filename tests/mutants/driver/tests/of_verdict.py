@@ -69,6 +69,7 @@ class Verdicts(OfASmallCrate):
             (("returns-clause-even",), Outcome.REFUSED),
             (("returns-clause-sum",), Outcome.NOT_JUDGED),
             (("returns-clause-even", "returns-clause-sum"), Outcome.NOT_JUDGED),
+            (("any",), Outcome.REFUSED),
         ):
             self.assertEqual(self.verdict(BAD_ANSWER + WHOLE, OPEN + WHOLE, breaks=breaks).outcome, outcome)
             self.assertEqual(self.asked[1][0], ["twice_2"])
