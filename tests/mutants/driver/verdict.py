@@ -125,7 +125,7 @@ def judged(trial: Trial, report: FunctionReport, right: FunctionReport | None) -
         return (Outcome.ELSEWHERE, said) if refusing else (Outcome.NOT_JUDGED, f"no goal is open: {report.said[:200]}")
     if not trial.aside and report.seconds <= LIMIT:
         return Outcome.REFUSED, said
-    if trial.mutant.breaks not in ((), ANY) and trial.aside != set(trial.mutant.breaks):
+    if trial.mutant.breaks not in ((), ANY) and not trial.aside <= set(trial.mutant.breaks):
         return Outcome.NOT_JUDGED, f"other answers don't fit: its line has to be 'breaks: {goals}'"
     if trial.mutant.breaks or right and right.holds and right.seconds <= LIMIT / 3:
         return Outcome.REFUSED, f"{said}, without {goals or 'a limit'}"

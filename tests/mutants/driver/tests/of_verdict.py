@@ -64,11 +64,11 @@ class Verdicts(OfASmallCrate):
         for second, outcome in ((slow + RIGHT, Outcome.REFUSED), (slow + RIGHT_NOT, Outcome.NOT_JUDGED)):
             self.assertEqual(self.verdict(FITTING, slow + WHOLE, second + WHOLE).outcome, outcome)
 
-    def test_answers_that_are_named_have_to_be_those_that_do_not_fit(self):
+    def test_no_other_answers_than_those_named_may_not_fit(self):
         for breaks, outcome in (
             (("returns-clause-even",), Outcome.REFUSED),
             (("returns-clause-sum",), Outcome.NOT_JUDGED),
-            (("returns-clause-even", "returns-clause-sum"), Outcome.NOT_JUDGED),
+            (("returns-clause-even", "returns-clause-sum"), Outcome.REFUSED),
             (("any",), Outcome.REFUSED),
         ):
             self.assertEqual(self.verdict(BAD_ANSWER + WHOLE, OPEN + WHOLE, breaks=breaks).outcome, outcome)
