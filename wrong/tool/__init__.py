@@ -1,1 +1,0 @@
-"""What `wrong/run` is made of. Its head is the manual; docs/GATE.md says which module has what."""
