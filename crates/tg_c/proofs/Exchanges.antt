@@ -10,7 +10,7 @@ use lib.Dec.{T}
 use seplogic.Ra.Ura.{Ura}
 use mir.Syntax.{Fn, Sym, Ty, ty_ptr, ty_struct, tcons, tnil, dnil, impl, local, value_local, place, field, copy, rv_opd, aggregate, seq, assign, return}
 use mir.Val.{Val, vstruct, of_list, has_ty, WT}
-use Rattle.std.specs.Prelude.{Bool, true, false, Option, Some, None, MatchOption}
+use Rattle.std.specs.Prelude.{Bool, true, false, Option, Some, None}
 use Rattle.std.proofs.Common.{lit<}
 use base.Logic.{SProp, ent, sep, emp, id⊢}
 use base.Fml.{Fml, ftrue, fsep}
