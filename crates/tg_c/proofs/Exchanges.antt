@@ -10,7 +10,7 @@ use lib.Dec.{T}
 use seplogic.Ra.Ura.{Ura}
 use mir.Syntax.{Fn, Sym, Ty, ty_ptr, ty_struct, tcons, tnil, dnil, impl, local, value_local, place, field, copy, rv_opd, aggregate, seq, assign, return}
 use mir.Val.{Val, vstruct, of_list, has_ty, WT}
-use Rattle.std.specs.Prelude.{Bool, true, false, Option, Some, None, MatchOption}
+use Rattle.std.specs.Prelude.{Bool, true, false, Option, Some, None}
 use Rattle.std.proofs.Common.{lit<}
 use base.Logic.{SProp, ent, sep, emp, id⊢}
 use base.Fml.{Fml, ftrue, fsep}
@@ -105,13 +105,14 @@ swaps ours theirs = record {
   givens = 0;
   params = 2;
   locals = local (tuple_as ours theirs) value_local ∷ local (held_as ours) value_local ∷ local (held_as theirs) value_local
-      ∷ local ty_ptr value_local ∷ local (α heap) value_local ∷ local ty_ptr value_local ∷ local (α heap) value_local
-      ∷ local ty_ptr value_local ∷ local (held_as ours) value_local ∷ local ty_ptr value_local ∷ local (held_as theirs) value_local ∷ [];
+      ∷ local ty_ptr value_local ∷ local (α heap) value_local ∷ local (held_as theirs) value_local
+      ∷ local ty_ptr value_local ∷ local (α heap) value_local ∷ local (held_as ours) value_local
+      ∷ local ty_ptr value_local ∷ local ty_ptr value_local ∷ [];
   body = seq (assign (place 3 []) (rv_opd (copy (place 1 (field 0 ∷ []))))) (seq (assign (place 4 []) (rv_opd (copy (place 1 (field 1 ∷ [])))))
-      (seq (assign (place 5 []) (rv_opd (copy (place 2 (field 0 ∷ []))))) (seq (assign (place 6 []) (rv_opd (copy (place 2 (field 1 ∷ [])))))
-      (seq (assign (place 7 []) (rv_opd (copy (place 5 [])))) (seq (assign (place 8 []) (aggregate (copy (place 7 []) ∷ copy (place 6 []) ∷ [])))
-      (seq (assign (place 9 []) (rv_opd (copy (place 3 [])))) (seq (assign (place 10 []) (aggregate (copy (place 9 []) ∷ copy (place 4 []) ∷ [])))
-      (seq (assign (place 0 []) (aggregate (copy (place 8 []) ∷ copy (place 10 []) ∷ []))) return))))))));
+      (seq (assign (place 9 []) (rv_opd (copy (place 3 [])))) (seq (assign (place 5 []) (aggregate (copy (place 9 []) ∷ copy (place 4 []) ∷ [])))
+      (seq (assign (place 6 []) (rv_opd (copy (place 2 (field 0 ∷ []))))) (seq (assign (place 7 []) (rv_opd (copy (place 2 (field 1 ∷ [])))))
+      (seq (assign (place 10 []) (rv_opd (copy (place 6 [])))) (seq (assign (place 8 []) (aggregate (copy (place 10 []) ∷ copy (place 7 []) ∷ [])))
+      (seq (assign (place 0 []) (aggregate (copy (place 8 []) ∷ copy (place 5 []) ∷ []))) return))))))));
 }
 
 module _ (ours theirs : Sym) {M : Type 1} {𝓤 : Ura M} (𝓛 : Logic 𝓤) (C : Calls 𝓤 𝓛.H) (Λ : Loops 𝓤 𝓛.H) (Post : Val → SProp 𝓤) where
@@ -131,9 +132,9 @@ module _ (ours theirs : Sym) {M : Type 1} {𝓤 : Ura M} (𝓛 : Logic 𝓤) (C 
       (subst (λ (ts : List Val). ent 𝓤 (⋆ 𝓛 Γ) (WpFn 𝓤 H C Λ code' (words p hv ∷ (ts ++ [])) Post)) (sym xs)
       (qed 𝓛 Γ ∵ enter ! C Λ code' (words p hv ∷ words q kv ∷ []) _ $ alloc_all ! (λ ls. pass_all ! refl (words_typed ours p hv fa, (words_typed theirs q kv fb, tt)) $
       sets ! (of_opd ! (get_in ! (fld ! refl (stop !)) (sub ! 0 refl (whole !)))) refl (ptr_typed p) $ sets ! (of_opd ! (get_in ! (fld ! refl (stop !)) (sub ! 1 refl (whole !)))) refl fa $
+      sets ! (of_opd ! (get ! refl)) refl (ptr_typed p) $ sets ! (agg ! (and_then ! (get ! refl) (and_then ! (get ! refl) (no_more !)))) refl mine $
       sets ! (of_opd ! (get_in ! (fld ! refl (stop !)) (sub ! 0 refl (whole !)))) refl (ptr_typed q) $ sets ! (of_opd ! (get_in ! (fld ! refl (stop !)) (sub ! 1 refl (whole !)))) refl fb $
       sets ! (of_opd ! (get ! refl)) refl (ptr_typed q) $ sets ! (agg ! (and_then ! (get ! refl) (and_then ! (get ! refl) (no_more !)))) refl yours $
-      sets ! (of_opd ! (get ! refl)) refl (ptr_typed p) $ sets ! (agg ! (and_then ! (get ! refl) (and_then ! (get ! refl) (no_more !)))) refl mine $
       sets ! (agg ! (and_then ! (get ! refl) (and_then ! (get ! refl) (no_more !)))) refl (both _ _ yours.0 (and_tt _ mine.0), (yours.1, (mine.1, tt))) $ returns ! (look_at ! 0 refl) $ free_all ! refl $
       -- [the heap; what is beside; the other heap; what is beside]
       slot_in ! q b G kv $ move ! (1 ∷ 2 ∷ []) $ slot_in ! p a F hv $ move ! (1 ∷ 0 ∷ []) $ join ! $ by ! (ends (words q kv) (words p hv))))))))

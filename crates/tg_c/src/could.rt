@@ -11,7 +11,7 @@ use crate::outlook::Outlook;
 use crate::place::StorePlace;
 use crate::records::{RecordOut, numbers_of_turn, turn_out};
 use crate::refusal::CallRefusal;
-use crate::tell::{DONE, put_numbers};
+use crate::tell::{DONE, put_numbers, tell_number};
 use std::alloc::Global;
 
 /// Answers whether x could ever come to hold a right over y, by any turns of the workers but the silent ones, as if
@@ -44,12 +44,7 @@ pub extern "C" fn tg_could(
 pub extern "C" fn tg_answer_kind(alloc: Global, answer: &mut AnswerPlace, kind: &mut u64) -> u32
     ensures { Consults (λ told. Ok (kind_in told)) answer.old answer.new (TellsNumber result kind.old kind.new) }
 {
-    let Some(opened) = answer.take(alloc) else {
-        return CallRefusal::NotOpen.status();
-    };
-    *kind = opened.kind();
-    answer.put(opened);
-    DONE
+    tell_number(answer.with_open(alloc, |opened| opened.kind()), kind)
 }
 
 /// How many names an answer wants more than are left goes to `names`: 0 where it wants none.
@@ -57,12 +52,7 @@ pub extern "C" fn tg_answer_kind(alloc: Global, answer: &mut AnswerPlace, kind: 
 pub extern "C" fn tg_answer_names(alloc: Global, answer: &mut AnswerPlace, names: &mut u64) -> u32
     ensures { Consults (λ told. Ok (names_in told)) answer.old answer.new (TellsNumber result names.old names.new) }
 {
-    let Some(opened) = answer.take(alloc) else {
-        return CallRefusal::NotOpen.status();
-    };
-    *names = opened.names();
-    answer.put(opened);
-    DONE
+    tell_number(answer.with_open(alloc, |opened| opened.names()), names)
 }
 
 /// How many turns an answer has goes to `count`.
@@ -70,12 +60,10 @@ pub extern "C" fn tg_answer_names(alloc: Global, answer: &mut AnswerPlace, names
 pub extern "C" fn tg_answer_turns(alloc: Global, answer: &mut AnswerPlace, count: &mut u64) -> u32
     ensures { Consults (λ told. Ok (length (turns_in told))) answer.old answer.new (TellsNumber result count.old count.new) }
 {
-    let Some(opened) = answer.take(alloc) else {
-        return CallRefusal::NotOpen.status();
-    };
-    *count = opened.turns().len() as u64;
-    answer.put(opened);
-    DONE
+    tell_number(
+        answer.with_open(alloc, |opened| opened.turns().len() as u64),
+        count,
+    )
 }
 
 /// Reads the turn at this place of an answer, counted from 0: what it says goes to `out`, which has no reply, and of

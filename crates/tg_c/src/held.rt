@@ -5,10 +5,12 @@
 //! These two structs do one thing. They exchange what they hold for what they are given. All other code is here, once
 //! for all kinds.
 ghost use Rattle.std.specs.Prelude.{◌≡◌, Bool, true, false, Some};
+ghost use Rattle.std.specs.Fn.{FnOnceReturnsAtMut};
 ghost use Rattle.std.specs.Option.{is_some};
-ghost use Rattle.tg_c.specs.Inner.Places.{Holds, IsBoxOf, IsPut, IsTaken};
+ghost use Rattle.tg_c.specs.Inner.Places.{Holds, IsAskedOpen, IsBoxOf, IsPut, IsTaken};
 
 use crate::handle::Handle;
+use crate::refusal::CallRefusal;
 use core::mem::replace_with;
 use std::alloc::Global;
 
@@ -78,6 +80,24 @@ pub trait Holder<T: Drop + Send> {
             |place, alloc| place.exchange(Held::none(alloc)),
         )
         .into_box()
+    }
+
+    /// Calls a function on what the place holds, and returns its answer. An open place stays open. A closed place is
+    /// refused with `NotOpen`, and stays closed. Takes no memory.
+    final fn with_open<R, F: FnOnce(&mut T) -> R>(
+        &mut self,
+        alloc: Global,
+        ask: F,
+    ) -> Result<R, CallRefusal>
+        requires { F.IsAlwaysCallable ask }
+        ensures { IsAskedOpen (is_open self.old) (is_open self.new) (λ answer. FnOnceReturnsAtMut F.FnOnce ask (opened self.old) answer (opened self.new)) result }
+    {
+        let Some(mut held) = self.take(alloc) else {
+            return Err(CallRefusal::NotOpen);
+        };
+        let answer = ask(&mut held);
+        self.put(held);
+        Ok(answer)
     }
 
     /// Puts a box in the place, which is open then. A box that was there before is dropped. Takes no memory.

@@ -1,6 +1,8 @@
 -- What is taken out of a place in the memory of C, and put there.
-use Rattle.std.specs.Prelude.{◌≡◌, Bool, true, false, Option, None, Some, MatchOption}
+use Rattle.std.specs.Prelude.{◌≡◌, Bool, true, false, Option, None, Some, MatchOption, Result, MatchResult}
 use Rattle.std_alloc.specs.declared.boxed.Box.{Box}
+use Rattle.tg_c.specs.declared.refusal.CallRefusal.{CallRefusal}
+use Rattle.tg_c.specs.declared.refusal.CallRefusal.TheVariants.{NotOpen}
 
 -- the value of this box, or none of either
 abbrev pub IsBoxOf : {S A : Type 0} → Option S → Option (Box S A) → Type 0
@@ -19,3 +21,8 @@ pub record IsTaken {S A : Type 0} (was_open : Bool) (held : S) (is_open : Bool) 
 pub record IsPut {S : Type 0} (given : S) (is_open : Bool) (held : S) : Type 0 where
   pub «open» : is_open ≡ true
   pub opened : held ≡ given
+
+-- What an open place holds was asked, and this holds of the answer; a closed place was refused as that. The place stays open or closed.
+abbrev pub IsAskedOpen : {R : Type 0} → Bool → Bool → (R → Type 0) → Result R CallRefusal → Type 0
+IsAskedOpen was_open is_open holds result =
+    MatchResult result (λ answer. (was_open ≡ true) × (is_open ≡ true) × holds answer) (λ why. (was_open ≡ false) × (is_open ≡ false) × (why ≡ NotOpen))

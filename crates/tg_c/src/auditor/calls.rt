@@ -63,24 +63,14 @@ fn feed_from(alloc: Global, audit: &mut Audit, place: &mut StorePlace) -> Result
 pub fn at(alloc: Global, auditor: &mut AuditorPlace) -> Result<u64, CallRefusal>
     ensures { AsksPlace auditor.old auditor.new (λ told. result ≡ told) }
 {
-    let Some(audit) = auditor.take(alloc) else {
-        return Err(CallRefusal::NotOpen);
-    };
-    let at = audit.auditor.at();
-    auditor.put(audit);
-    Ok(at)
+    auditor.with_open(alloc, |audit| audit.auditor.at())
 }
 
 /// Forgets what no worker reaches any more of the graph that the auditor has come to.
 pub fn sweep(alloc: Global, auditor: &mut AuditorPlace) -> Result<(), CallRefusal>
     ensures { Sweeps auditor.old auditor.new (λ told. result ≡ told) }
 {
-    let Some(mut audit) = auditor.take(alloc) else {
-        return Err(CallRefusal::NotOpen);
-    };
-    let swept = audit.sweep();
-    auditor.put(audit);
-    swept
+    auditor.with_open(alloc, |audit| audit.sweep())?
 }
 
 /// Gives up the store's entries before a place, where the auditor has come as far.

@@ -13,6 +13,7 @@ use std::marker::Model;
 
 /// The box of an open auditor as its pointer, or none. 8 bytes.
 #[repr(C)]
+#[derive(Drop)]
 pub struct AuditorHandle {
     at: *mut u8,
     alloc: Global,
@@ -29,25 +30,24 @@ impl AuditorHandle {
     fn exchange(self, with: Handle<Audit, Global>) -> (AuditorHandle, Handle<Audit, Global>)
         ensures { Holds self.is_open self.opened result.1.opened × Holds result.0.is_open result.0.opened with.opened }
     {
-        let AuditorHandle {
-            at: was_at,
-            alloc: was_in,
-        } = self;
+        let AuditorHandle { at, alloc } = self;
+        let had = Handle {
+            at: at as *mut Audit,
+            alloc,
+        };
         let Handle { at, alloc } = with;
-        let at = at as *mut u8;
-        (
-            AuditorHandle { at, alloc },
-            Handle {
-                at: was_at as *mut Audit,
-                alloc: was_in,
-            },
-        )
+        let handle = AuditorHandle {
+            at: at as *mut u8,
+            alloc,
+        };
+        (handle, had)
     }
 }
 
 /// An auditor that C holds, in 16 bytes. All bytes zero is a closed one. It may be moved, and of two copies only one
 /// may be used: nothing checks that.
 #[repr(C)]
+#[derive(Drop)]
 pub struct AuditorPlace {
     /// Whether there is an auditor.
     pub is_open: bool,
@@ -64,19 +64,15 @@ impl Holder<Audit> for AuditorPlace {
     fn exchange(self, with: Held<Audit>) -> (AuditorPlace, Held<Audit>)
         ensures { Holds self.is_open self.handle.opened result.1.handle.opened × Holds result.0.is_open result.0.handle.opened with.handle.opened }
     {
-        let AuditorPlace {
-            is_open: was_open,
+        let (handle, had) = self.handle.exchange(with.handle);
+        let place = AuditorPlace {
+            is_open: with.is_open,
             handle,
-        } = self;
-        let Held {
-            is_open,
-            handle: with,
-        } = with;
-        let (handle, had) = handle.exchange(with);
+        };
         (
-            AuditorPlace { is_open, handle },
+            place,
             Held {
-                is_open: was_open,
+                is_open: self.is_open,
                 handle: had,
             },
         )

@@ -54,12 +54,7 @@ pub fn ask_view(
     let Some(right) = right_of(right) else {
         return Err(CallRefusal::BadRights);
     };
-    let Some(sight) = view.take(alloc) else {
-        return Err(CallRefusal::NotOpen);
-    };
-    let kind = sight.could(x, right, y).kind();
-    view.put(sight);
-    Ok(kind)
+    view.with_open(alloc, |sight| sight.could(x, right, y).kind())
 }
 
 impl LawStore {

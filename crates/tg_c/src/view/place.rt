@@ -13,6 +13,7 @@ use std::marker::Model;
 
 /// The box of an open view as its pointer, or none. 8 bytes.
 #[repr(C)]
+#[derive(Drop)]
 pub struct ViewHandle {
     at: *mut u8,
     alloc: Global,
@@ -29,25 +30,24 @@ impl ViewHandle {
     fn exchange(self, with: Handle<Sight, Global>) -> (ViewHandle, Handle<Sight, Global>)
         ensures { Holds self.is_open self.opened result.1.opened × Holds result.0.is_open result.0.opened with.opened }
     {
-        let ViewHandle {
-            at: was_at,
-            alloc: was_in,
-        } = self;
+        let ViewHandle { at, alloc } = self;
+        let had = Handle {
+            at: at as *mut Sight,
+            alloc,
+        };
         let Handle { at, alloc } = with;
-        let at = at as *mut u8;
-        (
-            ViewHandle { at, alloc },
-            Handle {
-                at: was_at as *mut Sight,
-                alloc: was_in,
-            },
-        )
+        let handle = ViewHandle {
+            at: at as *mut u8,
+            alloc,
+        };
+        (handle, had)
     }
 }
 
 /// A view that C holds, in 16 bytes. All bytes zero is a closed one. It may be moved, and of two copies only one
 /// may be used: nothing checks that.
 #[repr(C)]
+#[derive(Drop)]
 pub struct ViewPlace {
     /// Whether there is a view.
     pub is_open: bool,
@@ -64,19 +64,15 @@ impl Holder<Sight> for ViewPlace {
     fn exchange(self, with: Held<Sight>) -> (ViewPlace, Held<Sight>)
         ensures { Holds self.is_open self.handle.opened result.1.handle.opened × Holds result.0.is_open result.0.handle.opened with.handle.opened }
     {
-        let ViewPlace {
-            is_open: was_open,
+        let (handle, had) = self.handle.exchange(with.handle);
+        let place = ViewPlace {
+            is_open: with.is_open,
             handle,
-        } = self;
-        let Held {
-            is_open,
-            handle: with,
-        } = with;
-        let (handle, had) = handle.exchange(with);
+        };
         (
-            ViewPlace { is_open, handle },
+            place,
             Held {
-                is_open: was_open,
+                is_open: self.is_open,
                 handle: had,
             },
         )
