@@ -5,13 +5,12 @@ ghost use Rattle.tg_store.specs.Store.{graph_of_store};
 ghost use Rattle.tg_shared.specs.Sessions.{MayShare};
 ghost use Rattle.tg_shares.specs.Shares.{MayShareOut};
 
-use crate::opened::{Counted, counted, draft, open_store};
+use crate::opened::{Counted, counted, draft, open_store, read_and_write};
 use std::alloc::Global;
 use std::marker::Brand;
 use std::sync::Wait;
 use std::sync::ledger::Ledger;
 use tg_payload::CellPayload;
-use tg_rights::Label;
 use tg_shared::{Blanks, Round, Session};
 use tg_shares::{Client, Lack, MeteredStore, Portion, Purse, PurseBlanks, SharedOut};
 use tg_store::Store;
@@ -61,9 +60,9 @@ fn makes<L: Round, V: Ledger, E: Ledger, R: Wait>(
     if client.purse.may_make(0, Portion::none()).is_err() {
         return false;
     }
-    match (Label::read_text(b"rw"), draft(alloc)) {
-        (Some(label), Some(draft)) => client.create(rt, store, label, draft).is_ok(),
-        _ => false,
+    match draft(alloc) {
+        Some(draft) => client.create(rt, store, read_and_write(), draft).is_ok(),
+        None => false,
     }
 }
 
