@@ -6,7 +6,7 @@ use std::alloc::Global;
 use std::sync::Wait;
 use tg_model::{Command, Opening};
 use tg_payload::{CellPayload, Draft, values_of};
-use tg_rights::Label;
+use tg_rights::{Label, Right, Rights};
 use tg_shared::{Round, Session, SharedStore};
 use tg_store::{Limits, Store};
 
@@ -52,6 +52,11 @@ pub(crate) fn counted(store: &Store<CellPayload>) -> Counted {
     [census.vertices, collections.nursery, collections.full]
 }
 
+/// The rights to read and to write.
+pub(crate) fn read_and_write() -> Label {
+    Label::new(Rights::of(Right::R).union(Rights::of(Right::W))).unwrap()
+}
+
 /// Lets the session make a vertex, which it may read and write. Whether it does.
 pub(crate) fn makes<L: Round, R: Wait>(
     rt: &R,
@@ -59,9 +64,9 @@ pub(crate) fn makes<L: Round, R: Wait>(
     store: &SharedStore<L, CellPayload>,
     session: &mut Session<L>,
 ) -> bool {
-    match (Label::read_text(b"rw"), draft(alloc)) {
-        (Some(label), Some(draft)) => session.create(rt, store, label, draft).is_ok(),
-        _ => false,
+    match draft(alloc) {
+        Some(draft) => session.create(rt, store, read_and_write(), draft).is_ok(),
+        None => false,
     }
 }
 
@@ -72,9 +77,9 @@ pub(crate) fn spawned_by<L: Round, R: Wait>(
     store: &SharedStore<L, CellPayload>,
     session: &mut Session<L>,
 ) -> Option<Session<L>> {
-    match (Label::read_text(b"rw"), draft(alloc)) {
-        (Some(label), Some(draft)) => session.spawn(rt, store, label, draft).ok(),
-        _ => None,
+    match draft(alloc) {
+        Some(draft) => session.spawn(rt, store, read_and_write(), draft).ok(),
+        None => None,
     }
 }
 

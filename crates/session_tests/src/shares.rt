@@ -5,13 +5,12 @@ ghost use Rattle.tg_store.specs.Store.{graph_of_store};
 ghost use Rattle.tg_shared.specs.Sessions.{MayShare};
 ghost use Rattle.tg_shares.specs.Shares.{MayShareOut};
 
-use crate::opened::{Counted, counted, draft, open_store};
+use crate::opened::{Counted, counted, draft, open_store, read_and_write};
 use std::alloc::Global;
 use std::marker::Brand;
 use std::sync::Wait;
 use std::sync::ledger::Ledger;
 use tg_payload::CellPayload;
-use tg_rights::Label;
 use tg_shared::{Blanks, Round, Session};
 use tg_shares::{Client, Lack, MeteredStore, Portion, Purse, PurseBlanks, SharedOut};
 use tg_store::Store;
@@ -61,9 +60,9 @@ fn makes<L: Round, V: Ledger, E: Ledger, R: Wait>(
     if client.purse.may_make(0, Portion::none()).is_err() {
         return false;
     }
-    match (Label::read_text(b"rw"), draft(alloc)) {
-        (Some(label), Some(draft)) => client.create(rt, store, label, draft).is_ok(),
-        _ => false,
+    match draft(alloc) {
+        Some(draft) => client.create(rt, store, read_and_write(), draft).is_ok(),
+        None => false,
     }
 }
 
@@ -114,23 +113,26 @@ fn see<L: Round, V: Ledger, E: Ledger, R: Wait>(
     }
 }
 
-// The two clients, by their sessions and the purse that has all.
-fn clients_of<L: Round, V: Ledger, E: Ledger>(
-    mut sessions: Vec<Session<L>>,
-    mut purse: Purse<V, E>,
-) -> Option<(Client<L, V, E>, Client<L, V, E>)> {
-    let second = sessions.pop()?;
-    let first = sessions.pop()?;
-    let part = purse.split_off(SECOND).ok()?;
-    let second = Client {
-        session: second,
-        purse: part,
-    };
-    let first = Client {
-        session: first,
-        purse,
-    };
-    Some((first, second))
+// The client with the last of the sessions, and this purse.
+fn client_of<L: Round, V: Ledger, E: Ledger>(
+    sessions: &mut Vec<Session<L>>,
+    purse: Purse<V, E>,
+) -> Option<Client<L, V, E>> {
+    match sessions.pop() {
+        Some(session) => Some(Client { session, purse }),
+        None => None,
+    }
+}
+
+// The second client, which has its share of the purse.
+fn second_of<L: Round, V: Ledger, E: Ledger>(
+    sessions: &mut Vec<Session<L>>,
+    purse: &mut Purse<V, E>,
+) -> Option<Client<L, V, E>> {
+    match purse.split_off(SECOND) {
+        Ok(share) => client_of(sessions, share),
+        Err(_) => None,
+    }
 }
 
 fn seen_of<L: Round, V: Ledger, E: Ledger, R: Wait>(
@@ -145,20 +147,52 @@ fn seen_of<L: Round, V: Ledger, E: Ledger, R: Wait>(
         keeper,
     } = shared;
     drop(keeper);
-    let (mut first, mut second) = clients_of(sessions, purse)?;
+    let mut purse = purse;
+    let mut sessions = sessions;
+    let second = second_of(&mut sessions, &mut purse);
+    let first = client_of(&mut sessions, purse);
+    drop(sessions);
+    match first.zip(second) {
+        Some((first, second)) => seen_of_two(rt, alloc, store, first, second),
+        None => None,
+    }
+}
+
+// What is seen of the two, and of the store that is closed with both.
+fn seen_of_two<L: Round, V: Ledger, E: Ledger, R: Wait>(
+    rt: &R,
+    alloc: Global,
+    store: MeteredStore<L, V, E, CellPayload>,
+    mut first: Client<L, V, E>,
+    mut second: Client<L, V, E>,
+) -> Option<Seen> {
     let seen = see(rt, alloc, &store, &mut first, &mut second);
     let mut sessions = Vec::new(alloc);
-    sessions.push(first.session).ok()?;
-    sessions.push(second.session).ok()?;
-    let store = store.into_locked().close(sessions).ok()?;
+    add(&mut sessions, first);
+    add(&mut sessions, second);
+    match store.into_locked().close(sessions).ok() {
+        Some(store) => Some(with_counts(seen, store)),
+        None => None,
+    }
+}
+
+// Puts a client's session behind the others. The close is refused without it.
+fn add<L: Round, V: Ledger, E: Ledger>(sessions: &mut Vec<Session<L>>, client: Client<L, V, E>) {
+    let Client { session, purse } = client;
+    drop(purse);
+    let _added = sessions.push(session);
+}
+
+// The same with what is counted of the closed store.
+fn with_counts(seen: Seen, store: Store<CellPayload>) -> Seen {
     let entries = store.journal().len();
     let counted = counted(&store);
     store.let_go();
-    Some(Seen {
+    Seen {
         entries,
         counted,
         ..seen
-    })
+    }
 }
 
 fn share<L: Round, V: Ledger, E: Ledger, R: Wait>(

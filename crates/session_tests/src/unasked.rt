@@ -4,13 +4,12 @@
 ghost use Rattle.std.specs.Prelude.{◌≡◌};
 ghost use Rattle.tg_shared.specs.Sessions.{MayShare};
 
-use crate::opened::{Counted, counted, is_answered, makes, open_store, spawned_by};
+use crate::opened::{Counted, counted, is_answered, makes, open_store, read_and_write, spawned_by};
 use std::alloc::Global;
 use std::marker::Brand;
 use std::sync::Wait;
 use tg_model::Command;
 use tg_payload::CellPayload;
-use tg_rights::Label;
 use tg_shared::{Blanks, Keeper, Round, Session, Shared, SharedStore, close, close_with, reclaim};
 use tg_store::{Kind, Store};
 
@@ -34,13 +33,9 @@ fn gives_up<L: Round, R: Wait>(
     store: &SharedStore<L, CellPayload>,
     session: &mut Session<L>,
 ) -> bool {
-    match Label::read_text(b"rw") {
-        Some(rights) => {
-            let given_up = Command::Remove { target: 2, rights };
-            makes(rt, alloc, store, session) && is_answered(rt, store, session, given_up)
-        }
-        None => false,
-    }
+    let rights = read_and_write();
+    let given_up = Command::Remove { target: 2, rights };
+    makes(rt, alloc, store, session) && is_answered(rt, store, session, given_up)
 }
 
 // Makes each call but a collection. The session of who was spawned, if all were answered.

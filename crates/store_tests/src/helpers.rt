@@ -2,25 +2,18 @@
 ghost use Rattle.tg_store.specs.Collecting.{AreHelpers};
 
 use crate::meet::{MANY_TURNS, Meet};
+use crate::opened::{self, cells};
 use std::alloc::Global;
 use std::sync::Wait;
 use std::thread::Threads;
 use tg_helpers::collect_with;
-use tg_model::Opening;
-use tg_payload::{CellPayload, Draft, values_of};
+use tg_payload::CellPayload;
 use tg_store::{Kind, Limits, Store};
 
 // A store of 20 workers, each with a cell.
 fn open(alloc: Global) -> Option<Store<CellPayload>> {
     let limits = Limits::new(100, 100).ok()?;
-    let mut cells = Vec::new(alloc);
-    for _ in 0..20 {
-        let cell = Draft::new(alloc, CellPayload::new(0)).ok()?;
-        cells.push(cell).ok()?;
-    }
-    let values = values_of(alloc, &cells).ok()?;
-    let opening = Opening::new(20, Vec::new(alloc), values, 20).ok()?;
-    Store::open(alloc, opening, limits, cells).ok()
+    opened::open(alloc, cells(alloc, 20)?, limits, 20)
 }
 
 // Collects such a store by so many helpers who meet. How often they passed the gate, where all met and the store has

@@ -13,6 +13,8 @@ mod helpers;
 #[cfg(test)]
 mod meet;
 #[cfg(test)]
+mod opened;
+#[cfg(test)]
 mod parts;
 #[cfg(test)]
 mod payloads;

@@ -2,13 +2,13 @@
 ghost use Rattle.tg_script.specs.Inner.Counting.{MayCountInMemory};
 
 use crate::meet::{MANY_TURNS, Meet};
+use crate::opened::cells;
 use std::alloc::{AllocError, Global};
 use std::marker::Brand;
 use std::sync::Wait;
 use std::sync::ledger::{Blank, Ledger};
 use std::test::Fail;
 use std::thread::Threads;
-use tg_payload::{CellPayload, Draft};
 use tg_script::{
     Bytes, Count, Helpers, Limits, OneThread, ScriptFault, Settings, Written, run_in_memory,
 };
@@ -25,16 +25,6 @@ fn settings() -> Option<Settings> {
     })
 }
 
-// What two workers store: cells with 0.
-fn cells(alloc: Global) -> Option<Vec<Draft<CellPayload>>> {
-    let mut cells = Vec::new(alloc);
-    for _ in 0..2 {
-        let cell = Draft::new(alloc, CellPayload::new(0)).ok()?;
-        cells.push(cell).ok()?;
-    }
-    Some(cells)
-}
-
 // As many lines as have more than 65,536 bytes of replies.
 fn many_lines(alloc: Global) -> Result<Vec<u8>, AllocError> {
     let mut lines = Vec::new(alloc);
@@ -47,7 +37,7 @@ fn many_lines(alloc: Global) -> Result<Vec<u8>, AllocError> {
 // How many bytes a run of the script writes, and how it ends.
 fn length_written(alloc: Global, script: &[u8]) -> Option<(usize, Result<(), ScriptFault>)> {
     let settings = settings()?;
-    let cells = cells(alloc)?;
+    let cells = cells(alloc, 2)?;
     if settings.workers != 2 || cells.len() != 2 {
         return None;
     }
@@ -76,7 +66,7 @@ fn race_counted<A: Ledger, F: Ledger, G: Turnstile + Sync, R: Threads + Wait + S
     requires countable { MayCountInMemory A.name A.parts F.name F.parts asked failures }
 {
     let settings = settings()?;
-    let cells = cells(alloc)?;
+    let cells = cells(alloc, 2)?;
     if settings.workers != 2 || cells.len() != 2 {
         return None;
     }

@@ -1,4 +1,5 @@
 //! Replies, denials and labels, shown as scripts write them, and faults that no program meets.
+use crate::opened::cells;
 use std::alloc::{AllocError, Global};
 use std::fmt::Display;
 use tg_helpers::HelpersFault;
@@ -6,7 +7,7 @@ use tg_journal::AuditFault;
 use tg_model::{
     Cause, Denial, Edge, EdgeList, Graph, ModelFault, Opening, OpeningFault, Reply, Rule,
 };
-use tg_payload::{CellPayload, Draft, values_of};
+use tg_payload::values_of;
 use tg_rights::{Label, Right, Rights};
 use tg_store::{ApplyFault, CreateFault, OpenFault, RoomFault, StoreAuditFault};
 use tg_text::AsText;
@@ -161,15 +162,14 @@ fn refusals_of_a_store(rt: HostRuntime) {
 
 // The plain graph of two workers with cells, of whom one may read the other.
 fn graph_of_one_edge(alloc: Global, label: Label) -> Option<Graph> {
-    let (mut edges, mut cells) = (Vec::new(alloc), Vec::new(alloc));
-    for to in 0..2u64 {
-        let cell = Draft::new(alloc, CellPayload::new(0)).ok()?;
-        cells.push(cell).ok()?;
-        if to > 0 {
-            edges.push(Edge { from: 0, to, label }).ok()?;
-        }
-    }
+    let cells = cells(alloc, 2)?;
     let values = values_of(alloc, &cells).ok()?;
+    let edge = Edge {
+        from: 0,
+        to: 1,
+        label,
+    };
+    let edges = vec![in alloc; edge].ok()?;
     let opening = Opening::new(2, edges, values, 2).ok()?;
     Graph::open(alloc, &opening).ok()
 }

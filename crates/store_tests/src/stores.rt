@@ -1,8 +1,9 @@
 //! A store with payloads of its user's own: what it lends of them, and why it is full.
 
+use crate::opened;
 use std::alloc::{AllocError, Global};
-use tg_model::{Command, Law, Opening};
-use tg_payload::{CellPayload, Draft, Payload, values_of};
+use tg_model::{Command, Law};
+use tg_payload::{CellPayload, Draft, Payload};
 use tg_rights::Label;
 use tg_store::{CreateFault, Kind, Limits, RoomFault, Store};
 
@@ -47,18 +48,10 @@ fn two_drafts(alloc: Global) -> Option<Vec<Draft<Tagged>>> {
     Some(drafts)
 }
 
-// An opening of two workers with these drafts.
-fn opening_of(alloc: Global, drafts: &[Draft<Tagged>]) -> Option<Opening> {
-    let values = values_of(alloc, drafts).ok()?;
-    Opening::new(2, Vec::new(alloc), values, 100).ok()
-}
-
 // A store with these two, in whose heap a space has at most one block.
 fn open(alloc: Global) -> Option<Store<Tagged>> {
     let limits = Limits::new(4, 1).ok()?;
-    let drafts = two_drafts(alloc)?;
-    let opening = opening_of(alloc, &drafts)?;
-    Store::open(alloc, opening, limits, drafts).ok()
+    opened::open(alloc, two_drafts(alloc)?, limits, 100)
 }
 
 // Lets worker 0 make a vertex with the tag 12. Why it is refused, where it is.

@@ -1,5 +1,5 @@
 -- How the next line of a script stands to what is read of its bytes.
-use Rattle.std.proofs.Common.{◌≡◌, ◌≢◌, ℕ, ◌+◌, ◌≤◌, Bool, true, false, true≢false, List, [], ◌∷◌, ◌++◌, length, map, Option, Some, None, IfOk, refl, sym, ap, ◌∙◌, subst, arith, length-append, append_assoc, append-nil, Result, Ok, Err, IsErrAnd, OnErr, OnOk}
+use Rattle.std.proofs.Common.{◌≡◌, ◌≢◌, ℕ, ◌+◌, ◌≤◌, Bool, true, false, true≢false, List, [], ◌∷◌, ◌++◌, length, map, Option, Some, None, IfOk, refl, sym, ap, ◌∙◌, subst, arith, length-append, append_assoc, append-nil, Result, Ok, Err, IsErrAnd, OnErr, OnOk, Vec, Global}
 use Rattle.std.proofs.lemmas.List.{map-append}
 use Rattle.std.proofs.lemmas.Result.{err_from_is_err_and}
 use Rattle.std.specs.Prelude.{is_err, ◌==◌, if◌then◌else◌}
@@ -15,6 +15,8 @@ use Rattle.tg_text.specs.declared.source.Fetched.{Fetched}
 use Rattle.tg_text.specs.declared.source.Fetched.TheVariants as fetched
 use Rattle.tg_text.specs.declared.fetch.TheConstants.{MOST_BYTES}
 use Rattle.tg_text.specs.Fetching.{IsOneLine, Fetches, FetchesKnown}
+use Rattle.tg_text.specs.Stock.{IsStockText}
+use Rattle.tg_text.specs.declared.stock.StockItem.{StockItem}
 use Rattle.tg_text.specs.Reading.{MayStand, Reads, ReadsScript, opening_after}
 use Rattle.tg_plain.specs.declared.reading.Reading.{Reading}
 use Rattle.tg_plain.specs.declared.script.Script.{Script}
@@ -22,7 +24,7 @@ use Rattle.tg_plain.specs.declared.script.ScriptLine.{ScriptLine}
 use Rattle.tg_plain.specs.declared.fault.PlainFault.{PlainFault}
 use Rattle.tg_plain.specs.declared.options.PlainOptions.{PlainOptions}
 use Rattle.tg_plain.specs.declared.outcome.Outcome.{Outcome}
-use Rattle.tg_plain.specs.Lines.{IsOutcome, IsOutcomeOf, IsReadOf, RunsOn, all_lines, lines_of}
+use Rattle.tg_plain.specs.Lines.{IsEmptyScript, IsOutcome, IsOutcomeOf, IsReadOf, RunsOn, all_lines, lines_of}
 use Rattle.tg_plain.specs.Inner.Reading.{AddsLine, AddsOther, HasNoLine, IsFresh, IsReadAs, KeepsOptions, MayAdd, Passes, ReadsFrom, ReadsFront}
 
 one_more : (text : List ℕ) (byte : ℕ) → IsOneLine text → byte ≢ 10 → IsOneLine (text ++ byte ∷ [])
@@ -132,6 +134,19 @@ pub reads_all : {D : Type 0} (t : Script) (r : Result D ScriptFault) (done : D) 
 reads_all {D = D} t r done bytes is none h =
     let ends = subst (λ (x : Result D ScriptFault). IsReadAs bytes x t) is h in
     (ends.0, subst (λ (f : Option ScriptFault). ReadsScript t.workers bytes (all_lines t) f ends.0) (sym none) ends.1)
+
+-- bytes that lead to a fault
+pub reads_fault : {D : Type 0} (t : Script) (r : Result D ScriptFault) (f : ScriptFault) (bytes : List ℕ) → r ≡ Err f → IsReadAs bytes r t →
+    (left : List ℕ) × ReadsScript t.workers bytes (all_lines t) (Some f) left
+reads_fault {D = D} t r f bytes is h = subst (λ (x : Result D ScriptFault). IsReadAs bytes x t) is h
+
+-- a script without lines, and then with some, runs on what the options say
+pub runs_kept : (options : PlainOptions) (s t : Script) → IsEmptyScript options s → KeepsOptions s t → RunsOn options t
+runs_kept options s t empty kept = record {
+  workers = kept.workers ∙ empty.0;
+  max_vertices = kept.max_vertices ∙ empty.1;
+  stock = subst (λ (v : Vec StockItem Global). IsStockText options.stock.now v.items) (sym kept.stock) empty.2;
+}
 
 -- a new buffer of 65,536 bytes has what the reader within it has
 pub buffers_all : {T A : Type 0} (r : BufReader T A) (inner : T) (remaining : T → Option (List ℕ)) (bytes : List ℕ) → reader_inner r ≡ inner → reader_buffer r ≡ [] →

@@ -37,8 +37,9 @@ pub fn run_script_entries<P: Payload, C: Collector, S: Source, K: Sink>(
     ensures finish { FinishesSink K.failures K.finished sink.old sink.new result }
 {
     match begin(alloc, source, sink, settings, workers, stock) {
-        Ok(begun) => {
-            let outcome = enter_all(collector, source, sink, begun);
+        Ok(mut begun) => {
+            let outcome = enter_all(collector, source, sink, &mut begun);
+            drop(begun);
             finish(sink, outcome)
         }
         Err(fault) => finish(sink, Err(fault)),
@@ -46,38 +47,33 @@ pub fn run_script_entries<P: Payload, C: Collector, S: Source, K: Sink>(
 }
 
 // Writes the opening, the entries of the lines from the first on that is no edge line, and how many these are. It
-// stands apart from the run that writes replies.
+// stands apart from the run that writes replies, and owns nothing where it leaves.
 #[inline(never)]
 fn enter_all<P: Payload, C: Collector, S: Source, K: Sink>(
     collector: &C,
     source: &mut S,
     sink: &mut K,
-    begun: Begun<P>,
+    begun: &mut Begun<P>,
 ) -> Result<(), ScriptFault>
-    requires runnable { MayGoOn C.Ready begun.script begun.first }
-    requires none { begun.run.store.entries ≡ [] }
-    ensures written { (t : Scene) (rest before : List ℕ) → Shows begun.run t → S.left source.old ≡ Some rest → K.taken sink.old ≡ Some before →
-        (left : List ℕ) × (S.left source.new ≡ Some left) × EntersAll begun.script rest t begun.first begun.run.store.opening before result left (K.taken sink.new) }
-    ensures streams { UsesStreams S.asked S.failures K.failures source.old source.new sink.old sink.new begun.script begun.first result }
+    requires runnable { MayGoOn C.Ready begun.old.script begun.old.first }
+    requires none { begun.old.run.store.entries ≡ [] }
+    ensures written { (t : Scene) (rest before : List ℕ) → Shows begun.old.run t → S.left source.old ≡ Some rest → K.taken sink.old ≡ Some before →
+        (left : List ℕ) × (S.left source.new ≡ Some left) × EntersAll begun.old.script rest t begun.old.first begun.old.run.store.opening before result left (K.taken sink.new) }
+    ensures streams { UsesStreams S.asked S.failures K.failures source.old source.new sink.old sink.new begun.old.script begun.old.first result }
 {
-    let Begun {
-        mut run,
-        mut script,
-        first,
-    } = begun;
-    let Ok(()) = write_opening(sink, run.store.opening()) else {
+    let Ok(()) = write_opening(sink, begun.run.store.opening()) else {
         return Err(ScriptFault::WriteFailed);
     };
     let entered = run_commands::<P, Entries, C, S, K>(
-        &mut run,
+        &mut begun.run,
         collector,
-        &mut script,
+        &mut begun.script,
         source,
         sink,
-        first,
+        begun.first,
     );
     // It tells that the entries are a legal history, whatever came of the lines.
-    let count = run.store.journal().len();
+    let count = begun.run.store.journal().len();
     entered?;
     let Ok(()) = write_end(sink, count) else {
         return Err(ScriptFault::WriteFailed);
