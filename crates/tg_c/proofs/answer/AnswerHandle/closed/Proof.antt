@@ -1,7 +1,7 @@
 -- `closed` makes a null pointer, which owns nothing.
 use Rattle.std.specs.Prelude.{◌≡◌, false}
 use mathlib.Core.Path.{refl}
-use Rattle.tg_could.specs.declared.reached.Told.TheVariants.{Unreached}
+use Rattle.tg_could.specs.declared.reached.ReachedAnswer.TheVariants.{Unreached}
 use prog.Wp.{Tables}
 use contract.Running.{tables, tables_of}
 use denote.Triple.Spec.{triple_of}
