@@ -6,10 +6,12 @@
 //! more, whoever holds what.
 //!
 //! What is proved of it stands in `laws`, for each graph and whatever anybody does, and in the contracts of `Desk`, for
-//! this program. Who else could come to read what stands in is asked of `could_hold` of `tg_could`.
+//! this program. Before it hands anything out, the owner asks whether the client could ever come to read the count
+//! itself (`foresight`).
 
 mod desk;
 mod fault;
+mod foresight;
 mod laws;
 mod opening;
 mod story;

@@ -1,7 +1,7 @@
 //! Answers that no clause of `tg_could` asks for: `Perhaps` of a view and a host of `needs` say nothing, so a body that
 //! gives no other answer keeps every contract.
 use std::alloc::{AllocError, Global};
-use tg_could::{Chance, View, needs};
+use tg_could::{Chance, Question, Scene, View, needs};
 use tg_model::{Edge, Picture};
 use tg_rights::{Label, Right, Rights};
 
@@ -42,14 +42,27 @@ fn add(edges: &mut Vec<Edge>, from: u64, to: u64, rights: Rights) -> Result<(), 
     Ok(())
 }
 
+// Whether x could come to hold a right over the document.
+fn of_document(x: u64, right: Right) -> Question {
+    Question {
+        x,
+        right,
+        y: DOCUMENT,
+    }
+}
+
 // Whether a view tells of each right over the document that subject 0 never holds it, and that subject 9 may.
 fn is_told_by_view(alloc: Global) -> Result<bool, AllocError> {
     let picture = picture(alloc, 0, 1, Rights::of(Right::T))?;
-    let view = View::open(alloc, &picture, &[])?;
+    let scene = Scene {
+        picture: &picture,
+        silent: &[],
+    };
+    let view = View::open(alloc, &scene)?;
     let mut is_told = true;
     for right in RIGHTS {
-        is_told &= view.could(0, *right, DOCUMENT) == Chance::Never;
-        is_told &= view.could(9, *right, DOCUMENT) == Chance::Perhaps;
+        is_told &= view.could(of_document(0, *right)) == Chance::Never;
+        is_told &= view.could(of_document(9, *right)) == Chance::Perhaps;
     }
     Ok(is_told)
 }
@@ -63,7 +76,11 @@ fn a_view_where_ten_act(rt: HostRuntime) {
 fn enough(alloc: Global) -> Result<Vec<u64>, AllocError> {
     let picture = picture(alloc, 9, 0, Rights::of(Right::G))?;
     let silent = [1, 2, 3, 4, 5, 6, 7, 8, 9];
-    needs(alloc, &picture, &silent, 0, Right::R, DOCUMENT)
+    let scene = Scene {
+        picture: &picture,
+        silent: &silent,
+    };
+    needs(alloc, &scene, of_document(0, Right::R))
 }
 
 // Whether these are subject 9's alone.

@@ -9,7 +9,8 @@ use Rattle.tg_c.specs.declared.place.StorePlace.{StorePlace}
 use Rattle.tg_c.specs.declared.refusal.CallRefusal.{CallRefusal}
 use Rattle.tg_c.specs.declared.refusal.CallRefusal.TheVariants as refusal
 use Rattle.tg_c.specs.Calls.{AreMet, IsMemoryOr, state_in}
-use Rattle.tg_c.specs.Could.{AreActive, IsRefusedOn, IsRefusedQuestion, JoinReached, asked_first, right_at}
+use Rattle.tg_could.specs.Reached.{JoinReached}
+use Rattle.tg_c.specs.Could.{AreActive, IsRefusedOn, IsRefusedQuestion, asked_first, right_at}
 use Rattle.tg_c.specs.Forms.{HaveLabels, edge_in}
 use Rattle.tg_c.specs.Inner.Stores.{IsAnsweredOn}
 

@@ -9,15 +9,14 @@ use Rattle.tg_model.specs.Graph.{ProtectionGraph, IsReachable, IsSound}
 use Rattle.tg_model.specs.Picture.{Shown}
 use Rattle.tg_model.specs.Walks.{Walk-within}
 use Rattle.tg_rights.specs.declared.Right.{Right}
-use Rattle.tg_could.specs.Reached.{IsLedTo, IsReachedPicture}
+use Rattle.tg_could.specs.Reached.{IsLedTo, IsReachedPicture, JoinReached, with_edges}
 use Rattle.tg_could.specs.Turns.{NeverHolds}
 use Rattle.tg_could.specs.View.{IsViewOf}
 use Rattle.tg_could.proofs.ReachedLaws.{Known, never_on, reached_shown, relabelled, shown_reached}
-use Rattle.tg_c.specs.Could.{JoinReached, with_edges}
 use Rattle.tg_c.specs.View.{AreShown, IsShownIn, IsSightOf, is_seen}
 use Rattle.tg_c.specs.declared.view.sight.Seen.{Seen}
 use Rattle.tg_c.specs.declared.view.sight.Sight.{Sight}
-use Rattle.tg_c.proofs.AsIfLaws.{agrees, held_edge, more, reached_before, reached_then, seen, seen_by, supposed_sound}
+use Rattle.tg_could.proofs.AsIfLaws.{agrees, held_edge, more, reached_before, reached_then, seen, seen_by, supposed_sound}
 
 -- a list has exactly these names
 abbrev pub AreOn : (ℕ → Type 0) → List ℕ → Type 0

@@ -2,19 +2,16 @@
 use Rattle.std.specs.Prelude.{◌≡◌, ◌≢◌, ◌⊎◌, ℕ, ◌==◌, Bool, true, false, List, [], ◌∷◌, Option, Some, None, Result, Ok, Err, if◌then◌else◌, length, map, slice_get, ok_or}
 use Rattle.std.specs.Option.{IsSome}
 use Rattle.std.specs.List.{All}
-use Rattle.tg_rights.specs.RightSet.{union}
 use Rattle.tg_rights.specs.declared.Right.{Right}
 use Rattle.tg_rights.specs.declared.Right.TheVariants.{R, W, T, G, A, L, U, V}
-use Rattle.tg_model.specs.declared.edge.Edge.{Edge}
 use Rattle.tg_model.specs.declared.reply.Reply.TheVariants.{Done}
-use Rattle.tg_model.specs.Graph.{ProtectionGraph, IsSubject, IsReachable, IsSound}
-use Rattle.tg_model.specs.Opened.{label_in}
+use Rattle.tg_model.specs.Graph.{ProtectionGraph, IsSubject, IsSound}
 use Rattle.tg_could.specs.Turns.{Turn}
-use Rattle.tg_could.specs.Reached.{IsReachedPicture, IsToldOf}
+use Rattle.tg_could.specs.Reached.{IsReachedPicture, IsToldOf, JoinReached, with_edges}
 use Rattle.tg_could.specs.declared.answer.Answer.{Answer}
 use Rattle.tg_could.specs.declared.answer.Answer.TheVariants.{Never, Could, WantsNames, Open}
-use Rattle.tg_could.specs.declared.reached.Told.{Told}
-use Rattle.tg_could.specs.declared.reached.Told.TheVariants.{Unreached, Of}
+use Rattle.tg_could.specs.declared.reached.ReachedAnswer.{ReachedAnswer}
+use Rattle.tg_could.specs.declared.reached.ReachedAnswer.TheVariants.{Unreached, Of}
 use Rattle.tg_store.specs.Store.{StandsFor}
 use Rattle.tg_graph.specs.Shown.{shown_in}
 use Rattle.tg_c.specs.declared.answer.AnswerPlace.{AnswerPlace}
@@ -44,19 +41,6 @@ right_at bits =
     else if bits == 128 then Some V
     else None
 
--- the graph where these edges are there too
-abbrev pub with_edges : ProtectionGraph → List Edge → ProtectionGraph
-with_edges g edges = record g { label = λ a b. union (g.label a b) (label_in edges a b) }
-
--- an edge joins two different vertices, each of which an active subject reaches
-pub record JoinsReached (g : ProtectionGraph) (edge : Edge) : Type 0 where
-  pub from : IsReachable g edge.from
-  pub to : IsReachable g edge.to
-  pub differ : edge.from ≢ edge.to
-
-abbrev pub JoinReached : ProtectionGraph → List Edge → Type 0
-JoinReached g edges = All (JoinsReached g) edges
-
 -- each of these is an active subject
 abbrev pub AreActive : ProtectionGraph → List ℕ → Type 0
 AreActive g names = All (IsSubject g) names
@@ -70,7 +54,7 @@ pub record IsSceneOf (g : ProtectionGraph) (silent : List ℕ) (as_if : List Edg
 
 -- What is told is so of the graph with the edges that are supposed to be there. All silent ones are active subjects, and each edge
 -- joins two that are reached.
-pub record IsForeseenOn (g : ProtectionGraph) (silent : List ℕ) (as_if : List EdgeIn) (x : ℕ) (right : Right) (y : ℕ) (told : Told) : Type 0 where
+pub record IsForeseenOn (g : ProtectionGraph) (silent : List ℕ) (as_if : List EdgeIn) (x : ℕ) (right : Right) (y : ℕ) (told : ReachedAnswer) : Type 0 where
   pub active : AreActive g silent
   pub joined : JoinReached g (map edge_in as_if)
   pub told_of : IsToldOf silent (with_edges g (map edge_in as_if)) x right y told
@@ -95,7 +79,7 @@ abbrev pub asked_first : StorePlace → Bool → List EdgeIn → ℕ → List De
 asked_first place is_open as_if right = demand (IsSome (right_at right)) refusal.BadRights ∷ asked_of_places place is_open as_if
 
 -- the answer to a question to a store in its place, where the answer's place was open or not
-pub record IsForeseen (place : StorePlace) (is_open : Bool) (silent : List ℕ) (as_if : List EdgeIn) (x right y : ℕ) (told : Told) : Type 0 where
+pub record IsForeseen (place : StorePlace) (is_open : Bool) (silent : List ℕ) (as_if : List EdgeIn) (x right y : ℕ) (told : ReachedAnswer) : Type 0 where
   pub met : AreMet (asked_first place is_open as_if right)
   pub told_of : (g : ProtectionGraph) → StandsFor (state_in place) g → (r : Right) → right_at right ≡ Some r → IsForeseenOn g silent as_if x r y told
 
@@ -123,7 +107,7 @@ kind_of (WantsNames turns names) = 3
 kind_of Open = 5
 
 -- that x isn't reached, or one of these
-abbrev pub kind_in : Told → ℕ
+abbrev pub kind_in : ReachedAnswer → ℕ
 kind_in Unreached = 4
 kind_in (Of answer) = kind_of answer
 
@@ -134,7 +118,7 @@ names_of (Could turns) = 0
 names_of (WantsNames turns names) = names
 names_of Open = 0
 
-abbrev pub names_in : Told → ℕ
+abbrev pub names_in : ReachedAnswer → ℕ
 names_in Unreached = 0
 names_in (Of answer) = names_of answer
 
@@ -145,18 +129,18 @@ turns_of (Could turns) = turns.items
 turns_of (WantsNames turns names) = turns.items
 turns_of Open = []
 
-abbrev pub turns_in : Told → List Turn
+abbrev pub turns_in : ReachedAnswer → List Turn
 turns_in Unreached = []
 turns_in (Of answer) = turns_of answer
 
 -- the turn at a place, counted from 0; there is none behind the last
-abbrev pub turn_at : ℕ → Told → Result Turn CallRefusal
+abbrev pub turn_at : ℕ → ReachedAnswer → Result Turn CallRefusal
 turn_at at told = ok_or (slice_get (turns_in told) at) refusal.BadPlace
 
 -- ---- how it is told
 
 -- A call on an answer: a closed one is refused as that, and an open one is as it was.
-pub record Consults {T : Type 0} (what : Told → Result T CallRefusal) (old new : AnswerPlace) (tells : Result T CallRefusal → Type 0) : Type 0 where
+pub record Consults {T : Type 0} (what : ReachedAnswer → Result T CallRefusal) (old new : AnswerPlace) (tells : Result T CallRefusal → Type 0) : Type 0 where
   pub not_open : old.is_open ≡ false → tells (Err refusal.NotOpen) × (new.is_open ≡ false)
   pub told : old.is_open ≡ true → tells (what old.handle.opened.told) × (new.is_open ≡ true) × (new.handle.opened ≡ old.handle.opened)
 

@@ -6,7 +6,7 @@ use Rattle.tg_rights.specs.declared.Right.{Right}
 use Rattle.tg_model.specs.Graph.{ProtectionGraph, IsReachable, IsSound}
 use Rattle.tg_model.specs.Picture.{Shown, IsPictureOf}
 use Rattle.tg_could.specs.Turns.{NeverHolds}
-use Rattle.tg_could.specs.Reached.{HoldsWhatItHolds, IsLedTo}
+use Rattle.tg_could.specs.Reached.{HoldsWhatItHolds, IsLedTo, JoinReached, with_edges}
 use Rattle.tg_could.specs.View.{IsViewOf}
 use Rattle.tg_store.specs.Store.{StandsFor}
 use Rattle.tg_c.specs.declared.forms.EdgeIn.{EdgeIn}
@@ -19,7 +19,7 @@ use Rattle.tg_c.specs.declared.view.sight.Glimpse.TheVariants.{Never, Unreached,
 use Rattle.tg_c.specs.declared.view.sight.Seen.{Seen}
 use Rattle.tg_c.specs.declared.view.sight.Sight.{Sight}
 use Rattle.tg_c.specs.Calls.{AreMet, IsFirstUnmet, IsStatusWhere, state_in}
-use Rattle.tg_c.specs.Could.{AreActive, IsRefusedOn, JoinReached, asked_of_places, right_at, with_edges}
+use Rattle.tg_c.specs.Could.{AreActive, IsRefusedOn, asked_of_places, right_at}
 use Rattle.tg_c.specs.Forms.{edge_in}
 
 -- ---- what a view tells

@@ -1,9 +1,9 @@
 //! The question whether x could ever come to hold a right over y, asked of a store in its place.
-ghost use Rattle.std.specs.Prelude.{◌≡◌, ◌↔◌, ◌++◌, IfOk, IfErr, IsTrue};
+ghost use Rattle.std.specs.Prelude.{◌≡◌, ◌↔◌, IfOk, IfErr, IsTrue};
 ghost use Rattle.tg_model.specs.Graph.{ProtectionGraph, IsSound};
-ghost use Rattle.tg_could.specs.Reached.{IsReachedPicture, IsToldOf};
+ghost use Rattle.tg_could.specs.Reached.{IsReachedPicture, IsToldOf, JoinReached, with_edges};
 ghost use Rattle.tg_c.specs.Calls.{IsMemoryOr};
-ghost use Rattle.tg_c.specs.Could.{IsForeseen, IsRefusedQuestion, JoinReached, JoinsReached, right_at, with_edges};
+ghost use Rattle.tg_c.specs.Could.{IsForeseen, IsRefusedQuestion, right_at};
 ghost use Rattle.tg_c.specs.Inner.Stores.{KeepsStore};
 
 use crate::forms::EdgeIn;
@@ -13,8 +13,8 @@ use crate::opening::{check_rights, edges_in};
 use crate::outlook::Outlook;
 use crate::place::StorePlace;
 use crate::refusal::CallRefusal;
-use std::alloc::{AllocError, Global};
-use tg_could::{Told, could_hold, is_reached};
+use std::alloc::Global;
+use tg_could::{Question, ReachedAnswer, could_hold_reached, join_reached};
 use tg_model::{Edge, Picture};
 use tg_rights::Right;
 
@@ -100,15 +100,12 @@ impl LawStore {
             (λ opened. IsForeseenOn (graph_of_store self.now.store) silent.now as_if.now x right y opened.value.told) result }
     {
         let scene = self.scene(alloc, silent, as_if)?;
-        let told = foresee_on(
-            alloc,
-            &scene.picture,
-            scene.as_if.as_slice(),
+        let question = Question { x, right, y };
+        let asked = tg_could::Scene {
+            picture: &scene.picture,
             silent,
-            x,
-            right,
-            y,
-        )?;
+        };
+        let told = foresee_on(alloc, &asked, scene.as_if.as_slice(), question)?;
         Ok(Box::new(alloc, Outlook { told })?)
     }
 
@@ -147,58 +144,22 @@ impl LawStore {
     }
 }
 
-// What could_hold_reached answers of the graph with these edges too. Each of them has to join two different vertices
+// What is answered on the graph with these edges too. Each of them has to join two different vertices
 // that active subjects reach.
 fn foresee_on(
     alloc: Global,
-    picture: &Picture,
+    scene: &tg_could::Scene,
     as_if: &[Edge],
-    silent: &[u64],
-    x: u64,
-    right: Right,
-    y: u64,
-) -> Result<Told, CallRefusal>
-    ensures told { IfOk result (λ told. (g : ProtectionGraph) → IsSound g → IsReachedPicture picture.now g →
-        JoinReached g as_if.now × IsToldOf silent.now (with_edges g as_if.now) x right y told) }
-    ensures refused { IfErr result (λ why. (g : ProtectionGraph) → IsReachedPicture picture.now g →
+    question: Question,
+) -> Result<ReachedAnswer, CallRefusal>
+    ensures told { IfOk result (λ told. (g : ProtectionGraph) → IsSound g → IsReachedPicture scene.now.picture.now g →
+        JoinReached g as_if.now × IsToldOf scene.now.silent.now (with_edges g as_if.now) question.x question.right question.y told) }
+    ensures refused { IfErr result (λ why. (g : ProtectionGraph) → IsReachedPicture scene.now.picture.now g →
         IsMemoryOr CallRefusal.BadEdge (¬ JoinReached g as_if.now) why) }
 {
-    if !join_reached(picture, as_if) {
+    if !join_reached(scene.picture, as_if) {
         return Err(CallRefusal::BadEdge);
     }
-    if x < picture.made() && !is_reached(picture, x) {
-        return Ok(Told::Unreached);
-    }
-    let supposed = supposing(alloc, picture, as_if)?;
-    let answer = could_hold(alloc, &supposed, silent, x, right, y)?;
-    Ok(Told::Of(answer))
-}
-
-/// Whether each edge joins two different vertices that active subjects reach.
-pub fn join_reached(picture: &Picture, edges: &[Edge]) -> bool
-    ensures { (g : ProtectionGraph) → IsReachedPicture picture.now g → IsTrue result ↔ JoinReached g edges.now }
-{
-    for edge in edges {
-        if !joins_reached(picture, edge) {
-            return false;
-        }
-    }
-    true
-}
-
-// The same of one edge.
-fn joins_reached(picture: &Picture, edge: &Edge) -> bool
-    ensures { (g : ProtectionGraph) → IsReachedPicture picture.now g → IsTrue result ↔ JoinsReached g edge.now }
-{
-    edge.from != edge.to && is_reached(picture, edge.from) && is_reached(picture, edge.to)
-}
-
-/// The picture with more edges. Fails only when out of memory.
-pub fn supposing(alloc: Global, picture: &Picture, more: &[Edge]) -> Result<Picture, AllocError>
-    ensures { IfOk result (λ supposed. supposed ≡ record picture.now { edges = picture.now.edges ++ more.now }) }
-{
-    let subjects = Vec::from_slice(alloc, picture.subjects())?;
-    let mut edges = Vec::from_slice(alloc, picture.edges())?;
-    edges.extend_from_slice(more)?;
-    Ok(Picture::new(subjects, edges, picture.made(), picture.limit()))
+    let told = could_hold_reached(alloc, scene, as_if, question)?;
+    Ok(told)
 }

@@ -2,14 +2,14 @@
 ghost use Rattle.std.specs.Prelude.{◌≡◌};
 ghost use Rattle.tg_c.specs.Could.{kind_of, names_of, turns_of};
 
-use tg_could::{Answer, Told};
+use tg_could::{Answer, ReachedAnswer};
 use tg_model::Deed;
 
 /// What was answered to a question.
 #[derive(Drop)]
 pub struct Outlook {
     /// What `tg_could` told.
-    pub told: Told,
+    pub told: ReachedAnswer,
 }
 
 impl Outlook {
@@ -22,8 +22,8 @@ impl Outlook {
         ensures { result ≡ kind_in self.now.told }
     {
         match &self.told {
-            Told::Unreached => 4,
-            Told::Of(answer) => kind_of_answer(answer),
+            ReachedAnswer::Unreached => 4,
+            ReachedAnswer::Of(answer) => kind_of_answer(answer),
         }
     }
 
@@ -32,8 +32,8 @@ impl Outlook {
         ensures { result ≡ names_in self.now.told }
     {
         match &self.told {
-            Told::Unreached => 0,
-            Told::Of(answer) => names_of_answer(answer),
+            ReachedAnswer::Unreached => 0,
+            ReachedAnswer::Of(answer) => names_of_answer(answer),
         }
     }
 
@@ -42,8 +42,8 @@ impl Outlook {
         ensures { result.now ≡ turns_in self.now.told }
     {
         match &self.told {
-            Told::Unreached => &[],
-            Told::Of(answer) => turns_of_answer(answer),
+            ReachedAnswer::Unreached => &[],
+            ReachedAnswer::Of(answer) => turns_of_answer(answer),
         }
     }
 }

@@ -2,14 +2,17 @@
 
 use super::desk::{Desk, OWNER, read_right};
 use super::fault::DeskFault;
+use super::foresight::never_after;
 use super::opening::{CLIENT, FRIEND, open_desk, opening};
 use crate::fault::StoryFault;
 use crate::opening::{grant, read_and_write};
 use crate::tell::{tell_audit, tell_reply};
 use std::alloc::Global;
+use tg_could::Question;
 use tg_journal::audit;
-use tg_model::{Command, Reply};
+use tg_model::{Command, Edge, Reply};
 use tg_payload::Payload;
+use tg_rights::Right;
 use tg_store::StoreFault;
 
 // The steps of the story: what the owner does, and what the client and its friend ask for.
@@ -75,11 +78,30 @@ fn tell_story<P: Payload, R: Print + AllocGlobal>(
     rt: &R,
     desk: &mut Desk<P>,
 ) -> Result<(), StoryFault> {
+    foretell(rt, desk)?;
     for step in &STEPS {
         act(rt, desk, *step)?;
     }
     let entries = audited(rt.alloc(), desk)?;
     tell_audit(rt, entries)
+}
+
+// Says whether the client could ever come to read the count, if the owner hands r over the stand-in out.
+fn foretell<P: Payload, R: Print + AllocGlobal>(rt: &R, desk: &Desk<P>) -> Result<(), StoryFault> {
+    let grant = Edge {
+        from: CLIENT,
+        to: desk.stand_in(),
+        label: read_right(),
+    };
+    let question = Question {
+        x: CLIENT,
+        right: Right::R,
+        y: desk.thing(),
+    };
+    let never = never_after(rt.alloc(), desk.store(), &[OWNER], &[grant], question)?;
+    let chance = if never { "never" } else { "perhaps" };
+    println!(rt; "could the client read the count, once it may read the stand-in: {chance}")?;
+    Ok(())
 }
 
 // Takes the step, and prints the reply. A denial is a reply.

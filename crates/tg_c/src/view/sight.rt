@@ -1,17 +1,15 @@
 //! What a view's handle leads to.
 ghost use Rattle.std.specs.Prelude.{◌≡◌, ◌↔◌, ◌<◌, ℕ, List, false, IfOk, IfErr, IsTrue};
 ghost use Rattle.std.specs.List.{Contains};
-ghost use Rattle.tg_could.specs.Reached.{IsReachedPicture};
+ghost use Rattle.tg_could.specs.Reached.{IsReachedPicture, JoinReached, with_edges};
 ghost use Rattle.tg_model.specs.Graph.{ProtectionGraph, IsSound};
 ghost use Rattle.tg_c.specs.Calls.{IsMemoryOr};
-ghost use Rattle.tg_c.specs.Could.{JoinReached, with_edges};
 ghost use Rattle.tg_c.specs.View.{AreShown, IsGlimpse, IsSightOf, is_seen, kind_seen};
 
-use crate::foresee::{join_reached, supposing};
 use crate::refusal::CallRefusal;
 use indexmap::IndexSet;
 use std::alloc::{AllocError, Global};
-use tg_could::{Chance, View};
+use tg_could::{Chance, Question, Scene, View, join_reached, supposing};
 use tg_model::{Edge, Picture};
 use tg_rights::Right;
 
@@ -78,7 +76,11 @@ impl Sight {
         }
         let reached = names_shown(alloc, picture)?;
         let supposed = supposing(alloc, picture, as_if)?;
-        let view = View::open(alloc, &supposed, silent)?;
+        let scene = Scene {
+            picture: &supposed,
+            silent,
+        };
+        let view = View::open(alloc, &scene)?;
         Ok(Sight {
             seen: Some(Seen { view, reached }),
             made,
@@ -96,7 +98,7 @@ impl Sight {
         let Some(seen) = &self.seen else {
             return Glimpse::Never;
         };
-        match seen.view.could(x, right, y) {
+        match seen.view.could(Question { x, right, y }) {
             Chance::Never => Glimpse::Never,
             Chance::Perhaps => Glimpse::Perhaps,
         }

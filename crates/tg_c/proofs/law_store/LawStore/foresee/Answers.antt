@@ -2,9 +2,9 @@ use Rattle.std.proofs.Common.{◌∙◌, List, sym, subst, ap}
 use Rattle.std.proofs.lemmas.Result.{err_from_is_err_and}
 use Rattle.tg_model.specs.declared.edge.Edge.{Edge}
 use Rattle.tg_model.specs.Graph.{ProtectionGraph}
-use Rattle.tg_could.specs.Reached.{IsToldOf}
+use Rattle.tg_could.specs.Reached.{IsToldOf, JoinReached, with_edges}
 use Rattle.tg_store.specs.Store.{graph_of_store}
-use Rattle.tg_c.specs.Could.{IsForeseenOn, JoinReached, with_edges}
+use Rattle.tg_c.specs.Could.{IsForeseenOn}
 use Rattle.tg_c.proofs.CouldLaws.{not_answered}
 use Rattle.tg_c.proofs.law_store.LawStore.foresee.Goals as goal
 

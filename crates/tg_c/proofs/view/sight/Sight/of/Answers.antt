@@ -2,7 +2,7 @@ use Rattle.std.proofs.Common.{◌==◌, inr, length, refl, sym, subst, ap, ◌�
 use Rattle.std.proofs.lemmas.Bool.{false≢true}
 use Rattle.tg_model.specs.Picture.{Shown}
 use Rattle.tg_could.specs.View.{IsViewOf}
-use Rattle.tg_c.specs.Could.{JoinReached}
+use Rattle.tg_could.specs.Reached.{JoinReached}
 use Rattle.tg_c.specs.declared.view.sight.Seen.{Seen}
 use Rattle.tg_c.proofs.SightLaws.{none_there, sight_of_nobody, sight_on}
 use Rattle.tg_c.proofs.view.sight.Sight.of.Goals as goal
