@@ -69,7 +69,7 @@ pub heap_front : {A : Type 0} (start : SharedStart) (seen : List Signed) (P : St
 heap_front start seen P told is = front_seen start seen P (told is)
 
 -- what is told of an answer, with its place
-told_of_answer : (start : SharedStart) (old new : SessionState) (d : Deed) (r : Reply) (t : Told) → IsAnswered start old new d r → ((front : List Receipt) (last : Receipt) → new.receipts ≡ front ++ last ∷ [] → t ≡ came.Entered last.at) → HasAsked start d t old new
+pub told_of_answer : (start : SharedStart) (old new : SessionState) (d : Deed) (r : Reply) (t : Told) → IsAnswered start old new d r → ((front : List Receipt) (last : Receipt) → new.receipts ≡ front ++ last ∷ [] → t ≡ came.Entered last.at) → HasAsked start d t old new
 told_of_answer start old new d r t h entered =
     let e : Entry = record { worker = old.worker; deed = d; reply = r } in
     subst (λ (a : Told). HasAsked start d a old new) (sym (entered old.receipts (receipt_of (length start.entries + length h.before) e) h.receipt.1)) (r, h.receipt, answer_grows start old new d r h)

@@ -18,7 +18,7 @@ returns-in-Ok g c =
         matching = subst (λ (n : ℕ). MayClose entries n items) since c.in-Ok.ensures.back.matching;
         shared_out = subst (λ (n : ℕ). AreSharedOut (drop n entries) items) since
             (c.in-Ok.ensures.shared_out c.requires.none_ended (omega (arith, first, c.requires.none_handed, since)));
-        seen = seen_fronts start c.in-Ok.store items c.requires.new c.in-Ok.ensures.signed.0 c.in-Ok.ensures.signed.1;
+        seen = seen_fronts start c.in-Ok.store items c.in-Ok.ensures.signed.0 c.requires.new c.in-Ok.ensures.signed.1;
         none_handed = omega (arith, le-max_right (length start.entries) c.in-Ok.store.handed, since);
       };
       due = tt;

@@ -3,8 +3,20 @@ use Rattle.std.specs.Prelude.{IfOk}
 use Rattle.tg_model.specs.declared.value.Value.{Value}
 use Rattle.tg_script.specs.Script.{create_of}
 use Rattle.tg_threads.specs.Tasks.{HasMade}
-use Rattle.tg_threads.proofs.RunLaws.{has_receipt, heap_front, not_made_asked}
+use Rattle.tg_threads.proofs.RunLaws.{has_receipt, heap_front, not_made_asked, told_of_answer}
 use Rattle.tg_threads.proofs.worker.create.Goals as goal
+
+pub returns-in-Ok : goal.returns-in-Ok
+returns-in-Ok g c =
+    let old = c.args.session.now in
+    let new = c.create.new.self in
+    record {
+      told = record {
+        asked = subst (λ (box : Option Value). HasMade g.L.Round.start (create_of c.args.label) box c.last_told.result old new) (sym c.in-Some.is)
+            (told_of_answer g.L.Round.start old new (create_of c.args.label c.in-Some.draft) _ c.last_told.result c.in-Ok.ensures.receipt c.last_told.ensures);
+        gone = tt;
+      };
+    }
 
 pub returns-in-Err : goal.returns-in-Err
 returns-in-Err g c =

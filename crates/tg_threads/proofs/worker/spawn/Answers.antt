@@ -4,8 +4,18 @@ use Rattle.tg_model.specs.declared.value.Value.{Value}
 use Rattle.tg_script.specs.Script.{spawn_of}
 use Rattle.tg_shared.specs.Sessions.{AreFresh, SessionState}
 use Rattle.tg_threads.specs.Tasks.{HasMade, subjects_spawned}
-use Rattle.tg_threads.proofs.RunLaws.{has_receipt, heap_front, not_made_asked, not_spawned, ok_where, one_spawned, still_each}
+use Rattle.tg_threads.proofs.RunLaws.{has_receipt, heap_front, not_made_asked, not_spawned, ok_where, one_spawned, still_each, told_of_answer}
 use Rattle.tg_threads.proofs.worker.spawn.Goals as goal
+
+pub returns-in-Ok-clause-told : goal.returns-in-Ok-clause-told
+returns-in-Ok-clause-told g c =
+    let old = c.args.session.now in
+    let new = c.spawn.new.self in
+    record {
+      asked = subst (λ (box : Option Value). HasMade g.L.Round.start (spawn_of c.args.label) box c.last_told.result old new) (sym c.in-Some.is)
+          (told_of_answer g.L.Round.start old new (spawn_of c.args.label c.in-Some.draft) _ c.last_told.result c.in-Ok.ensures.receipt c.last_told.ensures);
+      gone = tt;
+    }
 
 pub returns-in-Err-clause-told : goal.returns-in-Err-clause-told
 returns-in-Err-clause-told g c =
