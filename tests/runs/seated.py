@@ -12,7 +12,7 @@ from repository.rows import Row
 from repository.tree import TOP, BadInput, Tree, read_text, write_text
 
 COLLECTS = {
-    "use tg_evac::{Copied, collect_one};": "use tg_evac::Copied;\nuse tg_parallel::collect_seated;",
+    "use tg_evac::collect_one;": "use tg_parallel::collect_seated;",
     " = collect_one(": " = collect_seated(",
 }
 TESTED = ("store_tests", "session_tests")
