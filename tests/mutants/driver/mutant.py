@@ -9,6 +9,8 @@ from repository.tree import BadInput, Tree, read_text
 
 # The mutants by which the driver is tried. The name of a file begins with a crate's and two underscores.
 CONTROLS = Path(__file__).resolve().parent.parent / "controls"
+# The keys after which lines of source come.
+SOURCE = ("old", "new")
 
 
 @dataclass(frozen=True)
@@ -21,8 +23,7 @@ class Edit:
     line: int
 
 
-@dataclass(frozen=True)
-class Public:
+class Public(NamedTuple):
     """The public function and its clauses, as `clause` or `clause.field`, that are proved from the refusing clause."""
 
     function: str
@@ -65,9 +66,8 @@ class Mutant:
         return made
 
 
-@dataclass
-class Entry:
-    """A key of a file with the number of its line, and the parts of its text."""
+class Entry(NamedTuple):
+    """A key of a file with the number of its line, and the parts of its text: lines of source, or parts of one line."""
 
     number: int
     key: str
@@ -75,15 +75,15 @@ class Entry:
 
     @property
     def text(self) -> str:
-        """All of its text: lines of source, or else the parts of one line."""
-        return ("\n" if self.key in ("old", "new") else " ").join(self.parts)
+        """All of its text."""
+        return ("\n" if self.key in SOURCE else " ").join(self.parts)
 
 
 def entries_of(path: Path) -> list[Entry]:
     """The keys of a file in their order. A text goes on in lines with a bar, or with two spaces, in front."""
     found: list[Entry] = []
     for number, line in enumerate(read_text(path).split("\n"), 1):
-        if found and line.startswith("|" if found[-1].key in ("old", "new") else "  "):
+        if found and line.startswith("|" if found[-1].key in SOURCE else "  "):
             found[-1].parts.append(line[1:].removeprefix(" "))
         elif key := re.match(r"(\w+):(?: |$)", line):
             found.append(Entry(number, key[1], [line[key.end() :]] if line[key.end() :] else []))

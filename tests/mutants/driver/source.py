@@ -45,7 +45,7 @@ def is_end_of(word: str, path: str) -> bool:
 def functions_of(source: Path) -> list[Function]:
     """The functions in the files below a folder, as they are when this is first asked."""
     texts = {file: read_text(source / file) for file in files_below(source, ".rt")}
-    modules = {file: module_of(file) for file in texts}
+    modules = {file: re.sub(r"(?:^|/)(?:lib|main|mod)$", "", file[:-3]).replace("/", "::") for file in texts}
     types = {name: modules[file] for file, text in texts.items() for name in TYPE.findall(text)}
     found = []
     for file, text in texts.items():
@@ -55,11 +55,6 @@ def functions_of(source: Path) -> list[Function]:
                 path = "::".join(word for word in (types[owner] if owner else modules[file], owner, name) if word)
                 found.append(Function(path, file, first, end, calls_itself(owner, name, lines[first:end])))
     return found
-
-
-def module_of(file: str) -> str:
-    """The path of the module in a file below src/. That of the root is empty."""
-    return re.sub(r"(?:^|/)(?:lib|main|mod)$", "", file.removesuffix(".rt")).replace("/", "::")
 
 
 def standing_in(lines: list[str]) -> Iterator[tuple[str, str, int, int]]:

@@ -1,44 +1,25 @@
 """A run: what is due, which sample is tried, what runs find, the table, and what a run leaves."""
 import subprocess
 import sys
-import unittest.mock
+from unittest.mock import patch
 from contextlib import redirect_stdout
 from io import StringIO
 from pathlib import Path
 
 from repository.tree import Tree
 
-from .. import by_run, due, trying
+from .. import by_run, trying
 from ..check import Report, report_of
 from ..due import Kept, drawn, stated_in, texts_below
 from ..mutant import Public
 from ..rooms import sweep
 from ..source import functions_of
-from ..table import public_clauses, table_of
+from ..table import table_of
 from ..trying import Run
 from ..verdict import Outcome
 from .stored import ANSWERS, LEMMAS, LIB, InARoom, OfASmallCrate, mutant_with
 
-ROW = """
-impl Row {
-    pub fn len(&self) -> u64
-        requires fits { self.now.count < 9 }
-        ensures count { result ≡ self.now.count }
-        ensures* { result ≤ 9 }
-    {
-        self.count
-    }
-    fn hidden(&self) -> u64
-        ensures { result ≡ 1 }
-    {
-        1
-    }
-}
-pub trait Counts {
-    fn count(&self) -> u64
-        ensures most { result ≤ 9 };
-}
-"""
+COUNTS = "pub trait Counts {\n    fn count(&self) -> u64\n        ensures* { result ≤ 9 };\n}\n"
 RUN = """
 import sys, tempfile, time
 from driver.rooms import in_a_room
@@ -46,29 +27,17 @@ in_a_room(lambda: (tempfile.mkdtemp(), print("begun", flush=True), time.sleep(60
 """
 
 
-class WithoutAToolchain(OfASmallCrate):
-    """Tests that ask no toolchain for its identity."""
-
-    def setUp(self) -> None:
-        super().setUp()
-        patched = unittest.mock.patch.object(due, "version_once", lambda: "this one")
-        self.addCleanup(patched.stop)
-        patched.start()
-
-
-class WhatIsDue(WithoutAToolchain):
+class WhatIsDue(OfASmallCrate):
     """A mutant of which a file has changed that its verdict rests on."""
 
     def is_due(self, file: str, text: str) -> bool:
         """Whether the mutant is due, if it was kept before a file had this text."""
         self.put({"name.edit": "", "crates.txt": "small: low\nlow:\n", "crates/low/src/lib.rt": LIB})
         mutant, kept = mutant_with(path=self.top / "name.edit"), Kept(self.top / "kept")
-        for changed in ({}, {file: text}):
-            self.put(changed)
+        for step in (lambda: kept.keep(Tree(self.top), mutant), lambda: self.put({file: text})):
             for one in (functions_of, stated_in, texts_below):
                 one.cache_clear()
-            if not changed:
-                kept.keep(Tree(self.top), mutant)
+            step()
         return kept.due(Tree(self.top), [mutant]) == [mutant]
 
     def test_it_is_due_if_what_it_rests_on_changes(self):
@@ -96,7 +65,7 @@ class WhatIsDue(WithoutAToolchain):
         self.assertTrue(self.is_due("more", ""))
 
 
-class WhatIsTried(WithoutAToolchain):
+class WhatIsTried(OfASmallCrate):
     """All mutants; or those that are due, within a time."""
 
     def run_of(self, names: str, is_limited: bool, seconds: list[float]) -> str:
@@ -109,7 +78,6 @@ class WhatIsTried(WithoutAToolchain):
             return report_of((line, 0.0) for line in (*lines, "only=1 holes=0\n"))
 
         clock = iter(seconds)
-        patch = unittest.mock.patch
         with redirect_stdout(StringIO()) as told, patch.object(Run, "check", check), patch.object(trying, "MOST", 1):
             with patch.object(trying, "seconds_of_children", lambda: next(clock, seconds[-1])):
                 run = Run(self.tree, self.top, 1, is_limited, began=0)
@@ -143,7 +111,7 @@ class FoundByARun(InARoom):
     def told(self, script: str, errors: str | None = None) -> tuple[Outcome, str]:
         """What becomes of a mutant, by a script and the errors of the build."""
         self.put({"crates.txt": "", "script": script})
-        with unittest.mock.patch.object(by_run, "build_program", lambda *_: errors):
+        with patch.object(by_run, "build_program", lambda *_: errors):
             return by_run.try_script(Tree(self.top), "tgstore", ["bash", f"{self.top}/script"])
 
     def test_each_end_of_a_run(self):
@@ -160,19 +128,17 @@ class FoundByARun(InARoom):
 
 
 class Table(OfASmallCrate):
-    """A clause has the mutants that it refuses, and those that a private clause below it refuses."""
-
-    def test_public_functions_have_their_clauses(self):
-        wanted = [("Row::len", "count"), ("Row::len", "ensures"), ("Counts::count", "most")]
-        self.assertEqual(list(public_clauses(ROW + LIB)), [*wanted, ("twice", "sum"), ("twice", "even")])
+    """A clause of a public function has the mutants that it refuses, and those that a private clause below it refuses."""
 
     def test_a_clause_has_its_mutants(self):
+        self.put({"crates/small/src/lib.rt": COUNTS + LIB})
         own = mutant_with(name="own", clauses=("sum",), kind="off by one")
         public = Public("twice", "small", ("sum", "even.part"))
         below = mutant_with(name="below", function="same", clauses=("ensures",), public=public)
-        rows = [row for row in table_of(self.tree, [own, below]).split("\n") if row.startswith("| ")]
-        wanted = ["| `twice` | `sum` | below, own |", "| `twice` | `even` | below (part) |"]
-        self.assertEqual([row for row in rows if "`" in row], [*wanted, "| off by one | `small` | own |"])
+        rows = [row for row in table_of(self.tree, [own, below]).split("\n") if "`" in row]
+        wanted = ["| `Counts::count` | `ensures` | - |", "| `twice` | `sum` | below, own |"]
+        wanted += ["| `twice` | `even` | below (part) |", "| off by one | `small` | own |"]
+        self.assertEqual(rows, ["## `small`", *wanted])
 
 
 class WhatARunLeaves(InARoom):

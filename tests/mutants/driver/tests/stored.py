@@ -4,9 +4,11 @@ import tempfile
 import unittest
 from dataclasses import replace
 from pathlib import Path
+from unittest.mock import patch
 
 from repository.tree import Tree, read_text, write_text
 
+from .. import due
 from ..check import Report, report_of
 from ..mutant import CONTROLS, Edit, Mutant
 
@@ -72,6 +74,9 @@ class OfASmallCrate(InARoom):
 
     def setUp(self) -> None:
         super().setUp()
+        patched = patch.object(due, "version_once", lambda: "the toolchain")
+        self.addCleanup(patched.stop)
+        patched.start()
         files = {"src/lib.rt": LIB, "proofs/twice/Answers.antt": ANSWERS, "proofs/Lemmas.antt": LEMMAS}
         self.put({f"crates/small/{file}": text for file, text in files.items()})
         self.put({"crates.txt": "small: # no library\n"})
