@@ -29,7 +29,7 @@ use Rattle.tg_could.proofs.SeparationLaws.{Holds-without_rights}
 use Rattle.tg_journal.specs.declared.entry.Entry.{Entry}
 use Rattle.tg_journal.specs.History.{IsLegal, graph_after}
 use Rattle.tg_could.specs.Turns.{Turn, AreTurns, IsSilent, NeverHolds, after}
-use Rattle.examples.specs.Alone.{changes, IsAlone, IsUntaken, HandsOn, LeavesBe, Puts, Reads, TellsOnly, Withholds}
+use Rattle.examples.specs.Alone.{changes, IsAlone, IsUntaken, HandsOn, LeavesBe, Puts, ReadsValue, TellsOnlyValue, Withholds}
 
 module _ (which : Right → Bool) (owner y : ℕ) (g : ProtectionGraph) (alone : IsAlone which owner y g) (p : ℕ) where
   each : (a b : ℕ) (rights : RightSet) → HoldsOver g.label a b rights → (right : Right) → has rights right ≡ true → Holds g.label a right b
@@ -141,20 +141,20 @@ left-after owner y g (e ∷ es) alone never puts =
 
 -- ---- what readers are told
 
-told : (stored : Option Value) (o : Option Denial) → TellsOnly stored (denied_or o (Values (state_of stored)))
+told : (stored : Option Value) (o : Option Denial) → TellsOnlyValue stored (denied_or o (Values (state_of stored)))
 told stored None = inl refl
 told stored (Some denial) = inr (denial, refl)
 
-pub told-read : (g : ProtectionGraph) (x y : ℕ) → TellsOnly (g.value y) (answer_of g x (Plain (Read y)))
+pub told-read : (g : ProtectionGraph) (x y : ℕ) → TellsOnlyValue (g.value y) (answer_of g x (Plain (Read y)))
 told-read g x y = told (g.value y) (denial_of g.label g.value x (Read y))
 
-pub reads-tell : (owner y : ℕ) (g : ProtectionGraph) (es : List Entry) → IsAlone changes owner y g → IsLegal g es → All (Withholds changes owner y) es → All (LeavesBe owner y) es → All (Reads y (g.value y)) es
-reads-tell owner y g [] alone legal never puts = All-nil (Reads y (g.value y))
+pub reads-tell : (owner y : ℕ) (g : ProtectionGraph) (es : List Entry) → IsAlone changes owner y g → IsLegal g es → All (Withholds changes owner y) es → All (LeavesBe owner y) es → All (ReadsValue y (g.value y)) es
+reads-tell owner y g [] alone legal never puts = All-nil (ReadsValue y (g.value y))
 reads-tell owner y g (e ∷ es) alone legal never puts =
     let left = left-step owner y g alone e.worker e.deed (All-head (LeavesBe owner y) e es puts) in
-    All-cons (Reads y (g.value y)) e es
-    (λ reads. subst (TellsOnly (g.value y)) (sym (legal.0.reply ∙ ap (answer_of g e.worker) reads)) (told-read g e.worker y))
-    (subst (λ (stored : Option Value). All (Reads y stored) es) left
+    All-cons (ReadsValue y (g.value y)) e es
+    (λ reads. subst (TellsOnlyValue (g.value y)) (sym (legal.0.reply ∙ ap (answer_of g e.worker) reads)) (told-read g e.worker y))
+    (subst (λ (stored : Option Value). All (ReadsValue y stored) es) left
     (reads-tell owner y (step g e.worker e.deed) es
     (alone-step changes owner y g alone e.worker e.deed (All-head (Withholds changes owner y) e es never)) legal.1 (All-tail (Withholds changes owner y) e es never) (All-tail (LeavesBe owner y) e es puts)))
 

@@ -11,16 +11,16 @@ use Rattle.tg_model.specs.Rules.{step}
 use Rattle.tg_store.specs.Store.{StoreState, graph_of_store}
 use Rattle.examples.specs.declared.stand_in.desk.TheConstants.{OWNER}
 use Rattle.examples.specs.Alone.{HandsOn, IsAlone, Puts, changes, each}
-use Rattle.examples.specs.Desk.{DeskState, IsKept}
+use Rattle.examples.specs.Desk.{DeskState, DeskIsKept}
 use Rattle.examples.proofs.AloneLaws.{alone-step, left-step}
 
 abbrev at_desk : StoreState → ℕ → ℕ → DeskState
 at_desk store thing stand_in = record { store = store; thing = thing; stand_in = stand_in }
 
-module _ (old new : StoreState) (thing stand_in worker : ℕ) (command : Command) (kept : IsKept (at_desk old thing stand_in))
+module _ (old new : StoreState) (thing stand_in worker : ℕ) (command : Command) (kept : DeskIsKept (at_desk old thing stand_in))
     (steps : graph_of_store new ≡ step (graph_of_store old) worker (Plain command)) where
   -- whatever doesn't hand the owner's on keeps it the owner's
-  pub kept-step : (worker ≡ OWNER → HandsOn each thing (Plain command) → ⊥) → (worker ≡ OWNER → HandsOn changes stand_in (Plain command) → ⊥) → IsKept (at_desk new thing stand_in)
+  pub kept-step : (worker ≡ OWNER → HandsOn each thing (Plain command) → ⊥) → (worker ≡ OWNER → HandsOn changes stand_in (Plain command) → ⊥) → DeskIsKept (at_desk new thing stand_in)
   kept-step withholds leaves = record {
     apart = kept.apart;
     thing = subst (λ (h : ProtectionGraph). IsAlone each OWNER thing h) (sym steps)
@@ -30,7 +30,7 @@ module _ (old new : StoreState) (thing stand_in worker : ℕ) (command : Command
   }
 
   -- a command of a client
-  pub kept-client : worker ≢ OWNER → IsKept (at_desk new thing stand_in)
+  pub kept-client : worker ≢ OWNER → DeskIsKept (at_desk new thing stand_in)
   kept-client client = kept-step (λ same hands. client same) (λ same hands. client same)
 
   -- what stands in stays where nothing is put into it

@@ -48,8 +48,8 @@ Puts y (Plain (Append target value)) = target ≡ y
 Puts y deed = ⊥
 
 -- a reader is told what is stored, or is denied
-abbrev pub TellsOnly : Option Value → Reply → Type 0
-TellsOnly stored reply = (reply ≡ Values (state_of stored)) ⊎ ((denial : Denial) × (reply ≡ Denied denial))
+abbrev pub TellsOnlyValue : Option Value → Reply → Type 0
+TellsOnlyValue stored reply = (reply ≡ Values (state_of stored)) ⊎ ((denial : Denial) × (reply ≡ Denied denial))
 
 -- if it is an entry of the owner, it hands none of these rights over y on
 abbrev pub Withholds : (Right → Bool) → ℕ → ℕ → Entry → Type 0
@@ -60,5 +60,5 @@ abbrev pub LeavesBe : ℕ → ℕ → Entry → Type 0
 LeavesBe owner y e = e.worker ≡ owner → ¬ Puts y e.deed
 
 -- if the entry reads y, it tells what is stored here, or is denied
-abbrev pub Reads : ℕ → Option Value → Entry → Type 0
-Reads y stored e = e.deed ≡ Plain (Read y) → TellsOnly stored e.reply
+abbrev pub ReadsValue : ℕ → Option Value → Entry → Type 0
+ReadsValue y stored e = e.deed ≡ Plain (Read y) → TellsOnlyValue stored e.reply

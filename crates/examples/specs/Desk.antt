@@ -20,7 +20,7 @@ abbrev pub shown_at : DeskState → Option Value
 shown_at d = (graph_of_desk d).value d.stand_in
 
 -- No right over the thing is anybody's but the owner's, nor is one that changes what stands in for it.
-pub record IsKept (d : DeskState) : Type 0 where
+pub record DeskIsKept (d : DeskState) : Type 0 where
   pub apart : d.stand_in ≢ d.thing
   pub thing : IsAlone each OWNER d.thing (graph_of_desk d)
   pub stand_in : IsAlone changes OWNER d.stand_in (graph_of_desk d)

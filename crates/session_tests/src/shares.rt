@@ -35,7 +35,7 @@ const TWO_ENTRIES: Portion = Portion {
 
 // What is seen of the two clients.
 #[derive(Clone, Copy, PartialEq, Eq, Debug)]
-struct Seen {
+struct ShareSeen {
     // whether the first makes two vertices, and what it then lacks for a third
     made: bool,
     lacks: Option<Lack>,
@@ -94,7 +94,7 @@ fn see<L: Round, V: Ledger, E: Ledger, R: Wait>(
     store: &MeteredStore<L, V, E, CellPayload>,
     first: &mut Client<L, V, E>,
     second: &mut Client<L, V, E>,
-) -> Seen {
+) -> ShareSeen {
     let made = [
         makes(rt, alloc, store, first),
         makes(rt, alloc, store, first),
@@ -102,7 +102,7 @@ fn see<L: Round, V: Ledger, E: Ledger, R: Wait>(
     let lacks = lacks(first);
     let other_made = makes(rt, alloc, store, second);
     let left = leaves(rt, store, first, second);
-    Seen {
+    ShareSeen {
         made: made == [true, true],
         lacks,
         other_made,
@@ -139,7 +139,7 @@ fn seen_of<L: Round, V: Ledger, E: Ledger, R: Wait>(
     rt: &R,
     alloc: Global,
     shared: SharedOut<L, V, E, CellPayload>,
-) -> Option<Seen> {
+) -> Option<ShareSeen> {
     let SharedOut {
         store,
         sessions,
@@ -165,7 +165,7 @@ fn seen_of_two<L: Round, V: Ledger, E: Ledger, R: Wait>(
     store: MeteredStore<L, V, E, CellPayload>,
     mut first: Client<L, V, E>,
     mut second: Client<L, V, E>,
-) -> Option<Seen> {
+) -> Option<ShareSeen> {
     let seen = see(rt, alloc, &store, &mut first, &mut second);
     let mut sessions = Vec::new(alloc);
     add(&mut sessions, first);
@@ -184,11 +184,11 @@ fn add<L: Round, V: Ledger, E: Ledger>(sessions: &mut Vec<Session<L>>, client: C
 }
 
 // The same with what is counted of the closed store.
-fn with_counts(seen: Seen, store: Store<CellPayload>) -> Seen {
+fn with_counts(seen: ShareSeen, store: Store<CellPayload>) -> ShareSeen {
     let entries = store.journal().len();
     let counted = counted(&store);
     store.let_go();
-    Seen {
+    ShareSeen {
         entries,
         counted,
         ..seen
@@ -201,7 +201,7 @@ fn share<L: Round, V: Ledger, E: Ledger, R: Wait>(
     blanks: Blanks,
     parts: PurseBlanks,
     store: Store<CellPayload>,
-) -> Option<Seen>
+) -> Option<ShareSeen>
     requires shareable { MayShare L.name L.parts L.keeper L.start blanks store }
     requires shares { MayShareOut V.name V.parts E.name E.parts parts WHOLE store }
 {
@@ -215,7 +215,7 @@ fn share<L: Round, V: Ledger, E: Ledger, R: Wait>(
 }
 
 // Shares out all that may still be made.
-fn share_out<R: Wait>(rt: &R, alloc: Global, store: Store<CellPayload>) -> Option<Seen>
+fn share_out<R: Wait>(rt: &R, alloc: Global, store: Store<CellPayload>) -> Option<ShareSeen>
     requires { (graph_of_store store).made + 3 ≤ store.opening.limit }
 {
     let Ok(blanks) = Blanks::new(alloc, store.opening().max_vertices() + 1) else {
@@ -225,7 +225,7 @@ fn share_out<R: Wait>(rt: &R, alloc: Global, store: Store<CellPayload>) -> Optio
     share::<Brand, Brand, Brand, R>(rt, alloc, blanks, PurseBlanks::new(WHOLE), store)
 }
 
-fn story<R: Wait>(rt: &R, alloc: Global) -> Option<Seen> {
+fn story<R: Wait>(rt: &R, alloc: Global) -> Option<ShareSeen> {
     match open_store(alloc) {
         Some(store) => share_out(rt, alloc, store),
         None => None,
@@ -236,7 +236,7 @@ fn story<R: Wait>(rt: &R, alloc: Global) -> Option<Seen> {
 // paid for is refused, and one that can costs an entry for each edge and one more. Nobody collects.
 #[test]
 fn shares_hold_and_are_paid_from(rt: HostRuntime) {
-    let wanted = Seen {
+    let wanted = ShareSeen {
         made: true,
         lacks: Some(Lack::Vertices),
         other_made: true,

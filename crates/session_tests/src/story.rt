@@ -19,7 +19,7 @@ type Part = (u64, u64, bool);
 
 // What is seen while the store is shared: where it can't be, nothing.
 #[derive(Clone, Copy)]
-struct Told {
+struct StoryTold {
     // the bits of what each of the two sessions is told that it holds over the vertex that the first one made
     labels: [u8; 2],
     // two parts, each with the receipts of the first
@@ -34,7 +34,7 @@ struct Told {
     nobody: (Option<ApplyFault>, bool),
 }
 
-const NOTHING: Told = Told {
+const NOTHING: StoryTold = StoryTold {
     labels: [0, 0],
     parts: [(0, 0, false), (0, 0, false)],
     taken_over: [false, false],
@@ -153,7 +153,7 @@ fn tell_of_two<L: Round, R: Wait>(
     keeper: &mut Keeper<L>,
     first: &mut Session<L>,
     second: &mut Session<L>,
-) -> Told
+) -> StoryTold
     requires in_parts { L.start.in_parts ≡ true }
     requires may_end { L.start.may_end ≡ true }
 {
@@ -166,7 +166,7 @@ fn tell_of_two<L: Round, R: Wait>(
     let held_by_ended = [held, held_by(rt, store, second, 4)];
     let nobody = end_nobody(rt, store, keeper, first);
     drop(first.take_receipts());
-    Told {
+    StoryTold {
         labels,
         parts,
         taken_over,
@@ -183,7 +183,7 @@ fn tell<L: Round, R: Wait>(
     store: &SharedStore<L, CellPayload>,
     keeper: &mut Keeper<L>,
     sessions: &mut [Session<L>],
-) -> Told
+) -> StoryTold
     requires in_parts { L.start.in_parts ≡ true }
     requires may_end { L.start.may_end ≡ true }
 {
@@ -198,7 +198,7 @@ fn tell<L: Round, R: Wait>(
 type Back = ([u64; 4], Counted);
 
 // What is seen, and what of the store that is had back.
-type Seen = (Told, Option<Back>);
+type StorySeen = (StoryTold, Option<Back>);
 
 // The numbers of the entries, where the store was had back.
 fn entries_of<L: Round>(keeper: &Keeper<L>, closed: Option<Store<CellPayload>>) -> Option<Back> {
@@ -215,7 +215,7 @@ fn entries_of<L: Round>(keeper: &Keeper<L>, closed: Option<Store<CellPayload>>) 
     Some((entries, counted))
 }
 
-fn seen_of_shared<L: Round, R: Wait>(rt: &R, alloc: Global, shared: Shared<L, CellPayload>) -> Seen
+fn seen_of_shared<L: Round, R: Wait>(rt: &R, alloc: Global, shared: Shared<L, CellPayload>) -> StorySeen
     requires in_parts { L.start.in_parts ≡ true }
     requires may_end { L.start.may_end ≡ true }
 {
@@ -234,7 +234,7 @@ fn seen_of_store<L: Round, R: Wait>(
     alloc: Global,
     blanks: Blanks,
     store: Store<CellPayload>,
-) -> Seen
+) -> StorySeen
     requires shareable { MayShare L.name L.parts L.keeper L.start blanks store }
     requires in_parts { L.start.in_parts ≡ true }
     requires may_end { L.start.may_end ≡ true }
@@ -249,7 +249,7 @@ fn seen_of_store<L: Round, R: Wait>(
 }
 
 // Shares the store, so that its keeper may take parts and end workers.
-fn share<R: Wait>(rt: &R, alloc: Global, store: Store<CellPayload>) -> Seen {
+fn share<R: Wait>(rt: &R, alloc: Global, store: Store<CellPayload>) -> StorySeen {
     let Ok(blanks) = Blanks::new(alloc, store.opening().max_vertices() + 1) else {
         store.let_go();
         return (NOTHING, None);
@@ -257,7 +257,7 @@ fn share<R: Wait>(rt: &R, alloc: Global, store: Store<CellPayload>) -> Seen {
     seen_of_store::<Brand, R>(rt, alloc, blanks, store)
 }
 
-fn story<R: Wait>(rt: &R, alloc: Global) -> Seen {
+fn story<R: Wait>(rt: &R, alloc: Global) -> StorySeen {
     match open_store(alloc) {
         Some(store) => share(rt, alloc, store),
         None => (NOTHING, None),
@@ -265,7 +265,7 @@ fn story<R: Wait>(rt: &R, alloc: Global) -> Seen {
 }
 
 // What is told of the store while it is shared.
-fn while_shared<R: Wait>(rt: &R, alloc: Global) -> Told {
+fn while_shared<R: Wait>(rt: &R, alloc: Global) -> StoryTold {
     story(rt, alloc).0
 }
 

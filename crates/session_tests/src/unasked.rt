@@ -15,7 +15,7 @@ use tg_store::{Kind, Store};
 
 // What is done with the sessions of a store until it is had back.
 #[derive(Clone, Copy, PartialEq, Eq)]
-enum Way {
+enum UnaskedWay {
     // all calls are made but collections, and the store is closed with its keeper
     Acts,
     // the store is closed at once
@@ -107,7 +107,7 @@ fn collect<L: Round, R: Wait>(
 fn had_back<L: Round, R: Wait>(
     rt: &R,
     shared: Shared<L, CellPayload>,
-    way: Way,
+    way: UnaskedWay,
 ) -> Option<Store<CellPayload>> {
     let Shared {
         store,
@@ -115,11 +115,11 @@ fn had_back<L: Round, R: Wait>(
         keeper: _,
     } = shared;
     match way {
-        Way::Loses => {
+        UnaskedWay::Loses => {
             drop(sessions.pop());
             reclaim(store, sessions).ok()
         }
-        Way::Collects => {
+        UnaskedWay::Collects => {
             collect(rt, &store, &mut sessions);
             close(store, sessions).ok()
         }
@@ -132,12 +132,12 @@ fn share_by<L: Round, R: Wait>(
     alloc: Global,
     blanks: Blanks,
     store: Store<CellPayload>,
-    way: Way,
+    way: UnaskedWay,
 ) -> Option<Store<CellPayload>>
     requires shareable { MayShare L.name L.parts L.keeper L.start blanks store }
 {
     match SharedStore::<L, CellPayload>::new(alloc, blanks, store) {
-        Ok(shared) if way == Way::Acts => acted(rt, alloc, shared),
+        Ok(shared) if way == UnaskedWay::Acts => acted(rt, alloc, shared),
         Ok(shared) => had_back(rt, shared, way),
         Err(refused) => {
             refused.store.let_go();
@@ -151,7 +151,7 @@ fn share<R: Wait>(
     rt: &R,
     alloc: Global,
     store: Store<CellPayload>,
-    way: Way,
+    way: UnaskedWay,
 ) -> Option<Store<CellPayload>> {
     let Ok(blanks) = Blanks::new(alloc, store.opening().max_vertices() + 1) else {
         store.let_go();
@@ -163,11 +163,11 @@ fn share<R: Wait>(
 // What is counted once all was asked for but a collection, and once one of the nurseries was.
 fn story<R: Wait>(rt: &R, alloc: Global) -> Option<[Counted; 2]> {
     let mut store = open_store(alloc)?;
-    for way in [Way::Acts, Way::Closes, Way::Loses] {
+    for way in [UnaskedWay::Acts, UnaskedWay::Closes, UnaskedWay::Loses] {
         store = share(rt, alloc, store, way)?;
     }
     let before = counted(&store);
-    let store = share(rt, alloc, store, Way::Collects)?;
+    let store = share(rt, alloc, store, UnaskedWay::Collects)?;
     let after = counted(&store);
     store.let_go();
     Some([before, after])

@@ -14,7 +14,7 @@ use Rattle.tg_c.specs.declared.forms.EdgeIn.{EdgeIn}
 use Rattle.tg_c.specs.declared.forms.LimitsIn.{LimitsIn}
 use Rattle.tg_c.specs.declared.forms.ValueIn.{ValueIn}
 use Rattle.tg_c.specs.Calls.{AreMet, IsRefusedFor, IsMemoryOr, demands_of}
-use Rattle.tg_c.specs.Forms.{edge_in, plan_of, value_in}
+use Rattle.tg_c.specs.Forms.{edge_in, plan_given, value_in}
 use Rattle.tg_c.specs.Statuses.{of_open, status_of}
 use Rattle.tg_c.proofs.PlanLaws.{no_fault, plan_is}
 
@@ -39,7 +39,7 @@ pub no_plan_fault : (workers : List ValueIn) (edges : List EdgeIn) (limits : Lim
     → AreMet (demands_of workers edges limits) → values ≡ map value_in workers → list ≡ map edge_in edges
     → IsFaultTo MAX_LASTING_VERTICES (record { workers = length workers; edges = list; values = values; limit = limits.max_vertices }) why → ⊥
 no_plan_fault workers edges limits values list why met same_values same_edges says =
-    no_fault (plan_of workers edges limits.max_vertices) why (plan_is workers edges limits met) (subst (λ (p : Plan). IsFaultTo MAX_LASTING_VERTICES p why)
+    no_fault (plan_given workers edges limits.max_vertices) why (plan_is workers edges limits met) (subst (λ (p : Plan). IsFaultTo MAX_LASTING_VERTICES p why)
     (ap (λ vs. record { workers = length workers; edges = list; values = vs; limit = limits.max_vertices }) same_values
     ∙ ap (λ es. record { workers = length workers; edges = es; values = map value_in workers; limit = limits.max_vertices }) same_edges) says)
 

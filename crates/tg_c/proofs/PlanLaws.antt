@@ -13,7 +13,7 @@ use Rattle.tg_c.specs.declared.forms.EdgeIn.{EdgeIn}
 use Rattle.tg_c.specs.declared.forms.LimitsIn.{LimitsIn}
 use Rattle.tg_c.specs.declared.forms.ValueIn.{ValueIn}
 use Rattle.tg_c.specs.Calls.{AreMet, demands_of}
-use Rattle.tg_c.specs.Forms.{AreValues, edge_in, plan_of, value_at, value_in, value_or_cell}
+use Rattle.tg_c.specs.Forms.{AreValues, edge_in, plan_given, value_at, value_in, value_or_cell}
 
 -- ---- the values and edges of C
 
@@ -57,7 +57,7 @@ values_fit workers are = All-map value_in ValueFits workers any_value (λ k d lo
 -- ---- plans
 
 pub plan_is : (workers : List ValueIn) (edges : List EdgeIn) (limits : LimitsIn) → AreMet (demands_of workers edges limits)
-    → IsPlan (plan_of workers edges limits.max_vertices)
+    → IsPlan (plan_given workers edges limits.max_vertices)
 plan_is workers edges limits met = record {
   workers = met.1.1.0;
   limits = met.1.1.1.0;

@@ -6,7 +6,7 @@ use Rattle.tg_journal.specs.declared.auditor.PartFault.{PartFault}
 use Rattle.tg_journal.specs.declared.entry.Entry.{Entry}
 use Rattle.tg_journal.specs.Auditing.{FeedsPart, StandsAt}
 use Rattle.tg_journal.specs.History.{graph_after}
-use Rattle.tg_journal.specs.Live.{IsSwept, graph_kept}
+use Rattle.tg_journal.specs.Live.{IsSweptGraph, graph_kept}
 use Rattle.tg_store.specs.Store.{StoreState}
 use Rattle.tg_c.specs.declared.auditor.audit.Audit.{Audit}
 use Rattle.tg_c.specs.declared.auditor.place.AuditorPlace.{AuditorPlace}
@@ -17,7 +17,7 @@ use Rattle.tg_c.specs.declared.forms.ValueIn.{ValueIn}
 use Rattle.tg_c.specs.declared.refusal.CallRefusal.{CallRefusal}
 use Rattle.tg_c.specs.declared.refusal.CallRefusal.TheVariants as refusal
 use Rattle.tg_c.specs.Calls.{AreMet, Forgets, IsRefusedFor, IsStatusWhere, demands_of, state_in}
-use Rattle.tg_c.specs.Forms.{plan_of}
+use Rattle.tg_c.specs.Forms.{plan_given}
 use Rattle.tg_c.specs.Statuses.{of_part, status_of}
 
 -- the audit in an open place
@@ -79,7 +79,7 @@ pub record ForgetsAudited (old new : AuditorPlace) (store after : StorePlace) (u
 pub record SweepsAudit (old new : Audit) (answer : Result (Unit {0}) CallRefusal) : Type 0 where
   pub stands : (g : ProtectionGraph) → StandsAt g old.auditor → StandsAt g new.auditor
   pub place : (new.auditor.at ≡ old.auditor.at) × (new.auditor.found_bad ≡ old.auditor.found_bad)
-  pub swept : OnOk answer (IsSwept (graph_kept old.auditor.kept) (graph_kept new.auditor.kept))
+  pub swept : OnOk answer (IsSweptGraph (graph_kept old.auditor.kept) (graph_kept new.auditor.kept))
   pub refused : IfErr answer (λ why. (why ≡ refusal.OutOfMemory) × (new ≡ old))
 
 -- a sweep of the auditor in a place
@@ -94,7 +94,7 @@ pub record Sweeps (old new : AuditorPlace) (tells : Result (Unit {0}) CallRefusa
 pub record IsOpenedAudit (a : Audit) (workers : List ValueIn) (edges : List EdgeIn) (limits : LimitsIn) : Type 0 where
   pub met : AreMet (demands_of workers edges limits)
   pub first : a.auditor.at ≡ 0
-  pub stands : StandsAt (start_of (plan_of workers edges limits.max_vertices)) a.auditor
+  pub stands : StandsAt (start_of (plan_given workers edges limits.max_vertices)) a.auditor
 
 -- What an opening of C does to the auditor's place. Refused, it leaves the place as it was.
 pub record OpensAudit (old new : AuditorPlace) (workers : List ValueIn) (edges : List EdgeIn) (limits : LimitsIn) (status : ℕ) : Type 0 where

@@ -48,7 +48,7 @@ use Rattle.tg_c.specs.declared.forms.EdgeIn.{EdgeIn}
 use Rattle.tg_c.specs.declared.forms.LimitsIn.{LimitsIn}
 use Rattle.tg_c.specs.declared.forms.ValueIn.{ValueIn}
 use Rattle.tg_c.specs.declared.opening.Asked.{Asked}
-use Rattle.tg_c.specs.Forms.{AreValues, HaveLabels, JoinWorkers, label_at, plan_of, value_at, value_in}
+use Rattle.tg_c.specs.Forms.{AreValues, HaveLabels, JoinWorkers, label_at, plan_given, value_at, value_in}
 use Rattle.tg_c.specs.Records.{entry_at}
 use Rattle.tg_c.specs.Statuses.{of_apply, of_collect, of_create, refused_as, status_of}
 
@@ -59,7 +59,7 @@ state_in place = place.handle.opened.store
 -- ---- a call on a place
 
 -- On an open place the store has an answer of which `holds`, and this is told; the place stays open.
-pub record IsServed {T E : Type 0} (name : E → CallRefusal) (holds : StoreState → StoreState → Result T E → Type 0)
+pub record ServesCall {T E : Type 0} (name : E → CallRefusal) (holds : StoreState → StoreState → Result T E → Type 0)
     (old new : StorePlace) (tells : Result T CallRefusal → Type 0) : Type 0 where
   pub answer : Result T E
   pub told : tells (refused_as name answer)
@@ -70,7 +70,7 @@ pub record IsServed {T E : Type 0} (name : E → CallRefusal) (holds : StoreStat
 pub record IsCall {T E : Type 0} (name : E → CallRefusal) (holds : StoreState → StoreState → Result T E → Type 0)
     (old new : StorePlace) (tells : Result T CallRefusal → Type 0) : Type 0 where
   pub not_open : old.is_open ≡ false → tells (Err refusal.NotOpen) × (new.is_open ≡ false)
-  pub served : old.is_open ≡ true → IsServed name holds old new tells
+  pub served : old.is_open ≡ true → ServesCall name holds old new tells
 
 -- the call is refused for what it asks for, before the store is looked at
 abbrev pub Refuses : {T : Type 0} → StorePlace → StorePlace → (Result T CallRefusal → Type 0) → CallRefusal → Type 0
@@ -119,14 +119,14 @@ IsReadOrDenied (reply.Edges edges) = ⊥
 IsReadOrDenied reply.VerticesFull = ⊥
 IsReadOrDenied reply.WorkersFull = ⊥
 
-abbrev pub IsListed : Reply → Type 0
-IsListed (reply.Edges edges) = Unit {0}
-IsListed reply.Done = ⊥
-IsListed (reply.Denied denial) = ⊥
-IsListed (reply.Name name) = ⊥
-IsListed (reply.Values values) = ⊥
-IsListed reply.VerticesFull = ⊥
-IsListed reply.WorkersFull = ⊥
+abbrev pub IsListReply : Reply → Type 0
+IsListReply (reply.Edges edges) = Unit {0}
+IsListReply reply.Done = ⊥
+IsListReply (reply.Denied denial) = ⊥
+IsListReply (reply.Name name) = ⊥
+IsListReply (reply.Values values) = ⊥
+IsListReply reply.VerticesFull = ⊥
+IsListReply reply.WorkersFull = ⊥
 
 abbrev pub IsListedOrDenied : Reply → Type 0
 IsListedOrDenied (reply.Edges edges) = Unit {0}
@@ -137,14 +137,14 @@ IsListedOrDenied (reply.Values values) = ⊥
 IsListedOrDenied reply.VerticesFull = ⊥
 IsListedOrDenied reply.WorkersFull = ⊥
 
-abbrev pub IsDone : Reply → Type 0
-IsDone reply.Done = Unit {0}
-IsDone (reply.Denied denial) = ⊥
-IsDone (reply.Name name) = ⊥
-IsDone (reply.Values values) = ⊥
-IsDone (reply.Edges edges) = ⊥
-IsDone reply.VerticesFull = ⊥
-IsDone reply.WorkersFull = ⊥
+abbrev pub IsDoneReply : Reply → Type 0
+IsDoneReply reply.Done = Unit {0}
+IsDoneReply (reply.Denied denial) = ⊥
+IsDoneReply (reply.Name name) = ⊥
+IsDoneReply (reply.Values values) = ⊥
+IsDoneReply (reply.Edges edges) = ⊥
+IsDoneReply reply.VerticesFull = ⊥
+IsDoneReply reply.WorkersFull = ⊥
 
 -- a reply that shows as much as this one, or a denial
 abbrev pub IsAlikeOrDenied : Reply → Reply → Type 0
@@ -154,8 +154,8 @@ IsAlikeOrDenied one r = IsDoneOrDenied r
 
 -- A list and a retire are never denied. What any other shows where it is served it shows on whatever graph, so on one without edges.
 abbrev pub IsReplyTo : Command → Reply → Type 0
-IsReplyTo command.List r = IsListed r
-IsReplyTo command.Retire r = IsDone r
+IsReplyTo command.List r = IsListReply r
+IsReplyTo command.Retire r = IsDoneReply r
 IsReplyTo asked r = IsAlikeOrDenied (reply_on_none asked) r
 
 -- ---- creates and spawns
@@ -193,14 +193,14 @@ pub record MakesOfForms (kind : Making) (old new : StorePlace) (worker rights : 
 -- ---- collections
 
 -- the answer to a collection: the clauses of the store's `collect`
-pub record Collects (kind : Kind) (old new : StoreState) (answer : Result ℕ RoomFault) : Type 0 where
+pub record CollectsHeap (kind : Kind) (old new : StoreState) (answer : Result ℕ RoomFault) : Type 0 where
   pub swept : IfOk answer (IsSwept kind old new)
   pub blocks : OnOk answer (HasFewBlocks kind 0 old.heap.table new.heap.table)
   pub full : answer ≡ Err no_room.HeapFull → LacksRoomToCollect kind 1 old.heap
   pub history : KeepsHistory old new answer
 
 abbrev pub Sweeps : StorePlace → StorePlace → Kind → (Result ℕ CallRefusal → Type 0) → Type 0
-Sweeps old new kind = IsCall of_collect (Collects kind) old new
+Sweeps old new kind = IsCall of_collect (CollectsHeap kind) old new
 
 -- ---- calls that only look
 
@@ -269,14 +269,14 @@ abbrev pub AsksRights : StorePlace → StorePlace → ℕ → ℕ → (Result �
 AsksRights old new worker target = IsCall (λ why. why) (IsHeldAt worker target) old new
 
 -- An audit of the store's own journal is refused exactly where entries were given up, and else for want of memory alone.
-pub record IsAudited (old new : StoreState) (answer : Result ℕ CallRefusal) : Type 0 where
+pub record StoreIsAudited (old new : StoreState) (answer : Result ℕ CallRefusal) : Type 0 where
   pub same : new ≡ old
   pub count : IfOk answer (λ n. n ≡ length old.entries)
   pub not_whole : (answer ≡ Err refusal.NotWhole) ↔ (0 < old.handed)
   pub fault : IfErr answer (λ why. (why ≡ refusal.NotWhole) ⊎ (why ≡ refusal.OutOfMemory))
 
 abbrev pub Audits : StorePlace → StorePlace → (Result ℕ CallRefusal → Type 0) → Type 0
-Audits old new = IsCall (λ why. why) IsAudited old new
+Audits old new = IsCall (λ why. why) StoreIsAudited old new
 
 -- The entries before a place are given up. It is refused exactly where the place lies before the first entry that is held, or behind the
 -- last by more than one.
@@ -303,8 +303,8 @@ abbrev pub demands_of : List ValueIn → List EdgeIn → LimitsIn → List Deman
 demands_of workers edges limits =
     demand (AreValues workers) refusal.BadLaw
     ∷ demand (HaveLabels edges) refusal.BadRights
-    ∷ demand (HasWorkers (plan_of workers edges limits.max_vertices)) refusal.BadWorkers
-    ∷ demand (HasLimitsTo MAX_LASTING_VERTICES (plan_of workers edges limits.max_vertices)) refusal.BadLimits
+    ∷ demand (HasWorkers (plan_given workers edges limits.max_vertices)) refusal.BadWorkers
+    ∷ demand (HasLimitsTo MAX_LASTING_VERTICES (plan_given workers edges limits.max_vertices)) refusal.BadLimits
     ∷ demand (JoinWorkers (length workers) edges) refusal.BadEdge
     ∷ demand (AreLimits (limits_of limits.max_blocks limits.max_space_blocks)) refusal.BadLimits
     ∷ demand (length workers ≤ limits.max_blocks) refusal.HeapFull
@@ -328,15 +328,15 @@ IsRefusedFor workers edges limits why =
 -- what was made of what an opening asks for, all of whose demands are met
 pub record IsAskedFor (workers : List ValueIn) (edges : List EdgeIn) (limits : LimitsIn) (asked : Asked) : Type 0 where
   pub met : AreMet (demands_of workers edges limits)
-  pub opening : asked.opening ≡ plan_of workers edges limits.max_vertices
+  pub opening : asked.opening ≡ plan_given workers edges limits.max_vertices
   pub blocks : asked.blocks ≡ limits_of limits.max_blocks limits.max_space_blocks
   pub drafts : asked.drafts.items ≡ map value_in workers
 
 -- The store of an opening, all of whose demands are met: it has no entry, and stands for the graph of what C asked for.
 pub record IsOpenedStore (s : StoreState) (workers : List ValueIn) (edges : List EdgeIn) (limits : LimitsIn) : Type 0 where
   pub met : AreMet (demands_of workers edges limits)
-  pub opening : s.opening ≡ plan_of workers edges limits.max_vertices
-  pub stands : StandsFor s (start_of (plan_of workers edges limits.max_vertices))
+  pub opening : s.opening ≡ plan_given workers edges limits.max_vertices
+  pub stands : StandsFor s (start_of (plan_given workers edges limits.max_vertices))
   pub no_entry : s.entries ≡ []
   pub none_collected : s.collections ≡ no_collections
   pub limits_kept : s.heap.table.limits ≡ limits_of limits.max_blocks limits.max_space_blocks

@@ -23,7 +23,7 @@ use Rattle.tg_c.specs.declared.refusal.CallRefusal.{CallRefusal}
 use Rattle.tg_c.specs.declared.refusal.CallRefusal.TheVariants as refusal
 use Rattle.tg_c.specs.Calls.{AreMet, Demand, IsFirstUnmet, IsMemoryOr, IsStatusWhere, demand, state_in}
 use Rattle.tg_c.specs.Forms.{HaveLabels, edge_in}
-use Rattle.tg_c.specs.Records.{answered, deed_out, numbers_in, record_with}
+use Rattle.tg_c.specs.Records.{answered, deed_out, numbers_replied, record_with}
 use Rattle.tg_c.specs.Statuses.{status_of}
 
 -- ---- the question
@@ -100,27 +100,27 @@ pub record Foresees (old new : StorePlace) (silent : List ℕ) (as_if : List Edg
 -- ---- the answer
 
 -- never, now, could, could with more names, open
-abbrev pub kind_of : Answer → ℕ
-kind_of (Never separation) = 0
-kind_of (Could turns) = if length turns.items == 0 then 1 else 2
-kind_of (WantsNames turns names) = 3
-kind_of Open = 5
+abbrev pub outlook_kind : Answer → ℕ
+outlook_kind (Never separation) = 0
+outlook_kind (Could turns) = if length turns.items == 0 then 1 else 2
+outlook_kind (WantsNames turns names) = 3
+outlook_kind Open = 5
 
 -- that x isn't reached, or one of these
 abbrev pub kind_in : ReachedAnswer → ℕ
 kind_in Unreached = 4
-kind_in (Of answer) = kind_of answer
+kind_in (Of answer) = outlook_kind answer
 
 -- how many names are wanting
-abbrev pub names_of : Answer → ℕ
-names_of (Never separation) = 0
-names_of (Could turns) = 0
-names_of (WantsNames turns names) = names
-names_of Open = 0
+abbrev pub names_answered : Answer → ℕ
+names_answered (Never separation) = 0
+names_answered (Could turns) = 0
+names_answered (WantsNames turns names) = names
+names_answered Open = 0
 
-abbrev pub names_in : ReachedAnswer → ℕ
-names_in Unreached = 0
-names_in (Of answer) = names_of answer
+abbrev pub names_told : ReachedAnswer → ℕ
+names_told Unreached = 0
+names_told (Of answer) = names_answered answer
 
 -- the turns that lead there
 abbrev pub turns_of : Answer → List Turn
@@ -146,7 +146,7 @@ pub record Consults {T : Type 0} (what : ReachedAnswer → Result T CallRefusal)
 
 -- the turn as an entry that has no reply
 abbrev pub turn_out : Turn → RecordOut
-turn_out turn = record_with turn.0 (deed_out turn.1) (answered 0 0) (length (numbers_in turn.1 Done)) 0
+turn_out turn = record_with turn.0 (deed_out turn.1) (answered 0 0) (length (numbers_replied turn.1 Done)) 0
 
 -- the out parameters of a call for a turn
 pub record TurnOut : Type 0 where
@@ -155,5 +155,5 @@ pub record TurnOut : Type 0 where
 
 abbrev pub TellsTurn : ℕ → TurnOut → TurnOut → Result Turn CallRefusal → Type 0
 TellsTurn status old new (Ok turn) = (status ≡ 0)
-    × (new ≡ record { record_out = turn_out turn; numbers = shown_in (numbers_in turn.1 Done) old.numbers })
+    × (new ≡ record { record_out = turn_out turn; numbers = shown_in (numbers_replied turn.1 Done) old.numbers })
 TellsTurn status old new (Err why) = (status ≡ status_of why) × (new ≡ old)

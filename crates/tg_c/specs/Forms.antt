@@ -73,8 +73,8 @@ abbrev pub JoinWorkers : ℕ → List EdgeIn → Type 0
 JoinWorkers workers edges = All (λ e. JoinsWorkers workers (edge_in e)) edges
 
 -- the opening that C asks for
-abbrev pub plan_of : List ValueIn → List EdgeIn → ℕ → Plan
-plan_of workers edges max_vertices =
+abbrev pub plan_given : List ValueIn → List EdgeIn → ℕ → Plan
+plan_given workers edges max_vertices =
     record { workers = length workers; edges = map edge_in edges; values = map value_in workers; limit = max_vertices }
 
 -- ---- out

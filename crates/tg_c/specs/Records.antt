@@ -6,7 +6,7 @@ use Rattle.tg_model.specs.declared.command.Deed.{Deed}
 use Rattle.tg_model.specs.declared.command.Deed.TheVariants.{Plain, Create, Spawn}
 use Rattle.tg_model.specs.declared.verb.Arguments.{Arguments}
 use Rattle.tg_model.specs.declared.verb.Arguments.TheVariants as behind
-use Rattle.tg_model.specs.Commands.{parts_of}
+use Rattle.tg_model.specs.Commands.{verb_and_arguments}
 use Rattle.tg_model.specs.declared.law.Law.{Law}
 use Rattle.tg_model.specs.declared.law.Law.TheVariants as law
 use Rattle.tg_model.specs.declared.reply.Reply.{Reply}
@@ -42,7 +42,7 @@ arguments_out kind (behind.Rights target rights) = asked kind 0 target (bits_of 
 arguments_out kind (behind.Move via target rights) = asked kind via target (bits_of rights) 0
 
 abbrev pub command_out : Command → DeedOut
-command_out command = arguments_out (verb_number (parts_of command).0) (parts_of command).1
+command_out command = arguments_out (verb_number (verb_and_arguments command).0) (verb_and_arguments command).1
 
 -- the making of a vertex, an object or a subject
 abbrev pub making_out : ℕ → RightSet → Law → DeedOut
@@ -83,26 +83,26 @@ values_in (Edges edges) = []
 values_in VerticesFull = []
 values_in WorkersFull = []
 
-abbrev pub edges_in : Reply → List (ℕ × RightSet)
-edges_in (Edges edges) = edges
-edges_in Done = []
-edges_in (Denied denial) = []
-edges_in (Name name) = []
-edges_in (Values values) = []
-edges_in VerticesFull = []
-edges_in WorkersFull = []
+abbrev pub edges_replied : Reply → List (ℕ × RightSet)
+edges_replied (Edges edges) = edges
+edges_replied Done = []
+edges_replied (Denied denial) = []
+edges_replied (Name name) = []
+edges_replied (Values values) = []
+edges_replied VerticesFull = []
+edges_replied WorkersFull = []
 
 -- the numbers of a create or a spawn are those that the vertex stored at first
-abbrev pub numbers_in : Deed → Reply → List ℕ
-numbers_in (Create label law state) r = state
-numbers_in (Spawn label law state) r = state
-numbers_in (Plain asked_for) r = values_in r
+abbrev pub numbers_replied : Deed → Reply → List ℕ
+numbers_replied (Create label law state) r = state
+numbers_replied (Spawn label law state) r = state
+numbers_replied (Plain asked_for) r = values_in r
 
-abbrev pub numbers_of : Entry → List ℕ
-numbers_of e = numbers_in e.deed e.reply
+abbrev pub numbers_entered : Entry → List ℕ
+numbers_entered e = numbers_replied e.deed e.reply
 
-abbrev pub edges_of : Entry → List (ℕ × RightSet)
-edges_of e = edges_in e.reply
+abbrev pub edges_entered : Entry → List (ℕ × RightSet)
+edges_entered e = edges_replied e.reply
 
 -- ---- the entry
 
@@ -124,7 +124,7 @@ record_with worker d r number_count edge_count = record {
 }
 
 abbrev pub record_of : Entry → RecordOut
-record_of e = record_with e.worker (deed_out e.deed) (reply_out e.reply) (length (numbers_of e)) (length (edges_of e))
+record_of e = record_with e.worker (deed_out e.deed) (reply_out e.reply) (length (numbers_entered e)) (length (edges_entered e))
 
 -- the entry at a place, counted from 0, of a journal that holds those from `first` on; there is none behind the last
 abbrev pub entry_at : ℕ → List Entry → ℕ → Result Entry CallRefusal

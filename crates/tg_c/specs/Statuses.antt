@@ -26,7 +26,7 @@ use Rattle.tg_c.specs.declared.forms.EdgeOut.{EdgeOut}
 use Rattle.tg_c.specs.declared.records.RecordOut.{RecordOut}
 use Rattle.tg_graph.specs.Shown.{shown_in}
 use Rattle.tg_c.specs.Forms.{census_out, denial_out, edges_shown_in}
-use Rattle.tg_c.specs.Records.{edges_of, numbers_of, record_of}
+use Rattle.tg_c.specs.Records.{edges_entered, numbers_entered, record_of}
 
 -- ---- the numbers
 
@@ -197,7 +197,7 @@ pub record EntryOut : Type 0 where
 
 abbrev pub TellsEntry : ℕ → EntryOut → EntryOut → Result Entry CallRefusal → Type 0
 TellsEntry status old new (Ok entry) = (status ≡ 0)
-    × (new ≡ record { record_out = record_of entry; numbers = shown_in (numbers_of entry) old.numbers; edges = edges_shown_in (edges_of entry) old.edges })
+    × (new ≡ record { record_out = record_of entry; numbers = shown_in (numbers_entered entry) old.numbers; edges = edges_shown_in (edges_entered entry) old.edges })
 TellsEntry status old new (Err why) = (status ≡ status_of why) × (new ≡ old)
 
 abbrev pub TellsCensus : ℕ → CensusOut → CensusOut → Result Census CallRefusal → Type 0

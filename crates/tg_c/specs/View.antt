@@ -95,7 +95,7 @@ pub record OpensView (old new : StorePlace) (silent : List ℕ) (as_if : List Ed
 -- ---- a question
 
 -- an open view tells this of a question, on each graph of which it is one
-pub record IsTold (sight : Sight) (x : ℕ) (right : Right) (y : ℕ) (tells : Result ℕ CallRefusal → Type 0) : Type 0 where
+pub record TellsGlimpse (sight : Sight) (x : ℕ) (right : Right) (y : ℕ) (tells : Result ℕ CallRefusal → Type 0) : Type 0 where
   pub glimpse : Glimpse
   pub told : tells (Ok (kind_seen glimpse))
   pub is : (silent : List ℕ) (g : ProtectionGraph) → IsSightOf silent g sight → IsGlimpse silent g x right y glimpse
@@ -106,4 +106,4 @@ pub record Glances (old new : ViewPlace) (x bits y : ℕ) (tells : Result ℕ Ca
   pub bad_rights : right_at bits ≡ None → tells (Err refusal.BadRights) × (new ≡ old)
   pub not_open : (right : Right) → right_at bits ≡ Some right → old.is_open ≡ false → tells (Err refusal.NotOpen) × (new.is_open ≡ false)
   pub told : (right : Right) → right_at bits ≡ Some right → old.is_open ≡ true →
-      IsTold old.handle.opened x right y tells × (new.is_open ≡ true) × (new.handle.opened ≡ old.handle.opened)
+      TellsGlimpse old.handle.opened x right y tells × (new.is_open ≡ true) × (new.handle.opened ≡ old.handle.opened)

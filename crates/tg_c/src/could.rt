@@ -1,6 +1,6 @@
 //! The functions by which C asks what could ever come about, and reads the answer.
 ghost use Rattle.std.specs.Prelude.{◌≡◌, true, false, Ok, length};
-ghost use Rattle.tg_c.specs.Could.{Consults, Foresees, TellsTurn, kind_in, names_in, turn_at, turns_in};
+ghost use Rattle.tg_c.specs.Could.{Consults, Foresees, TellsTurn, kind_in, names_told, turn_at, turns_in};
 ghost use Rattle.tg_c.specs.Statuses.{TellsNumber, status_of};
 
 use crate::answer::AnswerPlace;
@@ -50,7 +50,7 @@ pub extern "C" fn tg_answer_kind(alloc: Global, answer: &mut AnswerPlace, kind: 
 /// How many names an answer wants more than are left goes to `names`: 0 where it wants none.
 #[unsafe(no_mangle)]
 pub extern "C" fn tg_answer_names(alloc: Global, answer: &mut AnswerPlace, names: &mut u64) -> u32
-    ensures { Consults (λ told. Ok (names_in told)) answer.old answer.new (TellsNumber result names.old names.new) }
+    ensures { Consults (λ told. Ok (names_told told)) answer.old answer.new (TellsNumber result names.old names.new) }
 {
     tell_number(answer.with_open(alloc, |opened| opened.names()), names)
 }

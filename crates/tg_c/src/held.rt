@@ -7,7 +7,7 @@
 ghost use Rattle.std.specs.Prelude.{◌≡◌, Bool, true, false, Some};
 ghost use Rattle.std.specs.Fn.{FnOnceReturnsAtMut};
 ghost use Rattle.std.specs.Option.{is_some};
-ghost use Rattle.tg_c.specs.Inner.Places.{Holds, IsAskedOpen, IsBoxOf, IsPut, IsTaken};
+ghost use Rattle.tg_c.specs.Inner.Places.{Holds, IsAskedOpen, IsBoxOf, IsPutBack, IsTakenOut};
 
 use crate::handle::Handle;
 use crate::refusal::CallRefusal;
@@ -72,7 +72,7 @@ pub trait Holder<T: Drop + Send> {
 
     /// Takes the box out, if there is one, and leaves the place closed. Takes no memory.
     final fn take(&mut self, alloc: Global) -> Option<Box<T>>
-        ensures { IsTaken (is_open self.old) (opened self.old) (is_open self.new) result }
+        ensures { IsTakenOut (is_open self.old) (opened self.old) (is_open self.new) result }
     {
         replace_with(
             self,
@@ -102,7 +102,7 @@ pub trait Holder<T: Drop + Send> {
 
     /// Puts a box in the place, which is open then. A box that was there before is dropped. Takes no memory.
     final fn put(&mut self, given: Box<T>)
-        ensures { IsPut given.value (is_open self.new) (opened self.new) }
+        ensures { IsPutBack given.value (is_open self.new) (opened self.new) }
     {
         let _ = replace_with(
             self,

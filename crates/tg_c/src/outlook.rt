@@ -1,6 +1,6 @@
 //! What was answered to a question, in numbers.
 ghost use Rattle.std.specs.Prelude.{◌≡◌};
-ghost use Rattle.tg_c.specs.Could.{kind_of, names_of, turns_of};
+ghost use Rattle.tg_c.specs.Could.{outlook_kind, names_answered, turns_of};
 
 use tg_could::{Answer, ReachedAnswer};
 use tg_model::Deed;
@@ -14,7 +14,7 @@ pub struct Outlook {
 
 impl Outlook {
     ghost use Rattle.std.specs.Prelude.{◌≡◌};
-    ghost use Rattle.tg_c.specs.Could.{kind_in, names_in, turns_in};
+    ghost use Rattle.tg_c.specs.Could.{kind_in, names_told, turns_in};
 
     /// The kind of answer: 0 never, 1 now, 2 after turns, 3 after turns and with more names, 4 that x isn't reached, 5
     /// nothing of a name far ahead.
@@ -29,7 +29,7 @@ impl Outlook {
 
     /// How many names are wanting.
     pub fn names(&self) -> u64
-        ensures { result ≡ names_in self.now.told }
+        ensures { result ≡ names_told self.now.told }
     {
         match &self.told {
             ReachedAnswer::Unreached => 0,
@@ -50,7 +50,7 @@ impl Outlook {
 
 // The kind of an answer.
 fn kind_of_answer(answer: &Answer) -> u64
-    ensures { result ≡ kind_of answer.now }
+    ensures { result ≡ outlook_kind answer.now }
 {
     match answer {
         Answer::Never(_) => 0,
@@ -62,7 +62,7 @@ fn kind_of_answer(answer: &Answer) -> u64
 
 // How many names an answer wants.
 fn names_of_answer(answer: &Answer) -> u64
-    ensures { result ≡ names_of answer.now }
+    ensures { result ≡ names_answered answer.now }
 {
     match answer {
         Answer::WantsNames { names, .. } => *names,

@@ -1,8 +1,8 @@
 //! The journal's entries for C: a struct of numbers, and beside it the lists that an entry has.
 ghost use Rattle.std.specs.Prelude.{◌≡◌};
-ghost use Rattle.tg_c.specs.Records.{answered as answered_told, asked as asked_told, command_out as command_told, deed_out as deed_told, making_out as making_told, edges_of as edges_told, law_out as law_told, numbers_of as numbers_told, record_of, reply_out as reply_told};
+ghost use Rattle.tg_c.specs.Records.{answered as answered_told, asked as asked_told, command_out as command_told, deed_out as deed_told, making_out as making_told, edges_entered as edges_told, law_out as law_told, numbers_entered as numbers_told, record_of, reply_out as reply_told};
 ghost use Rattle.tg_model.specs.declared.reply.Reply.TheVariants.{Done};
-ghost use Rattle.tg_c.specs.Records.{numbers_in};
+ghost use Rattle.tg_c.specs.Records.{numbers_replied};
 ghost use Rattle.tg_c.specs.Could.{turn_out as turn_told};
 
 use crate::forms::{DenialOut, denial_out, rights_out, verb_number};
@@ -242,7 +242,7 @@ pub fn turn_out(turn: &(u64, Deed)) -> RecordOut
 
 /// The numbers of a turn: of a create or a spawn those that the vertex is to store at first.
 pub fn numbers_of_turn(turn: &(u64, Deed)) -> &[u64]
-    ensures { result.now ≡ numbers_in turn.now.1 Done }
+    ensures { result.now ≡ numbers_replied turn.now.1 Done }
 {
     match &turn.1 {
         Deed::Create { state, .. } | Deed::Spawn { state, .. } => state.as_slice(),

@@ -1,6 +1,6 @@
 //! How C is told an answer: the status, and what goes to the out parameters. A refusal writes to none of them.
 ghost use Rattle.std.specs.Prelude.{◌≡◌, IfOk};
-ghost use Rattle.tg_c.specs.Calls.{IsDone, IsDoneOrDenied, IsListed, IsListedOrDenied, IsReadOrDenied};
+ghost use Rattle.tg_c.specs.Calls.{IsDoneReply, IsDoneOrDenied, IsListReply, IsListedOrDenied, IsReadOrDenied};
 ghost use Rattle.tg_graph.specs.Shown.{shown_in};
 ghost use Rattle.tg_c.specs.Forms.{edges_shown_in};
 ghost use Rattle.tg_c.specs.Statuses.{TellsCensus, TellsDone, TellsEntry, TellsInspect, TellsList, TellsNumber, TellsOnly, TellsRead, TellsRetired};
@@ -66,7 +66,7 @@ pub fn tell_read(
 
 /// Tells the edges that were listed, as many as there is room for, and how many there are.
 pub fn tell_list(answer: Result<Reply, CallRefusal>, edges: &mut [EdgeOut], count: &mut u64) -> u32
-    requires { IfOk answer IsListed }
+    requires { IfOk answer IsListReply }
     ensures { TellsList result (record { count = count.old; edges = edges.old }) (record { count = count.new; edges = edges.new }) answer }
 {
     match &answer {
@@ -109,7 +109,7 @@ pub fn tell_inspect(
 
 /// Tells that a subject retired.
 pub fn tell_retired(answer: Result<Reply, CallRefusal>) -> u32
-    requires { IfOk answer IsDone }
+    requires { IfOk answer IsDoneReply }
     ensures { TellsRetired result answer }
 {
     match &answer {

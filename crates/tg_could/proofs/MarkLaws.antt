@@ -10,7 +10,7 @@ use Rattle.tg_model.specs.Graph.{ProtectionGraph}
 use Rattle.tg_model.specs.Opened.{label_in}
 use Rattle.tg_model.specs.Picture.{Holds, Shown, IsPictureOf}
 use Rattle.tg_could.specs.Turns.{Acts, IsSilent, NeverHolds, MayCome}
-use Rattle.tg_could.specs.Separation.{Sides, Keeps, Walks, MayAdd, Parts, ComesLater, IsEven, IsIdle, AreApart, Suits, place_in}
+use Rattle.tg_could.specs.Separation.{Sides, KeepsSides, Walks, MayAdd, Parts, ComesLater, IsEven, IsIdle, SidesAreApart, Suits, place_in}
 use Rattle.tg_could.proofs.SeparationLaws.{added, Parts-by, Parts-fewer, parted-never}
 use Rattle.tg_could.proofs.StillLaws.{same-never, alone-never}
 use Rattle.tg_could.proofs.TurnLaws.{Holds-member, given_by}
@@ -26,7 +26,7 @@ none_holds x r y edges all h =
     All-contains (IsNot x r y) edges given.edge all given.there given.from given.to given.holds
 
 -- an edge that leads out of neither set by take and grant leads out of neither
-pub keeps-walks : (s : Sides) (r : Right) (y : ℕ) (edge : Edge) → Walks s edge → (has edge.label r ≡ true → edge.to ≡ y → s.back edge.from ≡ true) → Keeps s r y (λ a b. edge.label) edge.from edge.to
+pub keeps-walks : (s : Sides) (r : Right) (y : ℕ) (edge : Edge) → Walks s edge → (has edge.label r ≡ true → edge.to ≡ y → s.back edge.from ≡ true) → KeepsSides s r y (λ a b. edge.label) edge.from edge.to
 keeps-walks s r y edge walks held = record {
   take_on = walks.take_on;
   take_back = walks.take_back;
@@ -54,7 +54,7 @@ module _ (s : Sides) (x : ℕ) (r : Right) (y : ℕ) where
   }
 
   -- so does one that leads to another than y, between vertices in neither set
-  pub apart-fits : (edge : Edge) → AreApart (place_in s edge.from) (place_in s edge.to) → ¬ (edge.to ≡ y) → Fits edge
+  pub apart-fits : (edge : Edge) → SidesAreApart (place_in s edge.from) (place_in s edge.to) → ¬ (edge.to ≡ y) → Fits edge
   apart-fits edge apart other = record {
     keeps = record {
       take_on = λ h f. absurd (apart.from_forward f);

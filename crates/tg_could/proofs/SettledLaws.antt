@@ -14,7 +14,7 @@ use Rattle.tg_model.specs.Opened.{label_in}
 use Rattle.tg_model.specs.Picture.{Holds, Shown, IsPictureOf, AreAmong}
 use Rattle.tg_could.specs.declared.separation.led.LedNames.{LedNames}
 use Rattle.tg_could.specs.Turns.{Acts, MayCome, IsSilent, NeverHolds, with_names}
-use Rattle.tg_could.specs.Separation.{Sides, Keeps, ComesLater}
+use Rattle.tg_could.specs.Separation.{Sides, KeepsSides, ComesLater}
 use Rattle.tg_could.specs.Answered.{HasTurns, IsDecided}
 use Rattle.tg_could.specs.Led.{Way, back, forward, Led, source, maker, take_back, take_on, grant_on, grant_back, turns_forward, turns_back, IsBrought, is_held, is_got, is_given, is_made, HasHelp}
 use Rattle.tg_could.specs.LedNames.{AreLed, IsPut, ActsIn, LeadsOn, from_source, takes_back, grants_back, takes_on, grants_on, IsTurned, TurnsTo, from_back, from_forward, from_later, way_of, sides_led, number_led}
@@ -47,7 +47,7 @@ module _ (silent : ℕ → Type 0) (r : Right) (y : ℕ) (g : ProtectionGraph) w
 -- ---- the edges gone along so far
 
 abbrev pub KeepsAt : Sides → Right → ℕ → Edge → Type 0
-KeepsAt s r y e = Keeps s r y (λ a b. e.label) e.from e.to
+KeepsAt s r y e = KeepsSides s r y (λ a b. e.label) e.from e.to
 
 -- what holds of the sets behind some of the edges
 pub record GoesAlong (r : Right) (y : ℕ) (edges : List Edge) (start now : LedNames) (i : ℕ) : Type 0 where

@@ -12,14 +12,14 @@ use Rattle.tg_model.specs.Opened.{label_in}
 use Rattle.tg_model.specs.Picture.{Holds, Shown, IsPictureOf}
 use Rattle.tg_could.specs.Turns.{NeverHolds}
 use Rattle.tg_could.specs.Separation.{Sides, MayAdd, IsEven}
-use Rattle.tg_could.specs.Told.{IsTold, IsUntold, TellsHolder, TellsOf, TellsActor}
+use Rattle.tg_could.specs.Told.{IsToldName, IsUntold, TellsHolder, TellsOf, TellsActor}
 use Rattle.tg_could.specs.declared.who.Candidates.{Candidates}
 use Rattle.tg_could.proofs.MarkLaws.{keeps-walks, none_holds, Parts-edges, pictured-made, pictured-subject, pictured-never, pictured-same, pictured-alone}
 
 module _ (silent : List ℕ) (p : Shown) (g : ProtectionGraph) (picture : IsPictureOf p g) (told : Candidates) (r : Right) (y x : ℕ) (untold : IsUntold told y p.made p.limit x) (held : All (TellsHolder told r y) p.edges) where
   -- who was made isn't told where it is x
-  unmarked : (v : ℕ) → v < p.made → v ≡ x → ¬ IsTold told v
-  unmarked v made at_x is = untold.unmarked (subst (λ (u : ℕ). u < p.made) at_x made) (subst (IsTold told) at_x is)
+  unmarked : (v : ℕ) → v < p.made → v ≡ x → ¬ IsToldName told v
+  unmarked v made at_x is = untold.unmarked (subst (λ (u : ℕ). u < p.made) at_x made) (subst (IsToldName told) at_x is)
 
   -- x doesn't hold the right by an edge
   not_held : (k : ℕ) (d : Edge) → k < length p.edges → (slice_index_or p.edges k d).from ≡ x → (slice_index_or p.edges k d).to ≡ y → ¬ (has (slice_index_or p.edges k d).label r ≡ true)

@@ -13,7 +13,7 @@ use Rattle.tg_could.specs.declared.chance.Chance.TheVariants.{Never, Perhaps}
 use Rattle.tg_could.specs.Turns.{NeverHolds}
 use Rattle.tg_could.specs.Separation.{Sides, MayAdd, Walks, IsEven}
 use Rattle.tg_could.specs.Names.{number_in}
-use Rattle.tg_could.specs.View.{word_of, word_at, is_within, meets, IsOfOne, Joins, JoinsEntry, IsIn, IsEntered, Stands, IsGathered, AreGathered, IsPlaced, IsCheckedOn, sides_by, bound_of}
+use Rattle.tg_could.specs.View.{name_word, island_word_at, is_at_most, meets, IsOfOne, Joins, JoinsEntry, IsIn, IsEntered, Stands, IsGathered, AreGathered, IsPlaced, IsCheckedOn, sides_by, bound_of}
 use Rattle.tg_could.specs.declared.view.entries.PackedEdge.{PackedEdge}
 use Rattle.tg_could.specs.declared.view.incoming.Incoming.{Incoming}
 use Rattle.tg_could.specs.declared.view.islands.Islands.{Islands}
@@ -28,12 +28,12 @@ perhaps_not same = cc
 
 module _ (names : Names) (islands : Islands) (incoming : Incoming) (x : ℕ) (r : Right) (y gathered : ℕ) (are : AreGathered incoming islands.reached.items (number_in names x) r (number_in names y) gathered) (edge : Edge) (stands : Stands names islands incoming edge) where
   -- who holds the right by an edge isn't x, and its word is counted
-  pub of_edge : edge.to ≡ y → has edge.label r ≡ true → (number_in names edge.from ≢ number_in names x) × (is_within (word_at names islands edge.from) gathered ≡ true)
+  pub of_edge : edge.to ≡ y → has edge.label r ≡ true → (number_in names edge.from ≢ number_in names x) × (is_at_most (island_word_at names islands edge.from) gathered ≡ true)
   of_edge at_y is =
       let d : ℕ × RightSet = (stands.entry.from, stands.entry.label) in
       let h = stands.is_in.holder d in
       let target : stands.entry.to ≡ number_in names y = stands.is.0 ∙ ap (number_in names) at_y in
-      subst (λ (v : ℕ). (v ≢ number_in names x) × (is_within (word_of islands.reached.items v) gathered ≡ true)) (h.0 ∙ stands.is.1)
+      subst (λ (v : ℕ). (v ≢ number_in names x) × (is_at_most (name_word islands.reached.items v) gathered ≡ true)) (h.0 ∙ stands.is.1)
       (are stands.is_in.place d
       (subst (λ (v : ℕ). (bound_of incoming v).0 ≤ stands.is_in.place) target stands.is_in.first)
       (subst (λ (v : ℕ). stands.is_in.place < (bound_of incoming v).1) target stands.is_in.end)
@@ -49,11 +49,11 @@ module _ (names : Names) (islands : Islands) (incoming : Incoming) (x : ℕ) (r 
       (subst (λ (to : ℕ). Joins islands stands.entry.from to edge.label) stands.is.0
       (subst (Joins islands stands.entry.from stands.entry.to) stands.is.2 stands.joins))
 
-  module _ (word : ℕ) (more : (a : ℕ) → is_within a gathered ≡ true → is_within a word ≡ true) (not_granted : meets (word_of islands.granted.items (number_in names x)) word ≡ false) where
+  module _ (word : ℕ) (more : (a : ℕ) → is_at_most a gathered ≡ true → is_at_most a word ≡ true) (not_granted : meets (name_word islands.granted.items (number_in names x)) word ≡ false) where
     walks : Walks (sides_by names islands word) edge
     walks =
-        let from = word_at names islands edge.from in
-        let to = word_at names islands edge.to in
+        let from = island_word_at names islands edge.from in
+        let to = island_word_at names islands edge.to in
         record {
           take_on = λ is f. meets-up from to word (joins.take is) f;
           take_back = λ is f. within-trans from to word (joins.take is) f;
@@ -63,12 +63,12 @@ module _ (names : Names) (islands : Islands) (incoming : Incoming) (x : ℕ) (r 
 
     pub joined-fits : MayAdd (sides_by names islands word) x r y edge.from edge.to edge.label
     joined-fits = record {
-      keeps = keeps-walks (sides_by names islands word) r y edge walks (λ is at_y. more (word_at names islands edge.from) (of_edge at_y is).1);
+      keeps = keeps-walks (sides_by names islands word) r y edge walks (λ is at_y. more (island_word_at names islands edge.from) (of_edge at_y is).1);
       not_held = gathered-not;
       not_granted = λ at_x is f.
           false≢true
-          (sym (meets-down (word_at names islands edge.from) (word_of islands.granted.items (number_in names edge.to)) word (joins.granted is)
-          (subst (λ (v : ℕ). meets (word_of islands.granted.items (number_in names v)) word ≡ false) (sym at_x) not_granted)) ∙ f);
+          (sym (meets-down (island_word_at names islands edge.from) (name_word islands.granted.items (number_in names edge.to)) word (joins.granted is)
+          (subst (λ (v : ℕ). meets (name_word islands.granted.items (number_in names v)) word ≡ false) (sym at_x) not_granted)) ∙ f);
     }
 
 module _ (silent : List ℕ) (p : Shown) (g : ProtectionGraph) (picture : IsPictureOf p g) (view : Facts) (checked : IsCheckedOn silent p view) (x : ℕ) (r : Right) (y gathered : ℕ) (are : AreGathered view.incoming view.islands.reached.items (number_in view.names x) r (number_in view.names y) gathered) where
@@ -87,7 +87,7 @@ module _ (silent : List ℕ) (p : Shown) (g : ProtectionGraph) (picture : IsPict
       All-contains (λ v. v ≡ y) view.actors.items (slice_index_or p.subjects k d) alone (checked.actors k d inside acts).is)
       gathered-lacks
 
-  module _ (word : ℕ) (more : (a : ℕ) → is_within a gathered ≡ true → is_within a word ≡ true) (not_granted : meets (word_of view.islands.granted.items (number_in view.names x)) word ≡ false) (placed : All (IsPlaced view x y word) view.actors.items) where
+  module _ (word : ℕ) (more : (a : ℕ) → is_at_most a gathered ≡ true → is_at_most a word ≡ true) (not_granted : meets (name_word view.islands.granted.items (number_in view.names x)) word ≡ false) (placed : All (IsPlaced view x y word) view.actors.items) where
     abbrev s : Sides
     s = sides_by view.names view.islands word
 
@@ -95,7 +95,7 @@ module _ (silent : List ℕ) (p : Shown) (g : ProtectionGraph) (picture : IsPict
     even v acts =
         let is = All-contains (IsPlaced view x y word) view.actors.items v placed acts in
         record {
-          alike = single-alike (word_at view.names view.islands v) word (All-contains (IsOfOne view.names view.islands) view.actors.items v checked.single acts).power;
+          alike = single-alike (island_word_at view.names view.islands v) word (All-contains (IsOfOne view.names view.islands) view.actors.items v checked.single acts).power;
           not_x = is.not_x;
           y_may_come = λ comes. is.y_may_come (omega (arith, comes.0, checked.made), omega (arith, comes.1, checked.limit));
           x_may_come = λ comes. is.x_may_come (omega (arith, comes.0, checked.made), omega (arith, comes.1, checked.limit));
@@ -135,4 +135,4 @@ entered-stand names islands incoming entries edges entered joined in_parts k d i
 -- a word with more bits counts what it counted
 pub gathered-widen : (words : List ℕ) (x : ℕ) (r : Right) (hs : List (ℕ × RightSet)) (low at word more : ℕ) → AllWithin (IsGathered words x r word) hs low at → AllWithin (IsGathered words x r (bit_or word more)) hs low at
 gathered-widen words x r hs low at word more all k d from below is =
-    let h = all k d from below is in (h.0, within-more (word_of words (slice_index_or hs k d).0) word more h.1)
+    let h = all k d from below is in (h.0, within-more (name_word words (slice_index_or hs k d).0) word more h.1)

@@ -8,7 +8,7 @@ use Rattle.tg_rights.specs.declared.Right.TheVariants.{T, G}
 use Rattle.tg_model.specs.declared.edge.Edge.{Edge}
 use Rattle.tg_model.specs.Graph.{ProtectionGraph}
 use Rattle.tg_model.specs.Picture.{Shown, AreAmong}
-use Rattle.tg_could.specs.Separation.{Sides, Keeps, ComesLater}
+use Rattle.tg_could.specs.Separation.{Sides, KeepsSides, ComesLater}
 use Rattle.tg_could.specs.Led.{Way, Led, IsBrought}
 use Rattle.tg_could.specs.Led.Way.{back, forward}
 use Rattle.tg_could.specs.Scenes.{OnGraphs}
@@ -41,8 +41,8 @@ pub data LeadsOn (s : Sides) (right : Right) (y : ℕ) (edge : Edge) : Bool → 
   grants_on : has edge.label G ≡ true → s.forward edge.from ≡ true → LeadsOn s right y edge false edge.to
 
 -- a vertex is in the set of a way
-abbrev pub is_in : Sides → Bool → ℕ → Bool
-is_in s is_forward v = if is_forward then s.forward v else s.back v
+abbrev pub is_on_side : Sides → Bool → ℕ → Bool
+is_on_side s is_forward v = if is_forward then s.forward v else s.back v
 
 -- one more was put there, and the sets are as they were in all else
 pub record IsPut (s : Sides) (is_forward : Bool) (name : ℕ) (new : Sides) : Type 0 where
@@ -81,7 +81,7 @@ StaysLedAlong edges right y old new = (silent : List ℕ) (g : ProtectionGraph) 
 
 -- each of these edges leads out of neither set
 abbrev pub KeepsEach : Sides → Right → ℕ → List Edge → Type 0
-KeepsEach s right y edges = All (λ e. Keeps s right y (λ a b. e.label) e.from e.to) edges
+KeepsEach s right y edges = All (λ e. KeepsSides s right y (λ a b. e.label) e.from e.to) edges
 
 -- whoever acts turns nowhere else
 abbrev pub AreTurned : Scene → Sides → ℕ → Type 0

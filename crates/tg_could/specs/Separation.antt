@@ -20,7 +20,7 @@ pub record Sides : Type 0 where
   pub back : ℕ → Bool
 
 -- an edge from a to b with these rights leads out of neither set, where the right is over y
-pub record Keeps (s : Sides) (right : Right) (y : ℕ) (label : ℕ → ℕ → RightSet) (a b : ℕ) : Type 0 where
+pub record KeepsSides (s : Sides) (right : Right) (y : ℕ) (label : ℕ → ℕ → RightSet) (a b : ℕ) : Type 0 where
   pub take_on : Holds label a T b → s.forward a ≡ true → s.forward b ≡ true
   pub take_back : Holds label a T b → s.back b ≡ true → s.back a ≡ true
   pub grant_on : Holds label a G b → s.forward a ≡ true → s.back b ≡ true
@@ -29,7 +29,7 @@ pub record Keeps (s : Sides) (right : Right) (y : ℕ) (label : ℕ → ℕ → 
 
 -- rights that may be added from p to q: the edge leads out of neither set, and x is neither its holder nor its gift
 pub record MayAdd (s : Sides) (x : ℕ) (right : Right) (y : ℕ) (p q : ℕ) (rights : RightSet) : Type 0 where
-  pub keeps : Keeps s right y (λ a b. rights) p q
+  pub keeps : KeepsSides s right y (λ a b. rights) p q
   pub not_held : p ≡ x → q ≡ y → ¬ (has rights right ≡ true)
   pub not_granted : q ≡ x → has rights G ≡ true → ¬ (s.forward p ≡ true)
 
@@ -41,7 +41,7 @@ pub record IsIdle (right : Right) (y : ℕ) (edge : Edge) : Type 0 where
 
 -- no edge leads out of the two sets, x doesn't hold the right, and nobody who may hold it can grant to x
 pub record Parts (s : Sides) (x : ℕ) (right : Right) (y : ℕ) (label : ℕ → ℕ → RightSet) : Type 0 where
-  pub edges : (a b : ℕ) → Keeps s right y label a b
+  pub edges : (a b : ℕ) → KeepsSides s right y label a b
   pub without : ¬ Holds label x right y
   pub not_given : (a : ℕ) → Holds label a G x → ¬ (s.forward a ≡ true)
 
@@ -90,7 +90,7 @@ pub record Stays (label : RightSet) (from to : Membership) : Type 0 where
   pub grant_back : has label G ≡ true → to.forward ≡ true → from.back ≡ true
 
 -- neither of two vertices is in a set
-pub record AreApart (from to : Membership) : Type 0 where
+pub record SidesAreApart (from to : Membership) : Type 0 where
   pub from_forward : ¬ (from.forward ≡ true)
   pub from_back : ¬ (from.back ≡ true)
   pub to_forward : ¬ (to.forward ≡ true)

@@ -17,12 +17,12 @@ use Rattle.tg_could.specs.declared.who.Candidates.{Candidates}
 abbrev pub is_told : Candidates → ℕ → Bool
 is_told told x = (sides_of told.marks).back x
 
-abbrev pub IsTold : Candidates → ℕ → Type 0
-IsTold told x = is_told told x ≡ true
+abbrev pub IsToldName : Candidates → ℕ → Type 0
+IsToldName told x = is_told told x ≡ true
 
 -- x was made and isn't told; or it may yet be made and isn't y, and such names aren't told
 pub record IsUntold (told : Candidates) (y made limit x : ℕ) : Type 0 where
-  pub unmarked : x < made → ¬ IsTold told x
+  pub unmarked : x < made → ¬ IsToldName told x
   pub not_later : made ≤ x → x < limit → x ≢ y → ¬ (told.later ≡ true)
 
 -- x isn't told, and whoever isn't was shown never to hold the right
@@ -39,18 +39,18 @@ pub record TellsWho (silent : List ℕ) (p : Shown) (right : Right) (y : ℕ) (w
 
 -- who holds the right over y by this edge is told
 abbrev pub TellsHolder : Candidates → Right → ℕ → Edge → Type 0
-TellsHolder told right y edge = edge.to ≡ y → has edge.label right ≡ true → IsTold told edge.from
+TellsHolder told right y edge = edge.to ≡ y → has edge.label right ≡ true → IsToldName told edge.from
 
 -- the edge leads out of neither set, and who may be granted the right by it is told
 pub record TellsOf (s : Sides) (told : Candidates) (right : Right) (y : ℕ) (edge : Edge) : Type 0 where
   pub walks : Walks s edge
   pub held : has edge.label right ≡ true → edge.to ≡ y → s.back edge.from ≡ true
-  pub given : has edge.label G ≡ true → s.forward edge.from ≡ true → edge.to ≢ y → IsTold told edge.to
+  pub given : has edge.label G ≡ true → s.forward edge.from ≡ true → edge.to ≢ y → IsToldName told edge.to
 
 -- one who acts is in both sets or in none, and is told where it is in them
 pub record TellsActor (s : Sides) (told : Candidates) (shown : Shown) (y : ℕ) (p : ℕ) : Type 0 where
   pub alike : s.forward p ≡ s.back p
-  pub told_itself : s.back p ≡ true → p ≢ y → IsTold told p
+  pub told_itself : s.back p ≡ true → p ≢ y → IsToldName told p
   pub later : s.back p ≡ true → told.later ≡ true
   pub y_may_come : ComesLater shown y → s.back p ≡ true
 

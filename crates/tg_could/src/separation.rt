@@ -5,7 +5,7 @@ ghost use Rattle.tg_rights.specs.RightSet.{has as has_right};
 ghost use Rattle.tg_model.specs.Opened.{label_in};
 ghost use Rattle.tg_model.specs.declared.opening.TheConstants.{MAX_WORKERS};
 ghost use Rattle.tg_model.specs.Picture.{Holds};
-ghost use Rattle.tg_could.specs.Separation.{MayAdd, Parts, Stays, sides_of, sides_against, place_in, ComesLater, IsEven, IsIdle, AreApart, Suits};
+ghost use Rattle.tg_could.specs.Separation.{MayAdd, Parts, Stays, sides_of, sides_against, place_in, ComesLater, IsEven, IsIdle, SidesAreApart, Suits};
 ghost use Rattle.tg_could.specs.LedNames.{ActsOn};
 ghost use Rattle.tg_could.specs.Scenes.{EachActor, NeverOf, OnGraphs, TakesTurns};
 
@@ -123,7 +123,7 @@ fn is_idle(edge: &Edge, right: Right, y: u64) -> bool
 
 // Whether neither of two vertices is in a set, and the name of the second isn't y.
 fn are_apart(from: Membership, to: Membership, name: u64, y: u64) -> bool
-    ensures { IsTrue result → AreApart from to × (name ≢ y) }
+    ensures { IsTrue result → SidesAreApart from to × (name ≢ y) }
 {
     !from.forward && !from.back && !to.forward && !to.back && name != y
 }

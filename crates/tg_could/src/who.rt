@@ -3,7 +3,7 @@ ghost use Rattle.std.specs.Prelude.{◌≡◌, ◌↔◌, ◌<◌, ◌≤◌, �
 ghost use Rattle.std.specs.List.{All};
 ghost use Rattle.tg_could.specs.declared.chance.Chance.TheVariants.{Never};
 ghost use Rattle.tg_could.specs.Separation.{sides_of};
-ghost use Rattle.tg_could.specs.Told.{IsLeftOut, IsTold, TellsHolder, TellsOf, TellsActor, TellsWho, is_told};
+ghost use Rattle.tg_could.specs.Told.{IsLeftOut, IsToldName, TellsHolder, TellsOf, TellsActor, TellsWho, is_told};
 ghost use Rattle.tg_could.specs.Scenes.{EachActor, TakesTurns};
 ghost use Rattle.tg_could.specs.Told.{NeverUntold};
 
@@ -62,7 +62,7 @@ impl Who {
 
     // What is told of a name that was made.
     fn of_made(&self, name: u64) -> Chance
-        ensures { (result ≡ Never) ↔ ¬ IsTold self.now.told name }
+        ensures { (result ≡ Never) ↔ ¬ IsToldName self.now.told name }
     {
         if self.told.has(name) {
             Chance::Perhaps

@@ -9,10 +9,10 @@ use Rattle.tg_rights.specs.RightSet.{RightSet}
 use Rattle.tg_model.specs.declared.reply.Reply.TheVariants.{Edges}
 use Rattle.tg_text.specs.declared.answer.Answer.TheVariants as answer
 use Rattle.tg_text.specs.Texts.{answer_text, edge_text}
-use Rattle.tg_entries.specs.Pieces.{Fetches, Loses}
+use Rattle.tg_entries.specs.Pieces.{FetchesPiece, Loses}
 
 -- no piece
-pub fetches_none : (held : List ℕ) (a b : Option (List ℕ)) → Keeps a b → Fetches held a held b
+pub fetches_none : (held : List ℕ) (a b : Option (List ℕ)) → Keeps a b → FetchesPiece held a held b
 fetches_none held a b kept = record {
   piece = [];
   taken = Consumes-kept a a b [] (Consumes-nil a) kept;
@@ -20,7 +20,7 @@ fetches_none held a b kept = record {
 }
 
 -- a piece behind others
-pub fetches_more : (held now new : List ℕ) (a b c : Option (List ℕ)) → Fetches held a now b → Fetches now b new c → Fetches held a new c
+pub fetches_more : (held now new : List ℕ) (a b c : Option (List ℕ)) → FetchesPiece held a now b → FetchesPiece now b new c → FetchesPiece held a new c
 fetches_more held now new a b c f g = record {
   piece = f.piece ++ g.piece;
   taken = Consumes-trans a b c f.piece g.piece f.taken g.taken;
@@ -39,11 +39,11 @@ pub loses_none : (held : List ℕ) (a : Option (List ℕ)) → Loses held a [] h
 loses_none held a = record { piece = []; taken = Consumes-nil a; same = append-nil held }
 
 -- a text that the bytes at hand begin with, once more of them were read
-pub loses_read : (held now new text : List ℕ) (a b : Option (List ℕ)) → Fetches held a now b → now ≡ text ++ new → Loses held a text new b
+pub loses_read : (held now new text : List ℕ) (a b : Option (List ℕ)) → FetchesPiece held a now b → now ≡ text ++ new → Loses held a text new b
 loses_read held now new text a b f is = record { piece = f.piece; taken = f.taken; same = sym f.held_is ∙ is }
 
 -- the same, where they are shown to begin with it, and it is dropped from their front
-pub loses_front : (held now shown new text : List ℕ) (a b : Option (List ℕ)) → Fetches held a now b → shown ≡ now → take (length text) shown ≡ text →
+pub loses_front : (held now shown new text : List ℕ) (a b : Option (List ℕ)) → FetchesPiece held a now b → shown ≡ now → take (length text) shown ≡ text →
     new ≡ drop (length text) now → Loses held a text new b
 loses_front held now shown new text a b f is begins left =
     let front : take (length text) now ≡ text = ap (take (length text)) (sym is) ∙ begins in

@@ -21,9 +21,9 @@ use Rattle.tg_text.specs.Texts.{answer_text}
 use Rattle.tg_entries.specs.declared.stage.Entered.{Entered}
 use Rattle.tg_entries.specs.declared.stage.Stage.{Stage}
 use Rattle.tg_entries.specs.declared.stage.Stage.TheVariants as stage
-use Rattle.tg_entries.specs.Pieces.{Fetches, Loses}
-use Rattle.tg_entries.specs.Read.{GoesOn, HasEntered, HasRead, IsListed, IsNext}
-use Rattle.tg_entries.specs.Texts.{IsAudited, deed_text, edge_text, end_text, entry_text, head_text, limits_text, opening_text, version_text, worker_text}
+use Rattle.tg_entries.specs.Pieces.{FetchesPiece, Loses}
+use Rattle.tg_entries.specs.Read.{ReadsOn, HasEntered, HasRead, IsListedEntry, IsNext}
+use Rattle.tg_entries.specs.Texts.{IsAudited, deed_text, edge_line_text, end_text, entry_text, head_text, limits_text, opening_text, version_text, worker_text}
 
 -- the limits, behind the first line
 pub limits_read : (text line : List ℕ) (workers limit : ℕ) (values : List Value) (edges : List Edge) → values ≡ [] → edges ≡ [] → text ≡ version_text → line ≡ limits_text workers limit →
@@ -52,11 +52,11 @@ worker_read text line workers limit values now edges value none more before is =
 
 -- an edge
 pub edge_read : (text line : List ℕ) (workers limit : ℕ) (values : List Value) (edges now : List Edge) (edge : Edge) → now ≡ edges ++ edge ∷ [] →
-    text ≡ opening_text workers limit values edges → line ≡ edge_text edge → text ++ line ≡ opening_text workers limit values now
+    text ≡ opening_text workers limit values edges → line ≡ edge_line_text edge → text ++ line ≡ opening_text workers limit values now
 edge_read text line workers limit values edges now edge more before is =
     let front = (version_text ++ limits_text workers limit) ++ flat_map worker_text values in
-    ap (λ (x : List ℕ). x ++ line) before ∙ ap (λ (x : List ℕ). (front ++ flat_map edge_text edges) ++ x) is
-    ∙ flat_map_more edge_text front edges edge ∙ ap (λ (es : List Edge). front ++ flat_map edge_text es) (sym more)
+    ap (λ (x : List ℕ). x ++ line) before ∙ ap (λ (x : List ℕ). (front ++ flat_map edge_line_text edges) ++ x) is
+    ∙ flat_map_more edge_line_text front edges edge ∙ ap (λ (es : List Edge). front ++ flat_map edge_line_text es) (sym more)
 
 -- the whole opening, before any entry
 pub opening_read : (text : List ℕ) (plan : Plan) (entered : Entered) → text ≡ head_text plan → IsPlan plan →
@@ -109,7 +109,7 @@ entry_read text line entered next was is_next more =
 -- the entry of a deed that was written again, with a listing behind it
 pub next_listed : (g : ProtectionGraph) (audit : AuditState) (x : ℕ) (deed : Deed) (reply : Reply) (written held : List ℕ) (left left' : Option (List ℕ)) → written ≡ deed_text x deed →
     Loses held left (written ++ (codes " = " ++ answer_text (answer.Reply reply))) [] left' →
-    Passes g (record { worker = x; deed = deed; reply = reply } ∷ []) audit → IsListed g held left left' audit
+    Passes g (record { worker = x; deed = deed; reply = reply } ∷ []) audit → IsListedEntry g held left left' audit
 next_listed g audit x deed reply written held left left' same line passes = record {
   rest = line.piece;
   taken = line.taken;
@@ -118,8 +118,8 @@ next_listed g audit x deed reply written held left left' same line passes = reco
 
 -- an entry, of which the line is read to its end
 pub listed_read : (text held : List ℕ) (left left' : Option (List ℕ)) (entered next : Entered) → HasEntered text entered →
-    ((g : ProtectionGraph) → StandsAt g entered.auditor → IsListed g held left left' next.auditor) →
-    next.count ≡ entered.count + 1 → GoesOn text held left left' (stage.Entries next)
+    ((g : ProtectionGraph) → StandsAt g entered.auditor → IsListedEntry g held left left' next.auditor) →
+    next.count ≡ entered.count + 1 → ReadsOn text held left left' (stage.Entries next)
 listed_read text held left left' entered next was is_listed more =
     let this = is_listed (graph_after (start_of was.plan) was.entries) was.passes.next in record {
       rest = this.rest;
@@ -153,7 +153,7 @@ at_first None stage read = tt
 at_first (Some xs) stage read = ([], refl, read)
 
 -- a line that is whole
-pub goes_on : (text line : List ℕ) (left : Option (List ℕ)) (next : Stage) → HasRead (text ++ line) next → GoesOn text line left left next
+pub goes_on : (text line : List ℕ) (left : Option (List ℕ)) (next : Stage) → HasRead (text ++ line) next → ReadsOn text line left left next
 goes_on text line left next read = record {
   rest = [];
   taken = Consumes-nil left;
@@ -168,8 +168,8 @@ at_read xs rest front line (Some left) next before takes read =
     (front ++ line, before ∙ ap (λ (x : List ℕ). front ++ x) takes ∙ sym (append_assoc front line left), read)
 
 -- the front of a line was taken, and then its rest, and all was read
-pub at_next : (known now then left : Option (List ℕ)) (stage next : Stage) (line : List ℕ) → IsAt known now stage → Fetches [] now line then →
-    ((text : List ℕ) → HasRead text stage → GoesOn text line then left next) → IsAt known left next
+pub at_next : (known now then left : Option (List ℕ)) (stage next : Stage) (line : List ℕ) → IsAt known now stage → FetchesPiece [] now line then →
+    ((text : List ℕ) → HasRead text stage → ReadsOn text line then left next) → IsAt known left next
 at_next None now then left stage next line was taken reads = tt
 at_next (Some xs) None then left stage next line was taken reads = absurd was
 at_next (Some xs) (Some rest) then left stage next line was taken reads =
@@ -178,7 +178,7 @@ at_next (Some xs) (Some rest) then left stage next line was taken reads =
     (subst (λ (x : List ℕ). Consumes (Some rest) left (x ++ goes.rest)) (sym taken.held_is) (Consumes-trans (Some rest) then left taken.piece goes.rest taken.taken goes.taken)) goes.read
 
 -- the text ends with these bytes of a line
-pub at_last : (known now then : Option (List ℕ)) (stage : Stage) (line : List ℕ) (count : ℕ) → IsAt known now stage → Fetches [] now line then → OnSome now (IsAtEnd then) →
+pub at_last : (known now then : Option (List ℕ)) (stage : Stage) (line : List ℕ) (count : ℕ) → IsAt known now stage → FetchesPiece [] now line then → OnSome now (IsAtEnd then) →
     ((text : List ℕ) → HasRead text stage → IsAudited (text ++ line) count) → IfSome known (λ text. IsAudited text count)
 at_last None now then stage line count was taken none ends = tt
 at_last (Some xs) None then stage line count was taken none ends = absurd was
@@ -188,7 +188,7 @@ at_last (Some xs) (Some rest) (Some left) stage line count was taken none ends =
     subst (λ (text : List ℕ). IsAudited text count) (sym (was.1 ∙ ap (λ (x : List ℕ). was.0 ++ x) all)) (ends was.0 was.2)
 
 -- the text ends, and this is answered
-pub at_end : {E : Type 0} (known now then : Option (List ℕ)) (stage : Stage) (line : List ℕ) (r : Result ℕ E) → IsAt known now stage → Fetches [] now line then →
+pub at_end : {E : Type 0} (known now then : Option (List ℕ)) (stage : Stage) (line : List ℕ) (r : Result ℕ E) → IsAt known now stage → FetchesPiece [] now line then →
     OnSome now (IsAtEnd then) → ((text : List ℕ) → HasRead text stage → IfOk r (IsAudited (text ++ line))) → IfOk r (λ count. IfSome known (λ text. IsAudited text count))
 at_end known now then stage line (Ok count) was taken none ends = at_last known now then stage line count was taken none ends
 at_end known now then stage line (Err e) was taken none ends = tt

@@ -29,7 +29,7 @@ pub record IsNext (g : ProtectionGraph) (line : List ℕ) (audit : AuditState) :
   pub passes : Passes g (entry ∷ []) audit
 
 -- the line that begins with the bytes at hand, and goes on with those that were taken of the reader's, is one that is next
-pub record IsListed (g : ProtectionGraph) (held : List ℕ) (left left' : Option (List ℕ)) (audit : AuditState) : Type 0 where
+pub record IsListedEntry (g : ProtectionGraph) (held : List ℕ) (left left' : Option (List ℕ)) (audit : AuditState) : Type 0 where
   pub rest : List ℕ
   pub taken : Consumes left left' rest
   pub next : IsNext g (held ++ rest) audit
@@ -48,7 +48,7 @@ HasRead text (stage.Ended count) = IsAudited text count
 HasRead text stage.Stopped = ⊥
 
 -- a line begins with the bytes at hand, and goes on with those that were taken of the reader's; the audit has read it behind the text
-pub record GoesOn (text held : List ℕ) (left left' : Option (List ℕ)) (next : Stage) : Type 0 where
+pub record ReadsOn (text held : List ℕ) (left left' : Option (List ℕ)) (next : Stage) : Type 0 where
   pub rest : List ℕ
   pub taken : Consumes left left' rest
   pub read : HasRead (text ++ (held ++ rest)) next

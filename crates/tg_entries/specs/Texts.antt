@@ -33,18 +33,18 @@ logged_text [] = []
 logged_text (number ∷ numbers) = codes ":" ++ numbers_text (number ∷ numbers)
 
 -- the letter of a law and the numbers: `c0`, `s5`, `m7`, a log of four as `l4` or `l4:1,2`
-abbrev pub value_text : Law → List ℕ → List ℕ
-value_text Cell state = codes "c" ++ numbers_text state
-value_text Sum state = codes "s" ++ numbers_text state
-value_text Max state = codes "m" ++ numbers_text state
-value_text (Log most) state = (codes "l" ++ decimal most) ++ logged_text state
+abbrev pub payload_text : Law → List ℕ → List ℕ
+payload_text Cell state = codes "c" ++ numbers_text state
+payload_text Sum state = codes "s" ++ numbers_text state
+payload_text Max state = codes "m" ++ numbers_text state
+payload_text (Log most) state = (codes "l" ++ decimal most) ++ logged_text state
 
 -- ---- entries
 
 -- the line of a script by which x asks for a deed; where a vertex is made, what it stores stands behind it
 abbrev pub deed_text : ℕ → Deed → List ℕ
-deed_text x (deed.Create label law state) = line_text (line.Create x label) ++ (32 ∷ value_text law state)
-deed_text x (deed.Spawn label law state) = line_text (line.Spawn x label) ++ (32 ∷ value_text law state)
+deed_text x (deed.Create label law state) = line_text (line.Create x label) ++ (32 ∷ payload_text law state)
+deed_text x (deed.Spawn label law state) = line_text (line.Spawn x label) ++ (32 ∷ payload_text law state)
 deed_text x (deed.Plain command) = line_text (line.Plain x command)
 
 -- the line of an entry, with its line feed: `0 create r c0 = ok 5`
@@ -62,15 +62,15 @@ limits_text workers limit = codes "opening " ++ (decimal workers ++ (codes " " +
 
 -- `worker c0`, for each worker
 abbrev pub worker_text : Value → List ℕ
-worker_text value = codes "worker " ++ (value_text value.law value.state ++ codes "\n")
+worker_text value = codes "worker " ++ (payload_text value.law value.state ++ codes "\n")
 
 -- `edge 0 1 rw`, for each edge
-abbrev pub edge_text : Edge → List ℕ
-edge_text edge = line_text (line.Edge edge) ++ codes "\n"
+abbrev pub edge_line_text : Edge → List ℕ
+edge_line_text edge = line_text (line.Edge edge) ++ codes "\n"
 
 abbrev pub opening_text : ℕ → ℕ → List Value → List Edge → List ℕ
 opening_text workers limit values edges =
-    ((version_text ++ limits_text workers limit) ++ flat_map worker_text values) ++ flat_map edge_text edges
+    ((version_text ++ limits_text workers limit) ++ flat_map worker_text values) ++ flat_map edge_line_text edges
 
 abbrev pub head_text : Plan → List ℕ
 head_text p = opening_text p.workers p.limit p.values p.edges

@@ -3,8 +3,8 @@ ghost use Rattle.std.specs.Prelude.{◌≡◌, ◌++◌, [], List, ℕ, IfOk, Is
 ghost use Rattle.tg_entries.specs.declared.stage.Stage.TheVariants as Stage;
 ghost use Rattle.tg_model.specs.Graph.{ProtectionGraph};
 ghost use Rattle.tg_journal.specs.Auditing.{StandsAt};
-ghost use Rattle.tg_entries.specs.Read.{GoesOn, HasEntered, HasHead, HasRead, IsNext};
-ghost use Rattle.tg_entries.specs.Texts.{IsAudited, deed_text, edge_text, worker_text};
+ghost use Rattle.tg_entries.specs.Read.{ReadsOn, HasEntered, HasHead, HasRead, IsNext};
+ghost use Rattle.tg_entries.specs.Texts.{IsAudited, deed_text, edge_line_text, worker_text};
 
 use crate::fault::{LineFault, LongFault};
 use crate::long::long_stage;
@@ -70,7 +70,7 @@ impl<L: Ledger> TextAudit<L> {
         reader: &mut R,
         line: &mut Vec<u8>,
     ) -> Result<(), LongFault>
-        ensures { (text : List ℕ) → HasRead text self.old → OnOk result (GoesOn text line.old.items (R.remaining reader.old) (R.remaining reader.new) self.new) }
+        ensures { (text : List ℕ) → HasRead text self.old → OnOk result (ReadsOn text line.old.items (R.remaining reader.old) (R.remaining reader.new) self.new) }
     {
         let stage = mem::replace(&mut self.stage, Stage::Stopped);
         self.stage = long_stage(self.alloc, &mut self.again, stage, reader, line)?;
@@ -210,7 +210,7 @@ fn may_have_value(head: &Head) -> bool
 
 // The edge behind the others.
 fn add_edge(head: &mut Head, edge: Edge) -> Result<(), LineFault>
-    ensures { (text : List ℕ) → HasHead text head.old → OnOk result (HasHead (text ++ edge_text edge) head.new) }
+    ensures { (text : List ℕ) → HasHead text head.old → OnOk result (HasHead (text ++ edge_line_text edge) head.new) }
 {
     match head.edges.push(edge) {
         Ok(()) => Ok(()),
@@ -220,7 +220,7 @@ fn add_edge(head: &mut Head, edge: Edge) -> Result<(), LineFault>
 
 // The edge that the line tells, where all values came.
 fn next_edge<L: Ledger>(again: &mut Written<L>, head: &Head, line: &[u8]) -> Result<Edge, LineFault>
-    ensures { IfOk result (λ edge. line.now ≡ edge_text edge) }
+    ensures { IfOk result (λ edge. line.now ≡ edge_line_text edge) }
 {
     let Some(edge) = read_edge(line) else {
         return Err(LineFault::BadLine);

@@ -2,7 +2,7 @@
 ghost use Rattle.std.specs.Prelude.{◌++◌};
 ghost use Rattle.std.specs.List.{flat_map};
 ghost use Rattle.tg_text.specs.Sinks.{Writes};
-ghost use Rattle.tg_entries.specs.Texts.{edge_text, entry_text, head_text, history_text, limits_text, version_text, worker_text};
+ghost use Rattle.tg_entries.specs.Texts.{edge_line_text, entry_text, head_text, history_text, limits_text, version_text, worker_text};
 
 use crate::write::{VERSION, write_edge, write_end, write_entry, write_limits, write_worker};
 use tg_journal::Entry;
@@ -88,7 +88,7 @@ fn write_workers<K: Sink>(sink: &mut K, values: &[Value]) -> Result<(), WriteFai
 }
 
 fn write_edges<K: Sink>(sink: &mut K, edges: &[Edge]) -> Result<(), WriteFailed>
-    ensures { Writes (K.taken sink.old) (K.failures sink.old) (flat_map edge_text edges.now) result
+    ensures { Writes (K.taken sink.old) (K.failures sink.old) (flat_map edge_line_text edges.now) result
         (K.taken sink.new) (K.failures sink.new) }
 {
     for edge in edges {

@@ -2,7 +2,7 @@
 ghost use Rattle.std.specs.Prelude.{◌≡◌, List, ℕ, IfOk, IsTrue};
 ghost use Rattle.tg_model.specs.Graph.{ProtectionGraph};
 ghost use Rattle.tg_journal.specs.Auditing.{StandsAt};
-ghost use Rattle.tg_entries.specs.Read.{GoesOn, HasEntered, HasRead, IsListed};
+ghost use Rattle.tg_entries.specs.Read.{ReadsOn, HasEntered, HasRead, IsListedEntry};
 ghost use Rattle.tg_entries.specs.Texts.{deed_text};
 
 use crate::audit::{next_deed, open};
@@ -25,7 +25,7 @@ pub(crate) fn long_stage<L: Ledger, R: BufRead>(
     reader: &mut R,
     line: &mut Vec<u8>,
 ) -> Result<Stage, LongFault>
-    ensures { (text : List ℕ) → HasRead text stage → IfOk result (GoesOn text line.old.items (R.remaining reader.old) (R.remaining reader.new)) }
+    ensures { (text : List ℕ) → HasRead text stage → IfOk result (ReadsOn text line.old.items (R.remaining reader.old) (R.remaining reader.new)) }
 {
     match stage {
         Stage::Version => Err(LongFault::Line(LineFault::OtherVersion)),
@@ -45,7 +45,7 @@ fn long_entry<L: Ledger, R: BufRead>(
     reader: &mut R,
     line: &mut Vec<u8>,
 ) -> Result<Stage, LongFault>
-    ensures { (text : List ℕ) → HasEntered text entered → IfOk result (GoesOn text line.old.items (R.remaining reader.old) (R.remaining reader.new)) }
+    ensures { (text : List ℕ) → HasEntered text entered → IfOk result (ReadsOn text line.old.items (R.remaining reader.old) (R.remaining reader.new)) }
 {
     let mut entered = entered;
     let told = next_deed(alloc, again, front_part(line.as_slice()))?;
@@ -68,7 +68,7 @@ fn is_listed<L: Ledger, R: BufRead>(
     line: &mut Vec<u8>,
 ) -> Result<bool, LongFault>
     requires { again.old.bytes.items ≡ deed_text told.now.0 told.now.1 }
-    ensures { (g : ProtectionGraph) → StandsAt g auditor.old → IfOk result (λ legal. IsTrue legal → IsListed g line.old.items (R.remaining reader.old) (R.remaining reader.new) auditor.new) }
+    ensures { (g : ProtectionGraph) → StandsAt g auditor.old → IfOk result (λ legal. IsTrue legal → IsListedEntry g line.old.items (R.remaining reader.old) (R.remaining reader.new) auditor.new) }
 {
     match auditor.answer(told.0, &told.1)? {
         Some(Reply::Edges(edges)) => is_listing(again, edges.as_slice(), reader, line),

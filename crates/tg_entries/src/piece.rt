@@ -1,7 +1,7 @@
 //! A line that is read piece by piece.
 ghost use Rattle.std.specs.Prelude.{◌≡◌, ◌++◌, ◌+◌, ◌≤◌, length, take, drop, IfOk, OnOk, OnSome, IsTrue};
 ghost use Rattle.std.specs.Io.KnownBytes.{IsAtEnd};
-ghost use Rattle.tg_entries.specs.Pieces.{Fetches, Loses};
+ghost use Rattle.tg_entries.specs.Pieces.{FetchesPiece, Loses};
 
 use std::io::{self, BufRead, ErrorKind};
 
@@ -12,7 +12,7 @@ pub(crate) fn read_some<R: BufRead>(
     most: usize,
     line: &mut Vec<u8>,
 ) -> io::Result<bool>
-    ensures fetched { OnOk result (Fetches line.old.items (R.remaining reader.old) line.new.items (R.remaining reader.new)) }
+    ensures fetched { OnOk result (FetchesPiece line.old.items (R.remaining reader.old) line.new.items (R.remaining reader.new)) }
     ensures ended { IfOk result (λ ended. IsTrue ended → OnSome (R.remaining reader.old) (IsAtEnd (R.remaining reader.new))) }
     ensures within { length line.old.items ≤ most → length line.new.items ≤ most }
 {
@@ -31,7 +31,7 @@ pub(crate) fn read_some<R: BufRead>(
 // Puts the bytes that the reader holds of a line behind those at hand, no more than so many. Whether the text ends
 // there. An interruption puts none.
 fn take_piece<R: BufRead>(reader: &mut R, most: usize, line: &mut Vec<u8>) -> io::Result<bool>
-    ensures fetched { OnOk result (Fetches line.old.items (R.remaining reader.old) line.new.items (R.remaining reader.new)) }
+    ensures fetched { OnOk result (FetchesPiece line.old.items (R.remaining reader.old) line.new.items (R.remaining reader.new)) }
     ensures ended { IfOk result (λ ended. IsTrue ended → OnSome (R.remaining reader.old) (IsAtEnd (R.remaining reader.new))) }
     ensures within { length line.new.items ≤ length line.old.items + most }
 {

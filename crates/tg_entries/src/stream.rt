@@ -1,6 +1,6 @@
 //! An audit of all lines of a reader.
 ghost use Rattle.std.specs.Prelude.{◌≡◌, ◌<◌, ◌++◌, [], List, ℕ, IfOk, IfSome, OnOk};
-ghost use Rattle.tg_entries.specs.Read.{GoesOn, HasRead};
+ghost use Rattle.tg_entries.specs.Read.{ReadsOn, HasRead};
 ghost use Rattle.tg_entries.specs.Texts.{IsAudited};
 
 use crate::audit::TextAudit;
@@ -77,7 +77,7 @@ fn audit_line<L: Ledger, R: BufRead>(
     reader: &mut R,
     line: &mut Vec<u8>,
 ) -> Result<(), TextFault>
-    ensures { (text : List ℕ) → HasRead text audit.old → OnOk result (GoesOn text line.old.items (R.remaining reader.old) (R.remaining reader.new) audit.new) }
+    ensures { (text : List ℕ) → HasRead text audit.old → OnOk result (ReadsOn text line.old.items (R.remaining reader.old) (R.remaining reader.new) audit.new) }
 {
     if !line.ends_with(b"\n") {
         return audit_long(audit, number, reader, line);
@@ -95,7 +95,7 @@ fn audit_long<L: Ledger, R: BufRead>(
     reader: &mut R,
     line: &mut Vec<u8>,
 ) -> Result<(), TextFault>
-    ensures { (text : List ℕ) → HasRead text audit.old → OnOk result (GoesOn text line.old.items (R.remaining reader.old) (R.remaining reader.new) audit.new) }
+    ensures { (text : List ℕ) → HasRead text audit.old → OnOk result (ReadsOn text line.old.items (R.remaining reader.old) (R.remaining reader.new) audit.new) }
 {
     match audit.long_line(reader, line) {
         Ok(()) => Ok(()),

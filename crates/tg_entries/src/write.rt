@@ -6,7 +6,7 @@ ghost use Rattle.tg_text.specs.declared.answer.Answer.TheVariants as Answer;
 ghost use Rattle.tg_text.specs.Grammar.{line_text};
 ghost use Rattle.tg_text.specs.Sinks.{Writes};
 ghost use Rattle.tg_text.specs.Texts.{answer_text};
-ghost use Rattle.tg_entries.specs.Texts.{deed_text, edge_text, end_text, entry_text, limits_text, logged_text, more_text, numbers_text, value_text, worker_text};
+ghost use Rattle.tg_entries.specs.Texts.{deed_text, edge_line_text, end_text, entry_text, limits_text, logged_text, more_text, numbers_text, payload_text, worker_text};
 
 use itoa::Buffer;
 use tg_journal::Entry;
@@ -72,7 +72,7 @@ pub fn write_worker<K: Sink>(sink: &mut K, value: &Value) -> Result<(), WriteFai
 
 fn write_value_line<K: Sink>(sink: &mut K, value: &Value) -> Result<(), WriteFailed>
     ensures { Writes (K.taken sink.old) (K.failures sink.old)
-        (value_text value.now.law value.now.state ++ codes "\n") result
+        (payload_text value.now.law value.now.state ++ codes "\n") result
         (K.taken sink.new) (K.failures sink.new) }
 {
     write_value(sink, value.law, value.state.as_slice())?;
@@ -81,7 +81,7 @@ fn write_value_line<K: Sink>(sink: &mut K, value: &Value) -> Result<(), WriteFai
 
 /// Writes the line of an edge of the opening, or a front of it where the sink fails. Takes no memory.
 pub fn write_edge<K: Sink>(sink: &mut K, edge: Edge) -> Result<(), WriteFailed>
-    ensures { Writes (K.taken sink.old) (K.failures sink.old) (edge_text edge) result
+    ensures { Writes (K.taken sink.old) (K.failures sink.old) (edge_line_text edge) result
         (K.taken sink.new) (K.failures sink.new) }
 {
     write_line(sink, Line::Edge(edge))?;
@@ -117,7 +117,7 @@ fn write_making<K: Sink>(
     law: Law,
     state: &[u64],
 ) -> Result<(), WriteFailed>
-    ensures { Writes (K.taken sink.old) (K.failures sink.old) (line_text line ++ (32 ∷ value_text law state.now)) result
+    ensures { Writes (K.taken sink.old) (K.failures sink.old) (line_text line ++ (32 ∷ payload_text law state.now)) result
         (K.taken sink.new) (K.failures sink.new) }
 {
     write_line(sink, line)?;
@@ -126,7 +126,7 @@ fn write_making<K: Sink>(
 
 // Writes what a vertex stores, behind a space.
 fn write_stored<K: Sink>(sink: &mut K, law: Law, state: &[u64]) -> Result<(), WriteFailed>
-    ensures { Writes (K.taken sink.old) (K.failures sink.old) (32 ∷ value_text law state.now) result
+    ensures { Writes (K.taken sink.old) (K.failures sink.old) (32 ∷ payload_text law state.now) result
         (K.taken sink.new) (K.failures sink.new) }
 {
     put_all(sink, b" ")?;
@@ -135,7 +135,7 @@ fn write_stored<K: Sink>(sink: &mut K, law: Law, state: &[u64]) -> Result<(), Wr
 
 // Writes the letter of a law and the numbers.
 fn write_value<K: Sink>(sink: &mut K, law: Law, state: &[u64]) -> Result<(), WriteFailed>
-    ensures { Writes (K.taken sink.old) (K.failures sink.old) (value_text law state.now) result
+    ensures { Writes (K.taken sink.old) (K.failures sink.old) (payload_text law state.now) result
         (K.taken sink.new) (K.failures sink.new) }
 {
     match law {
@@ -147,7 +147,7 @@ fn write_value<K: Sink>(sink: &mut K, law: Law, state: &[u64]) -> Result<(), Wri
 }
 
 fn write_log<K: Sink>(sink: &mut K, most: u32, state: &[u64]) -> Result<(), WriteFailed>
-    ensures { Writes (K.taken sink.old) (K.failures sink.old) (value_text (Law.Log most) state.now) result
+    ensures { Writes (K.taken sink.old) (K.failures sink.old) (payload_text (Law.Log most) state.now) result
         (K.taken sink.new) (K.failures sink.new) }
 {
     write_number(sink, b"l", u64::from(most))?;

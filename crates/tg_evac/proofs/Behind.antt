@@ -3,14 +3,14 @@ use Rattle.std.proofs.Common.{◌≡◌, ◌<◌, ◌≤◌, ◌+◌, ◌*◌, t
 use Rattle.std.specs.List.{All}
 use Rattle.std.proofs.lemmas.Bool.Decides.{nat_tests}
 use Rattle.tg_word.specs.declared.Place.{Place}
-use Rattle.tg_space.specs.SpaceList.{SpaceList, Holds, IsSpace, blocks_before, cells_of, flat_of, space_of}
+use Rattle.tg_space.specs.SpaceList.{SpaceList, HasCell, IsSpace, blocks_before, cells_of, flat_of, space_of}
 use Rattle.tg_space.specs.SpaceTable.{kept_blocks}
 use Rattle.tg_space.specs.Targets.{from_space}
 use Rattle.tg_space.specs.declared.kind.Kind.{Kind}
 use Rattle.tg_space.specs.declared.kind.Kind.TheVariants.{Full, Nursery}
 use Rattle.tg_space.proofs.Flat.{before_le, before_mono, before_more, length-cells_of}
 
-pub moved_behind : (kind : Kind) (h : SpaceList) (p : Place) → Holds h p → from_space kind p.space ≡ true → 64 * kept_blocks kind h ≤ flat_of h p
+pub moved_behind : (kind : Kind) (h : SpaceList) (p : Place) → HasCell h p → from_space kind p.space ≡ true → 64 * kept_blocks kind h ≤ flat_of h p
 moved_behind Full h p holds moves = omega arith
 moved_behind Nursery h p holds moves =
     let young : 1 ≤ p.space = grind (arith, nat_tests) in

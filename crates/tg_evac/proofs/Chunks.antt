@@ -9,7 +9,7 @@ use Rattle.tg_word.specs.declared.Place.{Place}
 use Rattle.tg_word.specs.Word.{place_in}
 use Rattle.tg_space.specs.Rows.{chunks_from, link_at}
 use Rattle.tg_space.specs.Soundness.{IsPointer, IsRootIn}
-use Rattle.tg_space.specs.SpaceList.{SpaceList, IsSpaceList, Holds, cell_at, flat_of, cells_of}
+use Rattle.tg_space.specs.SpaceList.{SpaceList, IsSpaceList, HasCell, cell_at, flat_of, cells_of}
 use Rattle.tg_space.specs.Targets.{from_space, pointers_of, target_in, named_by, cells_followed, targets_at, targets_of, root_targets_of}
 use Rattle.tg_space.specs.declared.kind.Kind.{Kind}
 use Rattle.tg_space.specs.declared.root.Root.{Root}
@@ -133,7 +133,7 @@ module _ (kind : Kind) (h : SpaceList) (is : IsSpaceList h) (pointers : HavePoin
           (λ (n : (w == 0 ≡ false) × (w ≢ 0)). rw (target_moved (from_space kind) h w n.1 moved) (All-cons (IsUsed kind h) (flat_of h (place_in w)) [] used (All-nil (IsUsed kind h))))
           (eqb_tells w 0)
 
-  pub used_targets : (p : Place) → Holds h p → All (IsUsed kind h) (targets_at (from_space kind) h p)
+  pub used_targets : (p : Place) → HasCell h p → All (IsUsed kind h) (targets_at (from_space kind) h p)
   used_targets p held = used_named (pointers_of (cell_at h p)) (pointers.words p held)
 
   used_chunks : (most link : ℕ) → IsPointer h link → All (IsUsed kind h) (chunk_targets (from_space kind) h most link)
@@ -150,7 +150,7 @@ module _ (kind : Kind) (h : SpaceList) (is : IsSpaceList h) (pointers : HavePoin
           (All-append (IsUsed kind h) (targets_at (from_space kind) h (place_in link)) (chunk_targets (from_space kind) h most (link_at h (place_in link)))
           (used_targets (place_in link) names.held) later)
 
-  used_row : (p : Place) → Holds h p → 0 < get_or (cell_at h p) 0 0 → All (IsUsed kind h) (root_targets_of (from_space kind) h (Row p))
+  used_row : (p : Place) → HasCell h p → 0 < get_or (cell_at h p) 0 0 → All (IsUsed kind h) (root_targets_of (from_space kind) h (Row p))
   used_row p held some = ⊎_elim
       (λ (moved : from_space kind p.space ≡ true).
       let used : IsUsed kind h (flat_of h p) = record { place = p; held = held; moved = moved; at = refl; used = some } in
@@ -167,6 +167,6 @@ module _ (kind : Kind) (h : SpaceList) (is : IsSpaceList h) (pointers : HavePoin
   used_root (Remembered p) old = used_targets p old.held
 
 -- the targets of a cell, by its place and by its number
-pub targets_from : (from : ℕ → Bool) (h : SpaceList) → IsSpaceList h → (p : Place) → Holds h p → (c : ℕ) → flat_of h p ≡ c → targets_at from h p ≡ targets_of from h c
+pub targets_from : (from : ℕ → Bool) (h : SpaceList) → IsSpaceList h → (p : Place) → HasCell h p → (c : ℕ) → flat_of h p ≡ c → targets_at from h p ≡ targets_of from h c
 targets_from from h is p held c at =
     ap (λ (words : List ℕ). named_by from h (pointers_of words)) (sym (get_or-flat_of h is.spaces p held)) ∙ ap (targets_of from h) at

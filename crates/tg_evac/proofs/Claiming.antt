@@ -19,8 +19,8 @@ use Rattle.tg_space.specs.Collection.{AreFewBlocks, copies_in, is_copy_in, new_p
 use Rattle.tg_space.specs.SpaceList.{BlockList}
 use Rattle.tg_space.specs.SpaceTable.{place_in_space}
 use Rattle.tg_evac.specs.Win.{Win}
-use Rattle.tg_evac.specs.Claims.{Claimed, StandsIn, HasNewPlace, IsGiven, AreApart, AreGivenInOrder, AreClaims, AreWordsOf, HasFilledRoom, cells_won, first_new, is_in, won_in, win_at, wins_at}
-use Rattle.tg_evac.specs.Claimers.{AddsWins, HasPlacesOf, IsLink, walked_of}
+use Rattle.tg_evac.specs.Claims.{Claimed, IsWonIn, HasNewPlace, IsGiven, AreDistinctWins, AreGivenInOrder, AreClaims, AreWordsOf, HasFilledRoom, cells_won, first_new, is_in, won_in, win_at, wins_at}
+use Rattle.tg_evac.specs.Claimers.{AddsWins, HasPlacesOf, IsClaimLink, walked_of}
 use Rattle.tg_evac.specs.Copies.{HavePlaces}
 use Rattle.tg_evac.proofs.Copying.{filter_other, filter_push, map_found}
 
@@ -37,7 +37,7 @@ place_back s k two low = place_in-word_at no_rights (place_in_space s k) (place_
 pub pair_of : (won : List Win) (forward : List ℕ) → AreWordsOf won forward → (c : ℕ) → c < length forward → get_or forward c 0 ≢ 0 → (w : Win) × Contains won w × (w.cell ≡ c) × (get_or forward c 0 ≡ w.word)
 pair_of won forward are c low some =
     let found = are.every c low some in
-    (found.0, found.1, found.2, ap (λ (n : ℕ). get_or forward n 0) (sym found.2) ∙ (All-contains (StandsIn forward) won found.0 are.stand found.1).word)
+    (found.0, found.1, found.2, ap (λ (n : ℕ). get_or forward n 0) (sym found.2) ∙ (All-contains (IsWonIn forward) won found.0 are.stand found.1).word)
 
 -- what holds of 0 and of the words of pairs holds of each forwarding word
 pub each_word : (P : ℕ → Type 0) → P 0 → (won : List Win) (forward : List ℕ) → AreWordsOf won forward → All (λ w. P w.word) won → All P forward
@@ -109,7 +109,7 @@ distinct_map f xs default differ = IsDistinct-from_AllPairs {eq = eqb} Decides-e
     differ i j default lt (omega arith) (sym (get_or-map f xs i default d (omega arith)) ∙ e ∙ get_or-map f xs j default d (omega arith)))
 
 -- pairs that are apart by their numbers
-pub apart_of : (won : List Win) → ((i j : ℕ) → i < length won → j < length won → (win_at won i).word ≡ (win_at won j).word → (win_at won i).cell ≡ (win_at won j).cell) → AreApart won
+pub apart_of : (won : List Win) → ((i j : ℕ) → i < length won → j < length won → (win_at won i).word ≡ (win_at won j).word → (win_at won i).cell ≡ (win_at won j).cell) → AreDistinctWins won
 apart_of won apart v w hv hw e =
     let at = λ (u : Win) (held : Contains won u). get_or_default won held.0 (win_at [] 0) u held.1 ∙ held.2 in
     ap (λ (u : Win). u.cell) (sym (at v hv)) ∙ apart hv.0 hw.0 hv.1 hw.1 (ap (λ (u : Win). u.word) (at v hv) ∙ e ∙ ap (λ (u : Win). u.word) (sym (at w hw))) ∙ ap (λ (u : Win). u.cell) (at w hw)
@@ -117,15 +117,15 @@ apart_of won apart v w hv hw e =
 -- ---- what the rule says of each pair
 
 module _ (c : Claimed) (are : AreClaims c) where
-  pub stands : (w : Win) → Contains c.won w → StandsIn c.forward w
-  stands w held = All-contains (StandsIn c.forward) c.won w are.words.stand held
+  pub stands : (w : Win) → Contains c.won w → IsWonIn c.forward w
+  stands w held = All-contains (IsWonIn c.forward) c.won w are.words.stand held
 
   pub placed : (w : Win) → Contains c.won w → HasNewPlace c.plan.kept w
   placed w held = All-contains (HasNewPlace c.plan.kept) c.won w are.places held
 
   -- each forwarding word that isn't 0 is the link to its place
-  pub forward_links : (n : ℕ) → n < length c.forward → get_or c.forward n 0 ≢ 0 → IsLink (get_or c.forward n 0)
-  forward_links n low some = let found = pair_of c.won c.forward are.words n low some in subst (λ (w : ℕ). IsLink w) (sym found.3) (placed found.0 found.1).link
+  pub forward_links : (n : ℕ) → n < length c.forward → get_or c.forward n 0 ≢ 0 → IsClaimLink (get_or c.forward n 0)
+  forward_links n low some = let found = pair_of c.won c.forward are.words n low some in subst (λ (w : ℕ). IsClaimLink w) (sym found.3) (placed found.0 found.1).link
 
   -- no more cells are won than stand behind the first, where none of these is won
   pub won_behind : (first : ℕ) → All (λ (w : Win). first ≤ w.cell) c.won → length c.won ≤ length c.forward - first
@@ -156,7 +156,7 @@ module _ (c : Claimed) (are : AreClaims c) where
 
 -- the table has the places of the pairs
 pub has_places : (c : Claimed) → AreClaims c → HasPlacesOf c.won (new_place c.forward)
-has_places c are = All-weaker (StandsIn c.forward) (λ (w : Win). new_place c.forward w.cell ≡ place_in w.word) (λ w st. ap place_in st.word) c.won are.words.stand
+has_places c are = All-weaker (IsWonIn c.forward) (λ (w : Win). new_place c.forward w.cell ≡ place_in w.word) (λ w st. ap place_in st.word) c.won are.words.stand
 
 -- where a space has no room for one more, all the room is won
 pub full_at : (c : Claimed) → AreClaims c → (space : ℕ) → space < 2 → c.plan.room ≤ get_or c.next space 0 → HasFilledRoom c
@@ -179,11 +179,11 @@ module _ (forward cells : List ℕ) where
   won_length = length-map cells (λ (n : ℕ). let w : Win = record { cell = n; word = get_or forward n 0 } in w)
 
   -- a cell that has no word is none of them
-  pub won_others : All (StandsIn forward) (wins_at forward cells) → (cell : ℕ) → get_or forward cell 0 ≡ 0 → All (λ (n : ℕ). n ≢ cell) cells
+  pub won_others : All (IsWonIn forward) (wins_at forward cells) → (cell : ℕ) → get_or forward cell 0 ≡ 0 → All (λ (n : ℕ). n ≢ cell) cells
   won_others stand cell none = All-from_get_or (λ (n : ℕ). n ≢ cell) cells 0 (λ (k : ℕ) (low : k < length cells) (e : get_or cells k 0 ≡ cell).
       let inside : k < length (wins_at forward cells) = (let long = won_length in omega arith) in
-      let st = All-get_or (StandsIn forward) (wins_at forward cells) k (win_at [] 0) inside stand in
-      (subst (λ (w : Win). StandsIn forward w) (won_at k low) st).some (ap (λ (n : ℕ). get_or forward n 0) e ∙ none))
+      let st = All-get_or (IsWonIn forward) (wins_at forward cells) k (win_at [] 0) inside stand in
+      (subst (λ (w : Win). IsWonIn forward w) (won_at k low) st).some (ap (λ (n : ℕ). get_or forward n 0) e ∙ none))
 
 -- the words of other cells stay
 wins_still : (forward cells : List ℕ) (cell word : ℕ) → All (λ (n : ℕ). n ≢ cell) cells → wins_at (set forward cell word) cells ≡ wins_at forward cells
@@ -217,7 +217,7 @@ module _ (c : Claimed) (are : AreClaims c) (w : Win) (space number : ℕ) (two :
   some : w.word ≢ 0
   some e = let above : 0 < link_to (place_in_space space number) = word_at-above_zero no_rights (place_in_space space number) (place_inside space number two small) in omega arith
 
-  still_stands : (v : Win) → StandsIn c.forward v → StandsIn (set c.forward w.cell w.word) v
+  still_stands : (v : Win) → IsWonIn c.forward v → IsWonIn (set c.forward w.cell w.word) v
   still_stands v st =
       let other : v.cell ≢ w.cell = λ e. st.some (sym st.word ∙ ap (λ (n : ℕ). get_or c.forward n 0) e ∙ none) in record {
         cell = omega (arith, length-set c.forward w.cell w.word, st.cell);
@@ -225,7 +225,7 @@ module _ (c : Claimed) (are : AreClaims c) (w : Win) (space number : ℕ) (two :
         some = st.some;
       }
 
-  new_stands : StandsIn (set c.forward w.cell w.word) w
+  new_stands : IsWonIn (set c.forward w.cell w.word) w
   new_stands = record {
     cell = omega (arith, length-set c.forward w.cell w.word);
     word = get_or-set_same c.forward w.cell w.word 0 inside;
@@ -302,7 +302,7 @@ module _ (c : Claimed) (are : AreClaims c) (w : Win) (space number : ℕ) (two :
       let low : IsGiven c.next (place_in_space space number) = subst (λ (p : Place). IsGiven c.next p) (ap place_in e ∙ at) (All-contains (λ (u : Win). IsGiven c.next (place_in u.word)) c.won v are.given held) in
       omega arith
 
-  apart_more : AreApart (c.won ++ w ∷ [])
+  apart_more : AreDistinctWins (c.won ++ w ∷ [])
   apart_more u v hu hv e = ⊎_elim
       (λ (old : Contains c.won u). ⊎_elim (λ (too : Contains c.won v). apart_of c.won are.apart u v old too e)
       (λ (last : w ≡ v). absurd (fresh u old (e ∙ ap (λ (x : Win). x.word) (sym last)))) (Contains-push_cases c.won w v hv))
@@ -324,7 +324,7 @@ module _ (c : Claimed) (are : AreClaims c) (w : Win) (space number : ℕ) (two :
 
   pub claims_more : AreClaims (record { plan = c.plan; forward = set c.forward w.cell w.word; won = c.won ++ w ∷ []; next = set c.next space (number + 1) })
   claims_more = record {
-    words = record { stand = All-push (StandsIn (set c.forward w.cell w.word)) c.won w (All-weaker (StandsIn c.forward) (StandsIn (set c.forward w.cell w.word)) still_stands c.won are.words.stand) new_stands; every = every_more };
+    words = record { stand = All-push (IsWonIn (set c.forward w.cell w.word)) c.won w (All-weaker (IsWonIn c.forward) (IsWonIn (set c.forward w.cell w.word)) still_stands c.won are.words.stand) new_stands; every = every_more };
     places = All-push (HasNewPlace c.plan.kept) c.won w are.places new_place_is;
     given = given_more;
     apart = λ i j low high. apart_more (win_at (c.won ++ w ∷ []) i) (win_at (c.won ++ w ∷ []) j) (Contains-get_or (c.won ++ w ∷ []) i (win_at [] 0) low) (Contains-get_or (c.won ++ w ∷ []) j (win_at [] 0) high);

@@ -19,7 +19,7 @@ use Rattle.tg_space.specs.declared.root.Root.{Root}
 use Rattle.tg_space.specs.declared.root.Root.TheVariants.{Remembered}
 use Rattle.tg_space.proofs.Tables.{table_list}
 use Rattle.tg_evac.specs.Win.{Win}
-use Rattle.tg_evac.specs.Claims.{AreApart, Claimed, AreClaims, HasNewPlace, AreGivenInOrder, IsPlanFor, IsTracedFrom, StandsIn, AreTraced, AreWordsOf, cells_won, won_in}
+use Rattle.tg_evac.specs.Claims.{AreDistinctWins, Claimed, AreClaims, HasNewPlace, AreGivenInOrder, IsPlanFor, IsTracedFrom, IsWonIn, AreTraced, AreWordsOf, cells_won, won_in}
 use Rattle.tg_evac.specs.Claimers.{copies_to}
 use Rattle.tg_evac.specs.Copies.{HoldCells, HoldCopies, IsPlaceIn, copy_of, moved_cell, new_cell}
 use Rattle.tg_evac.proofs.Claiming.{apart_of, each_word, few_blocks, have_places, in_room, pair_of}
@@ -35,7 +35,7 @@ pub record AreWins (kind : Kind) (h : SpaceList) (roots : List Root) (forward : 
   pub traced : AreTraced kind h roots won
   pub reached : (n : ℕ) → Contains (cells_won won) n ↔ IsInClosure (all_root_targets (from_space kind) h roots) (targets_of (from_space kind) h) n
   pub places : All (HasNewPlace (kept_blocks kind h)) won
-  pub apart : AreApart won
+  pub apart : AreDistinctWins won
 
 -- the notes of these roots, and of these blocks of Old behind as many others
 abbrev pub AreNotes : Kind → SpaceList → List Root → List ℕ → ℕ → BlockList → List Place → Type 0
@@ -80,8 +80,8 @@ module _ (kind : Kind) (h : SpaceList) (roots : List Root) (won : List Win) (mad
   abbrev old : BlockList
   old = made.old
 
-  stands : (w : Win) → Contains won w → StandsIn forward w
-  stands w held = All-contains (StandsIn forward) won w are.words.stand held
+  stands : (w : Win) → Contains won w → IsWonIn forward w
+  stands w held = All-contains (IsWonIn forward) won w are.words.stand held
 
   place_of_win : (w : Win) → Contains won w → HasNewPlace (kept_blocks kind h) w
   place_of_win w held = All-contains (HasNewPlace (kept_blocks kind h)) won w are.places held

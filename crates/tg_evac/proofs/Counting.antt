@@ -11,7 +11,7 @@ use Rattle.std.specs.Cmp.{nat_eq_equiv}
 use Rattle.tg_word.specs.declared.Place.{Place}
 use Rattle.tg_block.specs.Cells.{all_are_zero}
 use Rattle.tg_space.specs.Collection.{moved_cells, used_cells}
-use Rattle.tg_space.specs.SpaceList.{SpaceList, BlockList, IsSpace, IsSpaceList, Holds, cell_at, flat_of, cells_of, blocks_before}
+use Rattle.tg_space.specs.SpaceList.{SpaceList, BlockList, IsSpace, IsSpaceList, HasCell, cell_at, flat_of, cells_of, blocks_before}
 use Rattle.tg_space.specs.Targets.{from_space}
 use Rattle.tg_space.specs.declared.kind.Kind.{Kind}
 use Rattle.tg_space.specs.declared.kind.Kind.TheVariants.{Full, Nursery}
@@ -20,7 +20,7 @@ use Rattle.tg_space.proofs.Flat.{get_or-flat_of, flat_inside, length-cells_of, l
 -- the cell with a number is one of from-space that isn't free
 pub record IsUsed (kind : Kind) (h : SpaceList) (c : ℕ) : Type 0 where
   pub place : Place
-  pub held : Holds h place
+  pub held : HasCell h place
   pub moved : from_space kind place.space ≡ true
   pub at : flat_of h place ≡ c
   pub used : 0 < get_or (cell_at h place) 0 0

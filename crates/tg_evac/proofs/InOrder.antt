@@ -19,7 +19,7 @@ use Rattle.tg_space.specs.declared.kind.Kind.TheVariants.{Full}
 use Rattle.tg_space.specs.declared.root.Root.{Root}
 use Rattle.tg_space.proofs.Flat.{all_cells_whole, length-blocks}
 use Rattle.tg_evac.specs.Win.{Win}
-use Rattle.tg_evac.specs.Claims.{AreGivenInOrder, AreTraced, StandsIn, is_in, win_at, won_in}
+use Rattle.tg_evac.specs.Claims.{AreGivenInOrder, AreTraced, IsWonIn, is_in, win_at, won_in}
 use Rattle.tg_evac.specs.Copies.{AreOld, HasCopy, HavePlaces, HoldCells, HoldCopies, IsPlaceIn, copy_of, new_cell}
 use Rattle.tg_evac.proofs.Adopted.{free_is_not_young}
 use Rattle.tg_evac.proofs.Claiming.{in_none, is_in_one, place_back}
@@ -150,13 +150,13 @@ module _ (h : SpaceList) (forward : List ℕ) (places : HavePlaces forward) (old
       names.2 (ap (λ (w : ℕ). (place_in w).space) (sym is) ∙ moved_old (get_or (drop n words) held.0 0))
 
   -- and neither does a cell of blocks that hold copies
-  pub none_young_block : (won : List Win) (blocks : BlockList) → IsSpaceList h → length forward ≡ length (cells_of h) → All (StandsIn forward) won → HoldCopies 0 0 (copy_of Full h forward) won blocks →
+  pub none_young_block : (won : List Win) (blocks : BlockList) → IsSpaceList h → length forward ≡ length (cells_of h) → All (IsWonIn forward) won → HoldCopies 0 0 (copy_of Full h forward) won blocks →
       (p : Place) → IsPlaceIn 0 0 blocks p → NamesYoung (new_cell 0 blocks p) → ⊥
   none_young_block won blocks are whole stand hold p inside names = free_is_not_young (subst (λ (ws : List ℕ). NamesYoung ws) (hold.rest p inside copied) names)
     where
       copied : (w : Win) → Contains won w → place_in w.word ≢ p
       copied w held e =
-          let st : StandsIn forward w = All-contains (StandsIn forward) won w stand held in
+          let st : IsWonIn forward w = All-contains (IsWonIn forward) won w stand held in
           let low : w.cell < length (cells_of h) = let below = st.cell in omega arith in
           let has = hold.copied w held (ap (λ (q : Place). q.space) e ∙ inside.space) in
           names_none (cell_numbered h w.cell) (All-get_or (λ (ws : List ℕ). length ws ≡ 8) (cells_of h) w.cell [] low (all_cells_whole h are.spaces))

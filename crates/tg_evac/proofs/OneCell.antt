@@ -5,7 +5,7 @@ use Rattle.std.proofs.lemmas.Bool.Decides.{nat_tests}
 use Rattle.std.proofs.lemmas.List.Elements.{All-push}
 use Rattle.tg_word.specs.declared.Place.{Place}
 use Rattle.tg_word.specs.Word.{place_in, rights_in, word_at}
-use Rattle.tg_space.specs.SpaceList.{SpaceList, Holds, flat_of}
+use Rattle.tg_space.specs.SpaceList.{SpaceList, HasCell, flat_of}
 use Rattle.tg_space.specs.Targets.{moved_word, target_in}
 use Rattle.tg_evac.specs.Win.{Win}
 use Rattle.tg_evac.specs.Claims.{IsClaimOf, IsWinFor, space_for}
@@ -22,7 +22,7 @@ goes_to_two straight space = zero_or_one (straight || (space == 1))
 
 -- a win of the cell at a place is a claim of that cell
 pub claims_one : {Fixed : Type 0} {a b : Walked Fixed} (h : SpaceList) (straight : Bool) (p : Place) (cell space : ℕ) (cells : List ℕ) →
-    Holds h p → cell ≡ flat_of h p → space ≡ space_for straight p.space → cells ≡ flat_of h p ∷ [] → AddsWins (IsWinFor cell space) a b → AddsWins (IsClaimOf h straight cells) a b
+    HasCell h p → cell ≡ flat_of h p → space ≡ space_for straight p.space → cells ≡ flat_of h p ∷ [] → AddsWins (IsWinFor cell space) a b → AddsWins (IsClaimOf h straight cells) a b
 claims_one h straight p cell space cells held at to is adds =
     wins_weaker adds (λ (w : Win) win. record {
       one = subst (λ (ns : List ℕ). Contains ns w.cell) (sym is) (0, lit< tt, sym at ∙ sym win.number);

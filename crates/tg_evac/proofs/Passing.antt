@@ -13,9 +13,9 @@ use Rattle.tg_space.specs.declared.room_fault.RoomFault.{RoomFault}
 use Rattle.tg_space.specs.declared.room_fault.RoomFault.TheVariants.{HeapFull}
 use Rattle.tg_evac.specs.Claims.{IsClaimOf}
 use Rattle.tg_evac.specs.Claimers.{AddsWins, KeepsWins, KnowsMore, Walked}
-use Rattle.tg_evac.specs.Collects.{Collects}
+use Rattle.tg_evac.specs.Collects.{CollectsRoots}
 use Rattle.tg_evac.specs.Room.{IsReachedFrom, LacksRoomFor}
-use Rattle.tg_evac.specs.Walks.{ClaimsAll, GoesOn, IsTableFor, MayWalk}
+use Rattle.tg_evac.specs.Walks.{ClaimsAll, WalkGoesOn, IsTableFor, MayWalk}
 
 -- the same fault
 pub passed_on : {A E : Type 0} (r : Result A E) (P : E → Type 0) (y : E) → IsErrAnd r (λ x. x ≡ y) → P y → IfErr r P
@@ -29,7 +29,7 @@ refused_always (Err x) y P same = tt
 
 -- a collection that is refused
 pub collects_refused : {Fault : Type 0} {heap_full : Fault} {kind : Kind} {t : SpaceTable} {roots : List Root} {more helpers : ℕ} (result : Result Copied Fault) (fault : Fault) → IsErrAnd result (λ x. x ≡ fault) →
-    (fault ≡ heap_full → LacksRoomFor t.limits.space_blocks helpers (kept_blocks kind t.spaces) (IsReachedFrom kind t.spaces roots)) → Collects heap_full kind t roots more helpers result
+    (fault ≡ heap_full → LacksRoomFor t.limits.space_blocks helpers (kept_blocks kind t.spaces) (IsReachedFrom kind t.spaces roots)) → CollectsRoots heap_full kind t roots more helpers result
 collects_refused (Ok x) fault same full = absurd same
 collects_refused (Err x) fault same full = record { collected = tt; moved = tt; few = tt; full = λ is. full (sym same ∙ is) }
 
@@ -57,5 +57,5 @@ module _ {Table Fixed : Type 0} (walked : Table → Walked Fixed) (knows : Table
 
   -- what was won till then
   pub goes_refused : {T : Type 0} (r : Result T RoomFault) (fault : RoomFault) → IsErrAnd r (λ x. x ≡ fault) →
-      KeepsWins (walked before) (walked after) → KnowsMore (knows before) (knows after) → (fault ≡ HeapFull → is_full after) → GoesOn walked knows is_full before after r
+      KeepsWins (walked before) (walked after) → KnowsMore (knows before) (knows after) → (fault ≡ HeapFull → is_full after) → WalkGoesOn walked knows is_full before after r
   goes_refused r fault same keeps grows full = record { keeps = keeps; grows = grows; full = passed_on r (λ x. x ≡ HeapFull → is_full after) fault same full }

@@ -7,7 +7,7 @@ use Rattle.tg_space.specs.Targets.{cell_numbered}
 use Rattle.tg_evac.specs.Win.{Win}
 use Rattle.tg_evac.specs.Claims.{win_at}
 use Rattle.tg_evac.specs.Claimers.{AddsWins, AreRead, Walked}
-use Rattle.tg_evac.specs.Inner.Reads.{HasRead}
+use Rattle.tg_evac.specs.Inner.Reads.{HasReadAhead}
 use Rattle.tg_evac.specs.declared.copies.Ahead.{Ahead}
 
 -- one more row of words that are as they should be
@@ -31,14 +31,14 @@ module _ (h : SpaceList) {Fixed : Type 0} {reason : Win → Type 0} {a b : Walke
       sym (ap (λ (l : List Win). cell_numbered h (win_at l (k + i)).cell) adds.is ∙ ap (λ (w : Win). cell_numbered h w.cell) (get_or_append_left a.won adds.added (win_at [] 0) (k + i) inside))
 
 -- where nothing is read yet
-pub has_read_none : (h : SpaceList) (won : List Win) (ahead : Ahead) → ahead.first ≡ 0 → ahead.count ≡ 0 → HasRead h won ahead
+pub has_read_none : (h : SpaceList) (won : List Win) (ahead : Ahead) → ahead.first ≡ 0 → ahead.count ≡ 0 → HasReadAhead h won ahead
 has_read_none h won ahead first none = record {
   few = omega (arith, none);
   read = record { within = omega (arith, first, none); words = λ i more. absurd (omega (arith, none, more)) };
 }
 
 -- and what was read ahead, too
-pub has_read_still : (h : SpaceList) {Fixed : Type 0} {reason : Win → Type 0} {a b : Walked Fixed} → AddsWins reason a b → (ahead : Ahead) → HasRead h a.won ahead → HasRead h b.won ahead
+pub has_read_still : (h : SpaceList) {Fixed : Type 0} {reason : Win → Type 0} {a b : Walked Fixed} → AddsWins reason a b → (ahead : Ahead) → HasReadAhead h a.won ahead → HasReadAhead h b.won ahead
 has_read_still h {a = a} {b = b} adds ahead has = record {
   few = has.few;
   read = record {
@@ -48,7 +48,7 @@ has_read_still h {a = a} {b = b} adds ahead has = record {
 }
 
 -- the words of the n-th won cell, which was read ahead
-pub read_ahead : (h : SpaceList) (won : List Win) (ahead : Ahead) (n : ℕ) → ahead.first ≤ n → n < ahead.first + ahead.count → HasRead h won ahead → get_or ahead.words (n - ahead.first) [] ≡ cell_numbered h (win_at won n).cell
+pub read_ahead : (h : SpaceList) (won : List Win) (ahead : Ahead) (n : ℕ) → ahead.first ≤ n → n < ahead.first + ahead.count → HasReadAhead h won ahead → get_or ahead.words (n - ahead.first) [] ≡ cell_numbered h (win_at won n).cell
 read_ahead h won ahead n before there has =
     let same : ahead.first + (n - ahead.first) ≡ n = omega (arith, before) in
     has.read.words (n - ahead.first) (omega (arith, before, there)) ∙ ap (λ (k : ℕ). cell_numbered h (win_at won k).cell) same

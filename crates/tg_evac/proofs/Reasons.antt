@@ -11,7 +11,7 @@ use Rattle.tg_word.specs.Word.{place_in}
 use Rattle.tg_space.specs.Closure.{IsTraced}
 use Rattle.tg_space.specs.Generations.{AreSortedByAge, GoesTo, IsAgedCell, IsNextIn, IsNurseryCell, IsRememberedTarget, IsRowTarget}
 use Rattle.tg_space.specs.Soundness.{IsRootIn}
-use Rattle.tg_space.specs.SpaceList.{SpaceList, IsSpaceList, Holds, cells_of, flat_of}
+use Rattle.tg_space.specs.SpaceList.{SpaceList, IsSpaceList, HasCell, cells_of, flat_of}
 use Rattle.tg_space.specs.Targets.{from_space, young_spaces, targets_of, root_targets_of, all_root_targets}
 use Rattle.tg_space.specs.declared.kind.Kind.{Kind}
 use Rattle.tg_space.specs.declared.kind.Kind.TheVariants.{Full, Nursery}
@@ -21,7 +21,7 @@ use Rattle.tg_space.proofs.Adding.{piece}
 use Rattle.tg_space.proofs.Flat.{same_place, flat_inside}
 use Rattle.tg_space.proofs.Tracing.{reached_from_won}
 use Rattle.tg_evac.specs.Win.{Win}
-use Rattle.tg_evac.specs.Claims.{HavePointers, StandsIn, IsClaimOf, IsRootClaim, AreTraced, AreWordsOf, cells_won, is_in_old, is_straight, space_for, win_at}
+use Rattle.tg_evac.specs.Claims.{HavePointers, IsWonIn, IsClaimOf, IsRootClaim, AreTraced, AreWordsOf, cells_won, is_in_old, is_straight, space_for, win_at}
 use Rattle.tg_evac.specs.Claimers.{AddsWins, Walked}
 use Rattle.tg_evac.specs.Room.{IsReachedFrom}
 use Rattle.tg_evac.proofs.Chunks.{used_root, used_targets, targets_from}
@@ -101,7 +101,7 @@ module _ (kind : Kind) (h : SpaceList) (roots : List Root) (won : List Win) (tra
   pub all_used : IsSpaceList h → HavePointers h → All (IsRootIn h) roots → All (IsUsed kind h) (cells_won won)
   all_used is pointers are = All-map (IsUsed kind h) (λ (w : Win). w.cell) won (All-from_get_or (λ (w : Win). IsUsed kind h w.cell) won (win_at [] 0) used)
     where
-      stands_of : (k : ℕ) → k < length won → (p : Place) × Holds h p × (flat_of h p ≡ (win_at won k).cell)
+      stands_of : (k : ℕ) → k < length won → (p : Place) × HasCell h p × (flat_of h p ≡ (win_at won k).cell)
       stands_of k low = ⊎_elim (λ (r : IsRootClaim kind h roots (win_at won k)). (r.claim.place, r.claim.held, r.claim.at)) (λ (j, below, claim). (claim.place, claim.held, claim.at)) (traced k low)
 
       used : (k : ℕ) → k < length won → IsUsed kind h (win_at won k).cell
@@ -117,7 +117,7 @@ module _ (kind : Kind) (h : SpaceList) (roots : List Root) (won : List Win) (tra
 -- ---- generations
 
 -- the pair of a cell that has a word
-pub goes_to : (forward : List ℕ) (w : Win) → StandsIn forward w → GoesTo forward (place_in w.word).space w.cell
+pub goes_to : (forward : List ℕ) (w : Win) → IsWonIn forward w → GoesTo forward (place_in w.word).space w.cell
 goes_to forward w st = record { some = λ zero. st.some (sym st.word ∙ zero); there = ap (λ (n : ℕ). (place_in n).space) st.word }
 
 -- in a full collection all go to Old
@@ -144,7 +144,7 @@ module _ (h : SpaceList) (roots : List Root) (forward : List ℕ) (won : List Wi
 
     goes_at : (k : ℕ) (space : ℕ) → k < length won → (place_in (win_at won k).word).space ≡ space → GoesTo forward space (win_at won k).cell
     goes_at k space low to =
-        subst (λ (s : ℕ). GoesTo forward s (win_at won k).cell) to (goes_to forward (win_at won k) (All-contains (StandsIn forward) won (win_at won k) words.stand (held_win k low)))
+        subst (λ (s : ℕ). GoesTo forward s (win_at won k).cell) to (goes_to forward (win_at won k) (All-contains (IsWonIn forward) won (win_at won k) words.stand (held_win k low)))
 
     root_to_aged : (root : Root) (w : Win) → Contains roots root → IsClaimOf h (is_straight Nursery root) (root_targets_of young_spaces h root) w → (place_in w.word).space ≡ 1 → IsRowTarget h roots w.cell
     root_to_aged (Row p) w held claim to = (p, held, claim.one)
@@ -197,13 +197,13 @@ module _ (h : SpaceList) (roots : List Root) (forward : List ℕ) (won : List Wi
     pub are_aged : length forward ≡ length (cells_of h) → AreSortedByAge h roots forward
     are_aged whole = record { aged = aged; to_aged = to_aged; to_old = to_old }
       where
-        inside : (c : ℕ) (p : Place) → Holds h p → flat_of h p ≡ c → c < length forward
+        inside : (c : ℕ) (p : Place) → HasCell h p → flat_of h p ≡ c → c < length forward
         inside c p held at = let low = flat_inside h is.spaces p held in omega arith
 
         aged : (c : ℕ) → IsAgedCell h c → get_or forward c 0 ≢ 0 → GoesTo forward 0 c
         aged c a some =
             let f = found c (inside c a.place a.held a.at) some in
-            let from : (p : Place) → Holds h p → flat_of h p ≡ (win_at won f.0).cell → p.space ≡ 1 = λ (p : Place) (held : Holds h p) (at : flat_of h p ≡ (win_at won f.0).cell).
+            let from : (p : Place) → HasCell h p → flat_of h p ≡ (win_at won f.0).cell → p.space ≡ 1 = λ (p : Place) (held : HasCell h p) (at : flat_of h p ≡ (win_at won f.0).cell).
             ap (λ (q : Place). q.space) (same_place h is.spaces p a.place held a.held (at ∙ f.2 ∙ sym a.at)) ∙ a.aged in
             let to : (place_in (win_at won f.0).word).space ≡ 0 = ⊎_elim
             (λ (r : IsRootClaim Nursery h roots (win_at won f.0)). r.claim.to ∙ space_aged (is_straight Nursery r.root) r.claim.place.space (from r.claim.place r.claim.held r.claim.at))

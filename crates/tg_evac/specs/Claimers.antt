@@ -45,8 +45,8 @@ abbrev pub HasPlacesOf : List Win → (ℕ → Place) → Type 0
 HasPlacesOf won to = All (λ w. to w.cell ≡ place_in w.word) won
 
 -- the word is the link to the place in it, and has no rights
-abbrev pub IsLink : ℕ → Type 0
-IsLink word = word ≡ link_to (place_in word)
+abbrev pub IsClaimLink : ℕ → Type 0
+IsClaimLink word = word ≡ link_to (place_in word)
 
 -- ---- copies
 

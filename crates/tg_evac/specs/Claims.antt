@@ -8,7 +8,7 @@ use Rattle.tg_space.specs.Closure.{IsInClosure}
 use Rattle.tg_space.specs.Collection.{copies_in}
 use Rattle.tg_space.specs.Soundness.{IsPointer}
 use Rattle.tg_space.specs.Rows.{chunks_from, link_at}
-use Rattle.tg_space.specs.SpaceList.{SpaceList, Holds, cell_at, cells_of, flat_of}
+use Rattle.tg_space.specs.SpaceList.{SpaceList, HasCell, cell_at, cells_of, flat_of}
 use Rattle.tg_space.specs.SpaceTable.{SpaceTable, kept_blocks, place_in_space}
 use Rattle.tg_space.specs.Targets.{from_space, cell_numbered, pointers_of, targets_at, targets_of, root_targets_of, all_root_targets}
 use Rattle.tg_space.specs.declared.kind.Kind.{Kind}
@@ -46,9 +46,9 @@ pub record IsPlanFor (kind : Kind) (t : SpaceTable) (plan : Plan) : Type 0 where
 
 -- every reference and link of a held cell is empty, or names a cell that is not free
 pub record HavePointers (h : SpaceList) : Type 0 where
-  pub words : (p : Place) → Holds h p → All (IsPointer h) (pointers_of (cell_at h p))
+  pub words : (p : Place) → HasCell h p → All (IsPointer h) (pointers_of (cell_at h p))
   pub numbered : (number : ℕ) → number < length (cells_of h) → All (IsPointer h) (pointers_of (cell_numbered h number))
-  pub links : (p : Place) → Holds h p → IsPointer h (link_at h p)
+  pub links : (p : Place) → HasCell h p → IsPointer h (link_at h p)
 
 -- the targets of the chunks outside from-space to which a link leads, at most so many
 abbrev pub chunk_targets : (ℕ → Bool) → SpaceList → ℕ → ℕ → List ℕ
@@ -77,14 +77,14 @@ abbrev pub win_at : List Win → ℕ → Win
 win_at won k = slice_index_or won k (record { cell = 0; word = 0 })
 
 -- the cell of the pair has the word of the pair, which isn't 0
-pub record StandsIn (forward : List ℕ) (w : Win) : Type 0 where
+pub record IsWonIn (forward : List ℕ) (w : Win) : Type 0 where
   pub cell : w.cell < length forward
   pub word : slice_index forward w.cell ≡ w.word
   pub some : w.word ≢ 0
 
 -- the pairs are those of the cells that have a word
 pub record AreWordsOf (won : List Win) (forward : List ℕ) : Type 0 where
-  pub stand : All (StandsIn forward) won
+  pub stand : All (IsWonIn forward) won
   pub every : (c : ℕ) → c < length forward → slice_index forward c ≢ 0 → (w : Win) × Contains won w × (w.cell ≡ c)
 
 -- the word of the pair is the link to a place of Old, behind the blocks that stay, or of Aged
@@ -99,8 +99,8 @@ abbrev pub IsGiven : List ℕ → Place → Type 0
 IsGiven next p = CELLS * p.block + p.cell < slice_index next p.space
 
 -- no place is given twice
-abbrev pub AreApart : List Win → Type 0
-AreApart won = (v w : Win) → Contains won v → Contains won w → v.word ≡ w.word → v.cell ≡ w.cell
+abbrev pub AreDistinctWins : List Win → Type 0
+AreDistinctWins won = (v w : Win) → Contains won v → Contains won w → v.word ≡ w.word → v.cell ≡ w.cell
 
 -- the pairs whose copies are in a space
 abbrev pub won_in : ℕ → List Win → List Win
@@ -146,7 +146,7 @@ pub record IsWinFor (cell space : ℕ) (w : Win) : Type 0 where
 pub record IsClaimOf (h : SpaceList) (straight : Bool) (cells : List ℕ) (w : Win) : Type 0 where
   pub one : Contains cells w.cell
   pub place : Place
-  pub held : Holds h place
+  pub held : HasCell h place
   pub at : flat_of h place ≡ w.cell
   pub to : (place_in w.word).space ≡ space_for straight place.space
 

@@ -10,7 +10,7 @@ use Rattle.tg_evac.specs.Room.{IsReachedFrom, LacksRoomFor}
 -- What is handed over is a collection, of no more copies than there are cells in use, and within the limit, with so many
 -- blocks of a space more than its copies need. It tells that the heap is full only where so many helpers may lack room for
 -- what is reached
-pub record Collects {Fault : Type 0} (heap_full : Fault) (kind : Kind) (t : SpaceTable) (roots : List Root) (more helpers : ℕ) (result : Result Copied Fault) : Type 0 where
+pub record CollectsRoots {Fault : Type 0} (heap_full : Fault) (kind : Kind) (t : SpaceTable) (roots : List Root) (more helpers : ℕ) (result : Result Copied Fault) : Type 0 where
   pub collected : IfOk result (λ copied. IsCollection kind t.spaces roots (collected_in copied))
   pub moved : IfOk result (λ copied. copies_in copied.forward.words 0 + copies_in copied.forward.words 1 ≤ used_cells kind t.spaces)
   pub few : IfOk result (λ copied. AreFewBlocks t.limits.space_blocks (kept_blocks kind t.spaces) more (collected_in copied))

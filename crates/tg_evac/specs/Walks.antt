@@ -14,7 +14,7 @@ use Rattle.tg_space.specs.declared.root.Root.{Root}
 use Rattle.tg_space.specs.declared.room_fault.RoomFault.{RoomFault}
 use Rattle.tg_space.specs.declared.room_fault.RoomFault.TheVariants.{HeapFull}
 use Rattle.tg_evac.specs.Claims.{AreTraced, Claimed, HasFilledRoom, HavePointers, IsClaimOf, IsWinFor}
-use Rattle.tg_evac.specs.Claimers.{AddsWins, AreScanned, IsLink, KeepsWins, KnowsMore, Walked, walked_of}
+use Rattle.tg_evac.specs.Claimers.{AddsWins, AreScanned, IsClaimLink, KeepsWins, KnowsMore, Walked, walked_of}
 
 -- ---- the claim of a cell
 
@@ -31,14 +31,14 @@ pub record ClaimsCell {Table Fixed : Type 0} (walked : Table → Walked Fixed) (
   pub grows : KnowsMore (knows before) (knows after)
   pub met : OnOk result (Contains (walked after).met cell)
   pub known : IfOk result (λ word. (to : ℕ → Place) → knows after to → to cell ≡ place_in word)
-  pub link : IfOk result IsLink
+  pub link : IfOk result IsClaimLink
   pub full : IfErr result (λ fault. fault ≡ HeapFull → is_full after)
 
 -- the plain table has a pair of the cell with the word that is answered
 pub record HasClaimed (cell space : ℕ) (before after : Claimed) (result : Result ℕ RoomFault) : Type 0 where
   pub added : AddsWins (IsWinFor cell space) (walked_of before) (walked_of after)
   pub held : IfOk result (λ word. Contains after.won (record { cell = cell; word = word }))
-  pub link : IfOk result IsLink
+  pub link : IfOk result IsClaimLink
   pub full : IfErr result (λ fault. fault ≡ HeapFull → HasFilledRoom after)
 
 -- ---- the claims of what a cell or a root names
@@ -87,7 +87,7 @@ pub record IsUnderWay {Table Fixed : Type 0} (walked : Table → Walked Fixed) (
   pub copies : AreScanned h (walked table) (knows table) scanned aged old
 
 -- more was won, and nothing that is known is forgotten
-pub record GoesOn {Table Fixed T : Type 0} (walked : Table → Walked Fixed) (knows : Table → (ℕ → Place) → Type 0) (is_full : Table → Type 0)
+pub record WalkGoesOn {Table Fixed T : Type 0} (walked : Table → Walked Fixed) (knows : Table → (ℕ → Place) → Type 0) (is_full : Table → Type 0)
     (before after : Table) (result : Result T RoomFault) : Type 0 where
   pub keeps : KeepsWins (walked before) (walked after)
   pub grows : KnowsMore (knows before) (knows after)
@@ -96,7 +96,7 @@ pub record GoesOn {Table Fixed T : Type 0} (walked : Table → Walked Fixed) (kn
 -- and it is traced from the roots from which what was won before is; then so many are scanned
 pub record Scans {Table Fixed T : Type 0} (walked : Table → Walked Fixed) (knows : Table → (ℕ → Place) → Type 0) (is_full : Table → Type 0)
     (h : SpaceList) (before after : Table) (scanned : ℕ) (aged old : List (List ℕ)) (result : Result T RoomFault) : Type 0 where
-  pub goes : GoesOn walked knows is_full before after result
+  pub goes : WalkGoesOn walked knows is_full before after result
   pub traced : (roots : List Root) → AreTraced (walked before).kind h roots (walked before).won → AreTraced (walked before).kind h roots (walked after).won
   pub copies : OnOk result (AreScanned h (walked after) (knows after) scanned aged old)
 
@@ -114,7 +114,7 @@ pub record MayWalkAlong {Table Fixed : Type 0} (walked : Table → Walked Fixed)
 pub record WalksAlong {Table Fixed T : Type 0} (walked : Table → Walked Fixed) (knows : Table → (ℕ → Place) → Type 0) (is_full : Table → Type 0)
     (h : SpaceList) (along : List Root) (before after : Table) (count : ℕ) (aged old : List (List ℕ)) (result : Result T RoomFault) : Type 0 where
   pub traced : (all : List Root) → ((root : Root) → Contains along root → Contains all root) → AreTraced (walked before).kind h all (walked before).won → AreTraced (walked before).kind h all (walked after).won
-  pub goes : GoesOn walked knows is_full before after result
+  pub goes : WalkGoesOn walked knows is_full before after result
   pub met : OnOk result (All (Contains (walked after).met) (all_root_targets (from_space (walked before).kind) h along))
   pub scanned : OnOk result (AreScanned h (walked after) (knows after) (length (walked after).won) aged old)
   pub ended : OnOk result (count ≡ length (walked after).won)

@@ -3,7 +3,7 @@ ghost use Rattle.std.specs.Prelude.{◌≡◌, ◌≢◌, ◌+◌, ◌<◌, ◌�
 ghost use Rattle.std.specs.List.{Contains};
 ghost use Rattle.tg_word.specs.declared.TheConstants.{CELLS, MOST_SPACE_BLOCKS, MOST_SPACE_CELLS};
 ghost use Rattle.tg_evac.specs.Claims.{HasFilledRoom};
-ghost use Rattle.tg_evac.specs.Claimers.{HasPlacesOf, IsLink, walked_of};
+ghost use Rattle.tg_evac.specs.Claimers.{HasPlacesOf, IsClaimLink, walked_of};
 ghost use Rattle.tg_evac.specs.Walks.{HasClaimed, MayClaim};
 
 use crate::claimer::Claimer;
@@ -68,7 +68,7 @@ impl Claims {
         requires moved { CELLS * self.now.plan.kept ≤ cell }
         ensures word { result ≡ slice_index self.now.forward cell }
         ensures won { result ≢ 0 → Contains self.now.won (record { cell = cell; word = result }) }
-        ensures link { result ≢ 0 → IsLink result }
+        ensures link { result ≢ 0 → IsClaimLink result }
     {
         self.forward.moved_word(cell)
     }

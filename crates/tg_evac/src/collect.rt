@@ -5,7 +5,7 @@ ghost use Rattle.tg_word.specs.declared.Place.{Place as PlaceOf};
 ghost use Rattle.tg_space.specs.Soundness.{AreSound, IsRootIn};
 ghost use Rattle.tg_evac.specs.Claims.{HasFilledRoom, IsTracedFrom, cells_won};
 ghost use Rattle.tg_evac.specs.Claimers.{HasPlacesOf, copies_to, walked_of};
-ghost use Rattle.tg_evac.specs.Collects.{Collects};
+ghost use Rattle.tg_evac.specs.Collects.{CollectsRoots};
 ghost use Rattle.tg_evac.specs.Room.{IsReachedFrom};
 ghost use Rattle.tg_evac.specs.Walks.{MayWalk};
 
@@ -41,7 +41,7 @@ pub fn collect_one(
     spare: Spare,
 ) -> Result<Copied, RoomFault>
     requires { AreSound spaces.now.spaces roots.now }
-    ensures { Collects RoomFault.HeapFull kind spaces.now roots.now 0 1 result }
+    ensures { CollectsRoots RoomFault.HeapFull kind spaces.now roots.now 0 1 result }
 {
     let walk = Walk {
         spaces,
@@ -64,7 +64,7 @@ impl Walk<'_> {
     #[inline(never)]
     fn collect_full(self, alloc: Global, roots: &[Root], spare: Spare) -> Result<Copied, RoomFault>
         requires { AreSound self.spaces.now.spaces roots.now }
-        ensures { Collects RoomFault.HeapFull Kind.Full self.entry.spaces.now roots.now 0 1 result }
+        ensures { CollectsRoots RoomFault.HeapFull Kind.Full self.entry.spaces.now roots.now 0 1 result }
     {
         let full = Walk {
             kind: Kind::Full,
@@ -84,7 +84,7 @@ impl Walk<'_> {
     #[inline(never)]
     fn collect_ahead(self, alloc: Global, roots: &[Root], spare: Spare) -> Result<Copied, RoomFault>
         requires { AreSound self.spaces.now.spaces roots.now }
-        ensures { Collects RoomFault.HeapFull Kind.Full self.entry.spaces.now roots.now 0 1 result }
+        ensures { CollectsRoots RoomFault.HeapFull Kind.Full self.entry.spaces.now roots.now 0 1 result }
     {
         Walk {
             kind: Kind::Full,
@@ -100,7 +100,7 @@ impl Walk<'_> {
     #[tactic(auto, using(crate::proofs::Behind::kept_within))]
     fn collect(self, alloc: Global, roots: &[Root], spare: Spare) -> Result<Copied, RoomFault>
         requires { AreSound self.spaces.now.spaces roots.now }
-        ensures { Collects RoomFault.HeapFull self.entry.kind self.entry.spaces.now roots.now 0 1 result }
+        ensures { CollectsRoots RoomFault.HeapFull self.entry.kind self.entry.spaces.now roots.now 0 1 result }
     {
         let Walk { spaces, kind, .. } = self;
         let cells = spaces.cells();

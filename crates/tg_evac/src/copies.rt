@@ -9,7 +9,7 @@ ghost use Rattle.tg_evac.specs.declared.copies.TheConstants.{FAR, NEAR};
 ghost use Rattle.tg_evac.specs.Claims.{win_at, won_in};
 ghost use Rattle.tg_evac.specs.Copies.{HoldCells};
 ghost use Rattle.tg_evac.specs.Claimers.{AddsCopy};
-ghost use Rattle.tg_evac.specs.Inner.Reads.{HasRead, MayAskFor};
+ghost use Rattle.tg_evac.specs.Inner.Reads.{HasReadAhead, MayAskFor};
 ghost use Rattle.tg_evac.specs.Walks.{ClaimsAll, IsUnderWay, MayMove, Scans};
 
 use crate::both::Both;
@@ -155,8 +155,8 @@ impl Ahead {
         requires whole { (C.walked claimer.now).cells ≡ length (cells_of spaces.now.spaces) }
         requires next { k < length (C.walked claimer.now).won }
         requires before { self.old.first ≤ k }
-        requires read { HasRead spaces.now.spaces (C.walked claimer.now).won self.old }
-        ensures read { HasRead spaces.now.spaces (C.walked claimer.now).won self.new }
+        requires read { HasReadAhead spaces.now.spaces (C.walked claimer.now).won self.old }
+        ensures read { HasReadAhead spaces.now.spaces (C.walked claimer.now).won self.new }
         ensures before { self.new.first ≤ k }
         ensures there { k < self.new.first + self.new.count }
     {

@@ -4,7 +4,7 @@ ghost use Rattle.tg_word.specs.declared.Place.{Place as PlaceOf};
 ghost use Rattle.tg_word.specs.Word.{place_in, rights_in, word_at};
 ghost use Rattle.tg_space.specs.Soundness.{IsPointer};
 ghost use Rattle.tg_space.specs.Targets.{first_pointer, from_space, moved_word, pointers_of, target_in};
-ghost use Rattle.tg_evac.specs.Claimers.{IsLink};
+ghost use Rattle.tg_evac.specs.Claimers.{IsClaimLink};
 ghost use Rattle.tg_evac.specs.Walks.{ClaimsAll, IsTableFor, MayMove, MovesFrom};
 
 use crate::claimer::Claimer;
@@ -109,7 +109,7 @@ fn names_nothing(object: &[u64; WORDS]) -> bool
 // The reference with the rights in a word, to the place of a link.
 #[inline(always)]
 fn with_rights(link: u64, word: u64) -> u64
-    requires { IsLink link }
+    requires { IsClaimLink link }
     ensures { result ≡ word_at (rights_in word) (place_in link) }
 {
     link + u64::from(rights_of(word).bits())

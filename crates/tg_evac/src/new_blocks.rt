@@ -7,7 +7,7 @@ ghost use Rattle.tg_space.specs.SpaceList.{IsSpace};
 ghost use Rattle.tg_space.specs.Targets.{from_space, named_by, pointers_of};
 ghost use Rattle.tg_evac.specs.Claimers.{AddsCopy};
 ghost use Rattle.tg_evac.specs.Copies.{HaveOpenBlock, HoldCells, IsOpenBlock};
-ghost use Rattle.tg_evac.specs.Inner.Blocks.{HasClosed, MayClose};
+ghost use Rattle.tg_evac.specs.Inner.Blocks.{HasClosed, MayCloseBlock};
 ghost use Rattle.tg_evac.specs.Walks.{ClaimsAll, MayMove};
 
 use crate::claimer::Claimer;
@@ -130,7 +130,7 @@ fn close(
     full: &mut Space,
     last: &mut Vec<[u64; WORDS]>,
 ) -> Result<(), AllocError>
-    requires { MayClose full.old last.old }
+    requires { MayCloseBlock full.old last.old }
     ensures { HasClosed full.old last.old full.new last.new result }
 {
     let cells = mem::replace(last, open_cells(alloc, spare)?);

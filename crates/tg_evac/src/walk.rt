@@ -6,7 +6,7 @@ ghost use Rattle.tg_space.specs.Targets.{all_root_targets, from_space};
 ghost use Rattle.tg_space.specs.declared.root.Root.{Root as RootOf};
 ghost use Rattle.tg_evac.specs.Claims.{AreTraced};
 ghost use Rattle.tg_evac.specs.Claimers.{AreScanned};
-ghost use Rattle.tg_evac.specs.Walks.{GoesOn, MayWalk, MayWalkAlong, WalksAlong};
+ghost use Rattle.tg_evac.specs.Walks.{WalkGoesOn, MayWalk, MayWalkAlong, WalksAlong};
 
 use crate::claimer::Claimer;
 use crate::copies::{Copies, Reads};
@@ -44,7 +44,7 @@ impl Walk<'_> {
         requires traced { (all : List RootOf) × ((root : RootOf) → Contains roots.now root → Contains all root) × AreTraced (C.walked claimer.old).kind self.spaces.now.spaces all (C.walked claimer.old).won }
         requires scanned { AreScanned self.spaces.now.spaces (C.walked claimer.old) (C.knows claimer.old) copies.now.scanned copies.now.aged copies.now.old }
         ensures traced { (all : List RootOf) → ((root : RootOf) → Contains roots.now root → Contains all root) → AreTraced (C.walked claimer.old).kind self.entry.spaces.now.spaces all (C.walked claimer.old).won → AreTraced (C.walked claimer.old).kind self.entry.spaces.now.spaces all (C.walked claimer.new).won }
-        ensures goes { GoesOn C.walked C.knows C.is_full claimer.old claimer.new result }
+        ensures goes { WalkGoesOn C.walked C.knows C.is_full claimer.old claimer.new result }
         ensures met { OnOk result (All (Contains (C.walked claimer.new).met) (all_root_targets (from_space (C.walked claimer.old).kind) self.entry.spaces.now.spaces roots.now)) }
         ensures scanned { OnOk result (AreScanned self.entry.spaces.now.spaces (C.walked claimer.new) (C.knows claimer.new) (length (C.walked claimer.new).won) copies.exit.now.aged copies.exit.now.old) }
         ensures ended { OnOk result (copies.exit.now.scanned ≡ length (C.walked claimer.new).won) }

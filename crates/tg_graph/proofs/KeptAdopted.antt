@@ -5,7 +5,7 @@ use Rattle.std.proofs.lemmas.Bool.Decides.{eqb_tells}
 use Rattle.std.proofs.lemmas.List.{get_or_append_left, get_or-replicate, get_or_past, length-append, length-replicate}
 use Rattle.tg_word.specs.declared.Place.{Place}
 use Rattle.tg_block.specs.Cells.{cell_of}
-use Rattle.tg_space.specs.SpaceList.{SpaceList, BlockList, Holds, space_of, cell_at}
+use Rattle.tg_space.specs.SpaceList.{SpaceList, BlockList, HasCell, space_of, cell_at}
 use Rattle.tg_space.specs.SpaceTable.{adopted}
 use Rattle.tg_space.specs.Targets.{from_space}
 use Rattle.tg_space.specs.Collection.{IsNewPlace}
@@ -54,7 +54,7 @@ module _ (h : SpaceList) (aged old : BlockList) where
   adopted_length Nursery some = let rest = length-replicate {A = BlockList} (length h - 2) [] in omega arith
 
   -- a cell outside from-space stays
-  pub stays_held : (kind : Kind) (p : Place) → Holds h p → from_space kind p.space ≡ false → Holds (adopted kind h aged old) p
+  pub stays_held : (kind : Kind) (p : Place) → HasCell h p → from_space kind p.space ≡ false → HasCell (adopted kind h aged old) p
   stays_held Full p held stays = let no : true ≡ false = stays in absurd cc
   stays_held Nursery p held stays =
       let at = old_stays p.space stays in
@@ -66,7 +66,7 @@ module _ (h : SpaceList) (aged old : BlockList) where
         cell = held.cell;
       }
 
-  pub stays_cell : (kind : Kind) (p : Place) → Holds h p → from_space kind p.space ≡ false → cell_at (adopted kind h aged old) p ≡ cell_at h p
+  pub stays_cell : (kind : Kind) (p : Place) → HasCell h p → from_space kind p.space ≡ false → cell_at (adopted kind h aged old) p ≡ cell_at h p
   stays_cell Full p held stays = let no : true ≡ false = stays in absurd cc
   stays_cell Nursery p held stays =
       let at = old_stays p.space stays in
@@ -76,17 +76,17 @@ module _ (h : SpaceList) (aged old : BlockList) where
       ∙ ap (λ (space : ℕ). cell_of (get_or (space_of h space) p.block []) p.cell) (sym at)
 
   -- any other is new
-  pub adopted_cases : (kind : Kind) (q : Place) → 0 < length h → Holds (adopted kind h aged old) q → (Holds h q × (from_space kind q.space ≡ false)) ⊎ IsNewPlace kind h aged old q
+  pub adopted_cases : (kind : Kind) (q : Place) → 0 < length h → HasCell (adopted kind h aged old) q → (HasCell h q × (from_space kind q.space ≡ false)) ⊎ IsNewPlace kind h aged old q
   adopted_cases Full q some held = inr (record { held = held; behind = λ at. omega arith })
   adopted_cases Nursery q some held = by_place (cases_eq q.space 0) (cases_lt q.block (length (space_of h 0)))
     where
-      by_place : (q.space ≡ 0) ⊎ (q.space ≢ 0) → (q.block < length (space_of h 0)) ⊎ (length (space_of h 0) ≤ q.block) → (Holds h q × (from_space Nursery q.space ≡ false)) ⊎ IsNewPlace Nursery h aged old q
+      by_place : (q.space ≡ 0) ⊎ (q.space ≢ 0) → (q.block < length (space_of h 0)) ⊎ (length (space_of h 0) ≤ q.block) → (HasCell h q × (from_space Nursery q.space ≡ false)) ⊎ IsNewPlace Nursery h aged old q
       by_place (inr young) _ = inr (record { held = held; behind = λ at. absurd (young at) })
       by_place (inl at) (inr high) = inr (record { held = held; behind = λ _. high })
       by_place (inl at) (inl low) = inl (record { space = omega arith; block = subst (λ (space : ℕ). q.block < length (space_of h space)) (sym at) low; cell = held.cell }, ap (λ (space : ℕ). from_space Nursery space) at)
 
   -- a new place is behind the cells that stay
-  pub new_apart : (kind : Kind) (q : Place) → IsNewPlace kind h aged old q → Holds h q → from_space kind q.space ≡ false → ⊥
+  pub new_apart : (kind : Kind) (q : Place) → IsNewPlace kind h aged old q → HasCell h q → from_space kind q.space ≡ false → ⊥
   new_apart Full q new held stays = let no : true ≡ false = stays in cc
   new_apart Nursery q new held stays =
       let at = old_stays q.space stays in

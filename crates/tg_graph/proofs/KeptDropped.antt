@@ -7,7 +7,7 @@ use Rattle.std.proofs.lemmas.List.Quantifiers.{all_pairs_push}
 use Rattle.tg_model.specs.declared.value.Value.{Value}
 use Rattle.tg_word.specs.declared.Place.{Place}
 use Rattle.tg_block.specs.declared.CellKind.TheVariants.{Object}
-use Rattle.tg_space.specs.SpaceList.{SpaceList, IsSpaceList, Holds, blocks_before, cell_at, cells_of, flat_of, space_of}
+use Rattle.tg_space.specs.SpaceList.{SpaceList, IsSpaceList, HasCell, blocks_before, cell_at, cells_of, flat_of, space_of}
 use Rattle.tg_space.specs.Soundness.{IsKindAt}
 use Rattle.tg_space.specs.Targets.{from_space, cell_numbered}
 use Rattle.tg_space.specs.declared.kind.Kind.{Kind}
@@ -123,7 +123,7 @@ module _ (h : SpaceList) (whole : IsSpaceList h) (forward : List ℕ) where
 
   -- the cells with numbers from first on are those of from-space
   abbrev pub BeginsAt : Kind → ℕ → Type 0
-  BeginsAt kind first = (p : Place) → Holds h p → (first ≤ flat_of h p) ↔ (from_space kind p.space ≡ true)
+  BeginsAt kind first = (p : Place) → HasCell h p → (first ≤ flat_of h p) ↔ (from_space kind p.space ≡ true)
 
   pub all_begin : BeginsAt Full 0
   all_begin p held = (λ _. refl, λ _. omega arith)

@@ -14,7 +14,7 @@ use Rattle.tg_space.specs.SpaceList.{SpaceList, cell_at, cells_of}
 use Rattle.tg_space.specs.Soundness.{IsKindAt, IsReference, RefersTo}
 use Rattle.tg_payload.specs.Table.{Payloads, entry}
 use Rattle.tg_rows.specs.Content.{IsNamed}
-use Rattle.tg_graph.specs.Standing.{Keeps}
+use Rattle.tg_graph.specs.Standing.{KeepsContent}
 use Rattle.tg_rows.specs.Rows.{IsChain, IsVertexAt, key_at, name_at, name_in, names_in, rights_to, row_words}
 use Rattle.tg_space.specs.Rows.{chunks_from, link_at}
 use Rattle.tg_rows.specs.Graph.{IsGraph, content_in}
@@ -157,7 +157,7 @@ module _ {from : ℕ → Bool} {h after : SpaceList} {to : ℕ → Place} {kept 
         let refers : RefersTo h given.word = ⊎_elim (λ z. absurd (given.some z)) (λ r. r) is in
         named_after y (place_in given.word) keep.0 (record { object = refers.object; named = given.named })
 
-    pub content_after : Keeps (content_in h payloads) (content_in after left) names
+    pub content_after : KeepsContent (content_in h payloads) (content_in after left) names
     content_after = record {
       names = names_kept;
       closed = λ x y named edge. target_named x y (was x named) edge;

@@ -11,7 +11,7 @@ use Rattle.tg_word.proofs.Packing.{place_in-word_at, word_at-above_zero}
 use Rattle.tg_rights.specs.RightSet.{no_rights}
 use Rattle.tg_block.specs.Cells.{free_cell}
 use Rattle.tg_block.specs.declared.CellKind.{CellKind}
-use Rattle.tg_space.specs.SpaceList.{SpaceList, IsSpaceList, Holds, cell_at, cells_of, flat_of}
+use Rattle.tg_space.specs.SpaceList.{SpaceList, IsSpaceList, HasCell, cell_at, cells_of, flat_of}
 use Rattle.tg_space.specs.SpaceTable.{adopted}
 use Rattle.tg_space.specs.Targets.{from_space, first_pointer, moved_word, root_targets_of, all_root_targets, targets_of, pointers_of, image_of}
 use Rattle.tg_space.specs.Soundness.{HasLayout, HasLayoutOf, IsOldCell, NamesCell}
@@ -89,7 +89,7 @@ found_below words word (suc n) = by_last (cases_eq (get_or words n 0) word) (fou
 pub record AreRooted (from : ℕ → Bool) (h : SpaceList) (roots : List Root) : Type 0 where
   pub held : All (IsWholeRoot h) roots
   pub stay : (p : Place) → Contains roots (Remembered p) → IsOldCell h p × (from p.space ≡ false)
-  pub all : (p : Place) → Holds h p → from p.space ≡ false → (word : ℕ) → Contains (pointers_of (cell_at h p)) word → from (place_in word).space ≡ true → Contains roots (Remembered p)
+  pub all : (p : Place) → HasCell h p → from p.space ≡ false → (word : ℕ) → Contains (pointers_of (cell_at h p)) word → from (place_in word).space ≡ true → Contains roots (Remembered p)
 
 -- the words that a place has after a collection: a remembered cell was written, and any other is as it was adopted
 abbrev pub HasWordsAfter : Kind → SpaceList → List Root → Collected → SpaceList → Place → Type 0
@@ -99,8 +99,8 @@ HasWordsAfter kind h roots made after q =
 
 pub record IsAfter (kind : Kind) (h : SpaceList) (roots : List Root) (made : Collected) (after : SpaceList) : Type 0 where
   pub whole : IsSpaceList after
-  pub held : (q : Place) → Holds after q ↔ Holds (adopted kind h made.aged made.old) q
-  pub words : (q : Place) → Holds after q → HasWordsAfter kind h roots made after q
+  pub held : (q : Place) → HasCell after q ↔ HasCell (adopted kind h made.aged made.old) q
+  pub words : (q : Place) → HasCell after q → HasWordsAfter kind h roots made after q
 
 module _ (kind : Kind) (h after : SpaceList) (payloads : Payloads) (whole : IsSpaceList h) (some : 0 < length h) (graph : IsGraph h payloads) (roots : List Root) (rooted : AreRooted (from_space kind) h roots)
     (made : Collected) (is : IsCollection kind h roots made) (now : IsAfter kind h roots made after) where
@@ -122,10 +122,10 @@ module _ (kind : Kind) (h after : SpaceList) (payloads : Payloads) (whole : IsSp
       (λ adopted_as. adopted_as.1)
       (now.words q ((now.held q).1 new.held))
 
-  old_held : (p : Place) → Holds h p → from p.space ≡ false → Holds after p
+  old_held : (p : Place) → HasCell h p → from p.space ≡ false → HasCell after p
   old_held p held stays = (now.held p).1 (stays_held h made.aged made.old kind p held stays)
 
-  old_cell : (p : Place) → Holds h p → from p.space ≡ false → cell_at after p ≡ image_of from h to (cell_at h p)
+  old_cell : (p : Place) → HasCell h p → from p.space ≡ false → cell_at after p ≡ image_of from h to (cell_at h p)
   old_cell p held stays = by_words (now.words p (old_held p held stays))
     where
       by_words : HasWordsAfter kind h roots made after p → cell_at after p ≡ image_of from h to (cell_at h p)
@@ -136,16 +136,16 @@ module _ (kind : Kind) (h after : SpaceList) (payloads : Payloads) (whole : IsSp
 
   -- ---- what was copied
 
-  pub reached_word : (p : Place) → Holds h p → IsReachedNumber (flat_of h p) → get_or made.forward (flat_of h p) 0 ≢ 0
+  pub reached_word : (p : Place) → HasCell h p → IsReachedNumber (flat_of h p) → get_or made.forward (flat_of h p) 0 ≢ 0
   reached_word p held reached = (is.reached (flat_of h p) (flat_inside h whole.spaces p held)).1 reached
 
-  pub word_reached : (p : Place) → Holds h p → get_or made.forward (flat_of h p) 0 ≢ 0 → IsReachedNumber (flat_of h p)
+  pub word_reached : (p : Place) → HasCell h p → get_or made.forward (flat_of h p) 0 ≢ 0 → IsReachedNumber (flat_of h p)
   word_reached p held ne = (is.reached (flat_of h p) (flat_inside h whole.spaces p held)).0 ne
 
-  place_new : (p : Place) → Holds h p → get_or made.forward (flat_of h p) 0 ≢ 0 → IsNewPlace kind h made.aged made.old (to (flat_of h p))
+  place_new : (p : Place) → HasCell h p → get_or made.forward (flat_of h p) 0 ≢ 0 → IsNewPlace kind h made.aged made.old (to (flat_of h p))
   place_new p held ne = is.placed (flat_of h p) (flat_inside h whole.spaces p held, ne)
 
-  place_cell : (p : Place) → Holds h p → get_or made.forward (flat_of h p) 0 ≢ 0 → cell_at after (to (flat_of h p)) ≡ image_of from h to (cell_at h p)
+  place_cell : (p : Place) → HasCell h p → get_or made.forward (flat_of h p) 0 ≢ 0 → cell_at after (to (flat_of h p)) ≡ image_of from h to (cell_at h p)
   place_cell p held ne =
       new_cell (to (flat_of h p)) (place_new p held ne)
       ∙ is.copied (flat_of h p) (flat_inside h whole.spaces p held, ne)
@@ -175,12 +175,12 @@ module _ (kind : Kind) (h after : SpaceList) (payloads : Payloads) (whole : IsSp
       by_space moves (inr f) =
           begins (Contains-flat_map (root_targets_of from h) roots (Remembered p) (flat_of h (place_in word)) (rooted.all p keep.held f word among moves) (target_of_word from h (pointers_of (cell_at h p)) word among ne moves))
 
-  kept_stands : (p : Place) → IsKept kind h made.forward p → Holds after (moved_place from h to p)
+  kept_stands : (p : Place) → IsKept kind h made.forward p → HasCell after (moved_place from h to p)
   kept_stands p keep = by_space (cases_Bool (from p.space))
     where
-      by_space : (from p.space ≡ true) ⊎ (from p.space ≡ false) → Holds after (moved_place from h to p)
-      by_space (inl t) = subst (Holds after) (sym (moved_to p t)) ((now.held (to (flat_of h p))).1 (place_new p keep.held (keep.copied t)).held)
-      by_space (inr f) = subst (Holds after) (sym (not_moved p f)) (old_held p keep.held f)
+      by_space : (from p.space ≡ true) ⊎ (from p.space ≡ false) → HasCell after (moved_place from h to p)
+      by_space (inl t) = subst (HasCell after) (sym (moved_to p t)) ((now.held (to (flat_of h p))).1 (place_new p keep.held (keep.copied t)).held)
+      by_space (inr f) = subst (HasCell after) (sym (not_moved p f)) (old_held p keep.held f)
 
   kept_copied : (p : Place) → IsKept kind h made.forward p → cell_at after (moved_place from h to p) ≡ image_of from h to (cell_at h p)
   kept_copied p keep = by_space (cases_Bool (from p.space))
@@ -208,7 +208,7 @@ module _ (kind : Kind) (h after : SpaceList) (payloads : Payloads) (whole : IsSp
       by_spaces (inr fp) (inr fq) = sym (not_moved p fp) ∙ same ∙ not_moved q fq
 
   -- a cell that has an image at a place is free there, or was kept
-  free_or_kept : (p q : Place) → Holds h p → (from p.space ≡ true → get_or made.forward (flat_of h p) 0 ≢ 0) → moved_place from h to p ≡ q → cell_at after q ≡ image_of from h to (cell_at h p) →
+  free_or_kept : (p q : Place) → HasCell h p → (from p.space ≡ true → get_or made.forward (flat_of h p) 0 ≢ 0) → moved_place from h to p ≡ q → cell_at after q ≡ image_of from h to (cell_at h p) →
       (cell_at after q ≡ free_cell) ⊎ ((a : Place) × IsKept kind h made.forward a × (moved_place from h to a ≡ q))
   free_or_kept p q held copied at words = by_tag (cases_eq (get_or (cell_at h p) 0 0) 0)
     where
@@ -218,7 +218,7 @@ module _ (kind : Kind) (h after : SpaceList) (payloads : Payloads) (whole : IsSp
           inl (words ∙ ap (image_of from h to) free)
       by_tag (inr used) = inr (p, record { held = held; used = omega arith; copied = copied }, at)
 
-  rest_after : (q : Place) → Holds after q → (cell_at after q ≡ free_cell) ⊎ ((a : Place) × IsKept kind h made.forward a × (moved_place from h to a ≡ q))
+  rest_after : (q : Place) → HasCell after q → (cell_at after q ≡ free_cell) ⊎ ((a : Place) × IsKept kind h made.forward a × (moved_place from h to a ≡ q))
   rest_after q holds = by_place (adopted_cases h made.aged made.old kind q some ((now.held q).0 holds))
     where
       found : IsPlace q → (c : ℕ) → c < length (cells_of h) → get_or made.forward c 0 ≡ link_to q → (cell_at after q ≡ free_cell) ⊎ ((a : Place) × IsKept kind h made.forward a × (moved_place from h to a ≡ q))
@@ -236,7 +236,7 @@ module _ (kind : Kind) (h after : SpaceList) (payloads : Payloads) (whole : IsSp
       by_search new (inl (c, low, link)) = found (held_place after now.whole q holds) c low link
       by_search new (inr none) = inl (new_cell q new ∙ is.rest q new none)
 
-      by_place : (Holds h q × (from q.space ≡ false)) ⊎ IsNewPlace kind h made.aged made.old q → (cell_at after q ≡ free_cell) ⊎ ((a : Place) × IsKept kind h made.forward a × (moved_place from h to a ≡ q))
+      by_place : (HasCell h q × (from q.space ≡ false)) ⊎ IsNewPlace kind h made.aged made.old q → (cell_at after q ≡ free_cell) ⊎ ((a : Place) × IsKept kind h made.forward a × (moved_place from h to a ≡ q))
       by_place (inl (held, stays)) =
           free_or_kept q q held (λ t. let no : true ≡ false = sym t ∙ stays in absurd cc) (not_moved q stays) (old_cell q held stays)
       by_place (inr new) = by_search new (found_below made.forward (link_to q) (length (cells_of h)))
@@ -270,14 +270,14 @@ module _ (kind : Kind) (h after : SpaceList) (payloads : Payloads) (whole : IsSp
       all : (p : Place) → IsOldCell after p → NamesYoung (cell_at after p) → Contains made.notes p
       all p cell names = by_place (adopted_cases h made.aged made.old kind p some ((now.held p).0 cell.held))
         where
-          by_words : Holds h p → from p.space ≡ false → HasWordsAfter kind h roots made after p → Contains made.notes p
+          by_words : HasCell h p → from p.space ≡ false → HasWordsAfter kind h roots made after p → Contains made.notes p
           by_words held stays (inl (root, same)) = (is.noted p).1 (cell_at after p, inr (root, same), names)
           by_words held stays (inr (apart, same)) =
               let words : cell_at after p ≡ cell_at h p = same ∙ stays_cell h made.aged made.old kind p held stays in
               let among : Contains (pointers_of (cell_at h p)) names.0 = subst (λ (ws : List ℕ). Contains (pointers_of ws) names.0) words names.1 in
               absurd (apart (rooted.all p held stays names.0 among (young_moves kind (place_in names.0).space names.2)))
 
-          by_place : (Holds h p × (from p.space ≡ false)) ⊎ IsNewPlace kind h made.aged made.old p → Contains made.notes p
+          by_place : (HasCell h p × (from p.space ≡ false)) ⊎ IsNewPlace kind h made.aged made.old p → Contains made.notes p
           by_place (inl (held, stays)) = by_words held stays (now.words p cell.held)
           by_place (inr new) = (is.noted p).1 (cell_at after p, inl (new, cell.space, new_cell p new), names)
 

@@ -8,10 +8,10 @@ use Rattle.tg_model.specs.Graph.{HasEdge}
 use Rattle.tg_model.specs.Walks.{Walk-within, begins, goes}
 use Rattle.tg_word.specs.declared.Place.{Place}
 use Rattle.tg_word.specs.Word.{place_in}
-use Rattle.tg_subjects.specs.Subjects.{names_of, places_of}
+use Rattle.tg_subjects.specs.Subjects.{names_of, subject_places}
 use Rattle.tg_subjects.specs.declared.subject.Subject.{Subject}
 use Rattle.tg_block.specs.declared.CellKind.TheVariants.{Object, Chunk}
-use Rattle.tg_space.specs.SpaceList.{SpaceList, IsSpaceList, Holds, cell_at, cells_of, flat_of}
+use Rattle.tg_space.specs.SpaceList.{SpaceList, IsSpaceList, HasCell, cell_at, cells_of, flat_of}
 use Rattle.tg_space.specs.Targets.{every_space, first_pointer, pointers_of, root_targets_of, targets_of, all_root_targets}
 use Rattle.tg_space.specs.Soundness.{IsKindAt, IsReference, RefersTo}
 use Rattle.tg_space.specs.Closure.{IsInClosure}
@@ -41,12 +41,12 @@ use Rattle.tg_graph.proofs.KeptTargets.{NamesNumber, next_of}
 abbrev pub AreVertices : SpaceList → List Subject → Type 0
 AreVertices h subjects = All (λ x. IsVertexAt h x.name x.place) subjects
 
-pub subject_objects : (h : SpaceList) (subjects : List Subject) → AreVertices h subjects → All (IsKindAt h Object) (places_of subjects)
+pub subject_objects : (h : SpaceList) (subjects : List Subject) → AreVertices h subjects → All (IsKindAt h Object) (subject_places subjects)
 subject_objects h subjects are =
     All-map (IsKindAt h Object) (λ (x : Subject). x.place) subjects (λ k d low. (are k d low).object)
 
 -- the subject at a place
-pub subject_at : (h : SpaceList) (subjects : List Subject) (p : Place) → AreVertices h subjects → Contains (places_of subjects) p → (x : ℕ) × Contains (names_of subjects) x × IsVertexAt h x p
+pub subject_at : (h : SpaceList) (subjects : List Subject) (p : Place) → AreVertices h subjects → Contains (subject_places subjects) p → (x : ℕ) × Contains (names_of subjects) x × IsVertexAt h x p
 subject_at h subjects p are has =
     let found = Contains-from_map (λ (x : Subject). x.place) subjects p has in (
       found.0.name,
@@ -55,7 +55,7 @@ subject_at h subjects p are has =
     )
 
 -- the place of the subject with a name
-pub subject_named : (h : SpaceList) (subjects : List Subject) (x : ℕ) → AreVertices h subjects → Contains (names_of subjects) x → (p : Place) × Contains (places_of subjects) p × IsVertexAt h x p
+pub subject_named : (h : SpaceList) (subjects : List Subject) (x : ℕ) → AreVertices h subjects → Contains (names_of subjects) x → (p : Place) × Contains (subject_places subjects) p × IsVertexAt h x p
 subject_named h subjects x are has =
     let found = Contains-from_map (λ (s : Subject). s.name) subjects x has in (
       found.0.place,
@@ -121,9 +121,9 @@ module _ (h : SpaceList) (payloads : Payloads) (whole : IsSpaceList h) (graph : 
       (λ (two : IsKindAt h Chunk p). let one : first_pointer (get_or (cell_at h p) 0 0) ≡ 1 = ap first_pointer ((chunk_tagged (cell_at h p)).0 two.is) in omega arith)
       (row_kind o p object has)
 
-  row_cell_held : (o p : Place) → IsKindAt h Object o → Contains (row_of h o) p → Holds h p
+  row_cell_held : (o p : Place) → IsKindAt h Object o → Contains (row_of h o) p → HasCell h p
   row_cell_held o p object has =
-      All-contains (Holds h) (row_of h o) p (row_held h o (chunks_from h (length (cells_of h)) (link_at h o)) object (graph.ends o object)) has
+      All-contains (HasCell h) (row_of h o) p (row_held h o (chunks_from h (length (cells_of h)) (link_at h o)) object (graph.ends o object)) has
 
   -- a pointer of a cell of a row is one of its references, or its link
   pointer_cases : (o p : Place) → IsKindAt h Object o → Contains (row_of h o) p → (word : ℕ) → Contains (pointers_of (cell_at h p)) word → Contains (references_of (cell_at h p)) word ⊎ (link_at h p ≡ word)
@@ -151,12 +151,12 @@ module _ (h : SpaceList) (payloads : Payloads) (whole : IsSpaceList h) (graph : 
       pub among : Contains (row_of h vertex) cell
       pub at : flat_of h cell ≡ number
 
-    pub in_reached_row : (number : ℕ) → IsInRows h (places_of subjects) number → IsInReachedRow number
+    pub in_reached_row : (number : ℕ) → IsInRows h (subject_places subjects) number → IsInReachedRow number
     in_reached_row = Walk-within IsInReachedRow first next
       where
-        first : (number : ℕ) → Contains (all_root_targets every_space h (rows_at (places_of subjects))) number → IsInReachedRow number
+        first : (number : ℕ) → Contains (all_root_targets every_space h (rows_at (subject_places subjects))) number → IsInReachedRow number
         first number has =
-            let root = place_of_root h (places_of subjects) number has in
+            let root = place_of_root h (subject_places subjects) number has in
             let subject = subject_at h subjects root.0 are root.1 in
             record {
               vertex = root.0;
@@ -198,7 +198,7 @@ module _ (h : SpaceList) (payloads : Payloads) (whole : IsSpaceList h) (graph : 
             by_pointer (number, row) target named (pointer_cases row.vertex row.cell row.object row.among named.word named.among)
 
     -- an object that the rows of the subjects reach is a reached vertex
-    pub vertex_reached : (x : ℕ) (p : Place) → IsVertexAt h x p → IsInRows h (places_of subjects) (flat_of h p) → IsReachedName x
+    pub vertex_reached : (x : ℕ) (p : Place) → IsVertexAt h x p → IsInRows h (subject_places subjects) (flat_of h p) → IsReachedName x
     vertex_reached x p vertex in_rows =
         let row = in_reached_row (flat_of h p) in_rows in
         let one : row.cell ≡ p = same_place h whole.spaces row.cell p (row_cell_held row.vertex row.cell row.object row.among) vertex.object.held row.at in
@@ -208,14 +208,14 @@ module _ (h : SpaceList) (payloads : Payloads) (whole : IsSpaceList h) (graph : 
         (Contains-cases row.vertex (chunks_from h (length (cells_of h)) (link_at h row.vertex)) row.cell row.among)
 
 -- what is reached is kept, where the subjects are
-module _ {from : ℕ → Bool} {h after : SpaceList} {to : ℕ → Place} {kept : Place → Type 0} (move : Moves from h after to kept) (payloads : Payloads) (graph : IsGraph h payloads) (subjects : List Subject) (are : AreVertices h subjects) (keep : All kept (places_of subjects)) where
+module _ {from : ℕ → Bool} {h after : SpaceList} {to : ℕ → Place} {kept : Place → Type 0} (move : Moves from h after to kept) (payloads : Payloads) (graph : IsGraph h payloads) (subjects : List Subject) (are : AreVertices h subjects) (keep : All kept (subject_places subjects)) where
   pub reached_kept : (x : ℕ) → IsReached (content_in h payloads) (names_of subjects) x → (p : Place) → IsVertexAt h x p → kept p
   reached_kept = Walk-within (λ x. (p : Place) → IsVertexAt h x p → kept p) first next
     where
       first : (x : ℕ) → Contains (names_of subjects) x → (p : Place) → IsVertexAt h x p → kept p
       first x has p vertex =
           let subject = subject_named h subjects x are has in
-          subst kept (graph.names subject.0 p subject.2.object vertex.object (subject.2.named ∙ sym vertex.named)) (All-contains kept (places_of subjects) subject.0 keep subject.1)
+          subst kept (graph.names subject.0 p subject.2.object vertex.object (subject.2.named ∙ sym vertex.named)) (All-contains kept (subject_places subjects) subject.0 keep subject.1)
 
       next : (x y : ℕ) → ((p : Place) → IsVertexAt h x p → kept p) → HasEdge (content_in h payloads).label x y → (p : Place) → IsVertexAt h y p → kept p
       next x y before edge p vertex =

@@ -9,7 +9,7 @@ use Rattle.tg_model.specs.Walks.{Walk-within}
 use Rattle.tg_word.specs.declared.Place.{Place}
 use Rattle.tg_word.specs.Word.{place_in}
 use Rattle.tg_block.specs.declared.CellKind.TheVariants.{Object}
-use Rattle.tg_space.specs.SpaceList.{SpaceList, IsSpaceList, Holds, cell_at, cells_of, flat_of}
+use Rattle.tg_space.specs.SpaceList.{SpaceList, IsSpaceList, HasCell, cell_at, cells_of, flat_of}
 use Rattle.tg_space.specs.Closure.{IsInClosure}
 use Rattle.tg_space.specs.Rows.{chunks_from, link_at, row_of}
 use Rattle.tg_space.specs.Targets.{target_in, named_by, targets_of, targets_at, cells_followed, root_targets_of, all_root_targets, pointers_of}
@@ -64,31 +64,31 @@ module _ (from : ℕ → Bool) (h : SpaceList) where
   -- a held cell of from-space
   pub record IsInFrom (number : ℕ) : Type 0 where
     pub place : Place
-    pub held : Holds h place
+    pub held : HasCell h place
     pub moves : from place.space ≡ true
     pub at : flat_of h place ≡ number
 
   module _ (whole : IsSpaceList h) (sound : AreSound h []) where
     -- what a pointer of a held cell names
-    pub target_held : (p : Place) → Holds h p → (word : ℕ) → Contains (pointers_of (cell_at h p)) word → word ≢ 0 → NamesCell h word
+    pub target_held : (p : Place) → HasCell h p → (word : ℕ) → Contains (pointers_of (cell_at h p)) word → word ≢ 0 → NamesCell h word
     target_held p held word among some =
         let all : All (IsPointer h) (pointers_of (cell_at h p)) = pointers_from_layout h (cell_at h p) (cell_long h whole p held) (layout_at h whole [] sound p held) in
         ⊎_elim (λ z. absurd (some z)) (λ names. names) (All-contains (IsPointer h) (pointers_of (cell_at h p)) word all among)
 
     -- the targets of the cell at a place
-    numbered_targets : (p : Place) → Holds h p → targets_of from h (flat_of h p) ≡ targets_at from h p
+    numbered_targets : (p : Place) → HasCell h p → targets_of from h (flat_of h p) ≡ targets_at from h p
     numbered_targets p held = ap (λ (words : List ℕ). named_by from h (pointers_of words)) (get_or-flat_of h whole.spaces p held)
 
-    pub next_target : (p : Place) → Holds h p → (word : ℕ) → Contains (pointers_of (cell_at h p)) word → word ≢ 0 → from (place_in word).space ≡ true → Contains (targets_of from h (flat_of h p)) (flat_of h (place_in word))
+    pub next_target : (p : Place) → HasCell h p → (word : ℕ) → Contains (pointers_of (cell_at h p)) word → word ≢ 0 → from (place_in word).space ≡ true → Contains (targets_of from h (flat_of h p)) (flat_of h (place_in word))
     next_target p held word among some moves =
         subst (λ (numbers : List ℕ). Contains numbers (flat_of h (place_in word))) (sym (numbered_targets p held)) (target_of_word (pointers_of (cell_at h p)) word among some moves)
 
-    pub next_of : (p : Place) → Holds h p → (number : ℕ) → Contains (targets_of from h (flat_of h p)) number → NamesNumber (pointers_of (cell_at h p)) number
+    pub next_of : (p : Place) → HasCell h p → (number : ℕ) → Contains (targets_of from h (flat_of h p)) number → NamesNumber (pointers_of (cell_at h p)) number
     next_of p held number has =
         word_of_target (pointers_of (cell_at h p)) number (subst (λ (numbers : List ℕ). Contains numbers number) (numbered_targets p held) has)
 
     -- a target of a held cell is in from-space
-    from_target : (p : Place) → Holds h p → (number : ℕ) → Contains (targets_at from h p) number → IsInFrom number
+    from_target : (p : Place) → HasCell h p → (number : ℕ) → Contains (targets_at from h p) number → IsInFrom number
     from_target p held number has =
         let named = word_of_target (pointers_of (cell_at h p)) number has in
         let names = target_held p held named.word named.among named.some in
@@ -96,12 +96,12 @@ module _ (from : ℕ → Bool) (h : SpaceList) where
 
     module _ (payloads : Payloads) (graph : IsGraph h payloads) where
       -- the cells of a row that are met are held
-      met_held : (p q : Place) → IsKindAt h Object p → Contains (cells_followed from h p) q → Holds h q
+      met_held : (p q : Place) → IsKindAt h Object p → Contains (cells_followed from h p) q → HasCell h q
       met_held p q object has =
           let row = row_held h p (chunks_from h (length (cells_of h)) (link_at h p)) object (graph.ends p object) in
           let n = prefix_len (λ (r : Place). not (from r.space)) (row_of h p) in
           let in_row : Contains (take n (row_of h p) ++ drop n (row_of h p)) q = Contains-append_left (take n (row_of h p)) (drop n (row_of h p)) q has in
-          All-contains (Holds h) (row_of h p) q row (subst (λ (ps : List Place). Contains ps q) (take-append-drop n (row_of h p)) in_row)
+          All-contains (HasCell h) (row_of h p) q row (subst (λ (ps : List Place). Contains ps q) (take-append-drop n (row_of h p)) in_row)
 
       root_in_from : (root : Root) → IsWholeRoot h root → (number : ℕ) → Contains (root_targets_of from h root) number → IsInFrom number
       root_in_from (Remembered p) old number has = from_target p old.held number has

@@ -5,7 +5,7 @@ use Rattle.std.proofs.lemmas.List.{get_or-set_other, get_or-take, length-take-le
 use Rattle.std.proofs.lemmas.Option.{get_or_from_slice_get, slice_get-get_or, slice_get_within}
 use Rattle.std.proofs.lemmas.List.Elements.{Contains-append_left, Contains-push, Contains-push_cases}
 use Rattle.tg_word.specs.declared.Place.{Place}
-use Rattle.tg_space.specs.SpaceList.{SpaceList, BlockList, Holds, IsSpaceList, cell_at, with_cell_at}
+use Rattle.tg_space.specs.SpaceList.{SpaceList, BlockList, HasCell, IsSpaceList, cell_at, with_cell_at}
 use Rattle.tg_space.specs.SpaceTable.{SpaceTable, IsSpaceTable, adopted, with_adopted, with_spaces}
 use Rattle.tg_space.specs.Soundness.{AreSound, IsOldCell}
 use Rattle.tg_space.specs.Targets.{from_space, image_of, young_spaces}
@@ -40,7 +40,7 @@ module _ (t now : SpaceTable) (cells : List Rewritten) (cell : Rewritten) (table
   abbrev next : SpaceList
   next = with_cell_at now.spaces cell.place cell.words
 
-  here : Holds now.spaces cell.place
+  here : HasCell now.spaces cell.place
   here = (before.held cell.place).1 old.held
 
   written_at : (p : Place) → (p ≡ cell.place) ⊎ (p ≢ cell.place) → HasWritten next (cells ++ cell ∷ []) p ⊎ HasStayed t.spaces next (cells ++ cell ∷ []) p
@@ -112,7 +112,7 @@ module _ (h : SpaceList) (forward : List ℕ) (t now : SpaceTable) (places : Lis
   pub is_left : IsLeftInOld h t p
   is_left = subst (IsLeftInOld h t) (get_or_from_slice_get places i p p here) (left i p (slice_get_within places i p here))
 
-  pub held_still : Holds now.spaces p
+  pub held_still : HasCell now.spaces p
   held_still = (before.held p).1 is_left.old.held
 
   -- the cell wasn't written yet
@@ -138,7 +138,7 @@ left_in_old h t places aged old whole sound cells same k d low =
     let cell = cells k d low in
     let stays : from_space Nursery p.space ≡ false = ap (λ (space : ℕ). from_space Nursery space) cell.space in
     record {
-      old = record { held = subst (λ (u : SpaceList). Holds u p) (sym same) (stays_held h aged old Nursery p cell.held stays); space = cell.space };
+      old = record { held = subst (λ (u : SpaceList). HasCell u p) (sym same) (stays_held h aged old Nursery p cell.held stays); space = cell.space };
       words = ap (λ (u : SpaceList). cell_at u p) same ∙ stays_cell h aged old Nursery p cell.held stays;
       pointers = pointers_from_layout h (cell_at h p) (cell_long h whole p cell.held) (layout_at h whole [] sound p cell.held);
     }

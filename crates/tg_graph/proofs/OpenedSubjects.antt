@@ -10,7 +10,7 @@ use Rattle.std.proofs.lemmas.Option.{slice_get-get_or}
 use Rattle.tg_model.proofs.PlainLaws.{is_subject, is_worker}
 use Rattle.tg_word.specs.Word.{nursery_space}
 use Rattle.tg_word.specs.declared.Place.{Place}
-use Rattle.tg_subjects.specs.Subjects.{IsLeastFree, names_of, nurseries_of, places_of}
+use Rattle.tg_subjects.specs.Subjects.{IsLeastFree, names_of, nurseries_of, subject_places}
 use Rattle.tg_subjects.specs.declared.subject.Subject.{Subject}
 use Rattle.tg_space.specs.SpaceList.{SpaceList}
 use Rattle.tg_graph.specs.Heap.{AreAtHome}
@@ -60,7 +60,7 @@ module _ (subjects : List Subject) (x : Subject) where
   nurseries_more n are is =
       map-append (λ (s : Subject). s.nursery) subjects (x ∷ []) ∙ ap (λ (xs : List ℕ). xs ++ x.nursery ∷ []) are ∙ ap (λ (number : ℕ). range_with_len 0 n ++ number ∷ []) is ∙ sym (range_more n)
 
-  pub places_more : places_of (subjects ++ x ∷ []) ≡ places_of subjects ++ x.place ∷ []
+  pub places_more : subject_places (subjects ++ x ∷ []) ≡ subject_places subjects ++ x.place ∷ []
   places_more = map-append (λ (s : Subject). s.place) subjects (x ∷ [])
 
   pub more_at_home : AreAtHome subjects → x.place.space ≡ nursery_space x.nursery → AreAtHome (subjects ++ x ∷ [])
@@ -69,14 +69,14 @@ module _ (subjects : List Subject) (x : Subject) where
       All-append P subjects (x ∷ []) home (All-cons P x [] there (All-nil P))
 
 -- each subject is the vertex with its name, where each place is that of the vertex with its number
-pub vertices_named : (h : SpaceList) (subjects : List Subject) (n : ℕ) → names_of subjects ≡ range_with_len 0 n → ((x : ℕ) (p : Place) → slice_get (places_of subjects) x ≡ Some p → IsVertexAt h x p) → All (λ x. IsVertexAt h x.name x.place) subjects
+pub vertices_named : (h : SpaceList) (subjects : List Subject) (n : ℕ) → names_of subjects ≡ range_with_len 0 n → ((x : ℕ) (p : Place) → slice_get (subject_places subjects) x ≡ Some p → IsVertexAt h x p) → All (λ x. IsVertexAt h x.name x.place) subjects
 vertices_named h subjects n are at k d low =
     let count = subjects_counted subjects n are in
-    let within : k < length (places_of subjects) = let same = length-map subjects (λ (x : Subject). x.place) in omega arith in
+    let within : k < length (subject_places subjects) = let same = length-map subjects (λ (x : Subject). x.place) in omega arith in
     let read : get_or (names_of subjects) k 0 ≡ (get_or subjects k d).name = get_or-map (λ (x : Subject). x.name) subjects k d 0 low in
     let same : get_or (names_of subjects) k 0 ≡ get_or (range_with_len 0 n) k 0 = ap (λ (xs : List ℕ). get_or xs k 0) are in
     let number : get_or (range_with_len 0 n) k 0 ≡ 0 + k = get_or-range_with_len 0 n k 0 (omega arith) in
     let named : k ≡ (get_or subjects k d).name = omega (arith, read, same, number) in
-    let placed : get_or (places_of subjects) k d.place ≡ (get_or subjects k d).place = get_or-map (λ (x : Subject). x.place) subjects k d d.place low in
-    let vertex = at k (get_or (places_of subjects) k d.place) (slice_get-get_or (places_of subjects) k d.place within) in
+    let placed : get_or (subject_places subjects) k d.place ≡ (get_or subjects k d).place = get_or-map (λ (x : Subject). x.place) subjects k d d.place low in
+    let vertex = at k (get_or (subject_places subjects) k d.place) (slice_get-get_or (subject_places subjects) k d.place within) in
     subst (λ (name : ℕ). IsVertexAt h name (get_or subjects k d).place) named (subst (λ (p : Place). IsVertexAt h k p) placed vertex)

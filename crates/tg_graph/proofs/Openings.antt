@@ -22,7 +22,7 @@ use Rattle.tg_word.specs.Word.{nursery_space}
 use Rattle.tg_word.specs.declared.TheConstants.{MAX_NURSERIES}
 use Rattle.tg_block.specs.Cells.{kind_of}
 use Rattle.tg_block.specs.declared.CellKind.TheVariants.{Free, Object}
-use Rattle.tg_space.specs.SpaceList.{SpaceList, BlockList, Holds, IsSpaceList, block_count, blocks_before, space_of}
+use Rattle.tg_space.specs.SpaceList.{SpaceList, BlockList, HasCell, IsSpaceList, block_count, blocks_before, space_of}
 use Rattle.tg_space.specs.SpaceTable.{SpaceTable, BlockLimits, IsSpaceTable, no_blocks}
 use Rattle.tg_space.specs.Soundness.{AreSound, HasLayout, IsKindAt}
 use Rattle.tg_space.proofs.Flat.{before_le, before_more}
@@ -93,7 +93,7 @@ no_count (x ∷ h) none =
     omega (arith, sum_by-cons (λ (blocks : BlockList). length blocks) x h, here, no_count h (λ space. none (suc space)))
 
 -- nor a cell
-pub no_cell : (h : SpaceList) → ((space : ℕ) → space_of h space ≡ []) → (p : Place) → Holds h p → ⊥
+pub no_cell : (h : SpaceList) → ((space : ℕ) → space_of h space ≡ []) → (p : Place) → HasCell h p → ⊥
 no_cell h none p held =
     let low : p.block < length {A = List (List ℕ)} [] = subst (λ (blocks : BlockList). p.block < length blocks) (none p.space) held.block in
     omega (arith, low)

@@ -23,7 +23,7 @@ use Rattle.tg_graph.specs.Heap.{HeapState, IsUnchangedHeap, content_of}
 use Rattle.tg_rows.specs.Graph.{content_in}
 use Rattle.tg_rows.proofs.Members.{Contains-map, find_gives, option_cases}
 use Rattle.tg_rows.specs.Content.{Content, IsNamed, IsContent, IsSameContent, OnlyNamedHold}
-use Rattle.tg_graph.specs.Standing.{IsContentOf, IsReached, Keeps, KeepsReached}
+use Rattle.tg_graph.specs.Standing.{IsContentOf, IsReached, KeepsContent, KeepsReached}
 use Rattle.tg_space.specs.declared.kind.Kind.{Kind}
 use Rattle.tg_space.specs.declared.kind.Kind.TheVariants.{Full, Nursery}
 
@@ -219,7 +219,7 @@ module _ (c : Content) (g : ProtectionGraph) (stands : IsContentOf c g) (subject
 
 module _ (old new : Content) (g : ProtectionGraph) (stands : IsContentOf old g) where
   -- what is kept stands for the same graph, where all that can be reached is kept
-  pub StandsFor-kept : (kept : ℕ → Type 0) → Keeps old new kept → ((x : ℕ) → IsReachable g x → kept x) → IsContentOf new g
+  pub StandsFor-kept : (kept : ℕ → Type 0) → KeepsContent old new kept → ((x : ℕ) → IsReachable g x → kept x) → IsContentOf new g
   StandsFor-kept kept keeps all =
       let before : (x : ℕ) → IsNamed new x → IsNamed old x = λ x named. ((keeps.names x).0 named).0 in
       record {
@@ -230,7 +230,7 @@ module _ (old new : Content) (g : ProtectionGraph) (stands : IsContentOf old g) 
         values = λ x named. keeps.values x named ∙ stands.values x (before x named);
       }
 
-  module _ (subjects : List ℕ) (same : g.subjects ≡ subjects) (keeps : Keeps old new (IsReached old subjects)) where
+  module _ (subjects : List ℕ) (same : g.subjects ≡ subjects) (keeps : KeepsContent old new (IsReached old subjects)) where
     pub StandsFor-full_collection : IsContentOf new g
     StandsFor-full_collection = StandsFor-kept (IsReached old subjects) keeps (IsReached-IsReachable old g stands subjects same)
 

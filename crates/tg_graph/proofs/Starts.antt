@@ -10,11 +10,11 @@ use Rattle.std.proofs.lemmas.List.Sums.{take_while-cons}
 use Rattle.tg_model.specs.Walks.{Walk-map}
 use Rattle.tg_word.specs.declared.Place.{Place}
 use Rattle.tg_word.specs.Word.{place_in}
-use Rattle.tg_subjects.specs.Subjects.{places_of}
+use Rattle.tg_subjects.specs.Subjects.{subject_places}
 use Rattle.tg_subjects.specs.declared.subject.Subject.{Subject}
 use Rattle.tg_block.specs.declared.CellKind.TheVariants.{Object, Chunk}
-use Rattle.tg_index.specs.Bits.{bit_of}
-use Rattle.tg_space.specs.SpaceList.{SpaceList, IsSpaceList, Holds, cell_at, cells_of, flat_of}
+use Rattle.tg_index.specs.Bits.{bit_in}
+use Rattle.tg_space.specs.SpaceList.{SpaceList, IsSpaceList, HasCell, cell_at, cells_of, flat_of}
 use Rattle.tg_space.specs.Soundness.{AreSound, HasLayout, HasLayoutOf, IsLink, IsReference, IsRootIn, LinksTo, RefersTo}
 use Rattle.tg_space.specs.Closure.{IsInClosure}
 use Rattle.tg_space.specs.Collection.{Collected, IsCollection, IsMadeInOld}
@@ -58,7 +58,7 @@ named_none h (word ∷ words) none =
 
 -- a cell of Old that names no young one
 record IsSilent (h : SpaceList) (p : Place) : Type 0 where
-  held : Holds h p
+  held : HasCell h p
   old : p.space ≡ 0
   none : NamesYoung (cell_at h p) → ⊥
 
@@ -269,7 +269,7 @@ module _ (s : HeapState) (x : Subject) (row : IndexedRow) (is : IsRowOf s x row)
   pub row_cells : row.cells.items ≡ p ∷ qs
   row_cells = subst (λ (r : Place). row.cells.items ≡ row_of h r) (is.formed.graph.names is.indexed.place p is.indexed.vertex.object is.vertex.object (is.indexed.vertex.named ∙ sym is.vertex.named)) is.indexed.index.cells
 
-  held : All (Holds h) (p ∷ qs)
+  held : All (HasCell h) (p ∷ qs)
   held = row_held h p qs is.vertex.object ends
 
   short : length (p ∷ qs) ≤ length (cells_of h)
@@ -280,8 +280,8 @@ module _ (s : HeapState) (x : Subject) (row : IndexedRow) (is : IsRowOf s x row)
   kind (suc k) d low = inr (chain_chunks h qs (link_at h p) ends k d (omega arith))
 
   -- a cell of the row by its number
-  pub cell_held : (k : ℕ) (d : Place) → k < length row.cells.items → Holds h (get_or row.cells.items k d)
-  cell_held k d low = subst (λ (ps : List Place). Holds h (get_or ps k d)) (sym row_cells) (held k d (subst (λ (ps : List Place). k < length ps) row_cells low))
+  pub cell_held : (k : ℕ) (d : Place) → k < length row.cells.items → HasCell h (get_or row.cells.items k d)
+  cell_held k d low = subst (λ (ps : List Place). HasCell h (get_or ps k d)) (sym row_cells) (held k d (subst (λ (ps : List Place). k < length ps) row_cells low))
 
   pub cell_layout : (k : ℕ) (d : Place) → k < length row.cells.items → HasLayout h (cell_at h (get_or row.cells.items k d))
   cell_layout k d low = layout_at h is.whole [] is.formed.graph.sound (get_or row.cells.items k d) (cell_held k d low)
@@ -290,7 +290,7 @@ module _ (s : HeapState) (x : Subject) (row : IndexedRow) (is : IsRowOf s x row)
   cell_root k d low = subst (λ (ps : List Place). IsRootIn h (Row (get_or ps k d))) (sym row_cells) (kind k d (subst (λ (ps : List Place). k < length ps) row_cells low))
 
   -- one that isn't marked, and is known to lie in Old, has no young target
-  unmarked_silent : (k : ℕ) (d : Place) → k < row.old_cells → bit_of row.noted k ≡ 0 → targets_at young_spaces h (get_or row.cells.items k d) ≡ []
+  unmarked_silent : (k : ℕ) (d : Place) → k < row.old_cells → bit_in row.noted k ≡ 0 → targets_at young_spaces h (get_or row.cells.items k d) ≡ []
   unmarked_silent k d low none =
       let within = is.indexed.marked.aged.within in
       let old : IsOldPlace (get_or row.cells.items k d) = subst IsOldPlace (get_or-take row.old_cells row.cells.items k d low) (is.indexed.marked.aged.cells k d (omega (arith, low, length-take-le row.old_cells row.cells.items within))) in
@@ -306,7 +306,7 @@ module _ (s : HeapState) (x : Subject) (row : IndexedRow) (is : IsRowOf s x row)
       })
 
   -- the targets up to the next marked cell are those of the cells before
-  pub skipped : (from later : ℕ) → from ≤ later → later ≤ row.old_cells → ((m : ℕ) → from ≤ m → m < later → bit_of row.noted m ≡ 0) → all_targets h (take later row.cells.items) ≡ all_targets h (take from row.cells.items)
+  pub skipped : (from later : ℕ) → from ≤ later → later ≤ row.old_cells → ((m : ℕ) → from ≤ m → m < later → bit_in row.noted m ≡ 0) → all_targets h (take later row.cells.items) ≡ all_targets h (take from row.cells.items)
   skipped from later low within unset =
       let inside = is.indexed.marked.aged.within in
       let sum : from + (later - from) ≡ later = omega arith in
@@ -314,7 +314,7 @@ module _ (s : HeapState) (x : Subject) (row : IndexedRow) (is : IsRowOf s x row)
       ∙ silent_between h row.cells.items from (later - from) (omega arith) (λ k d above below. unmarked_silent k d (omega arith) (unset k above (omega arith)))
 
   -- one more cell
-  pub stepped : (from number : ℕ) (d : Place) → from ≤ number → number < row.old_cells → ((m : ℕ) → from ≤ m → m < number → bit_of row.noted m ≡ 0) → (roots mid later : List Root) → AddsRoots h (all_targets h (take from row.cells.items)) roots mid →
+  pub stepped : (from number : ℕ) (d : Place) → from ≤ number → number < row.old_cells → ((m : ℕ) → from ≤ m → m < number → bit_in row.noted m ≡ 0) → (roots mid later : List Root) → AddsRoots h (all_targets h (take from row.cells.items)) roots mid →
       AddsRoots h (targets_at young_spaces h (get_or row.cells.items number d)) mid later → AddsRoots h (all_targets h (take (number + 1) row.cells.items)) roots later
   stepped from number d low within unset roots mid later before here =
       let inside = is.indexed.marked.aged.within in
@@ -331,16 +331,16 @@ module _ (s : HeapState) (x : Subject) (row : IndexedRow) (is : IsRowOf s x row)
   within_row : row.old_cells ≤ length (p ∷ qs)
   within_row = subst (λ (ps : List Place). row.old_cells ≤ length ps) row_cells is.indexed.marked.aged.within
 
-  all_known : (from : ℕ) → from ≤ row.old_cells → ((m : ℕ) → from ≤ m → bit_of row.noted m ≡ 0) → all_targets h (take row.old_cells (p ∷ qs)) ≡ all_targets h (take from row.cells.items)
+  all_known : (from : ℕ) → from ≤ row.old_cells → ((m : ℕ) → from ≤ m → bit_in row.noted m ≡ 0) → all_targets h (take row.old_cells (p ∷ qs)) ≡ all_targets h (take from row.cells.items)
   all_known from low unset = ap (λ (ps : List Place). all_targets h (take row.old_cells ps)) (sym row_cells) ∙ skipped from row.old_cells low (omega arith) (λ m above below. unset m above)
 
-  pub row_done : (from : ℕ) → from ≤ row.old_cells → ((m : ℕ) → from ≤ m → bit_of row.noted m ≡ 0) → row.old_cells ≡ length row.cells.items → (roots later : List Root) → AddsRoots h (all_targets h (take from row.cells.items)) roots later → AddsRoots h (targets h p) roots later
+  pub row_done : (from : ℕ) → from ≤ row.old_cells → ((m : ℕ) → from ≤ m → bit_in row.noted m ≡ 0) → row.old_cells ≡ length row.cells.items → (roots later : List Root) → AddsRoots h (all_targets h (take from row.cells.items)) roots later → AddsRoots h (targets h p) roots later
   row_done from low unset all roots later added =
       let few = short in
       subst (λ (ts : List ℕ). AddsRoots h ts roots later)
       (sym (all_known from low unset) ∙ ends_all h p qs ends (omega arith) row.old_cells within_row known (all ∙ ap (λ (ps : List Place). length ps) row_cells)) added
 
-  pub row_young : (from : ℕ) → from ≤ row.old_cells → ((m : ℕ) → from ≤ m → bit_of row.noted m ≡ 0) → 0 < row.old_cells → (d : Place) → row.old_cells < length row.cells.items → young_spaces (get_or row.cells.items row.old_cells d).space ≡ true →
+  pub row_young : (from : ℕ) → from ≤ row.old_cells → ((m : ℕ) → from ≤ m → bit_in row.noted m ≡ 0) → 0 < row.old_cells → (d : Place) → row.old_cells < length row.cells.items → young_spaces (get_or row.cells.items row.old_cells d).space ≡ true →
       (roots later : List Root) → AddsRoots h (all_targets h (take from row.cells.items)) roots later → AddsRoots h (targets h p) roots later
   row_young from low unset some d inside moves roots later added =
       let few = short in
@@ -349,7 +349,7 @@ module _ (s : HeapState) (x : Subject) (row : IndexedRow) (is : IsRowOf s x row)
       ∙ ends_young h p qs ends (omega arith) row.old_cells within_row known some d (subst (λ (ps : List Place). row.old_cells < length ps) row_cells inside) (subst (λ (ps : List Place). young_spaces (get_or ps row.old_cells d).space ≡ true) row_cells moves))
       added
 
-  pub row_rest : (from : ℕ) → from ≤ row.old_cells → ((m : ℕ) → from ≤ m → bit_of row.noted m ≡ 0) → (d : Place) → row.old_cells < length row.cells.items → (row.old_cells ≡ 0) ⊎ IsOldPlace (get_or row.cells.items row.old_cells d) →
+  pub row_rest : (from : ℕ) → from ≤ row.old_cells → ((m : ℕ) → from ≤ m → bit_in row.noted m ≡ 0) → (d : Place) → row.old_cells < length row.cells.items → (row.old_cells ≡ 0) ⊎ IsOldPlace (get_or row.cells.items row.old_cells d) →
       (roots mid later : List Root) → AddsRoots h (all_targets h (take from row.cells.items)) roots mid → later ≡ mid ++ Row (get_or row.cells.items row.old_cells d) ∷ [] → AddsRoots h (targets h p) roots later
   row_rest from low unset d inside either roots mid later added pushed =
       let few = short in
@@ -410,7 +410,7 @@ collected_from h roots others same to back made is = record {
 
 -- ---- a collection from them
 
-module _ (s : HeapState) (formed : IsWellFormed s) (starts : List Root) (are : AddsRoots s.table.spaces (all_root_targets young_spaces s.table.spaces (map (λ p. Row p) (places_of s.subjects))) [] starts) where
+module _ (s : HeapState) (formed : IsWellFormed s) (starts : List Root) (are : AddsRoots s.table.spaces (all_root_targets young_spaces s.table.spaces (map (λ p. Row p) (subject_places s.subjects))) [] starts) where
   abbrev spaces : SpaceList
   spaces = s.table.spaces
 
@@ -418,7 +418,7 @@ module _ (s : HeapState) (formed : IsWellFormed s) (starts : List Root) (are : A
   cells = map (λ p. Remembered p) s.remembered
 
   abbrev wholes : List Root
-  wholes = map (λ p. Row p) (places_of s.subjects)
+  wholes = map (λ p. Row p) (subject_places s.subjects)
 
   rows : All (IsRowRoot spaces) starts
   rows = subst (All (IsRowRoot spaces)) (sym are.is) are.rows
@@ -458,8 +458,8 @@ module _ (s : HeapState) (formed : IsWellFormed s) (starts : List Root) (are : A
         let start : Contains starts (Row target.0) = ⊎_elim (λ here. here) (λ cell. absurd (no_cell target.0 cell)) (Contains-append_cases starts cells (Row target.0) target.1) in
         let among = Contains-flat_map (root_targets_of young_spaces spaces) starts (Row target.0) c start target.2 in
         let found = Contains-from_flat_map (root_targets_of young_spaces spaces) wholes c (subst (λ (ts : List ℕ). Contains ts c) same_targets among) in
-        let row = Contains-from_map (λ (p : Place). Row p) (places_of s.subjects) found.0 found.1 in
-        (row.0, Contains-append_left wholes cells (Row row.0) (Contains-map (λ (p : Place). Row p) (places_of s.subjects) row.0 row.1), subst (λ (root : Root). Contains (root_targets_of young_spaces spaces root) c) (sym row.2) found.2);
+        let row = Contains-from_map (λ (p : Place). Row p) (subject_places s.subjects) found.0 found.1 in
+        (row.0, Contains-append_left wholes cells (Row row.0) (Contains-map (λ (p : Place). Row p) (subject_places s.subjects) row.0 row.1), subst (λ (root : Root). Contains (root_targets_of young_spaces spaces root) c) (sym row.2) found.2);
     cells = λ p has.
         ⊎_elim (λ start. absurd (no_start p start)) (λ cell. Contains-append_right wholes cells (Remembered p) cell) (Contains-append_cases starts cells (Remembered p) has);
   }

@@ -8,7 +8,7 @@ use Rattle.tg_model.specs.declared.value.Value.{Value}
 use Rattle.tg_word.specs.Word.{nursery_space, place_in}
 use Rattle.tg_word.specs.declared.Place.{Place}
 use Rattle.tg_word.specs.declared.TheConstants.{SPACES}
-use Rattle.tg_subjects.specs.Subjects.{AreSubjects, IsLeastFree, names_of, nursery_held, places_of}
+use Rattle.tg_subjects.specs.Subjects.{AreSubjects, IsLeastFree, names_of, nursery_held, subject_places}
 use Rattle.tg_subjects.specs.declared.subject.Subject.{Subject}
 use Rattle.tg_block.specs.declared.CellKind.TheVariants.{Object}
 use Rattle.tg_space.specs.SpaceList.{SpaceList}
@@ -70,8 +70,8 @@ content_of s = content_in s.table.spaces s.payloads
 -- What a collection starts from: the rows of the active subjects, by rising name; for a nursery collection the remembered
 -- cells too, in the order in which they were noted.
 abbrev pub roots_of : Kind → HeapState → List Root
-roots_of Full s = map (λ p. Row p) (places_of s.subjects)
-roots_of Nursery s = map (λ p. Row p) (places_of s.subjects) ++ map (λ p. Remembered p) s.remembered
+roots_of Full s = map (λ p. Row p) (subject_places s.subjects)
+roots_of Nursery s = map (λ p. Row p) (subject_places s.subjects) ++ map (λ p. Remembered p) s.remembered
 
 -- the collections from these roots are those from the others
 abbrev pub CollectAlike : Kind → SpaceList → List Root → List Root → Type 0

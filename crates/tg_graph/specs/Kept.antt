@@ -4,7 +4,7 @@ use Rattle.std.specs.List.{Contains, All}
 use Rattle.tg_word.specs.declared.Place.{Place}
 use Rattle.tg_word.specs.declared.TheConstants.{MOST_SPACE_BLOCKS}
 use Rattle.tg_block.specs.declared.CellKind.TheVariants.{Object}
-use Rattle.tg_space.specs.SpaceList.{SpaceList, BlockList, Holds, cell_at, flat_of, space_of, cells_of}
+use Rattle.tg_space.specs.SpaceList.{SpaceList, BlockList, HasCell, cell_at, flat_of, space_of, cells_of}
 use Rattle.tg_space.specs.SpaceTable.{SpaceTable, IsSpaceTable, kept_blocks, with_adopted}
 use Rattle.tg_space.specs.Numbering.{AreNumbersOf}
 use Rattle.tg_space.specs.Soundness.{IsKindAt, IsOldCell, IsPointer}
@@ -17,7 +17,7 @@ use Rattle.tg_space.specs.Generations.{AreNeeded}
 use Rattle.tg_rows.specs.Rows.{IsVertexAt, key_at}
 use Rattle.tg_rows.specs.Graph.{IsGraph}
 use Rattle.tg_rows.specs.declared.cells.Cells.{Cells}
-use Rattle.tg_subjects.specs.Subjects.{nurseries_of, places_of, AreSubjects, names_of}
+use Rattle.tg_subjects.specs.Subjects.{nurseries_of, subject_places, AreSubjects, names_of}
 use Rattle.tg_graph.specs.Heap.{HeapState, content_of, subject_names}
 use Rattle.tg_rows.specs.Content.{IsNamed}
 use Rattle.tg_graph.specs.Standing.{KeepsReached}
@@ -27,7 +27,7 @@ use Rattle.tg_subjects.specs.declared.subject.Subject.{Subject}
 
 -- the cell at a place isn't free, and it was copied if it is in from-space
 pub record IsKept (kind : Kind) (h : SpaceList) (forward : List ℕ) (p : Place) : Type 0 where
-  pub held : Holds h p
+  pub held : HasCell h p
   pub used : 0 < slice_index (cell_at h p) 0
   pub copied : from_space kind p.space ≡ true → slice_index forward (flat_of h p) ≢ 0
 
@@ -64,7 +64,7 @@ pub record AreWritten (old new : SpaceTable) (cells : List Rewritten) : Type 0 w
   pub used : new.used ≡ old.used
   pub long : length new.spaces ≡ length old.spaces
   pub others : (space : ℕ) → space ≢ 0 → space_of new.spaces space ≡ space_of old.spaces space
-  pub held : (p : Place) → Holds new.spaces p ↔ Holds old.spaces p
+  pub held : (p : Place) → HasCell new.spaces p ↔ HasCell old.spaces p
   pub written : (p : Place) → HasWritten new.spaces cells p ⊎ HasStayed old.spaces new.spaces cells p
 
 -- these were written, and what holds of all spaces holds of these
@@ -138,7 +138,7 @@ pub record IsLeftInOld (h : SpaceList) (t : SpaceTable) (p : Place) : Type 0 whe
   pub pointers : All (IsPointer h) (pointers_of (cell_at h p))
 
 -- A nursery collection left these cells of Old as they were, and there is a word by its number for each cell that was there.
-pub record CanRewrite (kind : Kind) (h : SpaceList) (t : SpaceTable) (starts : List ℕ) (words : ℕ) (ps : List Place) : Type 0 where
+pub record CanRewriteOld (kind : Kind) (h : SpaceList) (t : SpaceTable) (starts : List ℕ) (words : ℕ) (ps : List Place) : Type 0 where
   pub numbers : AreNumbersOf h starts words
   pub nursery : kind ≡ Nursery
   pub cells : All (IsLeftInOld h t) ps
@@ -167,5 +167,5 @@ pub record HasNumber (t : SpaceTable) (number : ℕ) : Type 0 where
 pub record ArePlaced (old new : List Subject) (places : List Place) : Type 0 where
   pub names : names_of new ≡ names_of old
   pub nurseries : nurseries_of new ≡ nurseries_of old
-  pub places_are : places_of new ≡ places
+  pub places_are : subject_places new ≡ places
   pub subjects : AreSubjects new

@@ -7,13 +7,13 @@ use Rattle.tg_model.specs.Opened.{label_in}
 use Rattle.tg_word.specs.Word.{nursery_space}
 use Rattle.tg_word.specs.declared.Place.{Place}
 use Rattle.tg_word.specs.declared.TheConstants.{MAX_NURSERIES, SPACES}
-use Rattle.tg_subjects.specs.Subjects.{places_of}
+use Rattle.tg_subjects.specs.Subjects.{subject_places}
 use Rattle.tg_subjects.specs.declared.subject.Subject.{Subject}
 use Rattle.tg_space.specs.Generations.{AreRemembered}
 use Rattle.tg_rows.specs.declared.cells.Cells.{Cells}
 use Rattle.tg_graph.specs.declared.opening.Room.{Room}
 use Rattle.tg_block.specs.Cells.{free_cell}
-use Rattle.tg_space.specs.SpaceList.{Holds, block_count, cell_at, space_of}
+use Rattle.tg_space.specs.SpaceList.{HasCell, block_count, cell_at, space_of}
 use Rattle.tg_space.specs.SpaceTable.{AreLimits, IsSpaceTable, SpaceTable, BlockLimits, used_of}
 use Rattle.tg_payload.specs.Table.{Payloads}
 use Rattle.tg_rows.specs.Content.{IsContent, IsNamed}
@@ -35,7 +35,7 @@ pub record HasBlocks (t : SpaceTable) (workers : ℕ) (limits : BlockLimits) : T
   pub few : block_count t.spaces ≤ workers
   pub old : length (space_of t.spaces 0) ≡ 0
   pub unused : (space : ℕ) → used_of t space ≡ 0
-  pub free : (p : Place) → Holds t.spaces p → cell_at t.spaces p ≡ free_cell
+  pub free : (p : Place) → HasCell t.spaces p → cell_at t.spaces p ≡ free_cell
 
 -- The first workers are at these places and have these values, and the labels between them are these. The nursery of each
 -- worker has a block, and no other space has one.
@@ -98,7 +98,7 @@ pub record AreWorkers {P : Type 0} (cells : Cells P) (workers : List Subject) : 
   pub few : length workers ≤ MAX_NURSERIES
   pub graph : IsGraph cells.spaces.spaces cells.payloads
   pub spaces : SPACES ≤ length cells.spaces.spaces
-  pub vertices : (x : ℕ) (p : Place) → slice_get (places_of workers) x ≡ Some p → IsVertexAt cells.spaces.spaces x p
+  pub vertices : (x : ℕ) (p : Place) → slice_get (subject_places workers) x ≡ Some p → IsVertexAt cells.spaces.spaces x p
   pub old : length (space_of cells.spaces.spaces 0) ≡ 0
 
 -- the worker with a number has no edge yet: in its nursery, which has a block, is its object alone

@@ -20,7 +20,7 @@ abbrev pub IsReached : Content → List ℕ → ℕ → Type 0
 IsReached c subjects = Walk (Contains subjects) (HasEdge c.label)
 
 -- The new content is the old one with these names alone, and what it has edges to is among them.
-pub record Keeps (old new : Content) (kept : ℕ → Type 0) : Type 0 where
+pub record KeepsContent (old new : Content) (kept : ℕ → Type 0) : Type 0 where
   pub names : (x : ℕ) → IsNamed new x ↔ (IsNamed old x × kept x)
   pub closed : (x y : ℕ) → IsNamed new x → HasEdge old.label x y → IsNamed new y
   pub labels : (x y : ℕ) → IsNamed new x → new.label x y ≡ old.label x y
@@ -29,5 +29,5 @@ pub record Keeps (old new : Content) (kept : ℕ → Type 0) : Type 0 where
 -- What a collection of a kind keeps: a full one exactly what is reached from the subjects with these names, a nursery
 -- collection all that is reached, and maybe more.
 abbrev pub KeepsReached : Kind → Content → Content → List ℕ → Type 0
-KeepsReached Full old new subjects = Keeps old new (IsReached old subjects)
-KeepsReached Nursery old new subjects = Keeps old new (IsNamed new) × ((x : ℕ) → IsReached old subjects x → IsNamed new x)
+KeepsReached Full old new subjects = KeepsContent old new (IsReached old subjects)
+KeepsReached Nursery old new subjects = KeepsContent old new (IsNamed new) × ((x : ℕ) → IsReached old subjects x → IsNamed new x)

@@ -6,22 +6,22 @@ ghost use Rattle.tg_model.specs.Graph.{ProtectionGraph, IsReachable};
 ghost use Rattle.tg_space.specs.declared.kind.Kind.{Kind};
 ghost use Rattle.tg_rows.specs.Content.{Content, IsNamed, IsSameContent, OnlyNamedHold};
 ghost use Rattle.tg_graph.specs.Heap.{HeapState, IsUnchangedHeap, content_of};
-ghost use Rattle.tg_graph.specs.Standing.{IsContentOf, IsReached, Keeps, KeepsReached};
+ghost use Rattle.tg_graph.specs.Standing.{IsContentOf, IsReached, KeepsContent, KeepsReached};
 
 /// What a collection keeps stands for the graph that the old content stood for, where all that can be reached is
 /// kept. A full collection keeps what can be reached on the content, from the graph's subjects: this is what can be
 /// reached on the graph, so it stands for the graph too, and its names are exactly those that can be reached.
 pub fn what_is_kept_stands_for_the_same_graph()
     ensures kept { (old new : Content) (g : ProtectionGraph) →
-        IsContentOf old g → Keeps old new (IsNamed new) → ((x : ℕ) → IsReachable g x → IsNamed new x) →
+        IsContentOf old g → KeepsContent old new (IsNamed new) → ((x : ℕ) → IsReachable g x → IsNamed new x) →
         IsContentOf new g }
     ensures reached { (old : Content) (g : ProtectionGraph) (x : ℕ) →
         IsContentOf old g → IsReached old g.subjects x ↔ IsReachable g x }
     ensures full { (old new : Content) (g : ProtectionGraph) →
-        IsContentOf old g → Keeps old new (IsReached old g.subjects) →
+        IsContentOf old g → KeepsContent old new (IsReached old g.subjects) →
         IsContentOf new g }
     ensures names { (old new : Content) (g : ProtectionGraph) (x : ℕ) →
-        IsContentOf old g → Keeps old new (IsReached old g.subjects) →
+        IsContentOf old g → KeepsContent old new (IsReached old g.subjects) →
         IsNamed new x ↔ IsReachable g x }
 {}
 

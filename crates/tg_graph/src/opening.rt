@@ -7,12 +7,12 @@ ghost use Rattle.tg_model.specs.Opened.{JoinsWorkers, label_in, start_of};
 ghost use Rattle.tg_word.specs.Word.{nursery_space};
 ghost use Rattle.tg_word.specs.declared.Place.{Place};
 ghost use Rattle.tg_word.specs.declared.TheConstants.{MAX_NURSERIES};
-ghost use Rattle.tg_subjects.specs.Subjects.{names_of, nurseries_of, places_of};
+ghost use Rattle.tg_subjects.specs.Subjects.{names_of, nurseries_of, subject_places};
 ghost use Rattle.tg_block.specs.declared.CellKind.TheVariants.{Object};
 ghost use Rattle.tg_space.specs.SpaceList.{block_count, space_of};
 ghost use Rattle.tg_space.specs.SpaceTable.{no_blocks, used_of};
 ghost use Rattle.tg_space.specs.Soundness.{IsKindAt};
-ghost use Rattle.tg_nursery.specs.Allocation.{HasLeft};
+ghost use Rattle.tg_nursery.specs.Allocation.{HasRoomLeft};
 ghost use Rattle.tg_graph.specs.Heap.{AreAtHome, content_of, subject_names};
 ghost use Rattle.tg_rows.specs.Graph.{IsGraph};
 ghost use Rattle.tg_rows.specs.Rows.{name_at};
@@ -146,7 +146,7 @@ fn place_workers<P: Payload>(cells: &mut Cells<P>, subjects: &mut Subjects, draf
     requires payloads { cells.old.payloads.entries ≡ [] }
     requires spare { length drafts.items ≤ cells.old.payloads.spare }
     requires subjects { subjects.old ≡ [] }
-    ensures opened { IsOpened cells.new.spaces cells.new.payloads (places_of subjects.new) (length drafts.items) cells.old.spaces.limits no_labels drafts.items }
+    ensures opened { IsOpened cells.new.spaces cells.new.payloads (subject_places subjects.new) (length drafts.items) cells.old.spaces.limits no_labels drafts.items }
     ensures names { names_of subjects.new ≡ range_with_len 0 (length drafts.items) }
     ensures numbers { nurseries_of subjects.new ≡ range_with_len 0 (length drafts.items) }
     ensures nurseries { AreAtHome subjects.new }
@@ -223,7 +223,7 @@ fn add_some<P: Payload>(cells: &mut Cells<P>, nursery: u64, from: Place, to: Pla
     requires graph { IsGraph cells.old.spaces.spaces cells.old.payloads }
     requires from { IsKindAt cells.old.spaces.spaces Object from }
     requires to { IsKindAt cells.old.spaces.spaces Object to }
-    requires room { is_none_held rights ≡ false → HasLeft cells.old.spaces (nursery_space nursery) 1 }
+    requires room { is_none_held rights ≡ false → HasRoomLeft cells.old.spaces (nursery_space nursery) 1 }
     requires old { length (space_of cells.old.spaces.spaces 0) ≡ 0 }
     ensures added { Relabels cells.old cells.new (with_rights (labels_in cells.old) (name_at cells.old.spaces.spaces from) (name_at cells.old.spaces.spaces to) rights) }
     ensures one_cell { TakesOneCell cells.old.spaces cells.new.spaces (nursery_space nursery) }

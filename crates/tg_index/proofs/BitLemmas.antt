@@ -9,7 +9,7 @@ use Rattle.std.proofs.lemmas.List.Elements.{All-contains, Contains-append_right,
 use Rattle.std.proofs.lemmas.List.FromFn.{get_or-range_with_len, length-range_with_len}
 use Rattle.std.proofs.lemmas.List.Kept.{AllPairs-filter}
 use Rattle.std.proofs.lemmas.Nat.Bits.{bit_at-lt, bit_at-trailing_zeros, bit_at-zero}
-use Rattle.tg_index.specs.Bits.{AreMarks, IsFirstFrom, IsFirstOf, SetsBit, bit_of, numbers_of}
+use Rattle.tg_index.specs.Bits.{AreMarks, IsFirstFrom, IsFirstOf, SetsBit, bit_in, numbers_set}
 
 -- ---- lists
 
@@ -27,7 +27,7 @@ some_bit : (word i : ℕ) → bit_at word i ≡ 1 → word ≢ 0
 some_bit word i one none = let z : 1 ≡ 0 = sym one ∙ ap (λ x. bit_at x i) none ∙ bit_at-zero i in omega (arith, z)
 
 -- a word that is 0 has no bit
-pub no_bit : (words : List ℕ) (n : ℕ) → get_or words (n / 64) 0 ≡ 0 → bit_of words n ≡ 0
+pub no_bit : (words : List ℕ) (n : ℕ) → get_or words (n / 64) 0 ≡ 0 → bit_in words n ≡ 0
 no_bit words n none = ap (λ x. bit_at x (n % 64)) none ∙ bit_at-zero (n % 64)
 
 -- behind the last word all are 0
@@ -35,14 +35,14 @@ pub word_inside : (words : List ℕ) (w : ℕ) → get_or words w 0 ≢ 0 → w 
 word_inside words w some = ⊎_elim (λ low. low) (λ high. absurd (some (get_or_past words w 0 high))) (cases_lt w (length words))
 
 -- behind the last word no bit is set
-pub bit_inside : (words : List ℕ) (n : ℕ) → bit_of words n ≡ 1 → n < 64 * length words
+pub bit_inside : (words : List ℕ) (n : ℕ) → bit_in words n ≡ 1 → n < 64 * length words
 bit_inside words n here = ⊎_elim (λ low. omega arith) (λ high. absurd (some_bit (get_or words (n / 64) 0) (n % 64) here (get_or_past words (n / 64) 0 high))) (cases_lt (n / 64) (length words))
 
 -- a bit that isn't 1 is 0
-pub bit_clear : (words : List ℕ) (n : ℕ) → (bit_of words n ≡ 1 → ⊥) → bit_of words n ≡ 0
+pub bit_clear : (words : List ℕ) (n : ℕ) → (bit_in words n ≡ 1 → ⊥) → bit_in words n ≡ 0
 bit_clear words n not_one =
     let low = bit_at-lt (get_or words (n / 64) 0) (n % 64) in
-    ⊎_elim (λ is. absurd (not_one is)) (λ other. omega arith) (cases_eq (bit_of words n) 1)
+    ⊎_elim (λ is. absurd (not_one is)) (λ other. omega arith) (cases_eq (bit_in words n) 1)
 
 -- one more word that is 0 changes no word, and no bit
 word_same : (words : List ℕ) (w : ℕ) → get_or (words ++ 0 ∷ []) w 0 ≡ get_or words w 0
@@ -51,7 +51,7 @@ word_same [] (suc w) = refl
 word_same (x ∷ xs) zero = refl
 word_same (x ∷ xs) (suc w) = word_same xs w
 
-pub bit_same : (words : List ℕ) (n : ℕ) → bit_of (words ++ 0 ∷ []) n ≡ bit_of words n
+pub bit_same : (words : List ℕ) (n : ℕ) → bit_in (words ++ 0 ∷ []) n ≡ bit_in words n
 bit_same words n = ap (λ x. bit_at x (n % 64)) (word_same words (n / 64))
 
 -- what is read in a word
@@ -101,22 +101,22 @@ first_from words w x some is fits =
 
 -- ---- the numbers of a set
 
-pub number_set : (words : List ℕ) (n : ℕ) → Contains (numbers_of words) n → bit_of words n ≡ 1
+pub number_set : (words : List ℕ) (n : ℕ) → Contains (numbers_set words) n → bit_in words n ≡ 1
 number_set words n has =
-    let test = λ (k : ℕ). bit_of words k == 1 in
-    eqb-true (bit_of words n) 1 (All-contains (λ k. test k ≡ true) (numbers_of words) n (filter_passes test (range_with_len 0 (64 * length words))) has)
+    let test = λ (k : ℕ). bit_in words k == 1 in
+    eqb-true (bit_in words n) 1 (All-contains (λ k. test k ≡ true) (numbers_set words) n (filter_passes test (range_with_len 0 (64 * length words))) has)
 
-pub set_number : (words : List ℕ) (n : ℕ) → bit_of words n ≡ 1 → Contains (numbers_of words) n
+pub set_number : (words : List ℕ) (n : ℕ) → bit_in words n ≡ 1 → Contains (numbers_set words) n
 set_number words n here =
     let inside = bit_inside words n here in
     let all = range_with_len 0 (64 * length words) in
     let long : length all ≡ 64 * length words = length-range_with_len 0 (64 * length words) in
     let at : get_or all n n ≡ n = omega (arith, get_or-range_with_len 0 (64 * length words) n n inside) in
-    Contains-filter (λ k. bit_of words k == 1) all n (n, omega (arith, long, inside), at) (eq-eqb (bit_of words n) 1 here)
+    Contains-filter (λ k. bit_in words k == 1) all n (n, omega (arith, long, inside), at) (eq-eqb (bit_in words n) 1 here)
 
 -- each number stands once
-pub numbers_once : (words : List ℕ) → AllPairs (λ a b. a ≢ b) (numbers_of words)
-numbers_once words = AllPairs-filter (λ a b. a ≢ b) (λ k. bit_of words k == 1) (range_with_len 0 (64 * length words)) apart
+pub numbers_once : (words : List ℕ) → AllPairs (λ a b. a ≢ b) (numbers_set words)
+numbers_once words = AllPairs-filter (λ a b. a ≢ b) (λ k. bit_in words k == 1) (range_with_len 0 (64 * length words)) apart
   where
     apart : AllPairs (λ a b. a ≢ b) (range_with_len 0 (64 * length words))
     apart i j d low inside =
@@ -126,48 +126,48 @@ numbers_once words = AllPairs-filter (λ a b. a ≢ b) (λ k. bit_of words k == 
         λ e. omega (arith, one, two, e, low)
 
 -- the first of a set is the least of its numbers
-pub least_number : (words : List ℕ) (n : ℕ) → IsFirstOf words n → All (λ m. n ≤ m) (numbers_of words)
+pub least_number : (words : List ℕ) (n : ℕ) → IsFirstOf words n → All (λ m. n ≤ m) (numbers_set words)
 least_number words n first k d inside =
-    let m = get_or (numbers_of words) k d in
-    let here = number_set words m (Contains-get_or (numbers_of words) k d inside) in
+    let m = get_or (numbers_set words) k d in
+    let here = number_set words m (Contains-get_or (numbers_set words) k d inside) in
     ⊎_elim (λ (low : m < n). let z : 1 ≡ 0 = sym here ∙ first.before m low in absurd (omega (arith, z))) (λ le. le) (cases_lt m n)
 
 -- a set with no bit has no number
-pub none_number : (words : List ℕ) → ((n : ℕ) → bit_of words n ≡ 0) → (m : ℕ) → ¬ Contains (numbers_of words) m
+pub none_number : (words : List ℕ) → ((n : ℕ) → bit_in words n ≡ 0) → (m : ℕ) → ¬ Contains (numbers_set words) m
 none_number words none m has = let z : 1 ≡ 0 = sym (number_set words m has) ∙ none m in absurd (omega (arith, z))
 
 -- one more number
-pub numbers_more : (words later : List ℕ) (n : ℕ) → SetsBit words later n 1 → (m : ℕ) → Contains (numbers_of later) m ↔ ((m ≡ n) ⊎ Contains (numbers_of words) m)
+pub numbers_more : (words later : List ℕ) (n : ℕ) → SetsBit words later n 1 → (m : ℕ) → Contains (numbers_set later) m ↔ ((m ≡ n) ⊎ Contains (numbers_set words) m)
 numbers_more words later n sets m = (
   λ has. let here = number_set later m has in ⊎_elim (λ same. inl same) (λ other. inr (set_number words m (sym (sets.others m other) ∙ here))) (cases_eq m n),
   λ is. set_number later m (⊎_elim
-      (λ same. ap (λ k. bit_of later k) same ∙ sets.here)
-      (λ has. ⊎_elim (λ same. ap (λ k. bit_of later k) same ∙ sets.here) (λ other. sets.others m other ∙ number_set words m has) (cases_eq m n))
+      (λ same. ap (λ k. bit_in later k) same ∙ sets.here)
+      (λ has. ⊎_elim (λ same. ap (λ k. bit_in later k) same ∙ sets.here) (λ other. sets.others m other ∙ number_set words m has) (cases_eq m n))
       is),
 )
 
 -- one number less
-pub numbers_less : (words later : List ℕ) (n : ℕ) → SetsBit words later n 0 → (m : ℕ) → Contains (numbers_of later) m ↔ (Contains (numbers_of words) m × (m ≢ n))
+pub numbers_less : (words later : List ℕ) (n : ℕ) → SetsBit words later n 0 → (m : ℕ) → Contains (numbers_set later) m ↔ (Contains (numbers_set words) m × (m ≢ n))
 numbers_less words later n sets m = (
   λ has.
       let here = number_set later m has in
-      let other : m ≢ n = λ same. let z : 1 ≡ 0 = sym here ∙ ap (λ k. bit_of later k) same ∙ sets.here in omega (arith, z) in
+      let other : m ≢ n = λ same. let z : 1 ≡ 0 = sym here ∙ ap (λ k. bit_in later k) same ∙ sets.here in omega (arith, z) in
       (set_number words m (sym (sets.others m other) ∙ here), other),
   λ is. set_number later m (sets.others m is.1 ∙ number_set words m is.0),
 )
 
 -- the same bits
-pub numbers_same : (words later : List ℕ) → ((n : ℕ) → bit_of later n ≡ bit_of words n) → (m : ℕ) → Contains (numbers_of later) m ↔ Contains (numbers_of words) m
+pub numbers_same : (words later : List ℕ) → ((n : ℕ) → bit_in later n ≡ bit_in words n) → (m : ℕ) → Contains (numbers_set later) m ↔ Contains (numbers_set words) m
 numbers_same words later same m = (λ has. set_number words m (sym (same m) ∙ number_set later m has), λ has. set_number later m (same m ∙ number_set words m has))
 
 -- ---- the marks
 
 module _ (words marks : List ℕ) (least : ℕ) (are : AreMarks words marks least) where
   -- a number has a mark, and no word of marks before it is 0
-  pub marked : (n : ℕ) → bit_of words n ≡ 1 → bit_of marks (n / 64) ≡ 1
+  pub marked : (n : ℕ) → bit_in words n ≡ 1 → bit_in marks (n / 64) ≡ 1
   marked n here = (are.exact (n / 64)).1 (some_bit (get_or words (n / 64) 0) (n % 64) here)
 
-  marked_behind : (n : ℕ) → bit_of words n ≡ 1 → least ≤ n / 64 / 64
+  marked_behind : (n : ℕ) → bit_in words n ≡ 1 → least ≤ n / 64 / 64
   marked_behind n here =
       ⊎_elim
       (λ low. absurd (some_bit (get_or marks (n / 64 / 64) 0) (n / 64 % 64) (marked n here) (are.below (n / 64 / 64) low)))
@@ -189,18 +189,18 @@ module _ (words marks : List ℕ) (least : ℕ) (are : AreMarks words marks leas
   }
 
   -- with no mark there is no number
-  pub none_marked : least ≡ length marks → (n : ℕ) → bit_of words n ≡ 0
+  pub none_marked : least ≡ length marks → (n : ℕ) → bit_in words n ≡ 0
   none_marked end n = bit_clear words n (λ here.
       let behind = marked_behind n here in
       let inside = bit_inside marks (n / 64) (marked n here) in
       omega arith)
 
   -- the marks are right again where they are at the word that changed
-  exact_but : (later over : List ℕ) (n : ℕ) → ((w : ℕ) → w ≢ n / 64 → get_or later w 0 ≡ get_or words w 0) → ((w : ℕ) → w ≢ n / 64 → bit_of over w ≡ bit_of marks w) → (bit_of over (n / 64) ≡ 1) ↔ (get_or later (n / 64) 0 ≢ 0) →
-      (w : ℕ) → (bit_of over w ≡ 1) ↔ (get_or later w 0 ≢ 0)
+  exact_but : (later over : List ℕ) (n : ℕ) → ((w : ℕ) → w ≢ n / 64 → get_or later w 0 ≡ get_or words w 0) → ((w : ℕ) → w ≢ n / 64 → bit_in over w ≡ bit_in marks w) → (bit_in over (n / 64) ≡ 1) ↔ (get_or later (n / 64) 0 ≢ 0) →
+      (w : ℕ) → (bit_in over w ≡ 1) ↔ (get_or later w 0 ≢ 0)
   exact_but later over n sets puts here w =
       ⊎_elim
-      (λ same. subst (λ v. (bit_of over v ≡ 1) ↔ (get_or later v 0 ≢ 0)) (sym same) here)
+      (λ same. subst (λ v. (bit_in over v ≡ 1) ↔ (get_or later v 0 ≢ 0)) (sym same) here)
       (λ other. (
         λ is none. (are.exact w).0 (sym (puts w other) ∙ is) (sym (sets w other) ∙ none),
         λ some. puts w other ∙ (are.exact w).1 (λ none. some (sets w other ∙ none)),
@@ -231,7 +231,7 @@ module _ (words marks : List ℕ) (least : ℕ) (are : AreMarks words marks leas
       by_order (inr le) none = let at : min least (n / 64 / 64) ≡ n / 64 / 64 = omega arith in here (ap (λ v. get_or over v 0) (sym at) ∙ none)
 
   -- one number less, and its word isn't 0
-  pub marks_same : (later : List ℕ) (n : ℕ) → bit_of words n ≡ 1 → SetsBit words later n 0 → get_or later (n / 64) 0 ≢ 0 → AreMarks later marks least
+  pub marks_same : (later : List ℕ) (n : ℕ) → bit_in words n ≡ 1 → SetsBit words later n 0 → get_or later (n / 64) 0 ≢ 0 → AreMarks later marks least
   marks_same later n held sets some = record {
     exact = exact_but later marks n sets.words (λ w other. refl) (λ _. some, λ _. marked n held);
     below = are.below;
@@ -243,7 +243,7 @@ module _ (words marks : List ℕ) (least : ℕ) (are : AreMarks words marks leas
   }
 
   -- one number less, and its word is 0
-  pub marks_less : (later over : List ℕ) (n : ℕ) → bit_of words n ≡ 1 → SetsBit words later n 0 → get_or later (n / 64) 0 ≡ 0 → SetsBit marks over (n / 64) 0 →
+  pub marks_less : (later over : List ℕ) (n : ℕ) → bit_in words n ≡ 1 → SetsBit words later n 0 → get_or later (n / 64) 0 ≡ 0 → SetsBit marks over (n / 64) 0 →
       (first : ℕ) → first ≤ length over → ((w : ℕ) → least ≤ w → w < first → get_or over w 0 ≡ 0) → (first < length over → get_or over first 0 ≢ 0) → AreMarks later over first
   marks_less later over n held sets gone puts first within before found = record {
     exact = exact_but later over n sets.words puts.others (λ is. absurd (omega (arith, is, puts.here)), λ some. absurd (some gone));
@@ -275,7 +275,7 @@ module _ (words marks : List ℕ) (least : ℕ) (are : AreMarks words marks leas
   }
 
   -- one more word of marks marks the same words
-  longer_exact : (w : ℕ) → (bit_of (marks ++ 0 ∷ []) w ≡ 1) ↔ (get_or words w 0 ≢ 0)
+  longer_exact : (w : ℕ) → (bit_in (marks ++ 0 ∷ []) w ≡ 1) ↔ (get_or words w 0 ≢ 0)
   longer_exact w = (λ is. (are.exact w).0 (sym (bit_same marks w) ∙ is), λ some. bit_same marks w ∙ (are.exact w).1 some)
 
   -- one more word of marks, behind the first that isn't 0

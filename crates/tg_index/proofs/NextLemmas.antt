@@ -7,7 +7,7 @@ use Rattle.std.proofs.lemmas.Nat.{pow-add, pow_pos}
 use Rattle.std.proofs.lemmas.Nat.Bits.{bit_at-trailing_zeros, bit_at-zero, bit_at_above}
 use Rattle.std.proofs.Math.Nat.{div-lt_iff_lt-mul, div-le_self}
 use Rattle.std.proofs.Math.Nat.{div-div-eq-div-mul}
-use Rattle.tg_index.specs.Bits.{AreMarks, IsFirstFrom, IsNextFrom, bit_of}
+use Rattle.tg_index.specs.Bits.{AreMarks, IsFirstFrom, IsNextFrom, bit_in}
 use Rattle.tg_index.proofs.BitLemmas.{no_bit, word_read}
 
 -- a bit of a word that is shifted
@@ -26,7 +26,7 @@ module _ (words : List ℕ) (from x : ℕ) (inside : from / 64 < length words) (
   word = word_read words (from / 64) x inside is
 
   -- a number of the same word
-  here : (m : ℕ) → m / 64 ≡ from / 64 → bit_of words m ≡ bit_at x (m % 64)
+  here : (m : ℕ) → m / 64 ≡ from / 64 → bit_in words m ≡ bit_at x (m % 64)
   here m same = ap (λ w. bit_at (get_or words w 0) (m % 64)) same ∙ ap (λ y. bit_at y (m % 64)) word
 
   -- the lowest bit of what is left of the word
@@ -67,14 +67,14 @@ module _ (words : List ℕ) (from x : ℕ) (inside : from / 64 < length words) (
 
   module _ (none : x / 2 ^ (from % 64) ≡ 0) (later : ℕ) (before : (w : ℕ) → from / 64 + 1 ≤ w → w < later → get_or words w 0 ≡ 0) where
     -- nothing is left of the word, and those up to a later one are 0
-    none_before : (m : ℕ) → from ≤ m → m / 64 < later → bit_of words m ≡ 0
+    none_before : (m : ℕ) → from ≤ m → m / 64 < later → bit_in words m ≡ 0
     none_before m above low =
         ⊎_elim
         (λ (same : m / 64 ≡ from / 64). here m same ∙ shifted_none x (from % 64) (m % 64) none (omega arith))
         (λ other. no_bit words m (before (m / 64) (omega arith) low))
         (cases_eq (m / 64) (from / 64))
 
-    pub next_none : later ≡ length words → (m : ℕ) → from ≤ m → bit_of words m ≡ 0
+    pub next_none : later ≡ length words → (m : ℕ) → from ≤ m → bit_in words m ≡ 0
     next_none end m above =
         ⊎_elim
         (λ (low : m / 64 < later). none_before m above low)
@@ -95,7 +95,7 @@ module _ (words : List ℕ) (from x : ℕ) (inside : from / 64 < length words) (
 -- ---- marks
 
 -- a word without a mark is 0
-pub unmarked_zero : (words marks : List ℕ) (least : ℕ) → AreMarks words marks least → (w : ℕ) → bit_of marks w ≡ 0 → get_or words w 0 ≡ 0
+pub unmarked_zero : (words marks : List ℕ) (least : ℕ) → AreMarks words marks least → (w : ℕ) → bit_in marks w ≡ 0 → get_or words w 0 ≡ 0
 unmarked_zero words marks least are w none = ⊎_elim (λ z. z) (λ some. let one = (are.exact w).1 some in absurd (omega (arith, one, none))) (cases_eq (get_or words w 0) 0)
 
 -- no word, no mark

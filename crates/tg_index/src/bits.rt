@@ -1,6 +1,6 @@
 //! Sets of numbers as the bits of words. No change takes memory but `widen`.
 ghost use Rattle.std.specs.Prelude.{◌≡◌, ◌≢◌, ℕ, ◌*◌, ◌^◌, ◌<◌, ◌≤◌, [], ◌∷◌, ◌++◌, length, slice_index, None, IfSome, OnErr, OnOk};
-ghost use Rattle.tg_index.specs.Bits.{IsFirstFrom, IsNextFrom, SetsBit, bit_of};
+ghost use Rattle.tg_index.specs.Bits.{IsFirstFrom, IsNextFrom, SetsBit, bit_in};
 
 use std::alloc::{AllocError, Global};
 
@@ -78,7 +78,7 @@ impl Bits {
     pub(crate) fn next(&self, from: usize) -> Option<usize>
         requires { 64 * length self.now.words.items < 2 ^ 64 }
         ensures some { IfSome result (IsNextFrom self.now.words.items from) }
-        ensures none { result ≡ None → (n : ℕ) → from ≤ n → bit_of self.now.words.items n ≡ 0 }
+        ensures none { result ≡ None → (n : ℕ) → from ≤ n → bit_in self.now.words.items n ≡ 0 }
     {
         let word = from / BITS;
         if word >= self.words.len() {

@@ -4,7 +4,7 @@
 //!
 //! Contracts see the words of the lower bits.
 ghost use Rattle.std.specs.Prelude.{◌≡◌, ℕ, List, ◌*◌, ◌^◌, ◌<◌, ◌≤◌, [], length, None, IfSome, OnOk};
-ghost use Rattle.tg_index.specs.Bits.{AreMarks, IsFirstOf, IsNextFrom, SetsBit, bit_of};
+ghost use Rattle.tg_index.specs.Bits.{AreMarks, IsFirstOf, IsNextFrom, SetsBit, bit_in};
 ghost use Rattle.tg_index.specs.Inner.Steps.{MakesRoomFor, MayLengthen};
 
 use crate::bits::{BITS, Bits, MOST_WORDS};
@@ -49,7 +49,7 @@ impl NumberSet {
     #[inline(always)]
     pub fn reserve(&mut self, numbers: usize) -> Result<(), AllocError>
         ensures room { OnOk result (numbers ≤ 64 * length self.new) }
-        ensures kept { (n : ℕ) → bit_of self.new n ≡ bit_of self.old n }
+        ensures kept { (n : ℕ) → bit_in self.new n ≡ bit_in self.old n }
     {
         if numbers <= self.places.words.len() * BITS {
             return Ok(());
@@ -99,7 +99,7 @@ impl NumberSet {
     /// The least number of the set.
     pub(crate) fn first(&self) -> Option<usize>
         ensures some { IfSome result (IsFirstOf self.now) }
-        ensures none { result ≡ None → (n : ℕ) → bit_of self.now n ≡ 0 }
+        ensures none { result ≡ None → (n : ℕ) → bit_in self.now n ≡ 0 }
     {
         if self.least == self.marks.words.len() {
             return None;
@@ -111,7 +111,7 @@ impl NumberSet {
     /// The least number of the set from one on.
     pub fn next(&self, from: usize) -> Option<usize>
         ensures some { IfSome result (IsNextFrom self.now from) }
-        ensures none { result ≡ None → (n : ℕ) → from ≤ n → bit_of self.now n ≡ 0 }
+        ensures none { result ≡ None → (n : ℕ) → from ≤ n → bit_in self.now n ≡ 0 }
     {
         let word = from / BITS;
         if word >= self.places.words.len() {
@@ -149,7 +149,7 @@ impl NumberSet {
 
     /// Takes a number out of the set. Takes no memory.
     pub fn remove(&mut self, place: usize)
-        requires { bit_of self.old place ≡ 1 }
+        requires { bit_in self.old place ≡ 1 }
         ensures { SetsBit self.old self.new place 0 }
     {
         let word = place / 64;

@@ -23,7 +23,7 @@ use Rattle.tg_model.proofs.SoundLaws.{IsSound-step, IsSound-start_of}
 use Rattle.tg_journal.specs.declared.entry.Entry.{Entry}
 use Rattle.tg_journal.specs.Auditing.{AlikeWhereReached, MayMatter, HasComeTo}
 use Rattle.tg_journal.specs.History.{IsLegalEntry}
-use Rattle.tg_journal.specs.Live.{IsAsBefore, IsSwept}
+use Rattle.tg_journal.specs.Live.{IsSameGraph, IsSweptGraph}
 
 -- ---- what holds of a sound graph at names that weren't made
 
@@ -158,7 +158,7 @@ module _ (g k : ProtectionGraph) (come : HasComeTo g k) where
   )
 
   -- want of memory for a deed
-  pub as_before : (new : ProtectionGraph) → IsAsBefore k new → HasComeTo g new
+  pub as_before : (new : ProtectionGraph) → IsSameGraph k new → HasComeTo g new
   as_before new before = record {
     sound = come.sound;
     alike = record {
@@ -188,7 +188,7 @@ module _ (g k : ProtectionGraph) (come : HasComeTo g k) where
       (λ b c (in_g, in_k) edge. (goes in_g (sym (ap is_none_held (come.alike.label b c (inl in_g))) ∙ edge), goes in_k edge)) y reachable).0
 
   -- what no subject reaches may be forgotten
-  pub swept_alike : (new : ProtectionGraph) → IsSwept k new → HasComeTo g new
+  pub swept_alike : (new : ProtectionGraph) → IsSweptGraph k new → HasComeTo g new
   swept_alike new swept = record {
     sound = come.sound;
     alike = record {

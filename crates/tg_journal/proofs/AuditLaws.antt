@@ -11,10 +11,10 @@ use Rattle.tg_journal.specs.declared.auditor.PartFault.TheVariants as part
 use Rattle.tg_journal.specs.declared.entry.Entry.{Entry}
 use Rattle.tg_journal.specs.declared.replay.AuditFault.{AuditFault}
 use Rattle.tg_journal.specs.declared.replay.AuditFault.TheVariants.{OutOfMemory, BadEntry}
-use Rattle.tg_journal.specs.Auditing.{FeedsEntries, FeedsPart, HasComeTo, IsAnswered, IsStopped, Passes, StandsAt}
+use Rattle.tg_journal.specs.Auditing.{FeedsEntries, FeedsPart, HasComeTo, AuditAnswers, IsStopped, Passes, StandsAt}
 use Rattle.tg_journal.specs.History.{IsLegalEntry, IsFirstBad, IsAuditFault, graph_after}
 use Rattle.tg_journal.specs.Inner.Steps.{StopsBefore}
-use Rattle.tg_journal.specs.Live.{Kept, AuditState, IsAsBefore, IsSwept, graph_kept}
+use Rattle.tg_journal.specs.Live.{KeptGraph, AuditState, IsSameGraph, IsSweptGraph, graph_kept}
 use Rattle.tg_journal.proofs.AlikeLaws.{entry_alike, step_alike, as_before, swept_alike}
 use Rattle.tg_journal.proofs.HistoryLaws.{IsLegal-append, graph_after-append}
 
@@ -32,7 +32,7 @@ module _ (g : ProtectionGraph) (mid new : AuditState) (stands : StandsAt g mid) 
       }
 
   -- memory is wanting for an entry
-  pub stays_for_want : IsAsBefore (graph_kept mid.kept) (graph_kept new.kept) → new.found_bad ≡ mid.found_bad → StandsAt g new
+  pub stays_for_want : IsSameGraph (graph_kept mid.kept) (graph_kept new.kept) → new.found_bad ≡ mid.found_bad → StandsAt g new
   stays_for_want before same = record {
     none_bad = same ∙ stands.none_bad;
     come = as_before g (graph_kept mid.kept) stands.come (graph_kept new.kept) before;
@@ -78,7 +78,7 @@ stopped_behind old mid new es i x (BadEntry at) place inside there was is =
 
 -- the entry of a deed that is answered as the graph that is kept answers it
 pub answered : (g : ProtectionGraph) (old mid new : AuditState) (x : ℕ) (deed : Deed) (reply : Reply) → StandsAt g mid → IsSubject (graph_kept mid.kept) x → DeedFits deed →
-    reply ≡ answer_of (graph_kept mid.kept) x deed → graph_kept new.kept ≡ step (graph_kept mid.kept) x deed → new.found_bad ≡ mid.found_bad → new.at ≡ old.at + 1 → IsAnswered g x deed old new (Some reply)
+    reply ≡ answer_of (graph_kept mid.kept) x deed → graph_kept new.kept ≡ step (graph_kept mid.kept) x deed → new.found_bad ≡ mid.found_bad → new.at ≡ old.at + 1 → AuditAnswers g x deed old new (Some reply)
 answered g old mid new x deed reply stands subject fits is next same place =
     let e : Entry = record { worker = x; deed = deed; reply = reply } in
     (passed_on g mid new stands e (record { subject = subject; fits = fits; reply = is }) next same, place)
@@ -95,9 +95,9 @@ fault_of g old new es (BadEntry at) stands first is =
     let n : at - old.at ≡ at = omega (arith, first) in subst (λ n. IsFirstBad g es n) n (is.3 g stands)
 
 -- a sweep, which may have been refused
-pub stays_after : {E : Type 0} (result : Result (Unit {0}) E) (old new : Kept) → OnOk result (IsSwept (graph_kept old) (graph_kept new)) → OnErr result (new ≡ old) → (g : ProtectionGraph) → HasComeTo g (graph_kept old) → HasComeTo g (graph_kept new)
+pub stays_after : {E : Type 0} (result : Result (Unit {0}) E) (old new : KeptGraph) → OnOk result (IsSweptGraph (graph_kept old) (graph_kept new)) → OnErr result (new ≡ old) → (g : ProtectionGraph) → HasComeTo g (graph_kept old) → HasComeTo g (graph_kept new)
 stays_after (Ok done) old new swept refused g come = swept_alike g (graph_kept old) come (graph_kept new) swept
-stays_after (Err error) old new swept refused g come = subst (λ (k : Kept). HasComeTo g (graph_kept k)) (sym refused) come
+stays_after (Err error) old new swept refused g come = subst (λ (k : KeptGraph). HasComeTo g (graph_kept k)) (sym refused) come
 
 -- The parts: what stands behind the auditor's place in a part was fed.
 module _ (old new : AuditState) (first : ℕ) (entries : List Entry) (none : old.found_bad ≡ false) (low : first ≤ old.at) (high : old.at ≤ length entries) where

@@ -21,26 +21,26 @@ use Rattle.tg_model.specs.Rules.{written, written_at}
 use Rattle.tg_model.proofs.RowLaws.{changed_at}
 use Rattle.tg_model.proofs.RowListing.{listed}
 use Rattle.tg_journal.specs.declared.vertices.Vertex.{Vertex}
-use Rattle.tg_journal.specs.Inner.Steps.{IsPlace}
-use Rattle.tg_journal.specs.Live.{at_name, label_between, value_of, NamesFrom, name_at, IsAt, IsGap}
+use Rattle.tg_journal.specs.Inner.Steps.{FindsPlace}
+use Rattle.tg_journal.specs.Live.{at_name, label_between, value_of, NamesFrom, vertex_name_at, HasVertexAt, IsGap}
 
 abbrev pub nobody : Vertex
 nobody = record { name = 0; row = []; value = None }
 
 -- ---- places
 
-pub low : (n : ℕ) (vs : List Vertex) (i : ℕ) → NamesFrom n vs → i < length vs → n ≤ name_at vs i
+pub low : (n : ℕ) (vs : List Vertex) (i : ℕ) → NamesFrom n vs → i < length vs → n ≤ vertex_name_at vs i
 low n [] i rise inside = absurd (omega (arith, inside))
 low n (v ∷ vs) zero rise inside = rise.0
 low n (v ∷ vs) (suc i) rise inside = let rest = low (v.name + 1) vs i rise.1 (omega (arith, inside)) in omega (arith, rise.0, rest)
 
-pub later : (n : ℕ) (vs : List Vertex) (i j : ℕ) → NamesFrom n vs → i < j → j < length vs → name_at vs i < name_at vs j
+pub later : (n : ℕ) (vs : List Vertex) (i j : ℕ) → NamesFrom n vs → i < j → j < length vs → vertex_name_at vs i < vertex_name_at vs j
 later n [] i j rise before inside = absurd (omega (arith, inside))
 later n (v ∷ vs) i zero rise before inside = absurd (omega (arith, before))
 later n (v ∷ vs) zero (suc j) rise before inside = let rest = low (v.name + 1) vs j rise.1 (omega (arith, inside)) in omega (arith, rest)
 later n (v ∷ vs) (suc i) (suc j) rise before inside = later (v.name + 1) vs i j rise.1 (omega (arith, before)) (omega (arith, inside))
 
-at_tail : (v : Vertex) (vs : List Vertex) (x i : ℕ) → IsAt (v ∷ vs) x (suc i) → IsAt vs x i
+at_tail : (v : Vertex) (vs : List Vertex) (x i : ℕ) → HasVertexAt (v ∷ vs) x (suc i) → HasVertexAt vs x i
 at_tail v vs x i is = record { inside = omega (arith, is.inside); name = is.name }
 
 gap_tail : (v : Vertex) (vs : List Vertex) (x i : ℕ) → IsGap (v ∷ vs) x (suc i) → IsGap vs x i
@@ -51,15 +51,15 @@ gap_tail v vs x i gap = record {
 }
 
 -- behind the last name
-pub gap_behind : (vs : List Vertex) (x last : ℕ) → NamesFrom 0 vs → last + 1 ≡ length vs → name_at vs last < x → IsGap vs x (length vs)
+pub gap_behind : (vs : List Vertex) (x last : ℕ) → NamesFrom 0 vs → last + 1 ≡ length vs → vertex_name_at vs last < x → IsGap vs x (length vs)
 gap_behind vs x last rise is less = record {
   inside = omega arith;
   smaller = λ j before. at j before (j == last) refl;
   greater = λ j from inside. absurd (omega (arith, from, inside));
 }
   where
-    at : (j : ℕ) → j < length vs → (b : Bool) → b ≡ (j == last) → name_at vs j < x
-    at j before true same = subst (λ (j : ℕ). name_at vs j < x) (sym (eqb-true j last (sym same))) less
+    at : (j : ℕ) → j < length vs → (b : Bool) → b ≡ (j == last) → vertex_name_at vs j < x
+    at j before true same = subst (λ (j : ℕ). vertex_name_at vs j < x) (sym (eqb-true j last (sym same))) less
     at j before false other =
         let sooner : j < last = grind (arith, nat_tests, before, is, other) in
         let rest = later 0 vs j last rise sooner (omega (arith, is)) in omega (arith, rest, less)
@@ -76,11 +76,11 @@ gap_alone (v ∷ vs) x none = absurd (none-some _ (sym none ∙ slice_get-get_or
 module _ (vs : List Vertex) (rise : NamesFrom 0 vs) (x : ℕ) where
   comparisons_rise : IsNonDecreasingBy (λ v. ordering_index (nat_cmp v.name x)) vs
   comparisons_rise = IsNonDecreasingBy-from_default (λ (v : Vertex). ordering_index (nat_cmp v.name x)) vs nobody (λ i j le inside.
-      let names_rise : name_at vs i ≤ name_at vs j = grind (arith, later 0 vs i j rise, λ (same : i ≡ j). ap (name_at vs) same) in
+      let names_rise : vertex_name_at vs i ≤ vertex_name_at vs j = grind (arith, later 0 vs i j rise, λ (same : i ≡ j). ap (vertex_name_at vs) same) in
       grind (arith, nat_tests))
 
   -- a search by halves ends at the name, or where it would go
-  pub searched : (r : Result ℕ ℕ) → IsSearchInRange r (length vs) → IsBinarySearchResult (λ v. nat_cmp v.name x) vs r → IsPlace vs x r
+  pub searched : (r : Result ℕ ℕ) → IsSearchInRange r (length vs) → IsBinarySearchResult (λ v. nat_cmp v.name x) vs r → FindsPlace vs x r
   searched (Ok at) inside equal = record { found = record { inside = inside; name = ranked _ x _ (sym (equal nobody)) }; absent = tt }
   searched (Err at) inside parted = record {
     found = tt;
@@ -97,7 +97,7 @@ weaker : (m n : ℕ) (vs : List Vertex) → m ≤ n → NamesFrom n vs → Names
 weaker m n [] less rise = tt
 weaker m n (v ∷ vs) less rise = (omega (arith, less, rise.0), rise.1)
 
-pub rise-set : (n : ℕ) (vs : List Vertex) (x i : ℕ) (w : Vertex) → NamesFrom n vs → IsAt vs x i → w.name ≡ x → NamesFrom n (set vs i w)
+pub rise-set : (n : ℕ) (vs : List Vertex) (x i : ℕ) (w : Vertex) → NamesFrom n vs → HasVertexAt vs x i → w.name ≡ x → NamesFrom n (set vs i w)
 rise-set n [] x i w rise is same = absurd (omega (arith, is.inside))
 rise-set n (v ∷ vs) x zero w rise is same = subst (λ (m : ℕ). (n ≤ m) × NamesFrom (m + 1) vs) (is.name ∙ sym same) rise
 rise-set n (v ∷ vs) x (suc i) w rise is same = (rise.0, rise-set (v.name + 1) vs x i w rise.1 (at_tail v vs x i is) same)
@@ -122,7 +122,7 @@ rise-filter n keep (v ∷ vs) rise = at (keep v) (rise-filter (v.name + 1) keep 
 -- ---- what is found
 
 module _ {X : Type 0} (of : Vertex → X) (none : X) where
-  pub found-at : (n : ℕ) (vs : List Vertex) (x i : ℕ) → NamesFrom n vs → IsAt vs x i → at_name of none vs x ≡ of (get_or vs i nobody)
+  pub found-at : (n : ℕ) (vs : List Vertex) (x i : ℕ) → NamesFrom n vs → HasVertexAt vs x i → at_name of none vs x ≡ of (get_or vs i nobody)
   found-at n [] x i rise is = absurd (omega (arith, is.inside))
   found-at n (v ∷ vs) x zero rise is = rw (eq-eqb x v.name (sym is.name)) refl
   found-at n (v ∷ vs) x (suc i) rise is =
@@ -133,10 +133,10 @@ module _ {X : Type 0} (of : Vertex → X) (none : X) where
   pub found-none : (vs : List Vertex) (x i : ℕ) → IsGap vs x i → at_name of none vs x ≡ none
   found-none vs x i gap = nowhere vs (λ j inside same. either j inside same)
     where
-      either : (j : ℕ) → j < length vs → name_at vs j ≡ x → ⊥
+      either : (j : ℕ) → j < length vs → vertex_name_at vs j ≡ x → ⊥
       either j inside same = grind (arith, gap.smaller j, gap.greater j, inside, same)
 
-      nowhere : (vs : List Vertex) → ((j : ℕ) → j < length vs → name_at vs j ≡ x → ⊥) → at_name of none vs x ≡ none
+      nowhere : (vs : List Vertex) → ((j : ℕ) → j < length vs → vertex_name_at vs j ≡ x → ⊥) → at_name of none vs x ≡ none
       nowhere [] never = refl
       nowhere (v ∷ vs) never = at (x == v.name) refl (nowhere vs (λ j inside. never (suc j) (omega (arith, inside))))
         where
@@ -160,7 +160,7 @@ module _ {X : Type 0} (of : Vertex → X) (none : X) where
       ∙ swapped (q == v.name) (q == x) (of v) (of w) (at_name of none vs q)
       (λ first second. let one = eqb-true q v.name first in let two = eqb-true q x second in omega (arith, one, two, before))
 
-  pub found-set : (n : ℕ) (vs : List Vertex) (x i : ℕ) (w : Vertex) → NamesFrom n vs → IsAt vs x i → w.name ≡ x → (q : ℕ) → at_name of none (set vs i w) q ≡ cond (q == x) (of w) (at_name of none vs q)
+  pub found-set : (n : ℕ) (vs : List Vertex) (x i : ℕ) (w : Vertex) → NamesFrom n vs → HasVertexAt vs x i → w.name ≡ x → (q : ℕ) → at_name of none (set vs i w) q ≡ cond (q == x) (of w) (at_name of none vs q)
   found-set n [] x i w rise is same q = absurd (omega (arith, is.inside))
   found-set n (v ∷ vs) x zero w rise is same q =
       ap (λ (m : ℕ). cond (q == m) (of w) (at_name of none vs q)) same
@@ -222,7 +222,7 @@ relabelled vs us x y f new is more a b =
 unchanged : {X : Type 0} (old new : ℕ → X) (x : ℕ) (it : X) → ((q : ℕ) → new q ≡ cond (q == x) it (old q)) → it ≡ old x → (q : ℕ) → new q ≡ old q
 unchanged old new x it is same q = is q ∙ cond_both (q == x) _ _ (λ o. o ≡ old q) (there (λ _. it) old x q same) (λ _. refl)
 
-module _ (vs : List Vertex) (x i : ℕ) (old : Vertex) (rise : NamesFrom 0 vs) (is : IsAt vs x i) (read : old ≡ get_or vs i old) where
+module _ (vs : List Vertex) (x i : ℕ) (old : Vertex) (rise : NamesFrom 0 vs) (is : HasVertexAt vs x i) (read : old ≡ get_or vs i old) where
   old_is : old ≡ get_or vs i nobody
   old_is = read ∙ get_or_default vs i old nobody is.inside
 

@@ -42,9 +42,9 @@ pub record Passes (g : ProtectionGraph) (es : List Entry) (a : AuditState) : Typ
 
 -- the reply with which a deed is a legal entry of the first graph, and the auditor has come to the graph and the place after it; or
 -- there is none, and the auditor stays at the first one
-abbrev pub IsAnswered : ProtectionGraph → ℕ → Deed → AuditState → AuditState → Option Reply → Type 0
-IsAnswered g x deed old new (Some reply) = Passes g (record { worker = x; deed = deed; reply = reply } ∷ []) new × (new.at ≡ old.at + 1)
-IsAnswered g x deed old new None = (¬ (IsSubject g x × DeedFits deed)) × StandsAt g new × (new.at ≡ old.at)
+abbrev pub AuditAnswers : ProtectionGraph → ℕ → Deed → AuditState → AuditState → Option Reply → Type 0
+AuditAnswers g x deed old new (Some reply) = Passes g (record { worker = x; deed = deed; reply = reply } ∷ []) new × (new.at ≡ old.at + 1)
+AuditAnswers g x deed old new None = (¬ (IsSubject g x × DeedFits deed)) × StandsAt g new × (new.at ≡ old.at)
 
 -- The auditor stopped at its new place, among these entries. Those before it passed. Where memory was wanting, it goes on from there;
 -- otherwise the entry there is the first bad one.

@@ -24,39 +24,39 @@ abbrev pub NamesFrom : ℕ → List Vertex → Type 0
 NamesFrom n [] = Unit {0}
 NamesFrom n (v ∷ vs) = (n ≤ v.name) × NamesFrom (v.name + 1) vs
 
-abbrev pub name_at : List Vertex → ℕ → ℕ
-name_at vs i = (slice_index_or vs i (record { name = 0; row = []; value = None })).name
+abbrev pub vertex_name_at : List Vertex → ℕ → ℕ
+vertex_name_at vs i = (slice_index_or vs i (record { name = 0; row = []; value = None })).name
 
 -- the vertex of the name x stands at place i
-pub record IsAt (vs : List Vertex) (x i : ℕ) : Type 0 where
+pub record HasVertexAt (vs : List Vertex) (x i : ℕ) : Type 0 where
   pub inside : i < length vs
-  pub name : name_at vs i ≡ x
+  pub name : vertex_name_at vs i ≡ x
 
 -- it would go there: smaller names stand before that place, and greater ones from it on
 pub record IsGap (vs : List Vertex) (x i : ℕ) : Type 0 where
   pub inside : i ≤ length vs
-  pub smaller : (j : ℕ) → j < i → name_at vs j < x
-  pub greater : (j : ℕ) → i ≤ j → j < length vs → x < name_at vs j
+  pub smaller : (j : ℕ) → j < i → vertex_name_at vs j < x
+  pub greater : (j : ℕ) → i ≤ j → j < length vs → x < vertex_name_at vs j
 
 -- what an audit keeps
-pub record Kept : Type 0 where
+pub record KeptGraph : Type 0 where
   pub subjects : List ℕ
   pub made : ℕ
   pub limit : ℕ
   pub vertices : List Vertex
 
-abbrev pub graph_kept : Kept → ProtectionGraph
+abbrev pub graph_kept : KeptGraph → ProtectionGraph
 graph_kept k =
     record { subjects = k.subjects; made = k.made; limit = k.limit; label = label_between k.vertices; value = value_of k.vertices }
 
 -- what contracts see of an auditor: what it keeps, how many entries passed, and whether it found the next one bad
 pub record AuditState : Type 0 where
-  pub kept : Kept
+  pub kept : KeptGraph
   pub at : ℕ
   pub found_bad : Bool
 
 -- where memory was wanting for a deed: as before, but for what names store that weren't made yet
-pub record IsAsBefore (old new : ProtectionGraph) : Type 0 where
+pub record IsSameGraph (old new : ProtectionGraph) : Type 0 where
   pub subjects : new.subjects ≡ old.subjects
   pub made : new.made ≡ old.made
   pub limit : new.limit ≡ old.limit
@@ -64,7 +64,7 @@ pub record IsAsBefore (old new : ProtectionGraph) : Type 0 where
   pub value : (y : ℕ) → y < old.made → new.value y ≡ old.value y
 
 -- all that a subject reaches is as it was, and nothing else is left
-pub record IsSwept (old new : ProtectionGraph) : Type 0 where
+pub record IsSweptGraph (old new : ProtectionGraph) : Type 0 where
   pub subjects : new.subjects ≡ old.subjects
   pub made : new.made ≡ old.made
   pub limit : new.limit ≡ old.limit

@@ -2,9 +2,9 @@
 ghost use Rattle.std.specs.Prelude.{◌≡◌, ◌+◌, [], ◌∷◌, true, None, Ok, IfOk, IfErr, OnOk, OnErr};
 ghost use Rattle.tg_model.specs.Graph.{ProtectionGraph};
 ghost use Rattle.tg_model.specs.Opened.{start_of};
-ghost use Rattle.tg_journal.specs.Auditing.{FeedsEntries, FeedsPart, IsAnswered, IsEnded, Passes, StandsAt};
+ghost use Rattle.tg_journal.specs.Auditing.{FeedsEntries, FeedsPart, AuditAnswers, IsEnded, Passes, StandsAt};
 ghost use Rattle.tg_journal.specs.Inner.Steps.{StopsBefore};
-ghost use Rattle.tg_journal.specs.Live.{IsSwept, graph_kept};
+ghost use Rattle.tg_journal.specs.Live.{IsSweptGraph, graph_kept};
 
 use crate::entry::Entry;
 use crate::journal::Journal;
@@ -153,7 +153,7 @@ impl Auditor {
     /// `None` always. Sweeps by itself, as [`Auditor::feed_entries`] does. Fails only when out of memory, or after
     /// 2^64 - 1 entries, since the next has no place. Then, and after `None`, the auditor stays where it has come.
     pub fn answer(&mut self, worker: u64, deed: &Deed) -> Result<Option<Reply>, AllocError>
-        ensures answered { (g : ProtectionGraph) → StandsAt g self.old → IfOk result (IsAnswered g worker deed.now self.old self.new) }
+        ensures answered { (g : ProtectionGraph) → StandsAt g self.old → IfOk result (AuditAnswers g worker deed.now self.old self.new) }
         ensures refused { (g : ProtectionGraph) → StandsAt g self.old → OnErr result (StandsAt g self.new) }
         ensures place { OnErr result (self.new.at ≡ self.old.at) }
         ensures ended { self.old.found_bad ≡ true → (result ≡ Ok None) × (self.new ≡ self.old) }
@@ -176,7 +176,7 @@ impl Auditor {
     pub fn sweep(&mut self) -> Result<(), AllocError>
         ensures stays { (g : ProtectionGraph) → StandsAt g self.old → StandsAt g self.new }
         ensures place { (self.new.at ≡ self.old.at) × (self.new.found_bad ≡ self.old.found_bad) }
-        ensures swept { OnOk result (IsSwept (graph_kept self.old.kept) (graph_kept self.new.kept)) }
+        ensures swept { OnOk result (IsSweptGraph (graph_kept self.old.kept) (graph_kept self.new.kept)) }
         ensures refused { OnErr result (self.new ≡ self.old) }
     {
         self.graph.sweep()

@@ -12,7 +12,7 @@ ghost use Rattle.tg_model.specs.declared.command.Deed.{Deed};
 ghost use Rattle.tg_model.specs.Edition1.{Plan1, Entry1, IsLegal1, start_of1, plan_now};
 ghost use Rattle.tg_journal.specs.Edition1.{entry_today, IsFirstBad1};
 ghost use Rattle.tg_journal.specs.Auditing.{FeedsPart, HasComeTo, Passes};
-ghost use Rattle.tg_journal.specs.Live.{AuditState, IsSwept};
+ghost use Rattle.tg_journal.specs.Live.{AuditState, IsSweptGraph};
 ghost use Rattle.tg_journal.specs.History.{IsLegalEntry, IsLegal, graph_after, IsFirstBad};
 ghost use Rattle.tg_journal.specs.declared.entry.Entry.{Entry};
 ghost use Rattle.tg_model.specs.declared.reply.Reply.TheVariants.{Name};
@@ -113,7 +113,7 @@ pub fn where_subjects_reach_is_enough()
 
 /// What no subject reaches may be forgotten: the graph stays alike where subjects reach.
 pub fn the_unreached_may_be_forgotten()
-    ensures { (g kept swept : ProtectionGraph) → HasComeTo g kept → IsSwept kept swept → HasComeTo g swept }
+    ensures { (g kept swept : ProtectionGraph) → HasComeTo g kept → IsSweptGraph kept swept → HasComeTo g swept }
 {}
 
 /// An auditor that is fed the parts of a journal, one after the other, replays one history. If it has come to the graph

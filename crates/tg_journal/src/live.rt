@@ -15,7 +15,7 @@ use tg_model::{Labelled, Opening};
 use tg_rights::Rights;
 
 /// A protection graph as the vertices that are kept of it, so that it takes memory by what it has and not by the names
-/// that were made. Contracts see it as `Kept`, the record of its parts, and speak of the protection graph `graph_kept`
+/// that were made. Contracts see it as `KeptGraph`, the record of its parts, and speak of the protection graph `graph_kept`
 /// that these stand for.
 #[derive(Drop)]
 pub(crate) struct LiveGraph {
@@ -32,9 +32,9 @@ pub(crate) struct LiveGraph {
 impl Model for LiveGraph {
     ghost use Rattle.std.specs.Prelude.{ℕ, ◌<◌};
     ghost use Rattle.tg_model.specs.Graph.{HasEdge};
-    ghost use Rattle.tg_journal.specs.Live.{Kept, label_between};
+    ghost use Rattle.tg_journal.specs.Live.{KeptGraph, label_between};
 
-    ghost Value = { Kept };
+    ghost Value = { KeptGraph };
 
     ghost view = { λ a. record { subjects = a.subjects.items; made = a.made; limit = a.max_vertices; vertices = a.vertices } };
 

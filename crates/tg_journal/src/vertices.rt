@@ -5,8 +5,8 @@ ghost use Rattle.indexmap.specs.IndexSet.{contains};
 ghost use Rattle.tg_rights.specs.RightSet.{no_rights};
 ghost use Rattle.tg_model.specs.Graph.{HasEdge, with_rights, without_rights, listing_of};
 ghost use Rattle.tg_model.specs.Rules.{with_value, written_at};
-ghost use Rattle.tg_journal.specs.Inner.Steps.{Changes, IsPlace};
-ghost use Rattle.tg_journal.specs.Live.{IsAt, label_between, value_of};
+ghost use Rattle.tg_journal.specs.Inner.Steps.{Changes, FindsPlace};
+ghost use Rattle.tg_journal.specs.Live.{HasVertexAt, label_between, value_of};
 
 use indexmap::IndexSet;
 use std::alloc::{AllocError, Global};
@@ -172,7 +172,7 @@ impl Vertices {
 
     // Where the vertex of a name stands, or where it would go.
     fn place(&self, name: u64) -> Result<usize, usize>
-        ensures { IsPlace self.now name result }
+        ensures { FindsPlace self.now name result }
     {
         match self.guess(name) {
             Some(at) => Ok(at),
@@ -182,7 +182,7 @@ impl Vertices {
 
     // Where the vertex of a name stands, as far as the first and the last name tell.
     fn guess(&self, name: u64) -> Option<usize>
-        ensures { IfSome result (IsAt self.now name) }
+        ensures { IfSome result (HasVertexAt self.now name) }
     {
         let first = self.items.first()?.name;
         let at = name.wrapping_sub(first) as usize;
@@ -199,7 +199,7 @@ impl Vertices {
 
     // Whether the vertex at a place has a name.
     fn stands(&self, at: usize, name: u64) -> bool
-        ensures { IsTrue result → IsAt self.now name at }
+        ensures { IsTrue result → HasVertexAt self.now name at }
     {
         match self.items.get(at) {
             Some(vertex) => vertex.name == name,
@@ -209,7 +209,7 @@ impl Vertices {
 
     // Where the vertex of a name stands, or where it would go, found by halves.
     fn search(&self, name: u64) -> Result<usize, usize>
-        ensures { IsPlace self.now name result }
+        ensures { FindsPlace self.now name result }
     {
         match self.items.last() {
             Some(last) if name <= last.name => self

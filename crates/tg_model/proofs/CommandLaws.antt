@@ -5,10 +5,10 @@ use Rattle.tg_model.specs.declared.command.Command.{Command}
 use Rattle.tg_model.specs.declared.command.Command.TheVariants.{Take}
 use Rattle.tg_model.specs.declared.verb.Verb.{Verb}
 use Rattle.tg_model.specs.declared.verb.Verb.TheVariants as verb
-use Rattle.tg_model.specs.Commands.{word_of, parts_of}
+use Rattle.tg_model.specs.Commands.{word_of, verb_and_arguments}
 
 -- commands with the same parts are one
-pub parts-same : (c d : Command) → (parts_of c).0 ≡ (parts_of d).0 → (parts_of c).1 ≡ (parts_of d).1 → c ≡ d
+pub parts-same : (c d : Command) → (verb_and_arguments c).0 ≡ (verb_and_arguments d).0 → (verb_and_arguments c).1 ≡ (verb_and_arguments d).1 → c ≡ d
 parts-same (Take rights y z) (Take others v w) first second = cc
 parts-same c (Take rights y z) first second = cc
 parts-same c d first second = cc

@@ -22,16 +22,16 @@ word_of verb.List = codes "list"
 word_of verb.Retire = codes "retire"
 
 -- what a command asks for, and what stands behind the word
-abbrev pub parts_of : Command → Verb × Arguments
-parts_of (Take rights y z) = (verb.Take, behind.Move y z rights)
-parts_of (Grant rights y z) = (verb.Grant, behind.Move y z rights)
-parts_of (Remove rights y) = (verb.Remove, behind.Rights y rights)
-parts_of (Read y) = (verb.Read, behind.Target y)
-parts_of (Write y v) = (verb.Write, behind.Value y v)
-parts_of (Append y v) = (verb.Append, behind.Value y v)
-parts_of (Inspect y) = (verb.Inspect, behind.Target y)
-parts_of Listing = (verb.List, behind.Bare)
-parts_of Retire = (verb.Retire, behind.Bare)
+abbrev pub verb_and_arguments : Command → Verb × Arguments
+verb_and_arguments (Take rights y z) = (verb.Take, behind.Move y z rights)
+verb_and_arguments (Grant rights y z) = (verb.Grant, behind.Move y z rights)
+verb_and_arguments (Remove rights y) = (verb.Remove, behind.Rights y rights)
+verb_and_arguments (Read y) = (verb.Read, behind.Target y)
+verb_and_arguments (Write y v) = (verb.Write, behind.Value y v)
+verb_and_arguments (Append y v) = (verb.Append, behind.Value y v)
+verb_and_arguments (Inspect y) = (verb.Inspect, behind.Target y)
+verb_and_arguments Listing = (verb.List, behind.Bare)
+verb_and_arguments Retire = (verb.Retire, behind.Bare)
 
 -- what the commands ask for that a rule is of
 abbrev pub verb_of : Rule → Verb

@@ -3,7 +3,7 @@ use Rattle.std.specs.Prelude.{◌≡◌, ◌≤◌, ◌+◌, ◌*◌, ◌⊎◌,
 use Rattle.tg_word.specs.declared.TheConstants.{CELLS}
 use Rattle.tg_word.specs.declared.Place.{Place}
 use Rattle.tg_block.specs.Cells.{free_cell}
-use Rattle.tg_space.specs.SpaceList.{Holds, cell_at, space_of, with_block}
+use Rattle.tg_space.specs.SpaceList.{HasCell, cell_at, space_of, with_block}
 use Rattle.tg_space.specs.SpaceTable.{SpaceTable, IsHandedOut, number_in_space, used_of, with_spaces}
 
 -- each cell of a nursery was handed out
@@ -19,14 +19,14 @@ room_made t space =
 -- a fresh free cell of a nursery was allocated, and nothing else changed
 pub record Allocates (old new : SpaceTable) (space : ℕ) (p : Place) : Type 0 where
   pub nursery : p.space ≡ space
-  pub held : Holds new.spaces p
+  pub held : HasCell new.spaces p
   pub free : cell_at new.spaces p ≡ free_cell
   -- it wasn't handed out before, and is now
   pub fresh : used_of old space ≤ number_in_space p
   pub handed_out : IsHandedOut new p
   -- each cell stays as it was, and each new one is free
-  pub kept : (q : Place) → Holds old.spaces q → Holds new.spaces q × (cell_at new.spaces q ≡ cell_at old.spaces q)
-  pub added : (q : Place) → Holds new.spaces q → Holds old.spaces q ⊎ (cell_at new.spaces q ≡ free_cell)
+  pub kept : (q : Place) → HasCell old.spaces q → HasCell new.spaces q × (cell_at new.spaces q ≡ cell_at old.spaces q)
+  pub added : (q : Place) → HasCell new.spaces q → HasCell old.spaces q ⊎ (cell_at new.spaces q ≡ free_cell)
   -- one more cell of this nursery is handed out
   pub counted : new.used ≡ slice_set old.used space (used_of old space + 1)
   pub limits : new.limits ≡ old.limits
@@ -38,8 +38,8 @@ abbrev pub HasFewerLeft : SpaceTable → ℕ → ℕ → Type 0
 HasFewerLeft t space cells = CELLS * length (space_of t.spaces space) < used_of t space + cells
 
 -- so many cells of a nursery are left
-abbrev pub HasLeft : SpaceTable → ℕ → ℕ → Type 0
-HasLeft t space cells = used_of t space + cells ≤ CELLS * length (space_of t.spaces space)
+abbrev pub HasRoomLeft : SpaceTable → ℕ → ℕ → Type 0
+HasRoomLeft t space cells = used_of t space + cells ≤ CELLS * length (space_of t.spaces space)
 
 -- the table with one more block in a nursery that has fewer cells left, and else as it is
 abbrev pub room_made_for : SpaceTable → ℕ → ℕ → SpaceTable

@@ -21,7 +21,7 @@ ghost use Rattle.tg_word.specs.Word.{nursery_space};
 ghost use Rattle.tg_word.specs.declared.TheConstants.{CELLS, MAX_NURSERIES};
 ghost use Rattle.tg_space.specs.SpaceList.{space_of};
 ghost use Rattle.tg_space.specs.SpaceTable.{IsFull, IsSpaceTable, place_in_space, used_of, with_one_used};
-ghost use Rattle.tg_nursery.specs.Allocation.{Allocates, HasFewerLeft, HasLeft, IsUsedUp, room_made, room_made_for};
+ghost use Rattle.tg_nursery.specs.Allocation.{Allocates, HasFewerLeft, HasRoomLeft, IsUsedUp, room_made, room_made_for};
 
 use tg_space::{RoomFault, Spaces};
 use tg_word::{CELLS, Place, nursery_space};
@@ -57,8 +57,8 @@ pub fn reserve(spaces: &mut Spaces, nursery: u64, cells: u64) -> Result<(), Room
     requires nursery { nursery_space nursery < length spaces.old.spaces }
     ensures exact { OnOk result (spaces.new ≡ room_made_for spaces.old (nursery_space nursery) cells) }
     ensures table { OnOk result (IsSpaceTable spaces.new) }
-    ensures room { OnOk result (HasLeft spaces.new (nursery_space nursery) cells) }
-    ensures had_room { HasLeft spaces.old (nursery_space nursery) cells → IsOk result }
+    ensures room { OnOk result (HasRoomLeft spaces.new (nursery_space nursery) cells) }
+    ensures had_room { HasRoomLeft spaces.old (nursery_space nursery) cells → IsOk result }
     ensures refused { OnErr result (spaces.new ≡ spaces.old) }
     ensures full { (result ≡ Err RoomFault.HeapFull) ↔ (HasFewerLeft spaces.old (nursery_space nursery) cells × IsFull spaces.old (nursery_space nursery)) }
 {

@@ -4,7 +4,7 @@ use Rattle.tg_space.specs.declared.room_fault.RoomFault.{RoomFault}
 use Rattle.tg_space.specs.declared.room_fault.RoomFault.TheVariants.{HeapFull}
 use Rattle.tg_parallel.specs.declared.part.Helped.{Helped}
 use Rattle.tg_parallel.specs.declared.part.Part.{Part}
-use Rattle.tg_parallel.specs.Helping.{IsFaultOfLeast, IsOfBoth, parts_of}
+use Rattle.tg_parallel.specs.Helping.{IsFaultOfLeast, IsOfBoth, parts_helped}
 
 -- each part was made
 abbrev pub AreAllMade : List (Result Part RoomFault) → Type 0
@@ -56,7 +56,7 @@ own_fault (Err fault) a b c both is = told c (subst (λ (r : Result Part RoomFau
     told (Ok p) none = absurd none
     told (Err why) same = ap (λ (f : RoomFault). Err f) same
 
-pub parts_push : (mine : Helped) (theirs : List Helped) (next : Helped) → parts_of mine theirs ++ next.part ∷ [] ≡ parts_of mine (theirs ++ next ∷ [])
+pub parts_push : (mine : Helped) (theirs : List Helped) (next : Helped) → parts_helped mine theirs ++ next.part ∷ [] ≡ parts_helped mine (theirs ++ next ∷ [])
 parts_push mine theirs next = ap (λ (l : List (Result Part RoomFault)). mine.part ∷ l) (pushed theirs)
   where
     pushed : (l : List Helped) → map (λ (r : Helped). r.part) l ++ next.part ∷ [] ≡ map (λ (r : Helped). r.part) (l ++ next ∷ [])

@@ -18,10 +18,10 @@ use Rattle.tg_race.specs.Race.{has_number, has_room, owns, used_in, with_claimed
 use Rattle.tg_race.specs.Seats.{Board, Seated}
 use Rattle.tg_race.specs.Words.{lies_in, same_place, space_of_age}
 use Rattle.tg_race.proofs.Sums.{weigh_push}
-use Rattle.tg_evac.specs.Claimers.{IsLink}
+use Rattle.tg_evac.specs.Claimers.{IsClaimLink}
 use Rattle.tg_parallel.specs.Parts.{HasPlaceOf, HasPlaces, cells_met}
 use Rattle.tg_parallel.specs.declared.own_blocks.OwnBlocks.{OwnBlocks}
-use Rattle.tg_parallel.specs.Seats.{AreFilled, AreRising, Finds, FindsNext, IsHeldBy, IsReady, KnowsNext, LeavesPlaces, OnlyBlocks, OtherStays, StayFilled, own_place, pair_at, pairs_in, used_of}
+use Rattle.tg_parallel.specs.Seats.{AreFilled, AreRising, Finds, FindsNext, HoldsBlocks, IsSeatReady, KnowsNext, LeavesPlaces, OnlyBlocks, OtherStays, StayFilled, own_place, pair_at, pairs_in, cells_used}
 use Rattle.tg_evac.proofs.Copying.{filter_has, filter_other, filter_push, map_has}
 use Rattle.tg_parallel.proofs.Lists.{any_found}
 
@@ -300,7 +300,7 @@ module _ (aged : Bool) (numbers : List ℕ) (used : ℕ) (few : get_or numbers (
   own_is_place = record { space = (let two = age_two aged in omega arith); block = few; cell = omega arith }
 
 -- the place that is read in the word of the next one
-module _ (used : ℕ) (b : OwnBlocks) (ready : IsReady used b) where
+module _ (used : ℕ) (b : OwnBlocks) (ready : IsSeatReady used b) where
   abbrev next_own : Place
   next_own = own_place b.aged b.numbers.items used
 
@@ -326,7 +326,7 @@ word_behind : (p : Place) → link_to (place_behind p) ≡ link_to p + 2 ^ 8
 word_behind p = omega arith
 
 -- after one more win the next place is the one behind, where some are left
-module _ (used : ℕ) (b : OwnBlocks) (next : ℕ) (ready : IsReady used b) (on : next ≡ link_to (place_behind (place_in b.next))) where
+module _ (used : ℕ) (b : OwnBlocks) (next : ℕ) (ready : IsSeatReady used b) (on : next ≡ link_to (place_behind (place_in b.next))) where
   abbrev after : OwnBlocks
   after = record { aged = b.aged; numbers = b.numbers; next = next; end = b.end; is_past = b.is_past }
 
@@ -336,7 +336,7 @@ module _ (used : ℕ) (b : OwnBlocks) (next : ℕ) (ready : IsReady used b) (on 
       let left = ready.left in
       omega arith
 
-  pub ready_more : used < 64 * length b.numbers.items → 64 * length b.numbers.items ≤ used + 64 → next ≢ b.end → IsReady (used + 1) after
+  pub ready_more : used < 64 * length b.numbers.items → 64 * length b.numbers.items ≤ used + 64 → next ≢ b.end → IsSeatReady (used + 1) after
   ready_more room close some =
       let low = places_left (used + 1) after left_more (omega arith) some in
       let same : (used + 1) / 64 ≡ used / 64 = omega arith in
@@ -353,12 +353,12 @@ module _ (used : ℕ) (b : OwnBlocks) (next : ℕ) (ready : IsReady used b) (on 
 -- ---- what stays
 
 -- no more places were given away in a space than cells were won
-pub used_few : (aged : Bool) (v : Record) → used_of aged v ≤ length v.won
+pub used_few : (aged : Bool) (v : Record) → cells_used aged v ≤ length v.won
 used_few aged v =
     let both = length-filter_both (λ (q : ℕ × Place). q.1.space == space_of_age aged) (λ (q : ℕ × Place). not (q.1.space == space_of_age aged)) (λ q. refl) v.won in omega arith
 
 -- so many places were given away as there are won cells
-pub filled_all : (aged : Bool) (v : Record) (numbers : List ℕ) (used : ℕ) → AreFilled aged v numbers used → AreFilled aged v numbers (used_of aged v)
+pub filled_all : (aged : Bool) (v : Record) (numbers : List ℕ) (used : ℕ) → AreFilled aged v numbers used → AreFilled aged v numbers (cells_used aged v)
 filled_all aged v numbers used filled = subst (λ (n : ℕ). AreFilled aged v numbers n) (sym filled.ends) filled
 
 pub other_claimed : (aged : Bool) (v : Record) (b : ℕ) → OtherStays aged v (with_claimed_block aged v b)
@@ -373,22 +373,22 @@ filled_seen : (aged : Bool) (v : Record) (q : ℕ × Place) (numbers : List ℕ)
 filled_seen aged v q numbers used filled = record { same = filled.same; rising = filled.rising; room = filled.room; close = filled.close; few = filled.few; ends = filled.ends; order = filled.order; many = filled.many }
 
 -- where the cell was seen
-pub stay_seen : (board : Board) (helper : Seated) (b : OwnBlocks) → IsHeldBy board helper b → (q : ℕ × Place) → StayFilled b helper b (record helper { done = with_seen helper.done q })
+pub stay_seen : (board : Board) (helper : Seated) (b : OwnBlocks) → HoldsBlocks board helper b → (q : ℕ × Place) → StayFilled b helper b (record helper { done = with_seen helper.done q })
 stay_seen board helper b held q = record {
   space = refl;
   seat = refl;
-  filled = filled_seen b.aged helper.done q b.numbers.items (used_of b.aged helper.done) held.filled;
+  filled = filled_seen b.aged helper.done q b.numbers.items (cells_used b.aged helper.done) held.filled;
   other = λ numbers used filled. filled_seen (not b.aged) helper.done q numbers used filled;
   room = refl;
 }
 
 -- ---- what a claim of the next place finds
 
-module _ (board : Board) (cell : ℕ) (b : OwnBlocks) (old : Seated) (held : IsHeldBy board old b) (ready : IsReady (used_of b.aged old.done) b) where
+module _ (board : Board) (cell : ℕ) (b : OwnBlocks) (old : Seated) (held : HoldsBlocks board old b) (ready : IsSeatReady (cells_used b.aged old.done) b) where
   abbrev used : ℕ
-  used = used_of b.aged old.done
+  used = cells_used b.aged old.done
 
-  pub found_seen : (word : ℕ) → IsPlace (place_in word) → IsLink word → FindsNext cell b old b (record old { done = with_seen old.done (cell, place_in word) }) word
+  pub found_seen : (word : ℕ) → IsPlace (place_in word) → IsClaimLink word → FindsNext cell b old b (record old { done = with_seen old.done (cell, place_in word) }) word
   found_seen word inside link = record {
     stay = stay_seen board old b held (cell, place_in word);
     finds = finds_seen cell b.aged old.done (place_in word);
@@ -424,7 +424,7 @@ module _ (board : Board) (cell : ℕ) (b : OwnBlocks) (old : Seated) (held : IsH
           };
           finds = finds_won cell b.aged old.done (place_in b.next) space inside;
           left = subst (λ (n : ℕ). LeavesPlaces n (record b { next = next })) (sym more) (left_more used b next ready on);
-          next = λ left. subst (λ (n : ℕ). IsReady n (record b { next = next })) (sym more) (ready_more used b next ready on room_left held.filled.close left);
+          next = λ left. subst (λ (n : ℕ). IsSeatReady n (record b { next = next })) (sym more) (ready_more used b next ready on room_left held.filled.close left);
           past = refl;
           met = won_met old.done cell (place_in b.next);
           link = next_link used b ready;
@@ -438,7 +438,7 @@ module _ {before : OwnBlocks} {old : Seated} {after : OwnBlocks} {new : Seated} 
   stay_both {last = last} {newest = newest} two = record {
     space = two.space ∙ stay.space;
     seat = two.seat ∙ stay.seat;
-    filled = subst (λ (a : Bool). AreFilled a newest.done last.numbers.items (used_of a newest.done)) stay.space two.filled;
+    filled = subst (λ (a : Bool). AreFilled a newest.done last.numbers.items (cells_used a newest.done)) stay.space two.filled;
     other = λ numbers used filled.
         subst (λ (a : Bool). AreFilled (not a) new.done numbers used → AreFilled (not a) newest.done numbers used) stay.space (two.other numbers used) (stay.other numbers used filled);
     room = two.room ∙ stay.room;
@@ -447,9 +447,9 @@ module _ {before : OwnBlocks} {old : Seated} {after : OwnBlocks} {new : Seated} 
 -- after a claim of the next place the next one is known, or all blocks are full
 pub knows_after : {limit cell : ℕ} {before : OwnBlocks} {old : Seated} {after : OwnBlocks} {new : Seated} {word : ℕ} → FindsNext cell before old after new word → KnowsNext limit old.done before → before.next ≢ before.end → KnowsNext limit new.done after
 knows_after {before = before} {after = after} {new = new} finds known some =
-    let same : used_of before.aged new.done ≡ used_of after.aged new.done = ap (λ (a : Bool). used_of a new.done) (sym finds.stay.space) in
+    let same : cells_used before.aged new.done ≡ cells_used after.aged new.done = ap (λ (a : Bool). cells_used a new.done) (sym finds.stay.space) in
     record {
-      some = λ left. subst (λ (n : ℕ). IsReady n after) same (finds.next left);
+      some = λ left. subst (λ (n : ℕ). IsSeatReady n after) same (finds.next left);
       none = λ end within. (let left = finds.left in omega arith);
       past = λ past. absurd (some (known.past (sym finds.past ∙ past)).0);
     }

@@ -30,7 +30,7 @@ use Rattle.tg_race.proofs.Drawn.{number_found}
 use Rattle.tg_race.proofs.PlaceWords.{word_of-some}
 use Rattle.tg_race.proofs.Standing.{closed_pairs}
 use Rattle.tg_evac.specs.Win.{Win}
-use Rattle.tg_evac.specs.Claims.{AreApart, AreTraced, AreWordsOf, HasNewPlace, StandsIn, cells_won}
+use Rattle.tg_evac.specs.Claims.{AreDistinctWins, AreTraced, AreWordsOf, HasNewPlace, IsWonIn, cells_won}
 use Rattle.tg_evac.specs.Copies.{HasCopy, HavePlaces, HoldCopies, IsPlaceIn, copy_of, new_cell}
 use Rattle.tg_evac.proofs.Collecting.{AreNotes, AreWins, is_collection, none_young}
 use Rattle.tg_evac.proofs.Claiming.{have_places}
@@ -130,7 +130,7 @@ module _ (k : Counts) (words : List ℕ) (done : Record) (closed : IsClosedTable
 
   are_words : AreWordsOf (wins_of done.won) words
   are_words = record {
-    stand = All-map (StandsIn words) win_of done.won (λ i d low.
+    stand = All-map (IsWonIn words) win_of done.won (λ i d low.
         let q : ℕ × Place = get_or done.won i d in
         let word = won_word k words done closed q (Contains-get_or done.won i d low) in
         let some : get_or words q.0 0 ≢ 0 = λ z. link_some q.1 (sym word ∙ z) in
@@ -138,7 +138,7 @@ module _ (k : Counts) (words : List ℕ) (done : Record) (closed : IsClosedTable
     every = λ c low some. let found = owner c some in (win_of found.0, map_has win_of done.won found.0 found.1, found.2);
   }
 
-  apart : AreApart (wins_of done.won)
+  apart : AreDistinctWins (wins_of done.won)
   apart v w hv hw e =
       let x = map_found win_of done.won v hv in
       let y = map_found win_of done.won w hw in

@@ -19,13 +19,13 @@ use Rattle.tg_evac.specs.Win.{Win}
 use Rattle.tg_evac.specs.Claims.{IsWinFor, is_in, win_at, won_in}
 use Rattle.tg_space.specs.declared.room_fault.RoomFault.{RoomFault}
 use Rattle.tg_space.specs.declared.room_fault.RoomFault.TheVariants.{HeapFull}
-use Rattle.tg_evac.specs.Claimers.{AddsWins, IsLink}
+use Rattle.tg_evac.specs.Claimers.{AddsWins, IsClaimLink}
 use Rattle.tg_evac.specs.Walks.{ClaimsCell}
 use Rattle.tg_parallel.specs.declared.own_blocks.OwnBlocks.{OwnBlocks}
 use Rattle.tg_evac.specs.declared.both.Both.{Both}
 use Rattle.tg_evac.specs.Lending.{with_one}
 use Rattle.tg_parallel.specs.Parts.{HasClaimedPast, HasPlaceOf, HasPlaces, cells_met, win_of, wins_of}
-use Rattle.tg_parallel.specs.Seats.{AreFilled, Finds, HasRoomFor, HasRoomForNumbers, IsReady, IsSeat, KnowsNext, OtherStays, Sitting, StayFilled, pair_at, pairs_in, used_of, walked_at}
+use Rattle.tg_parallel.specs.Seats.{AreFilled, Finds, HasRoomFor, HasRoomForNumbers, IsSeatReady, IsSeat, KnowsNext, OtherStays, Sitting, StayFilled, pair_at, pairs_in, cells_used, walked_at}
 use Rattle.tg_evac.proofs.Claiming.{distinct_map, few_numbers}
 use Rattle.tg_evac.proofs.Copying.{map_found}
 use Rattle.tg_parallel.proofs.Filled.{age_two}
@@ -34,10 +34,10 @@ use Rattle.tg_parallel.proofs.Wins.{place_back}
 
 -- ---- at first
 
-pub filled_none : (aged : Bool) (numbers : List ℕ) → numbers ≡ [] → AreFilled aged (empty 1) numbers (used_of aged (empty 1))
+pub filled_none : (aged : Bool) (numbers : List ℕ) → numbers ≡ [] → AreFilled aged (empty 1) numbers (cells_used aged (empty 1))
 filled_none aged numbers none = rw none (by_space aged)
   where
-    by_space : (a : Bool) → AreFilled a (empty 1) [] (used_of a (empty 1))
+    by_space : (a : Bool) → AreFilled a (empty 1) [] (cells_used a (empty 1))
     by_space true = record { same = refl; rising = λ i j lt low. absurd (omega arith); room = omega arith; close = omega arith; few = omega arith; ends = refl; order = λ k low. absurd (omega arith); many = λ i n low few le. absurd (omega arith) }
     by_space false = record { same = refl; rising = λ i j lt low. absurd (omega arith); room = omega arith; close = omega arith; few = omega arith; ends = refl; order = λ k low. absurd (omega arith); many = λ i n low few le. absurd (omega arith) }
 
@@ -86,8 +86,8 @@ module _ (limit : ℕ) (board : Board) (helper : Seated) (aged old : OwnBlocks) 
   won_room space two =
       let long : length (won_in space (wins_of won)) ≡ length (pairs_in space won) = ap length (wins_in space won seat.places) ∙ length-map (pairs_in space won) win_of in
       ⊎_elim
-      (λ (e : space ≡ 0). (let here : length (pairs_in space won) ≡ used_of false helper.done = ap (λ (s : ℕ). length (pairs_in s won)) e in let few = seat.in_old.few in omega arith))
-      (λ (ne : space ≢ 0). (let e : space ≡ 1 = omega arith in let here : length (pairs_in space won) ≡ used_of true helper.done = ap (λ (s : ℕ). length (pairs_in s won)) e in let few = seat.in_aged.few in omega arith))
+      (λ (e : space ≡ 0). (let here : length (pairs_in space won) ≡ cells_used false helper.done = ap (λ (s : ℕ). length (pairs_in s won)) e in let few = seat.in_old.few in omega arith))
+      (λ (ne : space ≢ 0). (let e : space ≡ 1 = omega arith in let here : length (pairs_in space won) ≡ cells_used true helper.done = ap (λ (s : ℕ). length (pairs_in s won)) e in let few = seat.in_aged.few in omega arith))
       (cases_eq space 0)
 
   win_is : (k : ℕ) → k < length won → win_at (wins_of won) k ≡ win_of (pair_at won k)
@@ -143,7 +143,7 @@ module _ (cell : ℕ) (aged : Bool) (v w : Record) (finds : Finds cell aged v w)
 
 -- a place that was given from blocks of the right age is a claim of the cell
 pub claims_cell : (cell space : ℕ) (kind : Kind) (limit : ℕ) (board : Board) (v w : Record) (before : Sitting) (a : Bool) (result : Result ℕ RoomFault) → record { kind = kind; limit = limit; board = board; done = v } ≡ before → space ≡ space_of_age a → Finds cell a v w
-    → OnOk result (Contains (cells_met w) cell) → IfOk result (λ word. (to : ℕ → Place) → HasPlaces w to → to cell ≡ place_in word) → IfOk result IsLink → IfErr result (λ fault. fault ≡ HeapFull → HasClaimedPast limit w)
+    → OnOk result (Contains (cells_met w) cell) → IfOk result (λ word. (to : ℕ → Place) → HasPlaces w to → to cell ≡ place_in word) → IfOk result IsClaimLink → IfErr result (λ fault. fault ≡ HeapFull → HasClaimedPast limit w)
     → ClaimsCell walked_at (λ s. HasPlaces s.done) (λ s. HasClaimedPast s.limit s.done) cell space before (record { kind = kind; limit = limit; board = board; done = w }) result
 claims_cell cell space kind limit board v w before a result same right finds met known link full =
     let after : Sitting = record { kind = kind; limit = limit; board = board; done = w } in
@@ -185,9 +185,9 @@ room_for limit board helper aged old seat at word unmet =
     record { small = omega arith; room = omega arith }
 
 -- what is known of the next place depends on the record through how many were given away alone
-knows_still : (limit : ℕ) (v w : Record) (b : OwnBlocks) → used_of b.aged w ≡ used_of b.aged v → KnowsNext limit v b → KnowsNext limit w b
+knows_still : (limit : ℕ) (v w : Record) (b : OwnBlocks) → cells_used b.aged w ≡ cells_used b.aged v → KnowsNext limit v b → KnowsNext limit w b
 knows_still limit v w b same next = record {
-  some = λ ne. subst (λ (used : ℕ). IsReady used b) (sym same) (next.some ne);
+  some = λ ne. subst (λ (used : ℕ). IsSeatReady used b) (sym same) (next.some ne);
   none = λ e within. same ∙ next.none e within;
   past = next.past;
 }
@@ -214,25 +214,25 @@ module _ (limit : ℕ) (board : Board) (before after : Seated) (aged old : OwnBl
     behind_now : All (λ q. 64 * board.counts.kept ≤ q.0) after.done.won
     behind_now = all_now (λ (q : ℕ × Place). 64 * board.counts.kept ≤ q.0) seat.behind (λ q r. (let e = r.0 in let low = word.moved in omega arith))
 
-    seat_now : (first second : OwnBlocks) → first.aged ≡ true → second.aged ≡ false → AreFilled true after.done first.numbers.items (used_of true after.done) → AreFilled false after.done second.numbers.items (used_of false after.done) → KnowsNext limit after.done first → KnowsNext limit after.done second → HasRoomForNumbers board.table.id.words first → HasRoomForNumbers board.table.id.words second → IsSeat limit board after first second
+    seat_now : (first second : OwnBlocks) → first.aged ≡ true → second.aged ≡ false → AreFilled true after.done first.numbers.items (cells_used true after.done) → AreFilled false after.done second.numbers.items (cells_used false after.done) → KnowsNext limit after.done first → KnowsNext limit after.done second → HasRoomForNumbers board.table.id.words first → HasRoomForNumbers board.table.id.words second → IsSeat limit board after first second
     seat_now first second is_aged is_old in_aged in_old aged_next old_next aged_room old_room =
         record { own = same ∙ seat.own; few = seat.few; small = seat.small; whole = seat.whole; differ = differ_now; inside = inside_now; behind = behind_now; places = places_now; is_aged = is_aged; is_old = is_old; in_aged = in_aged; in_old = in_old; aged_next = aged_next; old_next = old_next; aged_room = aged_room; old_room = old_room }
 
   -- the blocks of the other space are filled as they were
-  other_filled : (a : Bool) (b : OwnBlocks) → b.aged ≡ not a → AreFilled (not a) before.done b.numbers.items (used_of (not a) before.done) → KnowsNext limit before.done b → OtherStays a before.done after.done → AreFilled (not a) after.done b.numbers.items (used_of (not a) after.done) × KnowsNext limit after.done b
+  other_filled : (a : Bool) (b : OwnBlocks) → b.aged ≡ not a → AreFilled (not a) before.done b.numbers.items (cells_used (not a) before.done) → KnowsNext limit before.done b → OtherStays a before.done after.done → AreFilled (not a) after.done b.numbers.items (cells_used (not a) after.done) × KnowsNext limit after.done b
   other_filled a b is filled next other =
-      let now = other b.numbers.items (used_of (not a) before.done) filled in
+      let now = other b.numbers.items (cells_used (not a) before.done) filled in
       (subst (λ (used : ℕ). AreFilled (not a) after.done b.numbers.items used) (sym now.ends) now, knows_still limit before.done after.done b (rw is now.ends) next)
 
-  pub seat_aged : (now : OwnBlocks) → now.aged ≡ aged.aged → vec_capacity now.numbers ≡ vec_capacity aged.numbers → Finds cell aged.aged before.done after.done → AreFilled aged.aged after.done now.numbers.items (used_of aged.aged after.done) → OtherStays aged.aged before.done after.done → KnowsNext limit after.done now → IsSeat limit board after now old
+  pub seat_aged : (now : OwnBlocks) → now.aged ≡ aged.aged → vec_capacity now.numbers ≡ vec_capacity aged.numbers → Finds cell aged.aged before.done after.done → AreFilled aged.aged after.done now.numbers.items (cells_used aged.aged after.done) → OtherStays aged.aged before.done after.done → KnowsNext limit after.done now → IsSeat limit board after now old
   seat_aged now space room finds filled other next =
       let rest = other_filled true old seat.is_old seat.in_old seat.old_next (subst (λ (a : Bool). OtherStays a before.done after.done) seat.is_aged other) in
-      seat_now aged.aged finds now old (space ∙ seat.is_aged) seat.is_old (subst (λ (a : Bool). AreFilled a after.done now.numbers.items (used_of a after.done)) seat.is_aged filled) rest.0 next rest.1 (let was = seat.aged_room in omega arith) seat.old_room
+      seat_now aged.aged finds now old (space ∙ seat.is_aged) seat.is_old (subst (λ (a : Bool). AreFilled a after.done now.numbers.items (cells_used a after.done)) seat.is_aged filled) rest.0 next rest.1 (let was = seat.aged_room in omega arith) seat.old_room
 
-  pub seat_old : (now : OwnBlocks) → now.aged ≡ old.aged → vec_capacity now.numbers ≡ vec_capacity old.numbers → Finds cell old.aged before.done after.done → AreFilled old.aged after.done now.numbers.items (used_of old.aged after.done) → OtherStays old.aged before.done after.done → KnowsNext limit after.done now → IsSeat limit board after aged now
+  pub seat_old : (now : OwnBlocks) → now.aged ≡ old.aged → vec_capacity now.numbers ≡ vec_capacity old.numbers → Finds cell old.aged before.done after.done → AreFilled old.aged after.done now.numbers.items (cells_used old.aged after.done) → OtherStays old.aged before.done after.done → KnowsNext limit after.done now → IsSeat limit board after aged now
   seat_old now space room finds filled other next =
       let rest = other_filled false aged seat.is_aged seat.in_aged seat.aged_next (subst (λ (a : Bool). OtherStays a before.done after.done) seat.is_old other) in
-      seat_now old.aged finds aged now seat.is_aged (space ∙ seat.is_old) rest.0 (subst (λ (a : Bool). AreFilled a after.done now.numbers.items (used_of a after.done)) seat.is_old filled) rest.1 next seat.aged_room (let was = seat.old_room in omega arith)
+      seat_now old.aged finds aged now seat.is_aged (space ∙ seat.is_old) rest.0 (subst (λ (a : Bool). AreFilled a after.done now.numbers.items (cells_used a after.done)) seat.is_old filled) rest.1 next seat.aged_room (let was = seat.old_room in omega arith)
 
 -- blocks of the space that is asked for are of the right age
 pub right_age : (space : ℕ) → space < 2 → (was aged old : OwnBlocks) → aged.aged ≡ true → old.aged ≡ false → ((space == 0) ≡ true → was ≡ old) → ((space == 0) ≡ false → was ≡ aged) → space ≡ space_of_age was.aged

@@ -16,7 +16,7 @@ use Rattle.tg_race.specs.declared.record.Counts.{Counts}
 use Rattle.tg_race.specs.declared.record.Record.{Record}
 use Rattle.tg_race.specs.Board.{IsClosedTable}
 use Rattle.tg_race.specs.Race.{Race}
-use Rattle.tg_race.specs.Words.{has_pair, same_pair, word_of}
+use Rattle.tg_race.specs.Words.{has_pair, same_pair, place_word}
 use Rattle.tg_race.proofs.Closed.{cells_differ}
 use Rattle.tg_race.proofs.Standing.{same_place_self, won_place, won_stands}
 use Rattle.tg_evac.specs.Win.{Win}
@@ -25,8 +25,8 @@ use Rattle.tg_parallel.specs.Parts.{AreEarned, roots_in, roots_of_chunk, win_of,
 use Rattle.tg_parallel.proofs.Lists.{any_has, chunk_found, flat_found}
 use Rattle.tg_parallel.proofs.Traces.{traced_wider}
 
-pub link_is : (p : Place) → word_of p ≡ link_to p
-unfolding word_of
+pub link_is : (p : Place) → place_word p ≡ link_to p
+unfolding place_word
 link_is p = refl
 
 pub place_back : (p : Place) → IsPlace p → place_in (link_to p) ≡ p

@@ -44,8 +44,8 @@ IsFaultOfLeast (Ok part ∷ parts) fault = IsFaultOfLeast parts fault
 IsFaultOfLeast (Err why ∷ parts) fault = (fault ≡ why) ⊎ (fault ≢ HeapFull)
 
 -- what the helper on the calling thread and the others have made, in the order of the helpers' numbers
-abbrev pub parts_of : Helped → List Helped → List (Result Part RoomFault)
-parts_of mine theirs = mine.part ∷ map (λ r. r.part) theirs
+abbrev pub parts_helped : Helped → List Helped → List (Result Part RoomFault)
+parts_helped mine theirs = mine.part ∷ map (λ r. r.part) theirs
 
 -- a helper at the table that has done nothing yet
 pub record IsNew (board : Board) (s : Seated) : Type 0 where

@@ -7,7 +7,7 @@ use Rattle.tg_space.specs.declared.kind.Kind.{Kind}
 use Rattle.tg_space.specs.declared.root.Root.{Root}
 use Rattle.tg_space.specs.declared.room_fault.RoomFault.{RoomFault}
 use Rattle.tg_evac.specs.declared.copies.Copies.{Copies}
-use Rattle.tg_evac.specs.Collects.{Collects}
+use Rattle.tg_evac.specs.Collects.{CollectsRoots}
 use Rattle.tg_race.specs.Seats.{Board}
 use Rattle.tg_parallel.specs.declared.job.Job.{Job}
 use Rattle.tg_parallel.specs.declared.job.Task.{Task}
@@ -23,7 +23,7 @@ MayCollect task = AreSound task.spaces.now.spaces task.roots.now
 
 -- what its helpers made is its collection; the first says what want of room is told by
 abbrev pub IsCollected : {G E : Type 0} → E → Task G → ℕ → Result Copied E → Type 0
-IsCollected heap_full task helpers result = Collects heap_full task.kind task.spaces.now task.roots.now helpers helpers result
+IsCollected heap_full task helpers result = CollectsRoots heap_full task.kind task.spaces.now task.roots.now helpers helpers result
 
 -- the table of the job was opened for its task
 abbrev pub IsOpen : {G : Type 0} → Job G → Type 0

@@ -19,7 +19,7 @@ use Rattle.tg_evac.specs.declared.copies.Copies.{Copies}
 use Rattle.tg_space.specs.declared.room_fault.RoomFault.{RoomFault}
 use Rattle.tg_space.specs.declared.room_fault.RoomFault.TheVariants.{HeapFull}
 use Rattle.tg_evac.specs.Claims.{HavePointers}
-use Rattle.tg_evac.specs.Claimers.{AreScanned, IsLink, Walked}
+use Rattle.tg_evac.specs.Claimers.{AreScanned, IsClaimLink, Walked}
 use Rattle.tg_parallel.specs.declared.own_blocks.OwnBlocks.{OwnBlocks}
 use Rattle.tg_parallel.specs.declared.seat.Lists.{Lists}
 use Rattle.tg_parallel.specs.Parts.{AreCountsOf, AreEarned, HasClaimedPast, HasPlaces, Numbered, cells_met, numbers_of, roots_in, wins_of}
@@ -56,23 +56,23 @@ pub record AreFilled (aged : Bool) (v : Record) (numbers : List ℕ) (used : ℕ
   pub many : (i n : ℕ) → i < length numbers → n ≤ CELLS → CELLS * i + n ≤ used → n ≤ used_in (space_of_age aged) (slice_index numbers i) v.won
 
 -- so many won cells of the record have their place in the space
-abbrev pub used_of : Bool → Record → ℕ
-used_of aged v = length (pairs_in (space_of_age aged) v.won)
+abbrev pub cells_used : Bool → Record → ℕ
+cells_used aged v = length (pairs_in (space_of_age aged) v.won)
 
 -- as many words are left before the last block's end as places are left, behind so many that were given away (a cell's number begins at `CELL_AT`, so a step of a cell divides a link)
 abbrev pub LeavesPlaces : ℕ → OwnBlocks → Type 0
 LeavesPlaces used b = b.next + 2 ^ CELL_AT * (CELLS * length b.numbers.items) ≡ b.end + 2 ^ CELL_AT * used
 
 -- the next word is that of the next place, behind so many, in a block that the layout can name
-pub record IsReady (used : ℕ) (b : OwnBlocks) : Type 0 where
+pub record IsSeatReady (used : ℕ) (b : OwnBlocks) : Type 0 where
   pub left : LeavesPlaces used b
   pub few : slice_index b.numbers.items (used / CELLS) < MOST_SPACE_BLOCKS
   pub next : b.next ≡ link_to (own_place b.aged b.numbers.items used)
 
 -- As long as places are left, the next one is known. Where none is, all blocks are full, or the last one is past the limit.
 pub record KnowsNext (limit : ℕ) (v : Record) (b : OwnBlocks) : Type 0 where
-  pub some : b.next ≢ b.end → IsReady (used_of b.aged v) b
-  pub none : b.next ≡ b.end → b.is_past ≡ false → used_of b.aged v ≡ CELLS * length b.numbers.items
+  pub some : b.next ≢ b.end → IsSeatReady (cells_used b.aged v) b
+  pub none : b.next ≡ b.end → b.is_past ≡ false → cells_used b.aged v ≡ CELLS * length b.numbers.items
   pub past : b.is_past ≡ true → (b.next ≡ b.end) × (n : ℕ) × Contains b.numbers.items n × (limit ≤ n)
 
 -- the blocks of the other space stay as they are
@@ -106,9 +106,9 @@ abbrev pub HasRoomForNumbers : ℕ → OwnBlocks → Type 0
 HasRoomForNumbers words b = words < CELLS * vec_capacity b.numbers
 
 -- the helper sits at the table, and the blocks are those that it has claimed, filled in order with what it has won
-pub record IsHeldBy (board : Board) (helper : Seated) (b : OwnBlocks) : Type 0 where
+pub record HoldsBlocks (board : Board) (helper : Seated) (b : OwnBlocks) : Type 0 where
   pub own : helper.table ≡ board.table
-  pub filled : AreFilled b.aged helper.done b.numbers.items (used_of b.aged helper.done)
+  pub filled : AreFilled b.aged helper.done b.numbers.items (cells_used b.aged helper.done)
   pub room : HasRoomForNumbers board.table.id.words b
 
 -- fewer cells were won than the table has words for cells, and twice the cell's number is a word
@@ -120,12 +120,12 @@ pub record HasRoomFor (board : Board) (cell : ℕ) (helper : Seated) : Type 0 wh
 pub record StayFilled (before : OwnBlocks) (old : Seated) (after : OwnBlocks) (new : Seated) : Type 0 where
   pub space : after.aged ≡ before.aged
   pub seat : new.table ≡ old.table
-  pub filled : AreFilled before.aged new.done after.numbers.items (used_of before.aged new.done)
+  pub filled : AreFilled before.aged new.done after.numbers.items (cells_used before.aged new.done)
   pub other : OtherStays before.aged old.done new.done
   pub room : vec_capacity after.numbers ≡ vec_capacity before.numbers
 
 -- a block with this number was claimed behind these ones
-pub record IsDrawn (before : OwnBlocks) (old : Seated) (after : OwnBlocks) (new : Seated) (number : ℕ) : Type 0 where
+pub record IsNumberDrawn (before : OwnBlocks) (old : Seated) (after : OwnBlocks) (new : Seated) (number : ℕ) : Type 0 where
   pub stay : StayFilled before old after new
   pub blocks : OnlyBlocks old.done new.done
   pub next : after.next ≡ before.next
@@ -145,11 +145,11 @@ pub record AreReady {T : Type 0} (limit : ℕ) (before : OwnBlocks) (old : Seate
 pub record FindsNext (cell : ℕ) (before : OwnBlocks) (old : Seated) (after : OwnBlocks) (new : Seated) (word : ℕ) : Type 0 where
   pub stay : StayFilled before old after new
   pub finds : Finds cell before.aged old.done new.done
-  pub left : LeavesPlaces (used_of before.aged new.done) after
-  pub next : after.next ≢ after.end → IsReady (used_of before.aged new.done) after
+  pub left : LeavesPlaces (cells_used before.aged new.done) after
+  pub next : after.next ≢ after.end → IsSeatReady (cells_used before.aged new.done) after
   pub past : after.is_past ≡ before.is_past
   pub met : Contains (cells_met new.done) cell
-  pub link : IsLink word
+  pub link : IsClaimLink word
   pub known : (to : ℕ → Place) → HasPlaces new.done to → to cell ≡ place_in word
 
 -- and a block was claimed for it where none had a place left; it is refused where that is past the limit
@@ -158,7 +158,7 @@ pub record GivePlace (limit cell : ℕ) (before : OwnBlocks) (old : Seated) (aft
   pub finds : Finds cell before.aged old.done new.done
   pub next : KnowsNext limit new.done after
   pub met : OnOk result (Contains (cells_met new.done) cell)
-  pub link : IfOk result IsLink
+  pub link : IfOk result IsClaimLink
   pub known : IfOk result (λ word. (to : ℕ → Place) → HasPlaces new.done to → to cell ≡ place_in word)
   pub full : IfErr result (λ fault. fault ≡ HeapFull → HasClaimedPast limit new.done)
 
@@ -199,8 +199,8 @@ pub record IsSeat (limit : ℕ) (board : Board) (helper : Seated) (aged old : Ow
   pub places : All (λ q. IsPlace q.1 × (q.1.space < 2)) helper.done.won
   pub is_aged : aged.aged ≡ true
   pub is_old : old.aged ≡ false
-  pub in_aged : AreFilled true helper.done aged.numbers.items (used_of true helper.done)
-  pub in_old : AreFilled false helper.done old.numbers.items (used_of false helper.done)
+  pub in_aged : AreFilled true helper.done aged.numbers.items (cells_used true helper.done)
+  pub in_old : AreFilled false helper.done old.numbers.items (cells_used false helper.done)
   pub aged_next : KnowsNext limit helper.done aged
   pub old_next : KnowsNext limit helper.done old
   pub aged_room : HasRoomForNumbers board.table.id.words aged

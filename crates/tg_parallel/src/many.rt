@@ -8,11 +8,11 @@ ghost use Rattle.tg_space.specs.declared.root.Root.{Root as RootOf};
 ghost use Rattle.tg_race.specs.declared.record.Counts.{Counts};
 ghost use Rattle.tg_race.specs.declared.record.Record.{Record};
 ghost use Rattle.tg_race.specs.Race.{empty};
-ghost use Rattle.tg_evac.specs.Collects.{Collects};
+ghost use Rattle.tg_evac.specs.Collects.{CollectsRoots};
 ghost use Rattle.tg_parallel.specs.declared.many.TheConstants.{MOST_HELPERS};
 ghost use Rattle.tg_parallel.specs.Faults.{IsNotStarted};
-ghost use Rattle.tg_parallel.specs.Inner.Tasks.{MayCollectBy, MayStartAll, StandsFor};
-ghost use Rattle.tg_parallel.specs.Helping.{AllHelped, IsFaultOfLeast, IsHelped, IsNew, parts_of};
+ghost use Rattle.tg_parallel.specs.Inner.Tasks.{MayCollectBy, MayStartAll, IsNewSeat};
+ghost use Rattle.tg_parallel.specs.Helping.{AllHelped, IsFaultOfLeast, IsHelped, IsNew, parts_helped};
 ghost use Rattle.tg_parallel.specs.Jobs.{AllDone, IsCollected, IsDone, IsOpen, MayCollect, MayHelp};
 ghost use Rattle.tg_parallel.specs.Merged.{AreMerged};
 ghost use Rattle.tg_parallel.specs.Parts.{AreCountsOf, IsOpenedFor};
@@ -50,7 +50,7 @@ pub fn collect_seated(
     spare: Spare,
 ) -> Result<Copied, RoomFault>
     requires { AreSound spaces.now.spaces roots.now }
-    ensures { Collects RoomFault.HeapFull kind spaces.now roots.now 1 1 result }
+    ensures { CollectsRoots RoomFault.HeapFull kind spaces.now roots.now 1 1 result }
 {
     collect_alone(alloc, &Task::new(spaces, roots, kind, &NoGate), spare)
 }
@@ -114,7 +114,7 @@ pub fn collect_many<R: Threads + Wait + Sync, G: Gate>(
     requires sound { AreSound spaces.now.spaces roots.now }
     requires some { 1 ≤ helpers }
     requires few { helpers ≤ MOST_HELPERS }
-    ensures collects { Collects HelpersFault.HeapFull kind spaces.now roots.now helpers helpers result }
+    ensures collects { CollectsRoots HelpersFault.HeapFull kind spaces.now roots.now helpers helpers result }
     ensures alone { helpers ≡ 1 → IfErr result (λ fault. fault ≢ HelpersFault.NoThread) }
 {
     Task::new(spaces, roots, kind, gate).collect(rt, alloc, helpers, spare)
@@ -186,7 +186,7 @@ fn work_all<R: Threads + Wait + Sync, G: Gate>(
     newcomer: Newcomer,
 ) -> Result<Helped, HelpersFault>
     requires table { IsOpen job.now }
-    requires all { StandsFor helpers job.now.table.now newcomer.helper }
+    requires all { IsNewSeat helpers job.now.table.now newcomer.helper }
     ensures helped { IfOk result (IsDone job.now helpers) }
     ensures refused { IfErr result (IsNotStarted (helpers - 1)) }
 {
@@ -361,7 +361,7 @@ fn split_all(
     helper: &mut Helper,
     helpers: u32,
 ) -> Result<Vec<Helper>, AllocError>
-    requires { StandsFor helpers table.now helper.old }
+    requires { IsNewSeat helpers table.now helper.old }
     ensures kept { OnOk result ((helper.new.table ≡ helper.old.table) × (helper.new.done ≡ empty 1)) }
     ensures made { IfOk result (λ others. All (IsNew table.now) others.items) }
     ensures many { IfOk result (λ others. length others.items + 1 ≡ helpers) }
@@ -380,7 +380,7 @@ fn all_joined(table: &RaceTable, mine: Helped, theirs: Vec<Helped>) -> Helped
     requires own { mine.helper.table ≡ table.now.table }
     requires others { All (λ r. r.helper.table ≡ table.now.table) theirs.items }
     ensures own { IfErr mine.part (λ fault. result.part ≡ Err fault) }
-    ensures least { IfErr result.part (IsFaultOfLeast (parts_of mine theirs.items)) }
+    ensures least { IfErr result.part (IsFaultOfLeast (parts_helped mine theirs.items)) }
     ensures room { result.room ≡ mine.room }
     ensures helped { (kind : KindOf) (t : SpaceTable) (roots : List RootOf) (a : ℕ) → IsHelped kind t roots table.now a mine → All (IsHelped kind t roots table.now 1) theirs.items → IsHelped kind t roots table.now (a + length theirs.items) result }
 {
@@ -403,7 +403,7 @@ fn finish<G: Gate>(
     requires few { plan.kept ≤ MOST_SPACE_BLOCKS }
     requires counts { AreCountsOf plan.kind task.now.spaces.now.spaces task.now.roots.now table.counts }
     requires helped { IsHelped plan.kind task.now.spaces.now task.now.roots.now table table.counts.helpers helped }
-    ensures { Collects RoomFault.HeapFull plan.kind task.now.spaces.now task.now.roots.now table.counts.helpers table.counts.helpers result }
+    ensures { CollectsRoots RoomFault.HeapFull plan.kind task.now.spaces.now task.now.roots.now table.counts.helpers table.counts.helpers result }
 {
     let Helped { helper, part, room } = helped;
     let forward = Forwarding::of_closed(CELLS * plan.kept, table.close(helper), room);

@@ -3,7 +3,7 @@ ghost use Rattle.std.specs.Prelude.{◌≡◌, ◌≤◌, [], false, vec_capacit
 ghost use Rattle.tg_word.specs.declared.TheConstants.{MOST_SPACE_BLOCKS};
 ghost use Rattle.tg_race.specs.Seats.{IsWordIn};
 ghost use Rattle.tg_parallel.specs.Inner.Places.{MayDraw, MayMakeReady};
-ghost use Rattle.tg_parallel.specs.Seats.{AreReady, GivePlace, HasRoomFor, IsDrawn, IsHeldBy, KnowsNext};
+ghost use Rattle.tg_parallel.specs.Seats.{AreReady, GivePlace, HasRoomFor, IsNumberDrawn, HoldsBlocks, KnowsNext};
 
 use crate::links::word_to;
 use crate::winner::Winner;
@@ -58,7 +58,7 @@ impl OwnBlocks {
         at: CellWord,
         limit: u64,
     ) -> Result<u64, RoomFault>
-        requires held { IsHeldBy table.now winner.old self.now }
+        requires held { HoldsBlocks table.now winner.old self.now }
         requires word { IsWordIn table.now at }
         requires room { HasRoomFor table.now at.cell winner.old }
         requires limit { limit ≤ MOST_SPACE_BLOCKS }
@@ -113,7 +113,7 @@ impl OwnBlocks {
     #[inline(always)]
     fn draw(&mut self, winner: &mut Winner, table: &RaceTable) -> u64
         requires { MayDraw table.now winner.old self.now }
-        ensures { IsDrawn self.entry.now winner.old self.exit.now winner.new result }
+        ensures { IsNumberDrawn self.entry.now winner.old self.exit.now winner.new result }
     {
         let number = winner.claim_block(table, self.aged);
         self.numbers.push_reserved(number);

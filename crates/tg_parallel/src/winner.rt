@@ -5,7 +5,7 @@ ghost use Rattle.tg_race.specs.Course.{has_met};
 ghost use Rattle.tg_race.specs.Seats.{IsWordIn};
 ghost use Rattle.tg_race.specs.Race.{with_seen};
 ghost use Rattle.tg_evac.specs.Claims.{win_at};
-ghost use Rattle.tg_evac.specs.Claimers.{IsLink};
+ghost use Rattle.tg_evac.specs.Claimers.{IsClaimLink};
 ghost use Rattle.tg_parallel.specs.Inner.Places.{DrawsBlock, DrawsRoots, HasWonAt, MayDrawBlock, MayDrawRoots, MayFindNext};
 ghost use Rattle.tg_parallel.specs.Parts.{wins_of};
 ghost use Rattle.tg_parallel.specs.Seats.{FindsNext};
@@ -100,7 +100,7 @@ impl Winner {
         ensures none { result ≡ 0 → self.new ≡ self.old }
         ensures some { result ≢ 0 → self.new ≡ record self.old { done = with_seen self.old.done (at.cell, place_in result) } }
         ensures place { result ≢ 0 → IsPlace (place_in result) }
-        ensures link { result ≢ 0 → IsLink result }
+        ensures link { result ≢ 0 → IsClaimLink result }
         ensures unmet { result ≡ 0 → has_met self.old.done at.cell ≡ false }
     {
         self.helper.look_word(table, at)

@@ -13,7 +13,7 @@ use Rattle.tg_passes.specs.declared.signed.Maker.{Maker}
 use Rattle.tg_passes.specs.declared.signed.Maker.TheVariants.{Session, Keeper}
 use Rattle.tg_passes.specs.declared.signed.Signed.{Signed}
 use Rattle.tg_passes.specs.declared.pass.View.{View}
-use Rattle.tg_passes.specs.Passes.{AreApart, AreOwn, BeginsWith, Fits, IsBelow, Issued, Kept, Knows, Looked, MayMake, Noted, Sat, entries_by, first_view, issuing, looking, no_view, noting, pass_part, roll_part, roll_view, sign, together}
+use Rattle.tg_passes.specs.Passes.{AreApart, AreOwn, BeginsWith, FitsLog, IsBelow, Issued, Kept, Knows, Looked, MayMake, Noted, Sat, entries_by, first_view, issuing, looking, no_view, noting, pass_part, roll_part, roll_view, sign, together}
 use Rattle.tg_passes.proofs.Signing.{by_append, by_one, by_other, longer, nothing, session_keeper, whole}
 
 off : false ≡ true → ⊥
@@ -23,11 +23,11 @@ off e = true≢false (sym e)
 
 module _ (views : List View) (id : ℕ) (v w : View) (kept : Kept views) (at : get_elem? views id ≡ some v) where
   -- the log goes on to this one, in which each other seat fits
-  each_set : (log : List Signed) (low : ℕ) → ((by : ℕ) (u : View) → by ≢ id → get_elem? views by ≡ some u → Fits log kept.seat low by u) → Fits log kept.seat low id w
-      → (by : ℕ) (u : View) → get_elem? (set views id w) by ≡ some u → Fits log kept.seat low by u
+  each_set : (log : List Signed) (low : ℕ) → ((by : ℕ) (u : View) → by ≢ id → get_elem? views by ≡ some u → FitsLog log kept.seat low by u) → FitsLog log kept.seat low id w
+      → (by : ℕ) (u : View) → get_elem? (set views id w) by ≡ some u → FitsLog log kept.seat low by u
   each_set log low others mine by u e =
       ⊎_elim
-      (λ (t : (by ≡ id) × (w ≡ u)). subst (λ (y : ℕ × View). Fits log kept.seat low y.0 y.1) (λ i. (sym t.0 i, t.1 i)) mine)
+      (λ (t : (by ≡ id) × (w ≡ u)). subst (λ (y : ℕ × View). FitsLog log kept.seat low y.0 y.1) (λ i. (sym t.0 i, t.1 i)) mine)
       (λ (t : (by ≢ id) × (get_elem? views by ≡ some u)). others by u t.0 t.1)
       (at_set views id by w u e)
 
@@ -99,8 +99,8 @@ begins = record {
   bound = All-nil (λ (s : Signed). IsBelow 0 s.by);
 }
   where
-    one : (by : ℕ) (v : View) → get_elem? (first_view ∷ []) by ≡ some v → Fits [] 0 0 by v
-    one zero v e = subst (Fits [] 0 0 0) (some-injective _ _ e) (record { roll = λ _. (refl, refl, refl); below = λ _. tt; own = λ _. refl; within = λ _. refl; front = nothing [] })
+    one : (by : ℕ) (v : View) → get_elem? (first_view ∷ []) by ≡ some v → FitsLog [] 0 0 by v
+    one zero v e = subst (FitsLog [] 0 0 0) (some-injective _ _ e) (record { roll = λ _. (refl, refl, refl); below = λ _. tt; own = λ _. refl; within = λ _. refl; front = nothing [] })
     one (suc by) v e = absurd (some-ne-none v (sym e))
 
     alone : AreApart (first_view ∷ [])
@@ -222,7 +222,7 @@ joins id other all below u s kept at apart there =
     let theirs : get_elem? s.views other ≡ some u = ⊎_elim (λ (t : (other ≡ id) × (w ≡ u)). absurd (apart t.0)) (λ (t : (other ≢ id) × (get_elem? s.views other ≡ some u)). t.1) (at_set s.views id other w u there) in
     let roll = (kept.each id v at).roll refl in
     let it = kept.each other u theirs in
-    let spent : Fits kept.log kept.seat kept.low other no_view = record { roll = λ k. absurd (off k); below = λ a. absurd (off a); own = λ a. absurd (off a); within = λ a. absurd (off a); front = nothing kept.log } in
+    let spent : FitsLog kept.log kept.seat kept.low other no_view = record { roll = λ k. absurd (off k); below = λ a. absurd (off a); own = λ a. absurd (off a); within = λ a. absurd (off a); front = nothing kept.log } in
     -- first the other is spent, then this one acts for it
     let first : Kept (set s.views other no_view) = record {
       log = kept.log;
@@ -275,7 +275,7 @@ splits id v s kept at =
       seat = kept.seat;
       low = kept.low;
       each = λ by x e. ⊎_elim (λ was. left.each by x was)
-          (λ (is : u ≡ x). subst (Fits kept.log kept.seat kept.low by) is (record { roll = λ k. absurd (off k); below = mine.below; own = mine.own; within = mine.within; front = mine.front }))
+          (λ (is : u ≡ x). subst (FitsLog kept.log kept.seat kept.low by) is (record { roll = λ k. absurd (off k); below = mine.below; own = mine.own; within = mine.within; front = mine.front }))
           (at_snoc (set s.views id w) u x by e);
       apart = λ i j a b ei ej x y same. ⊎_elim
           (λ (p : get_elem? (set s.views id w) i ≡ some a). ⊎_elim

@@ -132,7 +132,7 @@ IsBelow low (Session worker) = worker < low
 IsBelow low Keeper = Unit {0}
 
 -- what one seat knows of the log
-pub record Fits (log : List Signed) (seat low by : ℕ) (v : View) : Type 0 where
+pub record FitsLog (log : List Signed) (seat low by : ℕ) (v : View) : Type 0 where
   pub roll : v.keeps ≡ true → (by ≡ seat) × (v.all ≡ log) × (v.below ≡ low)
   pub below : v.acts ≡ true → IsBelow low v.maker
   pub own : v.acts ≡ true → entries_by v.maker log ≡ v.made
@@ -148,7 +148,7 @@ pub record Kept (views : List View) : Type 0 where
   pub log : List Signed
   pub seat : ℕ
   pub low : ℕ
-  pub each : (by : ℕ) (v : View) → get_elem? views by ≡ some v → Fits log seat low by v
+  pub each : (by : ℕ) (v : View) → get_elem? views by ≡ some v → FitsLog log seat low by v
   pub apart : AreApart views
   pub owned : AreOwn log
   pub bound : All (λ s. IsBelow low s.by) log

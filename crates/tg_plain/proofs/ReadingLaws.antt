@@ -25,7 +25,7 @@ use Rattle.tg_plain.specs.declared.fault.PlainFault.{PlainFault}
 use Rattle.tg_plain.specs.declared.options.PlainOptions.{PlainOptions}
 use Rattle.tg_plain.specs.declared.outcome.Outcome.{Outcome}
 use Rattle.tg_plain.specs.Lines.{IsEmptyScript, IsOutcome, IsOutcomeOf, IsReadOf, RunsOn, all_lines, lines_of}
-use Rattle.tg_plain.specs.Inner.Reading.{AddsLine, AddsOther, HasNoLine, IsFresh, IsReadAs, KeepsOptions, MayAdd, Passes, ReadsFrom, ReadsFront}
+use Rattle.tg_plain.specs.Inner.Reading.{AddsLine, AddsOther, HasNoLine, IsNewReading, IsReadAs, KeepsOptions, MayAddLine, PassesPlainLine, ReadsPlainFrom, ReadsPlainFront}
 
 one_more : (text : List ℕ) (byte : ℕ) → IsOneLine text → byte ≢ 10 → IsOneLine (text ++ byte ∷ [])
 one_more [] byte one other = (other, tt)
@@ -46,7 +46,7 @@ fetches_known room before bytes outcome text after known h =
     subst P known h
 
 -- what is read from a script of which no line was read is the whole of it
-pub fresh_front : (workers : ℕ) (s : Reading) (bytes : List ℕ) → IsFresh s workers → ReadsFront workers bytes [] s bytes
+pub fresh_front : (workers : ℕ) (s : Reading) (bytes : List ℕ) → IsNewReading s workers → ReadsPlainFront workers bytes [] s bytes
 fresh_front workers s bytes fresh lines end left h =
     let A : ℕ → Type 0 = λ x. Reads x s.lines.room s.count s.opening bytes lines end left in
     let B : ℕ → Type 0 = λ x. Reads workers x s.count s.opening bytes lines end left in
@@ -54,12 +54,12 @@ fresh_front workers s bytes fresh lines end left h =
     let D : Bool → Type 0 = λ x. Reads workers MOST_BYTES 0 x bytes lines end left in
     subst D fresh.opening (subst C fresh.count (subst B fresh.room (subst A fresh.workers h)))
 
-pub front_more : (workers : ℕ) (t u : Reading) (bytes rest after : List ℕ) (front : List Line) (l : Line) → ReadsFront workers bytes front t rest → Passes t rest l u after → ReadsFront workers bytes (front ++ l ∷ []) u after
+pub front_more : (workers : ℕ) (t u : Reading) (bytes rest after : List ℕ) (front : List Line) (l : Line) → ReadsPlainFront workers bytes front t rest → PassesPlainLine t rest l u after → ReadsPlainFront workers bytes (front ++ l ∷ []) u after
 front_more workers t u bytes rest after front l b p =
     λ lines end left h. subst (λ x. ReadsScript workers bytes x end left) (sym (append_assoc front (l ∷ []) lines)) (b (l ∷ lines) end left (p lines end left h))
 
 -- nothing more comes
-pub front_all : (workers : ℕ) (t : Reading) (bytes rest : List ℕ) (front : List Line) (end : Option ScriptFault) (left : List ℕ) → ReadsFront workers bytes front t rest → ReadsFrom t rest [] end left → ReadsScript workers bytes front end left
+pub front_all : (workers : ℕ) (t : Reading) (bytes rest : List ℕ) (front : List Line) (end : Option ScriptFault) (left : List ℕ) → ReadsPlainFront workers bytes front t rest → ReadsPlainFrom t rest [] end left → ReadsScript workers bytes front end left
 front_all workers t bytes rest front end left b h = subst (λ x. ReadsScript workers bytes x end left) (append-nil front) (b [] end left h)
 
 -- ---- the lines of a script
@@ -70,7 +70,7 @@ other_added s t l h =
     ap (λ (x : List Edge). map line.Edge x ++ lines_of t) h.0 ∙ ap (λ (x : List Line). edges ++ x) h.1 ∙ sym (append_assoc edges (lines_of s) (l ∷ []))
 
 -- a line that may be added stands behind all others
-pub line_added : (s t : Script) (l : Line) → MayAdd s l → AddsLine s l t → all_lines t ≡ all_lines s ++ l ∷ []
+pub line_added : (s t : Script) (l : Line) → MayAddLine s l → AddsLine s l t → all_lines t ≡ all_lines s ++ l ∷ []
 line_added s t (line.Edge edge) may h =
     let edges = map line.Edge s.edges.items in
     let none : lines_of t ≡ [] = ap (map (λ l. l.line)) (h.1 ∙ may) in
@@ -88,7 +88,7 @@ pub no_lines : (s : Script) → HasNoLine s → all_lines s ≡ []
 no_lines s none = ap (λ (x : List Edge). map line.Edge x ++ lines_of s) none.0 ∙ ap (map (λ (l : ScriptLine). l.line)) none.1
 
 -- where a line may stand it may be added
-pub may_add : (s : Script) (l : Line) (workers : ℕ) (opening : Bool) → MayStand workers opening l → (opening ≡ true → s.lines.items ≡ []) → MayAdd s l
+pub may_add : (s : Script) (l : Line) (workers : ℕ) (opening : Bool) → MayStand workers opening l → (opening ≡ true → s.lines.items ≡ []) → MayAddLine s l
 may_add s (line.Edge edge) workers opening stands none = none stands.0
 may_add s (line.Create x label) workers opening stands none = tt
 may_add s (line.Spawn x label) workers opening stands none = tt
@@ -117,15 +117,15 @@ keeps_then s t u k m = record {
 }
 
 -- a line was read, and added
-pub reads_added : (s t : Script) (r q : Reading) (bytes rest after : List ℕ) (l : Line) → t.workers ≡ s.workers → MayAdd s l → AddsLine s l t →
-    ReadsFront s.workers bytes (all_lines s) r rest → Passes r rest l q after → ReadsFront t.workers bytes (all_lines t) q after
+pub reads_added : (s t : Script) (r q : Reading) (bytes rest after : List ℕ) (l : Line) → t.workers ≡ s.workers → MayAddLine s l → AddsLine s l t →
+    ReadsPlainFront s.workers bytes (all_lines s) r rest → PassesPlainLine r rest l q after → ReadsPlainFront t.workers bytes (all_lines t) q after
 reads_added s t r q bytes rest after l workers may adds front passes =
-    subst (λ (w : ℕ). ReadsFront w bytes (all_lines t) q after) (sym workers)
-    (subst (λ (x : List Line). ReadsFront s.workers bytes x q after) (sym (line_added s t l may adds)) (front_more s.workers r q bytes rest after (all_lines s) l front passes))
+    subst (λ (w : ℕ). ReadsPlainFront w bytes (all_lines t) q after) (sym workers)
+    (subst (λ (x : List Line). ReadsPlainFront s.workers bytes x q after) (sym (line_added s t l may adds)) (front_more s.workers r q bytes rest after (all_lines s) l front passes))
 
 -- nothing was read yet
-pub reads_fresh : (s : Script) (r : Reading) (bytes : List ℕ) → IsFresh r s.workers → HasNoLine s → ReadsFront s.workers bytes (all_lines s) r bytes
-reads_fresh s r bytes fresh none = subst (λ (x : List Line). ReadsFront s.workers bytes x r bytes) (sym (no_lines s none)) (fresh_front s.workers r bytes fresh)
+pub reads_fresh : (s : Script) (r : Reading) (bytes : List ℕ) → IsNewReading r s.workers → HasNoLine s → ReadsPlainFront s.workers bytes (all_lines s) r bytes
+reads_fresh s r bytes fresh none = subst (λ (x : List Line). ReadsPlainFront s.workers bytes x r bytes) (sym (no_lines s none)) (fresh_front s.workers r bytes fresh)
 
 -- ---- outcomes
 
@@ -168,7 +168,7 @@ on_ok (Ok x) done h = h
 on_ok (Err e) done h = absurd (true≢false done)
 
 -- the line that came couldn't be added: the script has what it had, and no more was read
-pub reads_short : (s t : Script) (r : Reading) (bytes rest : List ℕ) → KeepsOptions s t → all_lines t ≡ all_lines s → ReadsFront s.workers bytes (all_lines s) r rest →
+pub reads_short : (s t : Script) (r : Reading) (bytes rest : List ℕ) → KeepsOptions s t → all_lines t ≡ all_lines s → ReadsPlainFront s.workers bytes (all_lines s) r rest →
     ReadsScript t.workers bytes (all_lines t) (Some fault.OutOfMemory) rest
 reads_short s t r bytes rest kept same front =
     subst (λ (w : ℕ). ReadsScript w bytes (all_lines t) (Some fault.OutOfMemory) rest) (sym kept.workers)

@@ -3,5 +3,5 @@ use Rattle.std.specs.Prelude.{◌≡◌, ℕ, false, List, ◌++◌}
 use Rattle.tg_plain.specs.declared.text.PlainText.{PlainText}
 
 -- where memory isn't wanting behind it, it wasn't before, and this text stands behind what was there
-abbrev pub Adds : PlainText → List ℕ → PlainText → Type 0
-Adds old more new = new.is_short ≡ false → (old.is_short ≡ false) × (new.bytes.items ≡ old.bytes.items ++ more)
+abbrev pub Appends : PlainText → List ℕ → PlainText → Type 0
+Appends old more new = new.is_short ≡ false → (old.is_short ≡ false) × (new.bytes.items ≡ old.bytes.items ++ more)

@@ -32,29 +32,29 @@ abbrev pub Steps : ProtectionGraph → ℕ → Deed → ProtectionGraph → Type
 Steps g x d h = (IsSubject g x × (h ≡ step g x d)) ⊎ ((¬ IsSubject g x) × (h ≡ g))
 
 -- the next box is of this kind, where so many were taken
-abbrev pub IsNext : List StockItem → ℕ → StockItem → Type 0
-IsNext stock taken kind = (taken < length stock) × (kind ≡ slice_index_or stock taken kind)
+abbrev pub IsNextItem : List StockItem → ℕ → StockItem → Type 0
+IsNextItem stock taken kind = (taken < length stock) × (kind ≡ slice_index_or stock taken kind)
 
 -- a vertex is made with the next box, which is taken where one was made; without a box none is
-abbrev pub Makes : List StockItem → Stage → ℕ → (Value → Deed) → Stage → Type 0
-Makes stock s x making t =
+abbrev pub MakesOfStock : List StockItem → Stage → ℕ → (Value → Deed) → Stage → Type 0
+MakesOfStock stock s x making t =
     ((length stock ≤ s.taken) × (t ≡ s))
-    ⊎ ((kind : StockItem) × IsNext stock s.taken kind × Steps s.graph x (making (value_of_box kind)) t.graph
+    ⊎ ((kind : StockItem) × IsNextItem stock s.taken kind × Steps s.graph x (making (value_of_box kind)) t.graph
     × (t.taken ≡ (if nat_lt s.graph.made t.graph.made then s.taken + 1 else s.taken)))
 
 -- a line leads from one stage to the other; a collection changes nothing, and neither does an edge line, which the graph began with
 abbrev pub Leads : List StockItem → Stage → Line → Stage → Type 0
 Leads stock s (line.Edge edge) t = t ≡ s
-Leads stock s (line.Create x label) t = Makes stock s x (deed_making Object label) t
-Leads stock s (line.Spawn x label) t = Makes stock s x (deed_making Subject label) t
+Leads stock s (line.Create x label) t = MakesOfStock stock s x (deed_making Object label) t
+Leads stock s (line.Spawn x label) t = MakesOfStock stock s x (deed_making Subject label) t
 Leads stock s (line.Plain x command) t = Steps s.graph x (deed.Plain command) t.graph × (t.taken ≡ s.taken)
 Leads stock s line.Full t = t ≡ s
 Leads stock s line.Minor t = t ≡ s
 
 -- these lines do, one after the other
-abbrev pub Runs : List StockItem → Stage → List Line → Stage → Type 0
-Runs stock s [] t = t ≡ s
-Runs stock s (l ∷ lines) t = (m : Stage) × Leads stock s l m × Runs stock m lines t
+abbrev pub RunsLines : List StockItem → Stage → List Line → Stage → Type 0
+RunsLines stock s [] t = t ≡ s
+RunsLines stock s (l ∷ lines) t = (m : Stage) × Leads stock s l m × RunsLines stock m lines t
 
 -- ---- the run of a script
 
@@ -95,7 +95,7 @@ IsReadOf bytes s = (left : List ℕ) × ReadsScript s.workers bytes (all_lines s
 
 -- the run is that of all of the script's lines
 abbrev pub RunsScript : Script → PlainRun → Type 0
-RunsScript s run = Runs s.stock.items (start_of_script s) (lines_of s) (stage_of run)
+RunsScript s run = RunsLines s.stock.items (start_of_script s) (lines_of s) (stage_of run)
 
 -- its picture is that of the graph which all of the script's lines leave, and its boxes are those that they don't take
 abbrev pub IsOutcome : Script → Outcome → Type 0

@@ -28,11 +28,11 @@ pub(crate) struct Reading {
 impl Reading {
     ghost use Rattle.std.specs.Prelude.{◌≡◌, ◌+◌, ◌<◌, ◌≤◌, ℕ, List, Some, IfOk, IfSome};
     ghost use Rattle.tg_text.specs.declared.fetch.TheConstants.{MOST_BYTES};
-    ghost use Rattle.tg_plain.specs.Inner.Reading.{IsFresh, NextLine, TakesLine, Follows};
+    ghost use Rattle.tg_plain.specs.Inner.Reading.{IsNewReading, NextPlainLine, TakesPlainLine, FollowsReading};
 
     /// No line was read.
     pub(crate) fn new(workers: u64) -> Reading
-        ensures { IsFresh result workers }
+        ensures { IsNewReading result workers }
     {
         Reading {
             lines: Lines::new(),
@@ -50,8 +50,8 @@ impl Reading {
         source: &mut S,
         sink: &mut K,
     ) -> Result<Option<Line>, ScriptFault>
-        ensures bytes { (bytes : List ℕ) → S.left source.old ≡ Some bytes → (rest : List ℕ) × (S.left source.new ≡ Some rest) × NextLine self.old bytes result self.new rest }
-        ensures follows { IfOk result (λ next. IfSome next (λ line. Follows self.old line self.new)) }
+        ensures bytes { (bytes : List ℕ) → S.left source.old ≡ Some bytes → (rest : List ℕ) × (S.left source.new ≡ Some rest) × NextPlainLine self.old bytes result self.new rest }
+        ensures follows { IfOk result (λ next. IfSome next (λ line. FollowsReading self.old line self.new)) }
         ensures shorter { IfOk result (λ next. IfSome next (λ _. self.new.lines.room < self.old.lines.room)) }
     {
         let number = self.count + 1;
@@ -71,7 +71,7 @@ impl Reading {
     // The line in the buffer, if it is one that may stand here.
     fn take_line(&mut self) -> Result<Option<Line>, ScriptFault>
         requires { self.old.count + self.old.lines.room < MOST_BYTES }
-        ensures { TakesLine self.old result self.new }
+        ensures { TakesPlainLine self.old result self.new }
     {
         match standing_line(self.buffer.as_slice(), self.workers, self.opening) {
             Some(line) => {

@@ -24,7 +24,7 @@ pub struct PlainRun {
 impl PlainRun {
     ghost use Rattle.tg_model.specs.Picture.{IsPictureOf};
     ghost use Rattle.tg_model.specs.Plain.{graph_of};
-    ghost use Rattle.tg_plain.specs.Lines.{Leads, Makes, RunsScript, Steps, stage_of, start_of_script};
+    ghost use Rattle.tg_plain.specs.Lines.{Leads, MakesOfStock, RunsScript, Steps, stage_of, start_of_script};
 
     /// The run of a script's edge lines: the graph that it begins with. `Opening` where the workers and vertices don't
     /// fit each other; else it fails only when out of memory.
@@ -72,7 +72,7 @@ impl PlainRun {
         self.graph.picture(alloc)
     }
 
-    // Makes a subject or an object that stores the next box. Where none is made, the box stays.
+    // MakesOfStock a subject or an object that stores the next box. Where none is made, the box stays.
     fn make(
         &mut self,
         stock: &[StockItem],
@@ -80,7 +80,7 @@ impl PlainRun {
         label: Label,
         making: Making,
     ) -> Result<Answer, AllocError>
-        ensures ok { OnOk result (Makes stock.now (stage_of self.old) worker (deed_making making label) (stage_of self.new)) }
+        ensures ok { OnOk result (MakesOfStock stock.now (stage_of self.old) worker (deed_making making label) (stage_of self.new)) }
         ensures err { OnErr result (self.new ≡ self.old) }
     {
         if self.taken >= stock.len() {

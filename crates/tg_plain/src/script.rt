@@ -1,7 +1,7 @@
 //! The lines of a script.
 ghost use Rattle.std.specs.Prelude.{◌≡◌, ℕ, List, Some, None, IfOk, OnErr, OnOk};
 ghost use Rattle.tg_plain.specs.Lines.{IsEmptyScript, IsReadOf, RunsOn, all_lines};
-ghost use Rattle.tg_plain.specs.Inner.Reading.{AddsLine, HasNoLine, IsFresh, IsReadAs, KeepsOptions, MayCount};
+ghost use Rattle.tg_plain.specs.Inner.Reading.{AddsLine, HasNoLine, IsNewReading, IsReadAs, KeepsOptions, MayCountBoth};
 
 use crate::fault::PlainFault;
 use crate::heard::Heard;
@@ -115,7 +115,7 @@ impl Script {
         failures: Blank,
         reader: B,
     ) -> Filled<B>
-        requires countable { MayCount A.name A.parts F.name F.parts asked failures }
+        requires countable { MayCountBoth A.name A.parts F.name F.parts asked failures }
         requires empty { HasNoLine self.old }
         ensures kept { KeepsOptions self.old self.new }
         ensures lines { (bytes : List ℕ) → B.remaining reader ≡ Some bytes → IsReadAs bytes result.outcome self.new }
@@ -138,7 +138,7 @@ impl Script {
         source: &mut S,
         reading: &mut Reading,
     ) -> Result<(), ScriptFault>
-        requires fresh { IsFresh reading.old self.old.workers }
+        requires fresh { IsNewReading reading.old self.old.workers }
         requires empty { HasNoLine self.old }
         ensures kept { KeepsOptions self.old self.new }
         ensures lines { (bytes : List ℕ) → S.left source.old ≡ Some bytes → IsReadAs bytes result self.new }

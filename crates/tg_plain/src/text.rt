@@ -1,7 +1,7 @@
 //! Texts that grow until they are printed.
 ghost use Rattle.std.specs.Prelude.{◌≡◌, false, None, [], OnOk, decimal, length};
 ghost use Rattle.tg_rights.specs.RightSet.{text_of};
-ghost use Rattle.tg_plain.specs.Grown.{Adds};
+ghost use Rattle.tg_plain.specs.Grown.{Appends};
 
 use crate::fault::PlainFault;
 use itoa::Buffer;
@@ -47,43 +47,43 @@ impl PlainText {
         self.bytes.clear();
     }
 
-    /// Adds a text.
+    /// Appends a text.
     pub fn add(&mut self, text: &str)
-        ensures { Adds self.old text.now self.new }
+        ensures { Appends self.old text.now self.new }
     {
         self.add_bytes(text.as_bytes());
     }
 
-    /// Adds the bytes of a text.
+    /// Appends the bytes of a text.
     pub fn add_bytes(&mut self, text: &[u8])
-        ensures { Adds self.old text.now self.new }
+        ensures { Appends self.old text.now self.new }
     {
         self.is_short |= self.bytes.extend_from_slice(text).is_err();
     }
 
-    /// Adds a number.
+    /// Appends a number.
     pub fn add_number(&mut self, number: u64)
-        ensures { Adds self.old (decimal number) self.new }
+        ensures { Appends self.old (decimal number) self.new }
     {
         let mut buffer = Buffer::new();
         self.add(buffer.format(number));
     }
 
-    /// Adds the letters of rights.
+    /// Appends the letters of rights.
     pub fn add_rights(&mut self, rights: Rights)
-        ensures { Adds self.old (text_of rights) self.new }
+        ensures { Appends self.old (text_of rights) self.new }
     {
         self.add_bytes(rights.text().as_bytes());
     }
 
-    /// Adds spaces until so many bytes stand behind this place of the text.
+    /// Appends spaces until so many bytes stand behind this place of the text.
     pub fn pad(&mut self, first: usize, width: usize) {
         for _ in self.len()..first.saturating_add(width) {
             self.add(" ");
         }
     }
 
-    /// Adds an answer as a run of `tgstore` prints it, without the line feed.
+    /// Appends an answer as a run of `tgstore` prints it, without the line feed.
     pub fn add_answer(&mut self, answer: &Answer) {
         self.is_short |= write_reply(self, answer).is_err();
         let _ = self.bytes.pop();

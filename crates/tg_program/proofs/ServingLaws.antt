@@ -10,7 +10,7 @@ use Rattle.tg_script.specs.Script.{MayStart, start_with}
 use Rattle.tg_script.specs.Lines.{read_failures}
 use Rattle.tg_threads.specs.declared.fault.RaceFault.{RaceFault}
 use Rattle.tg_threads.specs.Race.{HasRaced, race_read_failures, race_write_failures}
-use Rattle.tg_program.specs.Boxes.{value_of}
+use Rattle.tg_program.specs.Boxes.{value_of_item}
 use Rattle.tg_program.specs.declared.start.Start.{Start}
 use Rattle.tg_program.specs.declared.start.StartFault.TheVariants.{OutOfMemory}
 use Rattle.tg_program.specs.declared.stop.Stop.{Stop}
@@ -20,19 +20,19 @@ use Rattle.tg_program.specs.Serving.{RanAs, Served, WasBegun, race_text_as, scri
 use Rattle.tg_program.specs.Starts.{IsReady}
 
 -- a script may start with a cell for each worker
-pub may_start : (start : Start) (values : List Value) → IsReady start → values ≡ replicate start.settings.workers (value_of Cell) → MayStart start.settings values
-may_start start values ready cells = record { number = ready; workers = ap length cells ∙ length-replicate start.settings.workers (value_of Cell) }
+pub may_start : (start : Start) (values : List Value) → IsReady start → values ≡ replicate start.settings.workers (value_of_item Cell) → MayStart start.settings values
+may_start start values ready cells = record { number = ready; workers = ap length cells ∙ length-replicate start.settings.workers (value_of_item Cell) }
 
-pub ran_from : {T : Type 0} (start : Start) (values stock : List Value) (bytes before : List ℕ) (r : Result T ScriptFault) (left : List ℕ) (after : Option (List ℕ)) → values ≡ replicate start.settings.workers (value_of Cell) → stock ≡ map value_of start.stock.items → RanAs start.entries (start_with start.settings values stock) bytes before r left after → RanAs start.entries (script_start_of start) bytes before r left after
+pub ran_from : {T : Type 0} (start : Start) (values stock : List Value) (bytes before : List ℕ) (r : Result T ScriptFault) (left : List ℕ) (after : Option (List ℕ)) → values ≡ replicate start.settings.workers (value_of_item Cell) → stock ≡ map value_of_item start.stock.items → RanAs start.entries (start_with start.settings values stock) bytes before r left after → RanAs start.entries (script_start_of start) bytes before r left after
 ran_from start values stock bytes before r left after workers boxes ran =
     let P : List Value → Type 0 = λ x. RanAs start.entries (start_with start.settings x stock) bytes before r left after in
-    let Q : List Value → Type 0 = λ x. RanAs start.entries (start_with start.settings (replicate start.settings.workers (value_of Cell)) x) bytes before r left after in
+    let Q : List Value → Type 0 = λ x. RanAs start.entries (start_with start.settings (replicate start.settings.workers (value_of_item Cell)) x) bytes before r left after in
     subst Q boxes (subst P workers ran)
 
-pub raced_from : {T : Type 0} (start : Start) (values stock : List Value) (bytes before : List ℕ) (r : Result T RaceFault) (left : List ℕ) (after : Option (List ℕ)) → values ≡ replicate start.settings.workers (value_of Cell) → stock ≡ map value_of start.stock.items → HasRaced (race_text_as start.entries) (start_with start.settings values stock) bytes before r left after → HasRaced (race_text_as start.entries) (script_start_of start) bytes before r left after
+pub raced_from : {T : Type 0} (start : Start) (values stock : List Value) (bytes before : List ℕ) (r : Result T RaceFault) (left : List ℕ) (after : Option (List ℕ)) → values ≡ replicate start.settings.workers (value_of_item Cell) → stock ≡ map value_of_item start.stock.items → HasRaced (race_text_as start.entries) (start_with start.settings values stock) bytes before r left after → HasRaced (race_text_as start.entries) (script_start_of start) bytes before r left after
 raced_from start values stock bytes before r left after workers boxes raced =
     let P : List Value → Type 0 = λ x. HasRaced (race_text_as start.entries) (start_with start.settings x stock) bytes before r left after in
-    let Q : List Value → Type 0 = λ x. HasRaced (race_text_as start.entries) (start_with start.settings (replicate start.settings.workers (value_of Cell)) x) bytes before r left after in
+    let Q : List Value → Type 0 = λ x. HasRaced (race_text_as start.entries) (start_with start.settings (replicate start.settings.workers (value_of_item Cell)) x) bytes before r left after in
     subst Q boxes (subst P workers raced)
 
 -- where a fault is told as a stop, each other end stands

@@ -7,7 +7,7 @@ use Rattle.tg_script.specs.Running.{Ran}
 use Rattle.tg_text.specs.declared.fault.ScriptFault.{ScriptFault}
 use Rattle.tg_threads.specs.Output.{RaceText, entry_race, reply_race}
 use Rattle.tg_threads.specs.Race.{HasRaced}
-use Rattle.tg_program.specs.Boxes.{value_of}
+use Rattle.tg_program.specs.Boxes.{value_of_item}
 use Rattle.tg_program.specs.Faults.{status_of_stop}
 use Rattle.tg_program.specs.declared.start.Start.{Start}
 use Rattle.tg_program.specs.declared.start.StartFault.TheVariants.{OutOfMemory}
@@ -16,7 +16,7 @@ use Rattle.tg_program.specs.declared.stop.Stop.TheVariants as stop
 
 -- what the script is run with: these settings, a cell with 0 for each worker, and a new box of each kind of the stock
 abbrev pub script_start_of : Start → ScriptStart
-script_start_of start = start_with start.settings (replicate start.settings.workers (value_of Cell)) (map value_of start.stock.items)
+script_start_of start = start_with start.settings (replicate start.settings.workers (value_of_item Cell)) (map value_of_item start.stock.items)
 
 -- what stands behind a script that was run line by line, whether entries are written or replies
 abbrev pub RanAs : {T : Type 0} → Bool → ScriptStart → List ℕ → List ℕ → Result T ScriptFault → List ℕ → Option (List ℕ) → Type 0

@@ -6,7 +6,7 @@ use Rattle.tg_text.specs.declared.stock.StockItem.{StockItem}
 use Rattle.tg_text.specs.declared.stock.StockItem.TheVariants.{Cell}
 use Rattle.tg_text.specs.Stock.{IsStockText}
 use Rattle.tg_script.specs.declared.run_script.Settings.{Settings}
-use Rattle.tg_program.specs.Boxes.{value_of}
+use Rattle.tg_program.specs.Boxes.{value_of_item}
 use Rattle.tg_program.specs.declared.start.Start.{Start}
 use Rattle.tg_program.specs.declared.start.StartFault.{StartFault}
 use Rattle.tg_program.specs.declared.start.StartFault.TheVariants.{BadStock, BadLimits, OutOfMemory}
@@ -36,4 +36,4 @@ pub record MayServe (Ready : Type 0) (start : Start) : Type 0 where
 
 -- a cell with 0 for each worker, and a new box of each kind of the stock
 abbrev pub HasPayloads : Start → List Value → List Value → Type 0
-HasPayloads s workers stock = (workers ≡ replicate s.settings.workers (value_of Cell)) × (stock ≡ map value_of s.stock.items)
+HasPayloads s workers stock = (workers ≡ replicate s.settings.workers (value_of_item Cell)) × (stock ≡ map value_of_item s.stock.items)

@@ -1,7 +1,7 @@
 //! The boxes of a run, which are what its vertices store.
 ghost use Rattle.std.specs.Prelude.{◌≡◌, IfOk, map, replicate};
 ghost use Rattle.tg_text.specs.declared.stock.StockItem.TheVariants.{Cell};
-ghost use Rattle.tg_program.specs.Boxes.{value_of};
+ghost use Rattle.tg_program.specs.Boxes.{value_of_item};
 ghost use Rattle.tg_program.specs.Serving.{ServesFrom};
 ghost use Rattle.tg_program.specs.Starts.{MayServe};
 
@@ -35,7 +35,7 @@ pub(crate) fn serve_with_boxes<R: Threads + Wait + Sync, C: Collector, S: Source
 
 // So many cells with 0. Fails only when out of memory.
 fn new_cells(alloc: Global, count: u64) -> Result<Vec<LawPayload>, AllocError>
-    ensures { IfOk result (λ cells. map (⟦<LawPayload as Payload>⟧.value) cells.items ≡ replicate count (value_of Cell)) }
+    ensures { IfOk result (λ cells. map (⟦<LawPayload as Payload>⟧.value) cells.items ≡ replicate count (value_of_item Cell)) }
 {
     let mut cells = Vec::new(alloc);
     for _ in 0..count {
@@ -46,7 +46,7 @@ fn new_cells(alloc: Global, count: u64) -> Result<Vec<LawPayload>, AllocError>
 
 // A draft of a new box for each item. Fails only when out of memory.
 fn new_drafts(alloc: Global, items: &[StockItem]) -> Result<Vec<Draft<LawPayload>>, AllocError>
-    ensures { IfOk result (λ drafts. drafts.items ≡ map value_of items.now) }
+    ensures { IfOk result (λ drafts. drafts.items ≡ map value_of_item items.now) }
 {
     let mut drafts = Vec::with_capacity(alloc, items.len())?;
     for item in items {
@@ -60,7 +60,7 @@ fn new_drafts(alloc: Global, items: &[StockItem]) -> Result<Vec<Draft<LawPayload
 
 // A new box of this kind. Takes no memory.
 fn new_box(alloc: Global, item: StockItem) -> LawPayload
-    ensures { ⟦<LawPayload as Payload>⟧.value result ≡ value_of item }
+    ensures { ⟦<LawPayload as Payload>⟧.value result ≡ value_of_item item }
 {
     match item {
         StockItem::Cell => LawPayload::cell(0),

@@ -13,7 +13,7 @@ use Rattle.tg_race.specs.declared.plays.View.{View}
 use Rattle.tg_race.specs.declared.record.Record.{Record}
 use Rattle.tg_word.specs.declared.Place.{Place}
 use Rattle.tg_word.specs.Word.{IsPlace}
-use Rattle.tg_race.specs.Words.{word_of, place_of, IsForward}
+use Rattle.tg_race.specs.Words.{place_word, place_of, IsForward}
 use Rattle.tg_race.proofs.PlaceWords.{place_of-word_of}
 use Rattle.tg_race.specs.Weights.{weigh}
 use Rattle.std.specs.List.{All}
@@ -22,7 +22,7 @@ use Rattle.tg_race.proofs.Drawn.{drawn_under}
 use Rattle.tg_race.proofs.Standing.{won_stands, seen_at, unmet}
 use Rattle.tg_race.specs.Words.{place_at}
 use Rattle.tg_race.specs.Race.{Race, Rule, HasMet, empty, past, with_chunk, with_seen, with_won, with_claimed_block, both, less_one}
-use Rattle.tg_race.specs.Board.{IsBoardOfRace, AreSmall, IsClosedTable, IsKnown, KnowsSkipped, number_of_cell, does, skipped_of, numbers_of_race, drew_chunk, drew_aged, drew_old, looked, tried}
+use Rattle.tg_race.specs.Board.{IsBoardOfRace, AreSmall, IsClosedTable, IsRecorded, KnowsSkipped, number_of_cell, does, skipped_of, numbers_of_race, drew_chunk, drew_aged, drew_old, looked, tried}
 use Rattle.tg_race.proofs.Parts.{open_aged, open_old, claims_of, rule_of, parts_of}
 use Rattle.tg_race.proofs.Steps.{claim_keeps, claim_aged_keeps, claim_old_keeps, win_keeps, look_keeps, split_keeps, join_keeps, starts, alone_keeps, few_chunks, few_aged, few_old}
 
@@ -161,12 +161,12 @@ module _ (k : Counts) (slots id : ℕ) (m : Me ℕ View) (alive : 0 < m.0.done.s
   }
 
   wins : (d : ℕ) (p : Place) → cell d < k.cells → slice_index s.words (d + 3) ≡ 0 → IsPlace p → 0 < claims_of p m.0.done → weigh (place_at p) m.0.done.won ≡ 0
-      → IsBoardOfRace k (after (d + 3) (word_of p) (with_won m.0.done (cell d, p)))
+      → IsBoardOfRace k (after (d + 3) (place_word p) (with_won m.0.done (cell d, p)))
   wins d p inside free in' own fresh = let w = with_won m.0.done (cell d, p) in record {
-    race = record h.race { words = set h.race.words (cell d) (word_of p); records = set h.race.records id w };
-    moved = set h.moved d (word_of p);
-    whole = one_word d (word_of p);
-    words = ap (λ (ws : List ℕ). set ws (d + 3) (word_of p)) h.words ∙ ap (λ (i : ℕ). set (numbers_of_race h.race h.moved) i (word_of p)) (three d);
+    race = record h.race { words = set h.race.words (cell d) (place_word p); records = set h.race.records id w };
+    moved = set h.moved d (place_word p);
+    whole = one_word d (place_word p);
+    words = ap (λ (ws : List ℕ). set ws (d + 3) (place_word p)) h.words ∙ ap (λ (i : ℕ). set (numbers_of_race h.race h.moved) i (place_word p)) (three d);
     records = with_record k s h id m.0 w;
     skipped = still_skipped k s h id m.0 w knows;
     rule = rule_of _ _ (win_keeps k h.race id m.0.done (cell d) p (parts_of k h.race h.rule) (in_race k s h id m.0 at) alive inside (sym (word_is d) ∙ free) in' own fresh);
@@ -181,10 +181,10 @@ module _ (k : Counts) (slots id : ℕ) (m : Me ℕ View) (alive : 0 < m.0.done.s
   back d = omega (arith, knows)
 
   -- the word of a cell is that of the place with which the record has met it, and isn't 0 if it has
-  known : (d : ℕ) → IsKnown m.0.done (number_of_cell m.0 (d + 3)) (slice_index s.words (d + 3))
-  known d = subst (λ (i : ℕ). IsKnown m.0.done i (slice_index s.words (d + 3))) (sym (back d)) (here, λ none. unmet k h.race h.rule id m.0.done (in_race k s h id m.0 at) (cell d) (sym (word_is d) ∙ none))
+  known : (d : ℕ) → IsRecorded m.0.done (number_of_cell m.0 (d + 3)) (slice_index s.words (d + 3))
+  known d = subst (λ (i : ℕ). IsRecorded m.0.done i (slice_index s.words (d + 3))) (sym (back d)) (here, λ none. unmet k h.race h.rule id m.0.done (in_race k s h id m.0 at) (cell d) (sym (word_is d) ∙ none))
     where
-      here : (p : Place) → HasMet m.0.done (cell d) p → slice_index s.words (d + 3) ≡ word_of p
+      here : (p : Place) → HasMet m.0.done (cell d) p → slice_index s.words (d + 3) ≡ place_word p
       here p (inl won) = word_is d ∙ won_stands k h.race h.rule id m.0.done (in_race k s h id m.0 at) (cell d) p won
       here p (inr seen) = word_is d ∙ seen_at h.race.words m.0.done.seen (cell d) p (h.rule.seen_stands id m.0.done (in_race k s h id m.0 at)) seen
 
@@ -206,7 +206,7 @@ module _ (k : Counts) (slots id : ℕ) (m : Me ℕ View) (alive : 0 < m.0.done.s
   )
 
   tries_free : (d : ℕ) (p : Place) → cell d < k.cells → IsPlace p → 0 < claims_of p m.0.done → weigh (place_at p) m.0.done.won ≡ 0 → slice_index s.words (d + 3) ≡ 0
-      → GoesOn (d + 3) (word_of p) (tried (step slots (d + 3) 0 (word_of p) none) m (slice_index s.words (d + 3)))
+      → GoesOn (d + 3) (place_word p) (tried (step slots (d + 3) 0 (place_word p) none) m (slice_index s.words (d + 3)))
   tries_free d p inside in' own fresh e = let n : ℕ = slice_index s.words (d + 3) in (
     does m.0 (with_won m.0.done (cell d, p)),
     keeps,
@@ -214,12 +214,12 @@ module _ (k : Counts) (slots id : ℕ) (m : Me ℕ View) (alive : 0 < m.0.done.s
     wins d p inside e in' own fresh,
     (
       (λ ne. absurd (ne e)),
-      ap (λ (v : Record). (does m.0 v, m.1)) (sym (cond-true (eqb n 0) (with_won m.0.done (number_of_cell m.0 (d + 3), place_of (word_of p))) (with_seen m.0.done (number_of_cell m.0 (d + 3), place_of n)) (eq-eqb n 0 e)
-          ∙ (ap (λ (i : ℕ). with_won m.0.done (i, place_of (word_of p))) (back d) ∙ ap (λ (q : Place). with_won m.0.done (cell d, q)) (place_of-word_of p in')))),
+      ap (λ (v : Record). (does m.0 v, m.1)) (sym (cond-true (eqb n 0) (with_won m.0.done (number_of_cell m.0 (d + 3), place_of (place_word p))) (with_seen m.0.done (number_of_cell m.0 (d + 3), place_of n)) (eq-eqb n 0 e)
+          ∙ (ap (λ (i : ℕ). with_won m.0.done (i, place_of (place_word p))) (back d) ∙ ap (λ (q : Place). with_won m.0.done (cell d, q)) (place_of-word_of p in')))),
     ),
   )
 
-  tries_taken : (d : ℕ) (p : Place) → cell d < k.cells → slice_index s.words (d + 3) ≢ 0 → GoesOn (d + 3) (slice_index s.words (d + 3)) (tried (step slots (d + 3) 0 (word_of p) none) m (slice_index s.words (d + 3)))
+  tries_taken : (d : ℕ) (p : Place) → cell d < k.cells → slice_index s.words (d + 3) ≢ 0 → GoesOn (d + 3) (slice_index s.words (d + 3)) (tried (step slots (d + 3) 0 (place_word p) none) m (slice_index s.words (d + 3)))
   tries_taken d p inside ne = let n : ℕ = slice_index s.words (d + 3) in (
     does m.0 (with_seen m.0.done (cell d, place_of n)),
     keeps,
@@ -227,7 +227,7 @@ module _ (k : Counts) (slots id : ℕ) (m : Me ℕ View) (alive : 0 < m.0.done.s
     sees d inside ne,
     (
       forward_at d inside,
-      ap (λ (v : Record). (does m.0 v, m.1)) (sym (cond-false (eqb n 0) (with_won m.0.done (number_of_cell m.0 (d + 3), place_of (word_of p))) (with_seen m.0.done (number_of_cell m.0 (d + 3), place_of n)) (ne_eqb n 0 ne) ∙ ap (λ (i : ℕ). with_seen m.0.done (i, place_of n)) (back d))),
+      ap (λ (v : Record). (does m.0 v, m.1)) (sym (cond-false (eqb n 0) (with_won m.0.done (number_of_cell m.0 (d + 3), place_of (place_word p))) (with_seen m.0.done (number_of_cell m.0 (d + 3), place_of n)) (ne_eqb n 0 ne) ∙ ap (λ (i : ℕ). with_seen m.0.done (i, place_of n)) (back d))),
     ),
   )
 
@@ -237,9 +237,9 @@ pub looks : (k : Counts) (slots id d : ℕ) (m : Me ℕ View) → 0 < m.0.done.s
 looks k slots id d m alive inside s h len at fits = ⊎_elim (looks_free k slots id m alive s h at d) (looks_taken k slots id m alive s h at d inside) (cases_eq (slice_index s.words (d + 3)) 0)
 
 tries : (k : Counts) (slots id d : ℕ) (p : Place) (m : Me ℕ View) → 0 < m.0.done.share → skipped_of k + d < k.cells → IsPlace p → 0 < claims_of p m.0.done → weigh (place_at p) m.0.done.won ≡ 0
-    → Allows (IsBoardOfRace k) slots id m (d + 3) (λ n. either (n == 0) (word_of p) n) (tried (step slots (d + 3) 0 (word_of p) none) m)
+    → Allows (IsBoardOfRace k) slots id m (d + 3) (λ n. either (n == 0) (place_word p) n) (tried (step slots (d + 3) 0 (place_word p) none) m)
 tries k slots id d p m alive inside in' own fresh s h len at fits =
-    exchanged (slice_index s.words (d + 3)) 0 (word_of p) (λ x. GoesOn k slots id m alive s h at (d + 3) x (tried (step slots (d + 3) 0 (word_of p) none) m (slice_index s.words (d + 3))))
+    exchanged (slice_index s.words (d + 3)) 0 (place_word p) (λ x. GoesOn k slots id m alive s h at (d + 3) x (tried (step slots (d + 3) 0 (place_word p) none) m (slice_index s.words (d + 3))))
     (tries_free k slots id m alive s h at d p inside in' own fresh) (tries_taken k slots id m alive s h at d p inside)
 
 -- the same for the word of a place

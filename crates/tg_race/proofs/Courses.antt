@@ -9,14 +9,14 @@ use Rattle.atomic_table.proofs.Lists.{set_else}
 use Rattle.tg_word.specs.declared.Place.{Place}
 use Rattle.tg_word.specs.declared.TheConstants.{SPACES}
 use Rattle.tg_word.specs.Word.{IsPlace}
-use Rattle.tg_race.specs.Words.{word_of, place_of}
+use Rattle.tg_race.specs.Words.{place_word, place_of}
 use Rattle.tg_race.specs.declared.record.Counts.{Counts}
 use Rattle.tg_race.specs.declared.record.Record.{Record}
 use Rattle.tg_race.specs.declared.event.Event.{Event}
 use Rattle.tg_race.specs.declared.event.Event.TheVariants.{Claim, Look, Win, Lose, Block, Part, Meet}
 use Rattle.tg_race.specs.Race.{Race, empty, past, with_chunk, with_seen, with_won, with_claimed_block, both, less_one}
 use Rattle.tg_race.specs.Conditions.{can_use}
-use Rattle.tg_race.specs.Course.{Net, Course, counts_of, chunk_has, pair_has, is_target, record_at, forwarding_word, is_within, can_win, can, can_happen, after, happens, course_after, starting, IsEarned, HasEarnedWins, IsHeld, KeepsRule}
+use Rattle.tg_race.specs.Course.{Net, Course, counts_of, chunk_has, pair_has, is_target, record_at, forwarding_word, is_within, can_win, can, can_happen, race_after, happens, course_after, starting, IsEarned, HasEarnedWins, IsHeldNet, KeepsRule}
 use Rattle.tg_race.proofs.Parts.{Parts, rule_of, parts_of}
 use Rattle.tg_race.proofs.Needs.{none_past, none_open_aged, none_open_old, usable, parted}
 use Rattle.tg_race.proofs.Steps.{claim_keeps, claim_aged_keeps, claim_old_keeps, win_keeps, look_keeps, split_keeps, join_keeps, starts, each_push, each_set}
@@ -189,7 +189,7 @@ module _ (c : Course) (helper : ℕ) (kept : KeepsRule c) (alive : 0 < (record_a
   event_keeps : (e : Event) → can c.net r helper v e ≡ true → KeepsRule (happens c helper e)
   event_keeps Claim h = claims (none_past k v h)
   event_keeps (Look cell) h =
-      cond_both (forwarding_word r cell == 0) r (after r helper v (Lose cell)) (λ x. KeepsRule (record c { race = x })) (λ _. kept) (λ e. sees cell (ltb-true cell (length c.net.targets) h) (eqb-false (forwarding_word r cell) 0 e))
+      cond_both (forwarding_word r cell == 0) r (race_after r helper v (Lose cell)) (λ x. KeepsRule (record c { race = x })) (λ _. kept) (λ e. sees cell (ltb-true cell (length c.net.targets) h) (eqb-false (forwarding_word r cell) 0 e))
   event_keeps (Win cell place) h = wins cell place h
   event_keeps (Lose cell) h = let a = and_parts (nat_lt cell (length c.net.targets)) (not (forwarding_word r cell == 0)) h in
       sees cell (ltb-true cell (length c.net.targets) a.0) (eqb-false (forwarding_word r cell) 0 (not-true (forwarding_word r cell == 0) a.1))
@@ -211,16 +211,16 @@ start_kept net = record {
 -- no event changes a place that a cell has
 pub places_stay : (c : Course) (helper : ℕ) (e : Event) → can_happen c helper e ≡ true → (cell : ℕ) → forwarding_word c.race cell ≢ 0 → forwarding_word (happens c helper e).race cell ≡ forwarding_word c.race cell
 places_stay c helper (Look at) h cell some_ =
-    cond_both (forwarding_word c.race at == 0) c.race (after c.race helper (record_at c.race helper) (Lose at)) (λ r. forwarding_word r cell ≡ forwarding_word c.race cell) (λ _. refl) (λ _. refl)
+    cond_both (forwarding_word c.race at == 0) c.race (race_after c.race helper (record_at c.race helper) (Lose at)) (λ r. forwarding_word r cell ≡ forwarding_word c.race cell) (λ _. refl) (λ _. refl)
 places_stay c helper (Win at place) h cell some_ =
     let a = and_parts (nat_lt 0 (record_at c.race helper).share) (can_win c.net c.race (record_at c.race helper) at place) h in
     let free = (win_parts c.net c.race (record_at c.race helper) at place a.1).free in
     let ne : cell ≢ at = (λ e. some_ (ap (λ (i : ℕ). forwarding_word c.race i) e ∙ free)) in
-    get_or-set_other c.race.words at cell (word_of place) 0 ne
+    get_or-set_other c.race.words at cell (place_word place) 0 ne
 places_stay c helper (Block true) h cell some_ = refl
 places_stay c helper e h cell some_ = refl
 
--- the course after one event of a list
+-- the course race_after one event of a list
 abbrev next : Course → ℕ → Event → Course
 next c helper e = if can_happen c helper e then happens c helper e else c
 
@@ -231,7 +231,7 @@ next_stays : (c : Course) (helper : ℕ) (e : Event) (cell : ℕ) → forwarding
 next_stays c helper e cell taken =
     cond_both (can_happen c helper e) (happens c helper e) c (λ x. forwarding_word x.race cell ≡ forwarding_word c.race cell) (λ h. places_stay c helper e h cell taken) (λ _. refl)
 
--- after a list of events
+-- race_after a list of events
 pub events_keep : (c : Course) (events : List (ℕ × Event)) → KeepsRule c → KeepsRule (course_after c events)
 events_keep c [] kept = kept
 events_keep c (e ∷ es) kept = events_keep (next c e.0 e.1) es (next_keeps c e.0 e.1 kept)
@@ -310,12 +310,12 @@ live_share c0 c helper e v same h here =
     omega arith
 
 -- a push that was refused leaves the course as it was
-pub kept_back : (c0 c : Course) (helper : ℕ) (v w : Record) → c0 ≡ c → v ≡ get_or c0.race.records helper v → w ≡ v → IsHeld c0.net × KeepsRule c0
-    → IsHeld c0.net × KeepsRule (record c0 { race = record c0.race { records = set c0.race.records helper w } })
+pub kept_back : (c0 c : Course) (helper : ℕ) (v w : Record) → c0 ≡ c → v ≡ get_or c0.race.records helper v → w ≡ v → IsHeldNet c0.net × KeepsRule c0
+    → IsHeldNet c0.net × KeepsRule (record c0 { race = record c0.race { records = set c0.race.records helper w } })
 kept_back c0 c helper v w same here is kept = (kept.0, subst KeepsRule (sym (put_back c0 helper v w here is)) kept.1)
 
 -- and a push that was done, as the event says
-pub kept_on : (c0 c d : Course) (helper : ℕ) (e : Event) → c0 ≡ c → IsHeld c0.net × KeepsRule c0 → can_happen c helper e ≡ true → d ≡ happens c helper e → IsHeld c0.net × KeepsRule d
+pub kept_on : (c0 c d : Course) (helper : ℕ) (e : Event) → c0 ≡ c → IsHeldNet c0.net × KeepsRule c0 → can_happen c helper e ≡ true → d ≡ happens c helper e → IsHeldNet c0.net × KeepsRule d
 kept_on c0 c d helper e same kept h is = (kept.0, kept_after c0 c d helper e same kept.1 h is)
 
 -- where the code made of the helper's record what the event makes of it, it made the event's course
@@ -338,12 +338,12 @@ lose_is c0 c helper cell v seen same h here is =
     made_is c0 c helper (Lose cell) v (record v { seen = seen }) (λ w. with_seen w (cell, place_of (forwarding_word c0.race cell))) (λ w. record c0 { race = record c0.race { records = set c0.race.records helper w } }) same h here
     (ap (λ (l : List (ℕ × Place)). record v { seen = l }) is) refl
 
-pub win_is : (c0 c : Course) (helper cell : ℕ) (place : Place) (word : ℕ) (v : Record) (won : List (ℕ × Place)) → c0 ≡ c → can_happen c helper (Win cell place) ≡ true → word ≡ word_of place → v ≡ get_or c0.race.records helper v
+pub win_is : (c0 c : Course) (helper cell : ℕ) (place : Place) (word : ℕ) (v : Record) (won : List (ℕ × Place)) → c0 ≡ c → can_happen c helper (Win cell place) ≡ true → word ≡ place_word place → v ≡ get_or c0.race.records helper v
     → won ≡ v.won ++ (cell, place) ∷ []
     → record c0 { race = record c0.race { words = set c0.race.words cell word; records = set c0.race.records helper (record v { won = won }) } } ≡ happens c helper (Win cell place)
 win_is c0 c helper cell place word v won same h word_is here is =
     ap (λ (n : ℕ). record c0 { race = record c0.race { words = set c0.race.words cell n; records = set c0.race.records helper (record v { won = won }) } }) word_is
-    ∙ made_is c0 c helper (Win cell place) v (record v { won = won }) (λ w. with_won w (cell, place)) (λ w. record c0 { race = record c0.race { words = set c0.race.words cell (word_of place); records = set c0.race.records helper w } }) same h here
+    ∙ made_is c0 c helper (Win cell place) v (record v { won = won }) (λ w. with_won w (cell, place)) (λ w. record c0 { race = record c0.race { words = set c0.race.words cell (place_word place); records = set c0.race.records helper w } }) same h here
     (ap (λ (l : List (ℕ × Place)). record v { won = l }) is) refl
 
 pub claim_aged_is : (c0 c : Course) (helper : ℕ) (v : Record) (aged : List ℕ) → c0 ≡ c → can_happen c helper (Block true) ≡ true → v ≡ get_or c0.race.records helper v → aged ≡ v.aged_blocks ++ c0.race.next_aged ∷ []
@@ -395,7 +395,7 @@ met_records c helper other v w u x h mine theirs spent is =
     ∙ (ap (λ (y : Record). set (set c.race.records other (empty 0)) helper y) (is ∙ (ap (λ (y : Record). both y w) mine ∙ ap (λ (y : Record). both (record_at c.race helper) y) theirs))
     ∙ set_swap c.race.records helper other (both (record_at c.race helper) (record_at c.race other)) (empty 0) (met_apart c helper other h))
 
--- the course after a meeting, where the code's course c0 is c
+-- the course race_after a meeting, where the code's course c0 is c
 pub met_course : (c0 c : Course) (helper other : ℕ) (v w u x : Record) → c0 ≡ c → can_happen c helper (Meet other) ≡ true → v ≡ record_at c.race helper → w ≡ record_at c.race other → u ≡ empty 0 → x ≡ both v w
     → record c0 { race = record c0.race { records = set (set c0.race.records other u) helper x } } ≡ happens c helper (Meet other)
 met_course c0 c helper other v w u x same h mine theirs spent is =

@@ -7,7 +7,7 @@ use Rattle.tg_word.specs.declared.Place.{Place}
 use Rattle.tg_word.specs.Word.{IsPlace}
 use Rattle.tg_race.specs.declared.record.Record.{Record}
 use Rattle.tg_race.specs.Weights.{weigh, weigh_below}
-use Rattle.tg_race.specs.Words.{AreForward, IsPair, place_of, same_pair, same_place, weigh_words, word_of}
+use Rattle.tg_race.specs.Words.{AreForward, IsPair, place_of, same_pair, same_place, weigh_words, place_word}
 use Rattle.tg_race.specs.Race.{AreDrawnOnce, AreWinsOf, AreWonOnce, IsDrawn, Race, all_of, empty}
 use Rattle.tg_race.proofs.Closed.{cell_once, consecutive, differ}
 use Rattle.tg_race.proofs.Standing.{pair_at, same_place_self, taken_pair, weighed_passes}
@@ -194,7 +194,7 @@ wins_of words won forward all = record {
         let is : found.at ≡ q.0 = (let here = eqb-true found.cell q.0 test.0 in let f = found.is in omega arith) in
         let fits = forward found.at 0 found.inside found.taken in (
           subst (λ (p : Place). IsPlace p) (same_place_is (place_of w) q.1 test.1) fits.0,
-          ap (λ (n : ℕ). get_or words n 0) (sym is) ∙ (sym fits.1 ∙ ap word_of (same_place_is (place_of w) q.1 test.1)),
+          ap (λ (n : ℕ). get_or words n 0) (sym is) ∙ (sym fits.1 ∙ ap place_word (same_place_is (place_of w) q.1 test.1)),
         )
 
     back : (q : ℕ × Place) → IsPlace q.1 × IsPair words q → Contains won q

@@ -7,7 +7,7 @@ use Rattle.tg_word.specs.Word.{IsPlace}
 use Rattle.tg_race.specs.declared.record.Counts.{Counts}
 use Rattle.tg_race.specs.declared.record.Record.{Record}
 use Rattle.tg_race.specs.Weights.{weigh, weigh_below, one_at}
-use Rattle.tg_race.specs.Words.{word_of, place_of, same_place, same_pair, has_pair, weigh_words, IsPair, AGED, OLD}
+use Rattle.tg_race.specs.Words.{place_word, place_of, same_place, same_pair, has_pair, weigh_words, IsPair, AGED, OLD}
 use Rattle.tg_race.specs.Race.{Race, Rule, EachRecord, IsDrawn, has_number, with_room}
 use Rattle.tg_race.specs.Board.{IsClosedTable}
 use Rattle.tg_race.specs.Course.{has_met}
@@ -58,7 +58,7 @@ weighed_passes f i (w ∷ ws) some_ = go (w == 0) refl (f (i, place_of w)) refl 
     go other z d e h more = passes_later f i w ws (more (omega arith))
 
 -- a place in the table weighs
-pub taken_pair : (n i c : ℕ) (p : Place) (ws : List ℕ) → n ≡ i + c → get_or ws c 0 ≡ word_of p → IsPlace p → 0 < weigh_words (pair_at n p) i ws
+pub taken_pair : (n i c : ℕ) (p : Place) (ws : List ℕ) → n ≡ i + c → get_or ws c 0 ≡ place_word p → IsPlace p → 0 < weigh_words (pair_at n p) i ws
 taken_pair n i c p [] is here inside = absurd (word_of-some p (sym here))
 taken_pair n i zero p (w ∷ ws) is here inside =
     let some_ : w ≢ 0 = λ none. word_of-some p (sym here ∙ none) in
@@ -68,14 +68,14 @@ taken_pair n i zero p (w ∷ ws) is here inside =
 taken_pair n i (suc c) p (w ∷ ws) is here inside = omega (arith, taken_pair n (suc i) c p ws (omega arith) here inside)
 
 -- a pair of the list stands in the words, where all of it do
-pub seen_at : (words : List ℕ) (l : List (ℕ × Place)) (c : ℕ) (p : Place) → All (IsPair words) l → IsTrue (has_pair c p l) → slice_index words c ≡ word_of p
+pub seen_at : (words : List ℕ) (l : List (ℕ × Place)) (c : ℕ) (p : Place) → All (IsPair words) l → IsTrue (has_pair c p l) → slice_index words c ≡ place_word p
 seen_at words l c p all h =
     let q = any_all (IsPair words) (same_pair c p) l all h in
     let test = and_parts (q.0.0 == c) (same_place q.0.1 p) q.1 in
-    ap (λ (n : ℕ). get_or words n 0) (sym (eqb-true q.0.0 c test.0)) ∙ (q.2 ∙ ap word_of (same_place_is q.0.1 p test.1))
+    ap (λ (n : ℕ). get_or words n 0) (sym (eqb-true q.0.0 c test.0)) ∙ (q.2 ∙ ap place_word (same_place_is q.0.1 p test.1))
 
 -- a pair that a record has won stands in the table, with a place in range
-won_pair : (k : Counts) (r : Race) → Rule k r → EachRecord (λ v. (cell : ℕ) (p : Place) → IsTrue (has_pair cell p v.won) → (slice_index r.words cell ≡ word_of p) × IsPlace p) r.records
+won_pair : (k : Counts) (r : Race) → Rule k r → EachRecord (λ v. (cell : ℕ) (p : Place) → IsTrue (has_pair cell p v.won) → (slice_index r.words cell ≡ place_word p) × IsPlace p) r.records
 won_pair k r rule id v at cell p won =
     let mine = any_weighs (same_pair cell p) v.won won in
     let one = weigh_one_le (λ u. weigh (pair_at cell p) u.won) r.records id v at in
@@ -85,11 +85,11 @@ won_pair k r rule id v at cell p won =
     let test = and_parts (found.cell == cell) (same_place (place_of w) p) found.passes in
     let is : found.at ≡ cell = (let here = eqb-true found.cell cell test.0 in let e = found.is in omega arith) in
     let forward = rule.wins_once.forward found.at 0 found.inside found.taken in (
-      ap (λ (n : ℕ). get_or r.words n 0) (sym is) ∙ (sym forward.1 ∙ ap word_of (same_place_is (place_of w) p test.1)),
+      ap (λ (n : ℕ). get_or r.words n 0) (sym is) ∙ (sym forward.1 ∙ ap place_word (same_place_is (place_of w) p test.1)),
       subst (λ (q : Place). IsPlace q) (same_place_is (place_of w) p test.1) forward.0,
     )
 
-pub won_stands : (k : Counts) (r : Race) → Rule k r → EachRecord (λ v. (cell : ℕ) (p : Place) → IsTrue (has_pair cell p v.won) → slice_index r.words cell ≡ word_of p) r.records
+pub won_stands : (k : Counts) (r : Race) → Rule k r → EachRecord (λ v. (cell : ℕ) (p : Place) → IsTrue (has_pair cell p v.won) → slice_index r.words cell ≡ place_word p) r.records
 won_stands k r rule id v at cell p won = (won_pair k r rule id v at cell p won).0
 
 pub won_place : (k : Counts) (r : Race) → Rule k r → EachRecord (λ v. (cell : ℕ) (p : Place) → IsTrue (has_pair cell p v.won) → IsPlace p) r.records
@@ -118,7 +118,7 @@ pub unmet : (k : Counts) (r : Race) → Rule k r → (id : ℕ) (v : Record) →
 unmet k r rule id v at c none = false_from_ne_true (has_met v c) (λ e. met_taken k r rule id v at c e none)
 
 -- the places in a closed table are those of the pairs that were won
-pub closed_pairs : (k : Counts) (words : List ℕ) (done : Record) → IsClosedTable k words done → (cell : ℕ) (p : Place) → IsPlace p → (slice_index words cell ≡ word_of p) ↔ IsTrue (has_pair cell p done.won)
+pub closed_pairs : (k : Counts) (words : List ℕ) (done : Record) → IsClosedTable k words done → (cell : ℕ) (p : Place) → IsPlace p → (slice_index words cell ≡ place_word p) ↔ IsTrue (has_pair cell p done.won)
 closed_pairs k words done closed cell p inside =
     let all = closed.rule.wins_once.won (pair_at cell p) in
     ((λ here. weighs_any (same_pair cell p) done.won (omega (arith, taken_pair cell 0 cell p words (omega arith) here inside))), won_stands k _ closed.rule 0 done refl cell p)

@@ -10,7 +10,7 @@ use Rattle.tg_race.specs.declared.record.Counts.{Counts}
 use Rattle.tg_race.specs.declared.record.Record.{Record}
 use Rattle.tg_word.specs.declared.Place.{Place}
 use Rattle.tg_word.specs.Word.{IsPlace}
-use Rattle.tg_race.specs.Words.{word_of, IsForward}
+use Rattle.tg_race.specs.Words.{place_word, IsForward}
 use Rattle.tg_race.proofs.PlaceWords.{place_of-word_of, word_of-forward, word_of-some}
 use Rattle.tg_race.specs.Weights.{weigh, weigh_below, one_at}
 use Rattle.tg_race.specs.Words.{IsPair, same_place, place_at, lies_in, OLD, AGED}
@@ -147,13 +147,13 @@ others_fit k words c p free u fits = record {
 
 pub win_keeps : (k : Counts) (r : Race) (id : ℕ) (v : Record) (c : ℕ) (p : Place) → Parts k r → get_elem? r.records id ≡ some v → 0 < v.share
     → c < k.cells → get_or r.words c 0 ≡ 0 → IsPlace p → 0 < claims_of p v → weigh (place_at p) v.won ≡ 0
-    → Parts k (record r { words = set r.words c (word_of p); records = set r.records id (with_won v (c, p)) })
+    → Parts k (record r { words = set r.words c (place_word p); records = set r.records id (with_won v (c, p)) })
 win_keeps k r id v c p rule at has inside free in' own fresh =
     let w = with_won v (c, p) in
     let fits = rule.each id v at in
     let longer : (space b : ℕ) → used_in space b v.won ≤ used_in space b w.won = λ space b. omega (arith, weigh_push (λ q. if lies_in space b q.1 then 1 else 0) v.won (c, p)) in record {
-      size = length-set r.words c (word_of p) ∙ rule.size;
-      forward = All-set (λ w. w ≢ 0 → IsForward w) r.words c (word_of p) (λ _. word_of-forward p in') rule.forward;
+      size = length-set r.words c (place_word p) ∙ rule.size;
+      forward = All-set (λ w. w ≢ 0 → IsForward w) r.words c (place_word p) (λ _. word_of-forward p in') rule.forward;
       chunks = drawn_same 0 r.next_chunk (λ u. u.chunks) r.records id v w at refl rule.chunks;
       aged = drawn_same 0 r.next_aged (λ u. u.aged_blocks) r.records id v w at refl rule.aged;
       old = drawn_same k.kept r.next_old (λ u. u.old_blocks) r.records id v w at refl rule.old;
@@ -162,7 +162,7 @@ win_keeps k r id v c p rule at has inside free in' own fresh =
           let e = rule.won h in
           let m = weigh_push h v.won (c, p) in
           let len : c < length r.words = omega (arith, rule.size) in
-          let f = weigh_words-set h 0 r.words c c (word_of p) (omega arith) len free (word_of-some p) in
+          let f = weigh_words-set h 0 r.words c c (place_word p) (omega arith) len free (word_of-some p) in
           let back = ap (λ (x : Place). h (c, x)) (place_of-word_of p in') in
           omega arith);
       apart = λ x. (
@@ -173,18 +173,18 @@ win_keeps k r id v c p rule at has inside free in' own fresh =
           (λ _. omega (arith, rule.apart x)) in
           omega arith);
       shares = (let s = weigh-set (λ u. u.share) r.records id v w at in let e = rule.shares in omega arith);
-      each = each_set (Fits k (set r.words c (word_of p))) r.records id w (record {
+      each = each_set (Fits k (set r.words c (place_word p))) r.records id w (record {
         placed = All-push (λ q. 0 < claims_of q.1 w) v.won (c, p) fits.placed own;
-        seen = All-weaker (IsPair r.words) (IsPair (set r.words c (word_of p))) (pair_stays r.words c (word_of p) free) v.seen fits.seen;
+        seen = All-weaker (IsPair r.words) (IsPair (set r.words c (place_word p))) (pair_stays r.words c (place_word p) free) v.seen fits.seen;
         past = fits.past;
         open_aged = le_trans (weigh-le (is_open AGED w.won) (is_open AGED v.won) (λ b. fewer_open AGED b v.won w.won (longer AGED b)) v.aged_blocks) fits.open_aged;
         open_old = le_trans (weigh-le (is_open OLD w.won) (is_open OLD v.won) (λ b. fewer_open OLD b v.won w.won (longer OLD b)) v.old_blocks) fits.open_old;
         spent = not_spent v w refl has;
-      }) (λ j u h. others_fit k r.words c (word_of p) free u (rule.each j u h));
+      }) (λ j u h. others_fit k r.words c (place_word p) free u (rule.each j u h));
     }
 
 pub look_keeps : (k : Counts) (r : Race) (id : ℕ) (v : Record) (c : ℕ) (p : Place) → Parts k r → get_elem? r.records id ≡ some v → 0 < v.share
-    → get_or r.words c 0 ≡ word_of p → Parts k (record r { records = set r.records id (with_seen v (c, p)) })
+    → get_or r.words c 0 ≡ place_word p → Parts k (record r { records = set r.records id (with_seen v (c, p)) })
 look_keeps k r id v c p rule at has found =
     let w = with_seen v (c, p) in
     let fits = rule.each id v at in

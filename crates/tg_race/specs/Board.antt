@@ -7,7 +7,7 @@ use Rattle.atomic_table.specs.Table.{State, Me, Step}
 use Rattle.tg_race.specs.declared.record.Counts.{Counts}
 use Rattle.tg_race.specs.declared.plays.View.{View}
 use Rattle.tg_race.specs.declared.record.Record.{Record}
-use Rattle.tg_race.specs.Words.{place_of, word_of, IsForward}
+use Rattle.tg_race.specs.Words.{place_of, place_word, IsForward}
 use Rattle.tg_race.specs.Race.{Race, Rule, HasMet, with_chunk, with_seen, with_won, with_claimed_block}
 use Rattle.tg_race.specs.Course.{has_met}
 
@@ -57,13 +57,13 @@ abbrev pub drew_old : Step ℕ → Me ℕ View → ℕ → Me ℕ View → Type 
 drew_old st m n m' = (m' ≡ (does m.0 (with_claimed_block false m.0.done n), m.1)) × All (λ b. b < n) m.0.done.old_blocks
 
 -- the word is that of the place with which the record has met the cell, and isn't 0 if it has
-abbrev pub IsKnown : Record → ℕ → ℕ → Type 0
-IsKnown v cell n = ((p : Place) → HasMet v cell p → n ≡ word_of p) × (n ≡ 0 → has_met v cell ≡ false)
+abbrev pub IsRecorded : Record → ℕ → ℕ → Type 0
+IsRecorded v cell n = ((p : Place) → HasMet v cell p → n ≡ place_word p) × (n ≡ 0 → has_met v cell ≡ false)
 
 -- what a load of a cell's word tells: it was 0, or names the place that the record has now seen; and what the record knew
 abbrev pub looked : Step ℕ → Me ℕ View → ℕ → Me ℕ View → Type 0
 looked st m n m' =
-    (n ≢ 0 → IsForward n) × (m' ≡ (does m.0 (if n == 0 then m.0.done else with_seen m.0.done (number_of_cell m.0 st.word, place_of n)), m.1)) × IsKnown m.0.done (number_of_cell m.0 st.word) n
+    (n ≢ 0 → IsForward n) × (m' ≡ (does m.0 (if n == 0 then m.0.done else with_seen m.0.done (number_of_cell m.0 st.word, place_of n)), m.1)) × IsRecorded m.0.done (number_of_cell m.0 st.word) n
 
 -- what an exchange at a cell's word tells: where it was 0 the cell is won, else the place that was found is seen
 abbrev pub tried : Step ℕ → Me ℕ View → ℕ → Me ℕ View → Type 0

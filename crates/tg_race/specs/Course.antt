@@ -8,7 +8,7 @@ use Rattle.tg_race.specs.declared.record.Record.{Record}
 use Rattle.tg_race.specs.declared.shape.Shape.{Shape}
 use Rattle.tg_race.specs.declared.event.Event.{Event}
 use Rattle.tg_race.specs.declared.event.Event.TheVariants.{Claim, Look, Win, Lose, Block, Part, Meet}
-use Rattle.tg_race.specs.Words.{word_of, place_of}
+use Rattle.tg_race.specs.Words.{place_word, place_of}
 use Rattle.tg_race.specs.Race.{Race, Rule, EachRecord, empty, chunk_of, has_number, past, with_chunk, with_seen, with_won, with_claimed_block, both, less_one}
 use Rattle.tg_race.specs.Conditions.{can_claim_roots, can_claim_block, blocks_of, can_use, can_part}
 
@@ -78,27 +78,27 @@ can_happen c helper e = nat_lt 0 (record_at c.race helper).share && can c.net c.
 abbrev pub put : Race → ℕ → Record → Race
 put r helper v = record r { records = slice_set r.records helper v }
 
--- the race after a helper with the record v has seen the pair of a cell and its place
+-- the race race_after a helper with the record v has seen the pair of a cell and its place
 abbrev pub sees : Race → ℕ → Record → ℕ → Race
 sees r helper v cell = put r helper (with_seen v (cell, place_of (forwarding_word r cell)))
 
--- the race after an event of a helper with the record v
-abbrev pub after : Race → ℕ → Record → Event → Race
-after r helper v Claim = record r { next_chunk = r.next_chunk + 1; records = slice_set r.records helper (with_chunk v r.next_chunk) }
-after r helper v (Look cell) = if forwarding_word r cell == 0 then r else sees r helper v cell
-after r helper v (Win cell place) = record r { words = slice_set r.words cell (word_of place); records = slice_set r.records helper (with_won v (cell, place)) }
-after r helper v (Lose cell) = sees r helper v cell
-after r helper v (Block aged) =
+-- the race race_after an event of a helper with the record v
+abbrev pub race_after : Race → ℕ → Record → Event → Race
+race_after r helper v Claim = record r { next_chunk = r.next_chunk + 1; records = slice_set r.records helper (with_chunk v r.next_chunk) }
+race_after r helper v (Look cell) = if forwarding_word r cell == 0 then r else sees r helper v cell
+race_after r helper v (Win cell place) = record r { words = slice_set r.words cell (place_word place); records = slice_set r.records helper (with_won v (cell, place)) }
+race_after r helper v (Lose cell) = sees r helper v cell
+race_after r helper v (Block aged) =
     if aged then record r { next_aged = r.next_aged + 1; records = slice_set r.records helper (with_claimed_block true v r.next_aged) }
     else record r { next_old = r.next_old + 1; records = slice_set r.records helper (with_claimed_block false v r.next_old) }
-after r helper v Part = record r { records = slice_set r.records helper (less_one v) ++ empty 1 ∷ [] }
-after r helper v (Meet other) = record r { records = slice_set (slice_set r.records helper (both v (record_at r other))) other (empty 0) }
+race_after r helper v Part = record r { records = slice_set r.records helper (less_one v) ++ empty 1 ∷ [] }
+race_after r helper v (Meet other) = record r { records = slice_set (slice_set r.records helper (both v (record_at r other))) other (empty 0) }
 
--- the course after an event
+-- the course race_after an event
 abbrev pub happens : Course → ℕ → Event → Course
-happens c helper e = record c { race = after c.race helper (record_at c.race helper) e }
+happens c helper e = record c { race = race_after c.race helper (record_at c.race helper) e }
 
--- the course after a list of events, of any helpers; one that can't happen changes nothing
+-- the course race_after a list of events, of any helpers; one that can't happen changes nothing
 abbrev pub course_after : Course → List (ℕ × Event) → Course
 course_after c [] = c
 course_after c (e ∷ es) = course_after (if can_happen c e.0 e.1 then happens c e.0 e.1 else c) es
@@ -155,7 +155,7 @@ abbrev pub IsRaceable : Net → Type 0
 IsRaceable net = (net.kept ≤ MOST_SPACE_BLOCKS) × (0 < net.helpers)
 
 -- what holds of the net of each world: its lists and its count of helpers are no longer than a program's
-pub record IsHeld (net : Net) : Type 0 where
+pub record IsHeldNet (net : Net) : Type 0 where
   pub raceable : IsRaceable net
   pub helpers : net.helpers < 4294967296
   pub roots : length net.roots < 9223372036854775808

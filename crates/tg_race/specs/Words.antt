@@ -15,8 +15,8 @@ abbrev pub space_of_age : Bool → ℕ
 space_of_age aged = if aged then AGED else OLD
 
 -- the word of a cell that has a place: a reference with no rights to that place
-unfoldable pub word_of : Place → ℕ
-word_of p = link_to p
+unfoldable pub place_word : Place → ℕ
+place_word p = link_to p
 
 -- the place in such a word
 unfoldable pub place_of : ℕ → Place
@@ -24,7 +24,7 @@ place_of word = place_in word
 
 -- the word names a place, and is the word of that place
 abbrev pub IsForward : ℕ → Type 0
-IsForward word = IsPlace (place_of word) × (word_of (place_of word) ≡ word)
+IsForward word = IsPlace (place_of word) × (place_word (place_of word) ≡ word)
 
 -- each word is 0 or names a place
 abbrev pub AreForward : List ℕ → Type 0
@@ -32,7 +32,7 @@ AreForward words = All (λ w. w ≢ 0 → IsForward w) words
 
 -- the cell of the pair has this place
 abbrev pub IsPair : List ℕ → ℕ × Place → Type 0
-IsPair words q = slice_index words q.0 ≡ word_of q.1
+IsPair words q = slice_index words q.0 ≡ place_word q.1
 
 -- the weights of the pairs of a cell and its place, of all cells that have one, added up; the first word is that of the cell i
 abbrev pub weigh_words : (ℕ × Place → ℕ) → ℕ → List ℕ → ℕ

@@ -4,7 +4,7 @@ ghost use Rattle.tg_word.specs.declared.TheConstants.{CELLS};
 ghost use Rattle.tg_word.specs.declared.Place.{Place as PlaceOf};
 ghost use Rattle.tg_word.specs.Word.{IsPlace};
 ghost use Rattle.tg_race.specs.Race.{HasMet, empty, with_chunk, with_seen, with_won, with_claimed_block, both, less_one};
-ghost use Rattle.tg_race.specs.Board.{IsKnown};
+ghost use Rattle.tg_race.specs.Board.{IsRecorded};
 ghost use Rattle.tg_race.specs.Seats.{IsWordIn};
 ghost use Rattle.tg_race.specs.Words.{IsForward, place_of};
 ghost use Rattle.tg_race.specs.Conditions.{blocks_of, can_claim_roots, can_claim_block, can_use, can_part};
@@ -111,7 +111,7 @@ impl Helper {
         ensures none { result ≡ 0 → self.new ≡ self.old }
         ensures some { result ≢ 0 → self.new ≡ record self.old { done = with_seen self.old.done (at.cell, place_of result) } }
         ensures forward { result ≢ 0 → IsForward result }
-        ensures known { IsKnown self.old.done at.cell result }
+        ensures known { IsRecorded self.old.done at.cell result }
     {
         table.table.shared.load::<Look>(&mut self.seat, at.number)
     }

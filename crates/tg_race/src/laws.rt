@@ -8,7 +8,7 @@ ghost use Rattle.tg_race.specs.declared.event.Event.{Event};
 ghost use Rattle.tg_word.specs.declared.TheConstants.{CELLS};
 ghost use Rattle.tg_word.specs.declared.Place.{Place};
 ghost use Rattle.tg_word.specs.Word.{IsPlace};
-ghost use Rattle.tg_race.specs.Words.{AGED, OLD, word_of, has_pair};
+ghost use Rattle.tg_race.specs.Words.{AGED, OLD, place_word, has_pair};
 ghost use Rattle.tg_race.specs.Board.{IsClosedTable};
 ghost use Rattle.tg_race.specs.Weights.{weigh, one_at};
 ghost use Rattle.tg_race.specs.Race.{Race, Rule, EachRecord, IsDrawn, AreConsecutive, AreDrawnOnce, AreWinsOf, AreWonOnce, all_of, both, has_number};
@@ -35,13 +35,13 @@ pub fn a_complete_race_is_the_closure()
 
 /// What a record has won stands in the table: the cell has the place that was won, which is in range.
 pub fn wins_stand_in_the_table()
-    ensures words { (k : Counts) (r : Race) → Rule k r → EachRecord (λ v. (cell : ℕ) (p : Place) → IsTrue (has_pair cell p v.won) → slice_index r.words cell ≡ word_of p) r.records }
+    ensures words { (k : Counts) (r : Race) → Rule k r → EachRecord (λ v. (cell : ℕ) (p : Place) → IsTrue (has_pair cell p v.won) → slice_index r.words cell ≡ place_word p) r.records }
     ensures places { (k : Counts) (r : Race) → Rule k r → EachRecord (λ v. (cell : ℕ) (p : Place) → IsTrue (has_pair cell p v.won) → IsPlace p) r.records }
 {}
 
 /// The places in a closed table are those of the pairs that its one record has won, and no other.
 pub fn a_closed_table_has_the_wins()
-    ensures { (k : Counts) (words : List ℕ) (done : Record) → IsClosedTable k words done → (cell : ℕ) (p : Place) → IsPlace p → (slice_index words cell ≡ word_of p) ↔ IsTrue (has_pair cell p done.won) }
+    ensures { (k : Counts) (words : List ℕ) (done : Record) → IsClosedTable k words done → (cell : ℕ) (p : Place) → IsPlace p → (slice_index words cell ≡ place_word p) ↔ IsTrue (has_pair cell p done.won) }
 {}
 
 /// No cell of a closed table was won twice, and no place was given twice: an equal place is that of an equal cell.

@@ -1,17 +1,17 @@
 //! The word of a cell that has a place: a reference with no rights to that place.
 ghost use Rattle.std.specs.Prelude.{◌≡◌};
 ghost use Rattle.tg_word.specs.Word.{IsPlace};
-ghost use Rattle.tg_race.specs.Words.{word_of, place_of as place_in_word};
+ghost use Rattle.tg_race.specs.Words.{place_word, place_of as place_in_word};
 
 use tg_rights::Rights;
 use tg_word::{Place, Slot, pack, place_of};
 
 // The word that a cell with this place has.
-#[tactic(auto, unfolding(crate::specs::Words::word_of))]
+#[tactic(auto, unfolding(crate::specs::Words::place_word))]
 #[inline(always)]
 pub(crate) fn word_to(place: Place) -> u64
     requires { IsPlace place }
-    ensures { result ≡ word_of place }
+    ensures { result ≡ place_word place }
 {
     pack(Slot::To {
         rights: Rights::empty(),

@@ -26,13 +26,13 @@ pub struct World {
 }
 
 impl Model for World {
-    ghost use Rattle.tg_race.specs.Course.{Course, KeepsRule, IsHeld, net_of};
+    ghost use Rattle.tg_race.specs.Course.{Course, KeepsRule, IsHeldNet, net_of};
 
     ghost Value = { Course };
 
     ghost view = { λ w. record { net = net_of w.shape; race = record { next_chunk = w.next_chunk; next_aged = w.next_aged; next_old = w.next_old; words = w.words.items; records = w.records.items } } };
 
-    ghost invariant = { λ w. IsHeld (net_of w.shape) × KeepsRule (record { net = net_of w.shape; race = record { next_chunk = w.next_chunk; next_aged = w.next_aged; next_old = w.next_old; words = w.words.items; records = w.records.items } }) };
+    ghost invariant = { λ w. IsHeldNet (net_of w.shape) × KeepsRule (record { net = net_of w.shape; race = record { next_chunk = w.next_chunk; next_aged = w.next_aged; next_old = w.next_old; words = w.words.items; records = w.records.items } }) };
 }
 
 impl World {

@@ -18,41 +18,41 @@ const LETTERS: &[u8] = b"rwtgaluv";
 
 // Where a text stands in a line.
 #[derive(Clone, Copy)]
-enum Place {
+enum StrayPlace {
     Front,
     Inside,
     End,
 }
 
 // What stands nowhere in a line of the grammar, whatever its words are, and what is said of it.
-const STRAYS: &[(Place, &str, &str)] = &[
-    (Place::Front, "\u{feff}", "a byte order mark"),
-    (Place::End, "\r", "a carriage return before the line feed"),
-    (Place::Front, "#", "a comment"),
-    (Place::Inside, "\t", "a tab, where one space stands"),
-    (Place::Front, " ", "a space in front"),
-    (Place::End, " ", "a space behind the last word"),
-    (Place::Inside, "  ", "two spaces side by side"),
+const STRAYS: &[(StrayPlace, &str, &str)] = &[
+    (StrayPlace::Front, "\u{feff}", "a byte order mark"),
+    (StrayPlace::End, "\r", "a carriage return before the line feed"),
+    (StrayPlace::Front, "#", "a comment"),
+    (StrayPlace::Inside, "\t", "a tab, where one space stands"),
+    (StrayPlace::Front, " ", "a space in front"),
+    (StrayPlace::End, " ", "a space behind the last word"),
+    (StrayPlace::Inside, "  ", "two spaces side by side"),
 ];
 
 // What a word behind a command's own is.
 #[derive(Clone, Copy)]
-enum Kind {
+enum ArgumentKind {
     Number,
     Rights,
 }
 
 // What stands behind the word of an edge line.
-const EDGE: &[Kind] = &[Kind::Number, Kind::Number, Kind::Rights];
+const EDGE: &[ArgumentKind] = &[ArgumentKind::Number, ArgumentKind::Number, ArgumentKind::Rights];
 
 // What may stand behind the word of a command, and one text of it.
-const BEHIND: &[(&[Kind], &str)] = &[
+const BEHIND: &[(&[ArgumentKind], &str)] = &[
     (&[], ""),
-    (&[Kind::Number], " 0"),
-    (&[Kind::Rights], " r"),
-    (&[Kind::Number, Kind::Number], " 0 0"),
-    (&[Kind::Number, Kind::Rights], " 0 r"),
-    (&[Kind::Number, Kind::Number, Kind::Rights], " 0 0 r"),
+    (&[ArgumentKind::Number], " 0"),
+    (&[ArgumentKind::Rights], " r"),
+    (&[ArgumentKind::Number, ArgumentKind::Number], " 0 0"),
+    (&[ArgumentKind::Number, ArgumentKind::Rights], " 0 r"),
+    (&[ArgumentKind::Number, ArgumentKind::Number, ArgumentKind::Rights], " 0 0 r"),
 ];
 
 // The longest word of a command has fewer bytes, and so has each text of what stands behind one.
@@ -108,11 +108,11 @@ fn reason_of_strays(line: &str) -> Option<&'static str> {
     reason_of_letters(line.as_bytes())
 }
 
-fn stands(line: &str, place: Place, stray: &str) -> bool {
+fn stands(line: &str, place: StrayPlace, stray: &str) -> bool {
     match place {
-        Place::Front => line.as_bytes().starts_with(stray.as_bytes()),
-        Place::Inside => line.contains(stray),
-        Place::End => line.as_bytes().ends_with(stray.as_bytes()),
+        StrayPlace::Front => line.as_bytes().starts_with(stray.as_bytes()),
+        StrayPlace::Inside => line.contains(stray),
+        StrayPlace::End => line.as_bytes().ends_with(stray.as_bytes()),
     }
 }
 
@@ -168,7 +168,7 @@ fn reason_of_command(words: &str) -> &'static str {
 }
 
 // What stands behind the command's word, where it is one: where some line has it.
-fn kinds_behind(word: &str) -> Option<&'static [Kind]> {
+fn kinds_behind(word: &str) -> Option<&'static [ArgumentKind]> {
     for (kinds, text) in BEHIND {
         if is_command(word.as_bytes(), text.as_bytes()) {
             return Some(*kinds);
@@ -192,13 +192,13 @@ fn is_command(word: &[u8], text: &[u8]) -> bool {
 }
 
 // What is wrong with the words behind the command's.
-fn reason_of_arguments(kinds: &[Kind], words: &str) -> &'static str {
+fn reason_of_arguments(kinds: &[ArgumentKind], words: &str) -> &'static str {
     let mut left = words;
     for kind in kinds {
         let (word, rest) = cut(left);
         let reason = match kind {
-            Kind::Number => reason_of_number(word),
-            Kind::Rights => reason_of_rights(word.as_bytes()),
+            ArgumentKind::Number => reason_of_number(word),
+            ArgumentKind::Rights => reason_of_rights(word.as_bytes()),
         };
         if let Some(reason) = reason {
             return reason;

@@ -10,7 +10,7 @@ use Rattle.std.proofs.lemmas.Map.Steps.{length-le_from_distinct_below}
 use Rattle.tg_word.specs.declared.Place.{Place}
 use Rattle.tg_word.specs.Word.{place_in}
 use Rattle.tg_block.specs.declared.CellKind.TheVariants.{Object, Chunk}
-use Rattle.tg_space.specs.SpaceList.{SpaceList, IsSpaceList, Holds, cell_at, cells_of, flat_of}
+use Rattle.tg_space.specs.SpaceList.{SpaceList, IsSpaceList, HasCell, cell_at, cells_of, flat_of}
 use Rattle.tg_space.specs.Soundness.{AreSound, IsKindAt, IsReference}
 use Rattle.tg_space.specs.declared.root.Root.{Root}
 use Rattle.tg_space.proofs.Flat.{flat_inside, same_place}
@@ -83,9 +83,9 @@ chain_follows h p (q ∷ qs) ends zero d low = record { some = ends.0; to = ends
 chain_follows h p (q ∷ qs) ends (suc k) d low = chain_follows h q qs ends.3 k d (omega arith)
 
 -- the cells of a row are held
-pub row_held : (h : SpaceList) (p : Place) (ps : List Place) → IsKindAt h Object p → IsChain h (link_at h p) ps → All (Holds h) (p ∷ ps)
+pub row_held : (h : SpaceList) (p : Place) (ps : List Place) → IsKindAt h Object p → IsChain h (link_at h p) ps → All (HasCell h) (p ∷ ps)
 row_held h p ps object ends =
-    All-cons (Holds h) p ps object.held (λ k d low. (chain_chunks h ps (link_at h p) ends k d low).held)
+    All-cons (HasCell h) p ps object.held (λ k d low. (chain_chunks h ps (link_at h p) ends k d low).held)
 
 below_from_any : (xs : List ℕ) (n : ℕ) → All (λ x. x < n) xs → (q : ℕ) → list_any (λ x. q == x) xs ≡ true → q < n
 below_from_any [] n all q has = absurd cc
@@ -102,7 +102,7 @@ below_from_any (x ∷ xs) n all q has = by_test (cases_Bool (q == x)) (below_fro
 
 module _ (h : SpaceList) (is : IsSpaceList h) (roots : List Root) (sound : AreSound h roots) where
   -- cells that are named by the links of two held cells are the same only where those are
-  same_before : (a b at : Place) → Holds h a → Holds h b → Follows h a at → Follows h b at → a ≡ b
+  same_before : (a b at : Place) → HasCell h a → HasCell h b → Follows h a at → Follows h b at → a ≡ b
   same_before a b at held_a held_b one two =
       links_apart h is roots sound a b held_a held_b one.some
       (same_link h (link_at h a) (link_at h b) (link_some h is roots sound a held_a one.some) (link_some h is roots sound b held_b two.some) (one.to ∙ sym two.to))
@@ -156,11 +156,11 @@ module _ (h : SpaceList) (is : IsSpaceList h) (roots : List Root) (sound : AreSo
   pub chain_whole : (p : Place) (ps : List Place) → IsKindAt h Object p → IsChain h (link_at h p) ps → chunks_from h (length (cells_of h)) (link_at h p) ≡ ps
   chain_whole p ps object ends = chain_enough h ps (link_at h p) (length (cells_of h)) ends (let short = chain_short p ps object ends in omega arith)
 
-  all_references : (ps : List Place) → All (Holds h) ps → All (IsReference h) (flat_map (λ q. references_of (cell_at h q)) ps)
+  all_references : (ps : List Place) → All (HasCell h) ps → All (IsReference h) (flat_map (λ q. references_of (cell_at h q)) ps)
   all_references [] held = All-nil (IsReference h)
   all_references (p ∷ ps) held =
       All-append (IsReference h) (references_of (cell_at h p)) (flat_map (λ q. references_of (cell_at h q)) ps)
-      (references_at h is roots sound p (All-head (Holds h) p ps held)) (all_references ps (All-tail (Holds h) p ps held))
+      (references_at h is roots sound p (All-head (HasCell h) p ps held)) (all_references ps (All-tail (HasCell h) p ps held))
 
   pub row_references : (p : Place) → IsKindAt h Object p → IsChain h (link_at h p) (chunks_from h (length (cells_of h)) (link_at h p)) → All (IsReference h) (row_words h p)
   row_references p object ends = all_references (row_of h p) (row_held h p (chunks_from h (length (cells_of h)) (link_at h p)) object ends)

@@ -9,7 +9,7 @@ use Rattle.tg_model.specs.Graph.{with_rights, without_rights}
 use Rattle.tg_word.specs.declared.Place.{Place}
 use Rattle.tg_word.specs.Word.{place_in, rights_in}
 use Rattle.tg_block.specs.declared.CellKind.TheVariants.{Object, Chunk}
-use Rattle.tg_space.specs.SpaceList.{SpaceList, IsSpaceList, Holds, cell_at, cells_of}
+use Rattle.tg_space.specs.SpaceList.{SpaceList, IsSpaceList, HasCell, cell_at, cells_of}
 use Rattle.tg_space.specs.Soundness.{AreSound, HasLayout, HasLayoutOf, IsKindAt, IsReference, RefersTo, IsLink, LinksTo}
 use Rattle.tg_space.specs.Rows.{link_of, chunks_from, link_at, row_of}
 use Rattle.tg_payload.specs.Table.{Payloads, entry}
@@ -55,8 +55,8 @@ pub record ShowsRow (h : SpaceList) (p : Place) (rights : ℕ → RightSet) : Ty
 
 -- the cells and the payloads are those of a graph with these names, labels and values
 pub record Shows (h : SpaceList) (payloads : Payloads) (named : ℕ → Type 0) (label : ℕ → ℕ → RightSet) (value : ℕ → Option Value) : Type 0 where
-  pub layouts : (p : Place) → Holds h p → HasLayout h (cell_at h p)
-  pub links : (p q : Place) → Holds h p → Holds h q → link_at h p ≢ 0 → link_at h p ≡ link_at h q → p ≡ q
+  pub layouts : (p : Place) → HasCell h p → HasLayout h (cell_at h p)
+  pub links : (p q : Place) → HasCell h p → HasCell h q → link_at h p ≢ 0 → link_at h p ≡ link_at h q → p ≡ q
   pub rows : (p : Place) → IsKindAt h Object p → ShowsRow h p (label (name_at h p))
   pub names : (p q : Place) → IsKindAt h Object p → IsKindAt h Object q → name_at h p ≡ name_at h q → p ≡ q
   pub keys : (p q : Place) → IsKindAt h Object p → IsKindAt h Object q → key_at h p ≡ key_at h q → p ≡ q
@@ -241,15 +241,15 @@ module _ (h after : SpaceList) (stays : Stays h after) where
         (λ y. sym (label_at h payloads is graph (name_at h p) p (record { object = object; named = refl }) y))
 
     -- links stay apart where each that isn't empty stood in the same cell before
-    pub links_stay : ((p : Place) → Holds after p → link_at after p ≢ 0 → Holds h p × (link_at after p ≡ link_at h p)) → (p q : Place) → Holds after p → Holds after q → link_at after p ≢ 0 → link_at after p ≡ link_at after q → p ≡ q
+    pub links_stay : ((p : Place) → HasCell after p → link_at after p ≢ 0 → HasCell h p × (link_at after p ≡ link_at h p)) → (p q : Place) → HasCell after p → HasCell after q → link_at after p ≢ 0 → link_at after p ≡ link_at after q → p ≡ q
     links_stay old p q hp hq some same =
         let one = old p hp some in
         let two = old q hq (λ z. some (same ∙ z)) in
         links_apart h is [] graph.sound p q one.0 two.0 (λ z. some (one.1 ∙ z)) (sym one.1 ∙ same ∙ two.1)
 
     -- where there is no new object, names and values are as before
-    pub same_objects : (label : ℕ → ℕ → RightSet) → IsSpaceList after → ((p : Place) → IsKindAt after Object p → IsKindAt h Object p) → ((p : Place) → Holds after p → HasLayout after (cell_at after p)) →
-        ((p q : Place) → Holds after p → Holds after q → link_at after p ≢ 0 → link_at after p ≡ link_at after q → p ≡ q) → ((p : Place) → IsKindAt h Object p → ShowsRow after p (label (name_at h p))) →
+    pub same_objects : (label : ℕ → ℕ → RightSet) → IsSpaceList after → ((p : Place) → IsKindAt after Object p → IsKindAt h Object p) → ((p : Place) → HasCell after p → HasLayout after (cell_at after p)) →
+        ((p q : Place) → HasCell after p → HasCell after q → link_at after p ≢ 0 → link_at after p ≡ link_at after q → p ≡ q) → ((p : Place) → IsKindAt h Object p → ShowsRow after p (label (name_at h p))) →
         ((x y : ℕ) → (IsNamed (content_in h payloads) x → ⊥) → label x y ≡ no_rights) → Becomes h after payloads (IsNamed (content_in h payloads)) label (content_in h payloads).value
     same_objects label spaces back layouts links rows nowhere =
         let c = content_in h payloads in
@@ -302,8 +302,8 @@ module _ (h after : SpaceList) (stays : Stays h after) where
           let other : x ≢ name_at h p = λ e. none (name_of_vertex h payloads is x p (record { object = object; named = sym e })) in
           sym (changed_at x y other) ∙ label_nowhere h payloads is x none y
 
-      pub one_row : (chunks : List Place) (new : List ℕ) → IsSpaceList after → ((q : Place) → IsKindAt after Object q → IsKindAt h Object q) → ((q : Place) → Holds after q → HasLayout after (cell_at after q)) →
-          ((q r : Place) → Holds after q → Holds after r → link_at after q ≢ 0 → link_at after q ≡ link_at after r → q ≡ r) →
+      pub one_row : (chunks : List Place) (new : List ℕ) → IsSpaceList after → ((q : Place) → IsKindAt after Object q → IsKindAt h Object q) → ((q : Place) → HasCell after q → HasLayout after (cell_at after q)) →
+          ((q r : Place) → HasCell after q → HasCell after r → link_at after q ≢ 0 → link_at after q ≡ link_at after r → q ≡ r) →
           ((q : Place) → IsKindAt h Object q → q ≢ p → ShowsRow after q ((content_in h payloads).label (name_at h q))) →
           IsChain after (link_at after p) chunks → words_of after (p ∷ chunks) ≡ new → All (IsReference h) new → Puts h (row_words h p) new name rights →
           Becomes h after payloads (IsNamed (content_in h payloads)) changed (content_in h payloads).value

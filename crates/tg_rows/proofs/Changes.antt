@@ -5,7 +5,7 @@ use Rattle.std.proofs.lemmas.List.Elements.{All-get_or, All-set}
 use Rattle.std.proofs.lemmas.Bool.{cases_eq}
 use Rattle.tg_word.specs.declared.Place.{Place}
 use Rattle.tg_block.specs.Cells.{IsBlock}
-use Rattle.tg_space.specs.SpaceList.{SpaceList, IsSpace, IsSpaceList, Holds, space_of, block_of, cell_at, with_cell_at}
+use Rattle.tg_space.specs.SpaceList.{SpaceList, IsSpace, IsSpaceList, HasCell, space_of, block_of, cell_at, with_cell_at}
 use Rattle.tg_space.proofs.Tables.{same_holds, holds_same, block_whole, shape_cell}
 use Rattle.tg_space.proofs.Writing.{cell_written as written_cell, other_cell}
 
@@ -19,14 +19,14 @@ same_or_other p q = by_numbers (cases_eq p.space q.space) (cases_eq p.block q.bl
     by_numbers (inl _) (inr b) _ = inr (λ e. b (ap (λ (r : Place). r.block) e))
     by_numbers (inl _) (inl _) (inr c) = inr (λ e. c (ap (λ (r : Place). r.cell) e))
 
-module _ (h : SpaceList) (is : IsSpaceList h) (q : Place) (held : Holds h q) (words : List ℕ) where
+module _ (h : SpaceList) (is : IsSpaceList h) (q : Place) (held : HasCell h q) (words : List ℕ) where
   pub cell_written : cell_at (with_cell_at h q words) q ≡ words
   cell_written = written_cell h q words held (block_whole h q is held)
 
   pub cell_kept : (p : Place) → p ≢ q → cell_at (with_cell_at h q words) p ≡ cell_at h p
   cell_kept = other_cell h q words held
 
-  pub holds_written : (p : Place) → Holds (with_cell_at h q words) p ↔ Holds h p
+  pub holds_written : (p : Place) → HasCell (with_cell_at h q words) p ↔ HasCell h p
   holds_written p =
       let shape = shape_cell h q words held in
       (same_holds h (with_cell_at h q words) shape p, holds_same h (with_cell_at h q words) shape p)

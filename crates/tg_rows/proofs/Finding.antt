@@ -12,7 +12,7 @@ use Rattle.tg_payload.specs.Table.{Payloads}
 use Rattle.tg_rights.specs.RightSet.{no_rights}
 use Rattle.tg_word.specs.declared.Place.{Place}
 use Rattle.tg_word.specs.Word.{place_in, rights_in}
-use Rattle.tg_space.specs.SpaceList.{SpaceList, IsSpaceList, Holds, cell_at, cells_of}
+use Rattle.tg_space.specs.SpaceList.{SpaceList, IsSpaceList, HasCell, cell_at, cells_of}
 use Rattle.tg_space.specs.Soundness.{IsKindAt, IsReference, RefersTo}
 use Rattle.tg_space.specs.Targets.{first_pointer}
 use Rattle.tg_rows.specs.Rows.{IsChain, IsRow, name_at, name_in, references_of, rights_to, row_words, words_of}
@@ -183,8 +183,8 @@ module _ (h : SpaceList) (payloads : Payloads) (is : IsSpaceList h) (graph : IsG
   pub row_is : IsRow h p
   row_is = record { object = object; ends = graph.ends p object }
 
-  pub cell_held : (q : Place) → Contains (row_of h p) q → Holds h q
-  cell_held q has = All-contains (Holds h) (row_of h p) q (row_held h p (chunks_from h (length (cells_of h)) (link_at h p)) object (graph.ends p object)) has
+  pub cell_held : (q : Place) → Contains (row_of h p) q → HasCell h q
+  cell_held q has = All-contains (HasCell h) (row_of h p) q (row_held h p (chunks_from h (length (cells_of h)) (link_at h p)) object (graph.ends p object)) has
 
   -- a cell of the row is the object, or a chunk
   pub row_kind : (q : Place) → Contains (row_of h p) q → IsKindAt h Object q ⊎ IsKindAt h Chunk q

@@ -6,7 +6,7 @@ use Rattle.tg_word.specs.declared.Place.{Place}
 use Rattle.tg_word.specs.Word.{place_in, word_at}
 use Rattle.tg_block.specs.declared.CellKind.TheVariants.{Object}
 use Rattle.tg_model.specs.Graph.{without_rights}
-use Rattle.tg_space.specs.SpaceList.{SpaceList, Holds, IsSpaceList, cell_at, cells_of}
+use Rattle.tg_space.specs.SpaceList.{SpaceList, HasCell, IsSpaceList, cell_at, cells_of}
 use Rattle.tg_space.specs.SpaceTable.{SpaceTable, place_in_space, used_of, IsNursery, IsSpaceTable}
 use Rattle.tg_space.specs.Soundness.{IsKindAt}
 use Rattle.tg_space.specs.Rows.{link_at, row_of, chunks_from}
@@ -14,7 +14,7 @@ use Rattle.tg_space.proofs.Flat.{length-cells_of}
 use Rattle.tg_space.proofs.Tables.{count_few, table_list}
 use Rattle.tg_index.specs.Slots.{Slots, HasVacant, IsFirstVacant, IsIndexOf, PutsAt, place_number}
 use Rattle.tg_rows.specs.Content.{IsNamed}
-use Rattle.tg_rows.specs.Inner.Following.{AreBehind, IsBehind, IsNarrowed, IsNotedIn, IsPutAt, IsReady, IsReadyAt, IsWay}
+use Rattle.tg_rows.specs.Inner.Following.{AreBehind, IsRowFollowed, IsNarrowed, IsNotedIn, IsPutAt, IsReadyToFollow, IsReadyAt, IsWay}
 use Rattle.tg_rows.specs.Graph.{content_in, IsGraph}
 use Rattle.tg_rows.specs.Index.{Indexes, IsRowIndex, KeepsOtherIndexes}
 use Rattle.tg_rows.specs.Rows.{IsRow, IsVertexAt, name_at}
@@ -37,7 +37,7 @@ use Rattle.tg_rows.proofs.Indexed.{places_short}
 use Rattle.tg_rows.proofs.Putting.{narrowed_becomes, put_becomes}
 use Rattle.tg_rows.proofs.Marked.{KeepsOthersMarked, others_marked}
 use Rattle.tg_rights.specs.RightSet.{RightSet, is_none_held}
-use Rattle.tg_nursery.specs.Allocation.{HasLeft}
+use Rattle.tg_nursery.specs.Allocation.{HasRoomLeft}
 use Rattle.tg_payload.specs.Table.{Payloads}
 use Rattle.std.proofs.lemmas.List.{length-append}
 
@@ -46,7 +46,7 @@ use Rattle.std.proofs.lemmas.List.{length-append}
 module _ (t : SpaceTable) (table : IsSpaceTable t) (payloads : Payloads) (graph : IsGraph t.spaces payloads) (p : Place) (object : IsKindAt t.spaces Object p) (name : ℕ)
     (space : ℕ) (nursery : IsNursery t space) (to : Place) (target : IsKindAt t.spaces Object to) (named : name_at t.spaces to ≡ name) (rights : RightSet) (some : is_none_held rights ≡ false)
     (r : Place) (s : Slots) (places : List Place) (other : r ≢ p) (at : IsKindAt t.spaces Object r) (index : IsRowIndex t.spaces r s places) where
-  pub others_put : (spot : Spot) → IsSpotIn t.spaces name p (chunks_from t.spaces (length (cells_of t.spaces)) (link_at t.spaces p)) spot → HasLeft t space (cells_for spot) → IsRowIndex (table_put t space spot rights to).spaces r s places
+  pub others_put : (spot : Spot) → IsSpotIn t.spaces name p (chunks_from t.spaces (length (cells_of t.spaces)) (link_at t.spaces p)) spot → HasRoomLeft t space (cells_for spot) → IsRowIndex (table_put t space spot rights to).spaces r s places
   others_put (Reference q i) found left =
       let reference = reference_found t.spaces p name q i found in
       let sound = (put_becomes t table payloads graph p object name (Reference q i) found space left nursery to target named rights some).graph.sound in
@@ -58,7 +58,7 @@ module _ (t : SpaceTable) (table : IsSpaceTable t) (payloads : Payloads) (graph 
 
 module _ (t : SpaceTable) (table : IsSpaceTable t) (payloads : Payloads) (graph : IsGraph t.spaces payloads) (p : Place) (object : IsKindAt t.spaces Object p) (name : ℕ)
     (space : ℕ) (nursery : IsNursery t space) (to : Place) (target : IsKindAt t.spaces Object to) (named : name_at t.spaces to ≡ name) (rights : RightSet) (some : is_none_held rights ≡ false) where
-  pub grown_put : (spot : Spot) → IsSpotIn t.spaces name p (chunks_from t.spaces (length (cells_of t.spaces)) (link_at t.spaces p)) spot → HasLeft t space (cells_for spot) → length (row_of (table_put t space spot rights to).spaces p) ≤ length (row_of t.spaces p) + 1
+  pub grown_put : (spot : Spot) → IsSpotIn t.spaces name p (chunks_from t.spaces (length (cells_of t.spaces)) (link_at t.spaces p)) spot → HasRoomLeft t space (cells_for spot) → length (row_of (table_put t space spot rights to).spaces p) ≤ length (row_of t.spaces p) + 1
   grown_put (Reference q i) found left =
       let reference = reference_found t.spaces p name q i found in
       let sound = (put_becomes t table payloads graph p object name (Reference q i) found space left nursery to target named rights some).graph.sound in
@@ -94,7 +94,7 @@ module _ {old new : SpaceTable} {from : Place} {name : ℕ} {spot : Spot} {note 
 
 -- ---- the index of the row
 
-module _ {new : SpaceTable} {from : Place} {name : ℕ} {spot : Spot} {note : Option Place} {row : IndexedRow} (behind : IsBehind new from name spot note row) where
+module _ {new : SpaceTable} {from : Place} {name : ℕ} {spot : Spot} {note : Option Place} {row : IndexedRow} (behind : IsRowFollowed new from name spot note row) where
   whole : IsRow behind.old.spaces from
   whole = record { object = behind.put.object; ends = behind.put.graph.ends from behind.put.object }
 
@@ -115,8 +115,8 @@ module _ {new : SpaceTable} {from : Place} {name : ℕ} {spot : Spot} {note : Op
       (omega (arith, length-cells_of behind.old.spaces behind.put.table.blocks, count_few behind.old behind.put.table))
 
   -- the same, where the spot is known
-  at_spot : (same : Spot) → spot ≡ same → IsBehind new from name same note row
-  at_spot same is = subst (λ (s : Spot). IsBehind new from name s note row) is behind
+  at_spot : (same : Spot) → spot ≡ same → IsRowFollowed new from name same note row
+  at_spot same is = subst (λ (s : Spot). IsRowFollowed new from name s note row) is behind
 
   -- the reference that was there got more rights
   pub index_widened : (q : Place) (i : ℕ) → spot ≡ Reference q i → IsRowIndex new.spaces from row.names row.cells.items
@@ -152,11 +152,11 @@ module _ {new : SpaceTable} {from : Place} {name : ℕ} {spot : Spot} {note : Op
       let put = b.put in
       full_absent b.old put.table put.payloads put.graph from put.object name last put.found put.space put.left put.nursery put.to put.target.object put.target.named put.rights put.some row.names row.cells.items b.index
 
-  pub last_held : (last : Place) → spot ≡ Full last → Holds new.spaces last
+  pub last_held : (last : Place) → spot ≡ Full last → HasCell new.spaces last
   last_held last is =
       let b = at_spot (Full last) is in
       let put = b.put in
-      subst (λ (t : SpaceTable). Holds t.spaces last) (sym put.put)
+      subst (λ (t : SpaceTable). HasCell t.spaces last) (sym put.put)
       (full_held b.old put.table put.payloads put.graph from put.object name last put.found put.space put.left put.nursery put.to put.target.object put.target.named put.rights put.some)
 
   pub index_extended : (last : Place) → spot ≡ Full last → (u : Slots) (cells : List Place) → u.len ≡ row.names.len + 6 →
@@ -209,7 +209,7 @@ module _ {new : SpaceTable} {later : List Place} {rows : Indexes} {way : Way} {f
       let same = ap (λ (ps : List Place). length ps) (behind.put.rows.rows from behind.object) in
       omega (arith, more, same)
 
-  pub row_behind : (row : IndexedRow) → IsRowIndex behind.old.spaces from row.names row.cells.items → IsBehind new from name spot note row
+  pub row_behind : (row : IndexedRow) → IsRowIndex behind.old.spaces from row.names row.cells.items → IsRowFollowed new from name spot note row
   row_behind row index = record {
     old = behind.put.ready;
     put = behind.put.put;
@@ -228,7 +228,7 @@ module _ {old new : SpaceTable} {from : Place} {name : ℕ} {q : Place} {i : ℕ
   list_old : IsSpaceList old.spaces
   list_old = table_list old taken.table
 
-  held_old : Holds old.spaces q
+  held_old : HasCell old.spaces q
   held_old = cell_held old.spaces taken.payloads list_old taken.graph from taken.object q reference.cell
 
   narrow_becomes : Becomes old.spaces (word_put old q i (narrowed (get_or (cell_at old.spaces q) i 0) taken.rights)).spaces taken.payloads (IsNamed (content_in old.spaces taken.payloads))
@@ -243,8 +243,8 @@ module _ {old new : SpaceTable} {from : Place} {name : ℕ} {q : Place} {i : ℕ
       subst (λ (t : SpaceTable). IsRowIndex t.spaces r s places) (sym taken.written)
       (other_index old.spaces taken.payloads list_old taken.graph from q i word taken.object reference.cell (reference.from, reference.to) narrow_becomes.graph.sound r at other s places index)
 
-  pub narrowed_held : Holds new.spaces q
-  narrowed_held = subst (λ (t : SpaceTable). Holds t.spaces q) (sym taken.written) ((holds_written old.spaces list_old q held_old _ q).1 held_old)
+  pub narrowed_held : HasCell new.spaces q
+  narrowed_held = subst (λ (t : SpaceTable). HasCell t.spaces q) (sym taken.written) ((holds_written old.spaces list_old q held_old _ q).1 held_old)
 
   pub narrowed_inside : i < 8
   narrowed_inside = let to = reference.to in omega (arith, to)
@@ -278,11 +278,11 @@ way_none h rows from (Index at) is other = absurd (other at refl)
 way_none h rows from (New row) is other = is.0
 
 -- a row that may be changed is looked along so
-pub ready_way : (h : SpaceList) (rows : Indexes) (from : Place) (way : Way) → IsReady h rows from way → IsWay h rows.entries from way
+pub ready_way : (h : SpaceList) (rows : Indexes) (from : Place) (way : Way) → IsReadyToFollow h rows from way → IsWay h rows.entries from way
 ready_way h rows from Walk is = is.none
 ready_way h rows from (Index at) is = is.here
 ready_way h rows from (New row) is = (is.none, is.index)
 
 -- the index that stands there is ready for the change
-pub ready_there : (rows inside : Indexes) → inside ≡ rows → (h : SpaceList) (from : Place) (way : Way) (at : ℕ) → way ≡ Index at → IsReady h rows from way → IsReadyAt inside (name_at h from) at
-ready_there rows inside same h from way at is ready = subst (λ (s : Indexes). IsReadyAt s (name_at h from) at) (sym same) (subst (λ (w : Way). IsReady h rows from w) is ready)
+pub ready_there : (rows inside : Indexes) → inside ≡ rows → (h : SpaceList) (from : Place) (way : Way) (at : ℕ) → way ≡ Index at → IsReadyToFollow h rows from way → IsReadyAt inside (name_at h from) at
+ready_there rows inside same h from way at is ready = subst (λ (s : Indexes). IsReadyAt s (name_at h from) at) (sym same) (subst (λ (w : Way). IsReadyToFollow h rows from w) is ready)

@@ -11,7 +11,7 @@ use Rattle.tg_word.specs.declared.Place.{Place}
 use Rattle.tg_block.specs.Cells.{kind_of}
 use Rattle.tg_block.specs.declared.CellKind.{CellKind}
 use Rattle.tg_block.specs.declared.CellKind.TheVariants.{Free, Object, Chunk}
-use Rattle.tg_space.specs.SpaceList.{SpaceList, IsSpaceList, Holds, cell_at, cells_of, with_cell_at, with_block}
+use Rattle.tg_space.specs.SpaceList.{SpaceList, IsSpaceList, HasCell, cell_at, cells_of, with_cell_at, with_block}
 use Rattle.tg_space.specs.Soundness.{HasLayout, IsKindAt, IsReference}
 use Rattle.tg_space.specs.Rows.{link_of, chunks_from, link_at, row_of}
 use Rattle.tg_space.proofs.Tables.{cell_at-with_block, kept-with_block}
@@ -52,21 +52,21 @@ module _ (h : SpaceList) (payloads : Payloads) (is : IsSpaceList h) (graph : IsG
       (λ free. let one : Free ≡ Object = ap kind_of (sym free) ∙ object.is in absurd cc)
       (cell_at-with_block h space low p object.held)
 
-  block_layouts : (p : Place) → Holds (with_block h space) p → HasLayout (with_block h space) (cell_at (with_block h space) p)
+  block_layouts : (p : Place) → HasCell (with_block h space) p → HasLayout (with_block h space) (cell_at (with_block h space) p)
   block_layouts p held =
       ⊎_elim
       (λ old. subst (HasLayout (with_block h space)) (sym old.1) (layout_stays h (with_block h space) block_stays (cell_at h p) (layout_at h is [] graph.sound p old.0)))
       (λ free. subst (HasLayout (with_block h space)) (sym free) tt)
       (cell_at-with_block h space low p held)
 
-  block_links : (p : Place) → Holds (with_block h space) p → link_at (with_block h space) p ≢ 0 → Holds h p × (link_at (with_block h space) p ≡ link_at h p)
+  block_links : (p : Place) → HasCell (with_block h space) p → link_at (with_block h space) p ≢ 0 → HasCell h p × (link_at (with_block h space) p ≡ link_at h p)
   block_links p held some =
       ⊎_elim (λ old. (old.0, ap link_of old.1)) (λ free. absurd (some (ap link_of free))) (cell_at-with_block h space low p held)
 
   block_rows : (p : Place) → IsKindAt h Object p → ShowsRow (with_block h space) p ((content_in h payloads).label (name_at h p))
   block_rows p object =
       row_stays h (with_block h space) block_stays payloads is graph p object
-      (All-weaker (Holds h) (λ q. cell_at (with_block h space) q ≡ cell_at h q) (λ q held. (kept-with_block h space low q held).1) (row_of h p) (row_held h p (chunks_from h (length (cells_of h)) (link_at h p)) object (graph.ends p object)))
+      (All-weaker (HasCell h) (λ q. cell_at (with_block h space) q ≡ cell_at h q) (λ q held. (kept-with_block h space low q held).1) (row_of h p) (row_held h p (chunks_from h (length (cells_of h)) (link_at h p)) object (graph.ends p object)))
 
   pub block_added : Becomes h (with_block h space) payloads (IsNamed (content_in h payloads)) (content_in h payloads).label (content_in h payloads).value
   block_added =
@@ -120,7 +120,7 @@ module _ (h : SpaceList) (payloads : Payloads) (is : IsSpaceList h) (graph : IsG
   pub fresh_rows : (p : Place) → IsKindAt h Object p → ShowsRow after p ((content_in h payloads).label (name_at h p))
   fresh_rows p at = row_stays h after fresh_stays payloads is graph p at (fresh_same p at)
 
-  pub fresh_layouts : HasLayout after words → (p : Place) → Holds after p → HasLayout after (cell_at after p)
+  pub fresh_layouts : HasLayout after words → (p : Place) → HasCell after p → HasLayout after (cell_at after p)
   fresh_layouts layout p held = by_place (same_or_other p q)
     where
       by_place : (p ≡ q) ⊎ (p ≢ q) → HasLayout after (cell_at after p)
@@ -129,11 +129,11 @@ module _ (h : SpaceList) (payloads : Payloads) (is : IsSpaceList h) (graph : IsG
           subst (HasLayout after) (sym (kept_other p other))
           (layout_stays h after fresh_stays (cell_at h p) (layout_at h is [] graph.sound p ((holds_written h is q free.held words p).0 held)))
 
-  pub fresh_links : link_of words ≡ 0 → (p r : Place) → Holds after p → Holds after r → link_at after p ≢ 0 → link_at after p ≡ link_at after r → p ≡ r
+  pub fresh_links : link_of words ≡ 0 → (p r : Place) → HasCell after p → HasCell after r → link_at after p ≢ 0 → link_at after p ≡ link_at after r → p ≡ r
   fresh_links none =
       links_stay h after fresh_stays payloads is graph (λ p held some. by_place p held some (same_or_other p q))
     where
-      by_place : (p : Place) → Holds after p → link_at after p ≢ 0 → (p ≡ q) ⊎ (p ≢ q) → Holds h p × (link_at after p ≡ link_at h p)
+      by_place : (p : Place) → HasCell after p → link_at after p ≢ 0 → (p ≡ q) ⊎ (p ≢ q) → HasCell h p × (link_at after p ≡ link_at h p)
       by_place p held some (inl same) = absurd (some (ap (link_at after) same ∙ ap link_of (cell_written h is q free.held words) ∙ none))
       by_place p held some (inr other) = ((holds_written h is q free.held words p).0 held, ap link_of (kept_other p other))
 

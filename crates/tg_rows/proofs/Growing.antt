@@ -14,13 +14,13 @@ use Rattle.tg_model.specs.Rules.{with_value, written, written_at}
 use Rattle.tg_word.specs.declared.Place.{Place}
 use Rattle.tg_block.specs.Cells.{free_cell, kind_of}
 use Rattle.tg_block.specs.declared.CellKind.TheVariants.{Free, Object}
-use Rattle.tg_space.specs.SpaceList.{SpaceList, IsSpaceList, Holds, cell_at, cells_of, space_of, with_block, with_cell_at}
+use Rattle.tg_space.specs.SpaceList.{SpaceList, IsSpaceList, HasCell, cell_at, cells_of, space_of, with_block, with_cell_at}
 use Rattle.tg_space.specs.SpaceTable.{SpaceTable, IsHandedOut, IsNursery, IsSpaceTable, number_in_space, used_of, with_one_used, with_spaces, place_in_space}
 use Rattle.tg_space.specs.Soundness.{IsKindAt, IsReference}
 use Rattle.tg_space.specs.Generations.{AreRemembered}
 use Rattle.tg_space.specs.Targets.{first_pointer}
 use Rattle.tg_space.proofs.Tables.{kept-with_block, table_cell, table_list, holds_same, shape_cell, shape_written}
-use Rattle.tg_nursery.specs.Allocation.{HasLeft, room_made_for}
+use Rattle.tg_nursery.specs.Allocation.{HasRoomLeft, room_made_for}
 use Rattle.tg_payload.specs.Table.{Payloads, Updates, entry}
 use Rattle.tg_rows.specs.Content.{IsNamed}
 use Rattle.tg_rows.specs.Graph.{IsGraph, content_in}
@@ -156,7 +156,7 @@ room_grows t after payloads space cells table table_after graph low is =
         let list : IsSpaceList grown = subst IsSpaceList spaces_is (table_list after table_after) in
         let becomes = block_added h payloads (table_list t table) graph space low list in
         let kept : (p : Place) → IsKindAt h Object p → All (λ q. cell_at grown q ≡ cell_at h q) (row_of h p) = λ p object.
-        All-weaker (Holds h) (λ q. cell_at grown q ≡ cell_at h q) (λ q held. (kept-with_block h space low q held).1) (row_of h p) (row_held h p (chunks_from h (length (cells_of h)) (link_at h p)) object (graph.ends p object)) in
+        All-weaker (HasCell h) (λ q. cell_at grown q ≡ cell_at h q) (λ q held. (kept-with_block h space low q held).1) (row_of h p) (row_held h p (chunks_from h (length (cells_of h)) (link_at h p)) object (graph.ends p object)) in
         let rows = keeps_rows h grown payloads payloads graph becomes.graph (block_stays h payloads (table_list t table) graph space low list) kept in
         subst (λ (x : SpaceTable). Grown t x payloads) (sym same)
         (record { becomes = becomes; rows = rows; spaces = length-set h space _; used = refl; limits = refl })
@@ -204,7 +204,7 @@ written_becomes h payloads new is graph p object number updates = by_entry (entr
 -- ---- a vertex is placed
 
 -- one more cell of a nursery that has one left is handed out
-pub table_handed_out : (t : SpaceTable) (space : ℕ) → IsSpaceTable t → IsNursery t space → HasLeft t space 1 → IsSpaceTable (with_one_used t space)
+pub table_handed_out : (t : SpaceTable) (space : ℕ) → IsSpaceTable t → IsNursery t space → HasRoomLeft t space 1 → IsSpaceTable (with_one_used t space)
 table_handed_out t space table nursery left = record {
   enough = table.enough;
   few = table.few;
@@ -237,8 +237,8 @@ pub record VertexStep (t after : SpaceTable) (payloads new : Payloads) (q : Plac
   pub table : IsSpaceTable after
   pub remembered : (places : List Place) → AreRemembered t.spaces places → AreRemembered after.spaces places
 
-pub vertex_step : (t after : SpaceTable) (payloads new : Payloads) (space : ℕ) (q : Place) (name key : ℕ) (value : Value) → IsSpaceTable t → IsGraph t.spaces payloads → IsNursery t space → HasLeft t space 1 →
-    Holds t.spaces q → q.space ≡ space → cell_at t.spaces q ≡ free_cell → IsHandedOut (with_one_used t space) q → (IsNamed (content_in t.spaces payloads) name → ⊥) → entry payloads key ≡ None → Updates payloads new key (Some value) →
+pub vertex_step : (t after : SpaceTable) (payloads new : Payloads) (space : ℕ) (q : Place) (name key : ℕ) (value : Value) → IsSpaceTable t → IsGraph t.spaces payloads → IsNursery t space → HasRoomLeft t space 1 →
+    HasCell t.spaces q → q.space ≡ space → cell_at t.spaces q ≡ free_cell → IsHandedOut (with_one_used t space) q → (IsNamed (content_in t.spaces payloads) name → ⊥) → entry payloads key ≡ None → Updates payloads new key (Some value) →
     after ≡ with_spaces (with_one_used t space) (with_cell_at t.spaces q (vertex_words name key)) → VertexStep t after payloads new q name value
 vertex_step t after payloads new space q name key value table graph nursery left held there empty handed fresh unused updates same =
     let h = t.spaces in
@@ -261,12 +261,12 @@ vertex_step t after payloads new space q name key value table graph nursery left
 -- ---- rights are added, after room was made
 
 module _ (t grown : SpaceTable) (payloads : Payloads) (table : IsSpaceTable t) (table_grown : IsSpaceTable grown) (graph : IsGraph t.spaces payloads) (space cells : ℕ) (low : space < length t.spaces) (made : grown ≡ room_made_for t space cells)
-    (from : Place) (object : IsKindAt t.spaces Object from) (name : ℕ) (spot : Spot) (found : IsSpotIn t.spaces name from (chunks_from t.spaces (length (cells_of t.spaces)) (link_at t.spaces from)) spot) (enough : HasLeft grown space cells) (counted : cells ≡ cells_for spot) where
+    (from : Place) (object : IsKindAt t.spaces Object from) (name : ℕ) (spot : Spot) (found : IsSpotIn t.spaces name from (chunks_from t.spaces (length (cells_of t.spaces)) (link_at t.spaces from)) spot) (enough : HasRoomLeft grown space cells) (counted : cells ≡ cells_for spot) where
   pub room : Grown t grown payloads
   room = room_grows t grown payloads space cells table table_grown graph low made
 
-  pub left : HasLeft grown space (cells_for spot)
-  left = subst (HasLeft grown space) counted enough
+  pub left : HasRoomLeft grown space (cells_for spot)
+  left = subst (HasRoomLeft grown space) counted enough
 
   pub there : IsSpotIn grown.spaces name from (chunks_from grown.spaces (length (cells_of grown.spaces)) (link_at grown.spaces from)) spot
   there = spot_stays t.spaces grown.spaces payloads (table_list t table) graph room.rows from object name spot found
@@ -344,7 +344,7 @@ module _ (t grown placed : SpaceTable) (payloads reserved filled : Payloads) (ta
       (step : ChangesTo grown placed filled (λ x. IsNamed (content_in grown.spaces reserved) x ⊎ (x ≡ name)) (content_in grown.spaces reserved).label (with_value (content_in grown.spaces reserved).value name value))
       (rows : KeepsRows grown.spaces placed.spaces) (q : Place) (vertex : IsVertexAt placed.spaces name q)
       (used : placed.used ≡ set grown.used space (used_of grown space + 1)) (blocks : length (space_of placed.spaces space) ≡ length (space_of grown.spaces space))
-      (enough : HasLeft grown space cells) (counted : cells ≡ 1 + cells_for spot) where
+      (enough : HasRoomLeft grown space cells) (counted : cells ≡ 1 + cells_for spot) where
     object_grown : IsKindAt grown.spaces Object from
     object_grown = made_room.rows.objects from object
 
@@ -356,7 +356,7 @@ module _ (t grown placed : SpaceTable) (payloads reserved filled : Payloads) (ta
         spot_stays grown.spaces placed.spaces reserved (table_list grown table_grown) grown_graph rows from object_grown name spot
         (spot_stays t.spaces grown.spaces payloads (table_list t table) graph made_room.rows from object name spot found)
 
-    pub left_over : HasLeft placed space (cells_for spot)
+    pub left_over : HasRoomLeft placed space (cells_for spot)
     left_over =
         let long : space < length grown.used = omega (arith, table_grown.counted, made_room.spaces, low) in
         let more : used_of placed space ≡ used_of grown space + 1 = ap (λ (us : List ℕ). slice_index us space) used ∙ get_or-set_same grown.used space (used_of grown space + 1) 0 long in
@@ -470,7 +470,7 @@ takes_one_cell t grown space cells spot rights to low few made table can =
     made_first false same = (ap (λ (x : SpaceTable). x.used) same, ap (λ (x : SpaceTable). length x.spaces) same)
     made_first true same = (ap (λ (x : SpaceTable). x.used) same, ap (λ (x : SpaceTable). length x.spaces) same ∙ length-set t.spaces space _)
 
-    no_room : HasLeft t space 1 → grown ≡ t
+    no_room : HasRoomLeft t space 1 → grown ≡ t
     no_room left =
         let test : nat_lt (64 * length (space_of t.spaces space)) (used_of t space + cells) ≡ false = le-ltb (64 * length (space_of t.spaces space)) (used_of t space + cells) (omega (arith, left, few)) in
         made ∙ ap (λ (b : Bool). cond b (with_spaces t (with_block t.spaces space)) t) test
@@ -486,7 +486,7 @@ takes_one_cell t grown space cells spot rights to low few made table can =
     put (Full last) can inside =
         let chunk = place_in_space space (used_of grown space) in
         let left = can.1 in
-        let held : Holds grown.spaces chunk = record { space = inside; block = omega (arith, left); cell = omega arith } in
+        let held : HasCell grown.spaces chunk = record { space = inside; block = omega (arith, left); cell = omega arith } in
         let placed = with_cell_at grown.spaces chunk (chunk_words (word_at rights to)) in
         let one = shape_cell grown.spaces chunk (chunk_words (word_at rights to)) held in
         let two = shape_written placed last 7 (link_to chunk) (holds_same grown.spaces placed one last can.0.held) in

@@ -11,9 +11,9 @@ use Rattle.tg_word.proofs.Packing.{place_in-word_at}
 use Rattle.tg_block.specs.Cells.{kind_of}
 use Rattle.tg_space.specs.SpaceTable.{SpaceTable, IsNursery, IsSpaceTable, place_in_space, used_of}
 use Rattle.tg_space.proofs.Tables.{table_list}
-use Rattle.tg_nursery.specs.Allocation.{HasLeft}
+use Rattle.tg_nursery.specs.Allocation.{HasRoomLeft}
 use Rattle.tg_block.specs.declared.CellKind.TheVariants.{Free, Object}
-use Rattle.tg_space.specs.SpaceList.{SpaceList, Holds, IsSpaceList, cell_at, cells_of, with_cell_at, with_word_at}
+use Rattle.tg_space.specs.SpaceList.{SpaceList, HasCell, IsSpaceList, cell_at, cells_of, with_cell_at, with_word_at}
 use Rattle.tg_space.specs.Soundness.{AreSound, IsKindAt, RefersTo}
 use Rattle.tg_space.specs.Rows.{chunks_from, link_at, row_of}
 use Rattle.tg_payload.specs.Table.{Payloads}
@@ -111,7 +111,7 @@ module _ (h : SpaceList) (payloads : Payloads) (is : IsSpaceList h) (graph : IsG
 -- ---- a row with no empty place
 
 module _ (t : SpaceTable) (table : IsSpaceTable t) (payloads : Payloads) (graph : IsGraph t.spaces payloads) (p : Place) (object : IsKindAt t.spaces Object p) (name : ℕ) (last : Place)
-    (found : IsSpotIn t.spaces name p (chunks_from t.spaces (length (cells_of t.spaces)) (link_at t.spaces p)) (Full last)) (space : ℕ) (left : HasLeft t space 1) (nursery : IsNursery t space)
+    (found : IsSpotIn t.spaces name p (chunks_from t.spaces (length (cells_of t.spaces)) (link_at t.spaces p)) (Full last)) (space : ℕ) (left : HasRoomLeft t space 1) (nursery : IsNursery t space)
     (to : Place) (target : IsKindAt t.spaces Object to) (named : name_at t.spaces to ≡ name) (rights : RightSet) (some : is_none_held rights ≡ false) where
   abbrev h : SpaceList
   h = t.spaces
@@ -130,7 +130,7 @@ module _ (t : SpaceTable) (table : IsSpaceTable t) (payloads : Payloads) (graph 
 
   free : IsKindAt t.spaces Free (place_in_space space (used_of t space))
   free =
-      let held : Holds t.spaces (place_in_space space (used_of t space)) = record { space = nursery.1; block = omega (arith, left); cell = omega arith } in
+      let held : HasCell t.spaces (place_in_space space (used_of t space)) = record { space = nursery.1; block = omega (arith, left); cell = omega arith } in
       record { held = held; is = ap kind_of (table.fresh (place_in_space space (used_of t space)) held nursery.0 (omega arith)) }
 
   refers_new : RefersTo t.spaces (word_at rights to)
@@ -168,9 +168,9 @@ module _ (t : SpaceTable) (table : IsSpaceTable t) (payloads : Payloads) (graph 
       ap place_in (link_extended t.spaces payloads is graph p last (place_in_space space (used_of t space)) (word_at rights to) object has ends_here free refers_new others_new)
       ∙ place_in-word_at no_rights (place_in_space space (used_of t space)) (held_place t.spaces is (place_in_space space (used_of t space)) free.held)
 
-  pub full_held : Holds (table_put t space (Full last) rights to).spaces last
+  pub full_held : HasCell (table_put t space (Full last) rights to).spaces last
   full_held =
-      let held : Holds t.spaces last = cell_held t.spaces payloads is graph p object last has in
+      let held : HasCell t.spaces last = cell_held t.spaces payloads is graph p object last has in
       let placed = with_cell_at t.spaces (place_in_space space (used_of t space)) (chunk_words (word_at rights to)) in
       let placed_held = (holds_written t.spaces is (place_in_space space (used_of t space)) free.held (chunk_words (word_at rights to)) last).1 held in
       (holds_written placed (list_written t.spaces is (place_in_space space (used_of t space)) free.held (chunk_words (word_at rights to)) refl) last placed_held

@@ -9,7 +9,7 @@ use Rattle.std.proofs.lemmas.List.Elements.{All-weaker}
 use Rattle.tg_word.specs.declared.Place.{Place}
 use Rattle.tg_word.specs.Word.{place_in}
 use Rattle.tg_block.specs.declared.CellKind.TheVariants.{Object}
-use Rattle.tg_space.specs.SpaceList.{SpaceList, IsSpaceList, Holds, cell_at, cells_of, with_word_at}
+use Rattle.tg_space.specs.SpaceList.{SpaceList, IsSpaceList, HasCell, cell_at, cells_of, with_word_at}
 use Rattle.tg_space.specs.Soundness.{AreSound, IsKindAt, IsReference}
 use Rattle.tg_space.specs.Targets.{first_pointer}
 use Rattle.tg_space.specs.Rows.{chunks_from, link_at, row_of}
@@ -159,8 +159,8 @@ module _ (h : SpaceList) (payloads : Payloads) (is : IsSpaceList h) (graph : IsG
   high : i < 8
   high = let less = slot.1 in omega arith
 
-  held : Holds h q
-  held = subst (Holds h) has.2 (row_held h p (chunks_from h (length (cells_of h)) (link_at h p)) object (graph.ends p object) has.0 q has.1)
+  held : HasCell h q
+  held = subst (HasCell h) has.2 (row_held h p (chunks_from h (length (cells_of h)) (link_at h p)) object (graph.ends p object) has.0 q has.1)
 
   stays : Stays h written
   stays = word_stays h payloads is graph q held i word low high

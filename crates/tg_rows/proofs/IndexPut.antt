@@ -12,12 +12,12 @@ use Rattle.tg_word.specs.declared.Place.{Place}
 use Rattle.tg_word.specs.Word.{IsPlace, is_present, place_in, rights_in, word_at}
 use Rattle.tg_word.proofs.Packing.{is_present-word_at, place_in-word_at}
 use Rattle.tg_block.specs.declared.CellKind.TheVariants.{Object}
-use Rattle.tg_space.specs.SpaceList.{SpaceList, Holds, IsSpaceList, cell_at, cells_of, with_word_at}
+use Rattle.tg_space.specs.SpaceList.{SpaceList, HasCell, IsSpaceList, cell_at, cells_of, with_word_at}
 use Rattle.tg_space.specs.SpaceTable.{SpaceTable, IsNursery, IsSpaceTable}
 use Rattle.tg_space.specs.Soundness.{AreSound, IsKindAt}
 use Rattle.tg_space.specs.Rows.{chunks_from, link_at, row_of}
 use Rattle.tg_space.proofs.Tables.{table_list}
-use Rattle.tg_nursery.specs.Allocation.{HasLeft}
+use Rattle.tg_nursery.specs.Allocation.{HasRoomLeft}
 use Rattle.tg_payload.specs.Table.{Payloads}
 use Rattle.tg_index.specs.Slots.{Slots, HasVacant, IsFirstVacant, IsIndexOf, PutsAt, place_number}
 use Rattle.tg_rows.specs.Graph.{IsGraph}
@@ -121,7 +121,7 @@ module _ (t : SpaceTable) (table : IsSpaceTable t) (payloads : Payloads) (graph 
   pub filled_vacant : (s : Slots) (places : List Place) → IsRowIndex t.spaces p s places → HasVacant s
   filled_vacant s places index = let at = vacant_at t.spaces is p row s places index q i found.1 in has_vacant s (row_slots t.spaces p) index.names at.number at.first
 
-  module _ (space : ℕ) (left : HasLeft t space 0) (nursery : IsNursery t space) (to : Place) (target : IsKindAt t.spaces Object to) (named : name_at t.spaces to ≡ name) (rights : RightSet) (some : is_none_held rights ≡ false) where
+  module _ (space : ℕ) (left : HasRoomLeft t space 0) (nursery : IsNursery t space) (to : Place) (target : IsKindAt t.spaces Object to) (named : name_at t.spaces to ≡ name) (rights : RightSet) (some : is_none_held rights ≡ false) where
     filled_sound : AreSound (with_word_at t.spaces q i (word_at rights to)) []
     filled_sound = (put_becomes t table payloads graph p object name (Empty q i) found space left nursery to target named rights some).graph.sound
 
@@ -233,7 +233,7 @@ pub slot_of_zero : (h : SpaceList) (word : ℕ) → word ≡ 0 → name_referred
 slot_of_zero h word zero = let t : (word == 0) ≡ true = ⊎_elim (λ z. z.0) (λ f. absurd (f.1 zero)) (eqb_tells word 0) in rw t refl
 
 -- the word that was written
-pub word_there : (h : SpaceList) (is : IsSpaceList h) (q : Place) (held : Holds h q) (i word : ℕ) → i < 8 → get_or (cell_at (with_word_at h q i word) q) i 0 ≡ word
+pub word_there : (h : SpaceList) (is : IsSpaceList h) (q : Place) (held : HasCell h q) (i word : ℕ) → i < 8 → get_or (cell_at (with_word_at h q i word) q) i 0 ≡ word
 word_there h is q held i word inside =
     ap (λ (ws : List ℕ). get_or ws i 0) (cell_written h is q held (set (cell_at h q) i word))
     ∙ get_or-set_same (cell_at h q) i word 0 (let long = cell_long h is q held in omega arith)
@@ -241,7 +241,7 @@ word_there h is q held i word inside =
 -- ---- a reference gets more rights
 
 module _ (t : SpaceTable) (table : IsSpaceTable t) (payloads : Payloads) (graph : IsGraph t.spaces payloads) (p : Place) (object : IsKindAt t.spaces Object p) (name : ℕ) (q : Place) (i : ℕ)
-    (found : word_where (refers_to t.spaces name) t.spaces (row_of t.spaces p) ≡ Some (q, i)) (space : ℕ) (left : HasLeft t space 0) (nursery : IsNursery t space)
+    (found : word_where (refers_to t.spaces name) t.spaces (row_of t.spaces p) ≡ Some (q, i)) (space : ℕ) (left : HasRoomLeft t space 0) (nursery : IsNursery t space)
     (to : Place) (target : IsKindAt t.spaces Object to) (named : name_at t.spaces to ≡ name) (rights : RightSet) (some : is_none_held rights ≡ false) (s : Slots) (places : List Place) (index : IsRowIndex t.spaces p s places) where
   whole : IsSpaceList t.spaces
   whole = table_list t table

@@ -11,7 +11,7 @@ use Rattle.tg_word.proofs.Packing.{place_in-word_at, rights_in-word_at, is_prese
 use Rattle.tg_block.specs.Cells.{kind_of, free_cell}
 use Rattle.tg_block.specs.declared.CellKind.{CellKind}
 use Rattle.tg_block.specs.declared.CellKind.TheVariants.{Object, Chunk, Bad}
-use Rattle.tg_space.specs.SpaceList.{SpaceList, IsSpaceList, Holds, cell_at}
+use Rattle.tg_space.specs.SpaceList.{SpaceList, IsSpaceList, HasCell, cell_at}
 use Rattle.tg_space.specs.Targets.{first_pointer, pointers_of, moved_word, image_of}
 use Rattle.tg_space.specs.Soundness.{AreSound, HasLayout, HasLayoutOf, IsKindAt, IsReference, RefersTo, IsLink, LinksTo, IsPointer, NamesCell}
 use Rattle.tg_space.specs.Rows.{link_of, link_at}
@@ -100,13 +100,13 @@ pub record Moves (from : ℕ → Bool) (h after : SpaceList) (to : ℕ → Place
   pub whole : IsSpaceList h
   pub whole_after : IsSpaceList after
   pub sound : AreSound h []
-  pub held : (p : Place) → kept p → Holds h p
+  pub held : (p : Place) → kept p → HasCell h p
   pub used : (p : Place) → kept p → 0 < get_or (cell_at h p) 0 0
   pub closed : (p : Place) → kept p → (word : ℕ) → Contains (pointers_of (cell_at h p)) word → word ≢ 0 → kept (place_in word)
-  pub stands : (p : Place) → kept p → Holds after (moved_place from h to p)
+  pub stands : (p : Place) → kept p → HasCell after (moved_place from h to p)
   pub copied : (p : Place) → kept p → cell_at after (moved_place from h to p) ≡ image_of from h to (cell_at h p)
   pub apart : (p q : Place) → kept p → kept q → moved_place from h to p ≡ moved_place from h to q → p ≡ q
-  pub rest : (q : Place) → Holds after q → (cell_at after q ≡ free_cell) ⊎ ((p : Place) × kept p × (moved_place from h to p ≡ q))
+  pub rest : (q : Place) → HasCell after q → (cell_at after q ≡ free_cell) ⊎ ((p : Place) × kept p × (moved_place from h to p ≡ q))
 
 module _ {from : ℕ → Bool} {h after : SpaceList} {to : ℕ → Place} {kept : Place → Type 0} (move : Moves from h after to kept) where
   -- a word of a kept cell names a kept cell, if any
@@ -165,7 +165,7 @@ module _ {from : ℕ → Bool} {h after : SpaceList} {to : ℕ → Place} {kept 
 
   -- the copy of a kept cell
   pub record IsCopied (p : Place) : Type 0 where
-    pub held : Holds after (moved_place from h to p)
+    pub held : HasCell after (moved_place from h to p)
     pub kind : kind_of (cell_at after (moved_place from h to p)) ≡ kind_of (cell_at h p)
     pub link : link_at after (moved_place from h to p) ≡ moved_word from h to (link_at h p)
     pub words : references_of (cell_at after (moved_place from h to p)) ≡ map (moved_word from h to) (references_of (cell_at h p))
@@ -268,7 +268,7 @@ module _ {from : ℕ → Bool} {h after : SpaceList} {to : ℕ → Place} {kept 
         (λ c. subst (λ (kind : CellKind). HasLayoutOf after copy kind) (sym ((is_copied p keep).kind ∙ c)) (chunk_layout c))
         (kept_kind p keep)
 
-  layout_after : (q : Place) → Holds after q → HasLayout after (cell_at after q)
+  layout_after : (q : Place) → HasCell after q → HasLayout after (cell_at after q)
   layout_after q holds =
       ⊎_elim
       (λ free. subst (λ (words : List ℕ). HasLayout after words) (sym free) tt)
@@ -287,7 +287,7 @@ module _ {from : ℕ → Bool} {h after : SpaceList} {to : ℕ → Place} {kept 
       let links_b : LinksTo h b = ⊎_elim (λ z. absurd (some_b z)) (λ r. r) link_b in
       same_link h a b links_a links_b target
 
-  links_after : (p q : Place) → Holds after p → Holds after q → link_at after p ≢ 0 → link_at after p ≡ link_at after q → p ≡ q
+  links_after : (p q : Place) → HasCell after p → HasCell after q → link_at after p ≢ 0 → link_at after p ≡ link_at after q → p ≡ q
   links_after p q holds_p holds_q ne same = by_rest (move.rest p holds_p) (move.rest q holds_q)
     where
       both : (a b : Place) → kept a → kept b → moved_place from h to a ≡ p → moved_place from h to b ≡ q → p ≡ q

@@ -7,7 +7,7 @@ use Rattle.tg_word.specs.Word.{is_present, place_in, rights_in, word_at, IsPlace
 use Rattle.tg_word.proofs.Packing.{word_at-rights_in, is_place-place_in}
 use Rattle.tg_block.specs.Cells.{kind_of, all_are_zero}
 use Rattle.tg_block.specs.declared.CellKind.TheVariants.{Free, Object, Chunk, Bad}
-use Rattle.tg_space.specs.SpaceList.{SpaceList, IsSpaceList, Holds, cell_at}
+use Rattle.tg_space.specs.SpaceList.{SpaceList, IsSpaceList, HasCell, cell_at}
 use Rattle.tg_space.specs.Soundness.{AreSound, HasLayout, HasLayoutOf, IsKindAt, IsReference, IsLink, LinksTo}
 use Rattle.tg_space.specs.Rows.{link_of, link_at}
 use Rattle.tg_space.specs.Targets.{first_pointer}
@@ -142,12 +142,12 @@ row_cell h words layout = by_kind (kind_cases words)
     by_kind (is_bad kind) = absurd (subst (HasLayoutOf h words) kind layout)
 
 module _ (h : SpaceList) (is : IsSpaceList h) (roots : List Root) (sound : AreSound h roots) where
-  pub references_at : (p : Place) → Holds h p → All (IsReference h) (references_of (cell_at h p))
+  pub references_at : (p : Place) → HasCell h p → All (IsReference h) (references_of (cell_at h p))
   references_at p held = (row_cell h (cell_at h p) (layout_at h is roots sound p held)).references
 
-  pub link_held : (p : Place) → Holds h p → IsLink h (link_at h p)
+  pub link_held : (p : Place) → HasCell h p → IsLink h (link_at h p)
   link_held p held = (row_cell h (cell_at h p) (layout_at h is roots sound p held)).link
 
   -- a link that isn't empty
-  pub link_some : (p : Place) → Holds h p → link_at h p ≢ 0 → LinksTo h (link_at h p)
+  pub link_some : (p : Place) → HasCell h p → link_at h p ≢ 0 → LinksTo h (link_at h p)
   link_some p held some = ⊎_elim (λ z. absurd (some z)) (λ links. links) (link_held p held)

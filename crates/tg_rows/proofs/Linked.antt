@@ -14,7 +14,7 @@ use Rattle.tg_word.specs.Word.{IsPlace, link_to, place_in, rights_in}
 use Rattle.tg_word.proofs.Packing.{is_present-word_at, place_in-word_at, rights_in-word_at, word_at-above_zero}
 use Rattle.tg_block.specs.Cells.{kind_of}
 use Rattle.tg_block.specs.declared.CellKind.TheVariants.{Free, Object, Chunk}
-use Rattle.tg_space.specs.SpaceList.{SpaceList, IsSpaceList, Holds, cell_at, cells_of, with_cell_at, with_word_at}
+use Rattle.tg_space.specs.SpaceList.{SpaceList, IsSpaceList, HasCell, cell_at, cells_of, with_cell_at, with_word_at}
 use Rattle.tg_space.specs.Soundness.{IsKindAt, IsReference, RefersTo, IsLink, LinksTo}
 use Rattle.tg_space.specs.Rows.{link_of, chunks_from, link_at, row_of}
 use Rattle.tg_space.specs.Targets.{first_pointer}
@@ -36,7 +36,7 @@ use Rattle.tg_rows.proofs.Fresh.{chunk_placed, fresh_same, fresh_stays, row_used
 use Rattle.tg_rows.proofs.Written.{here, held_before, link_set, outside, outside_rows, references_same, there, was_row, word_back, word_layouts, word_spaces, word_stays}
 
 module _ (h : SpaceList) (payloads : Payloads) (is : IsSpaceList h) (graph : IsGraph h payloads) (p last q : Place) (object : IsKindAt h Object p) (has : Contains (row_of h p) last) (ends_here : link_at h last ≡ 0)
-    (chunk : IsKindAt h Chunk q) (no_link : link_at h q ≡ 0) (unlinked : (c : Place) → Holds h c → link_at h c ≢ 0 → place_in (link_at h c) ≢ q) where
+    (chunk : IsKindAt h Chunk q) (no_link : link_at h q ≡ 0) (unlinked : (c : Place) → HasCell h c → link_at h c ≢ 0 → place_in (link_at h c) ≢ q) where
   abbrev chunks : List Place
   chunks = chunks_from h (length (cells_of h)) (link_at h p)
 
@@ -46,7 +46,7 @@ module _ (h : SpaceList) (payloads : Payloads) (is : IsSpaceList h) (graph : IsG
   ends : IsChain h (link_at h p) chunks
   ends = graph.ends p object
 
-  held : Holds h last
+  held : HasCell h last
   held = cell_held h payloads is graph p object last has
 
   last_kind : IsKindAt h Object last ⊎ IsKindAt h Chunk last
@@ -97,13 +97,13 @@ module _ (h : SpaceList) (payloads : Payloads) (is : IsSpaceList h) (graph : IsG
       }
 
   -- nothing else links to the chunk
-  new_link : (r : Place) → Holds linked r → r ≢ last → link_at linked r ≢ link_to q
+  new_link : (r : Place) → HasCell linked r → r ≢ last → link_at linked r ≢ link_to q
   new_link r held_r other same =
       let before : link_at h r ≡ link_to q = sym (link_kept r other) ∙ same in
       let some : link_at h r ≢ 0 = λ z. let zero_link : link_to q ≡ 0 = sym before ∙ z in let above = word_at-above_zero no_rights q link_place in omega arith in
       unlinked r (held_before h payloads is graph last held 7 (link_to q) low high r held_r) some (ap place_in before ∙ place_in-word_at no_rights q link_place)
 
-  linked_links : (r s : Place) → Holds linked r → Holds linked s → link_at linked r ≢ 0 → link_at linked r ≡ link_at linked s → r ≡ s
+  linked_links : (r s : Place) → HasCell linked r → HasCell linked s → link_at linked r ≢ 0 → link_at linked r ≡ link_at linked s → r ≡ s
   linked_links r s held_r held_s some same = by_places (same_or_other r last) (same_or_other s last)
     where
       by_places : (r ≡ last) ⊎ (r ≢ last) → (s ≡ last) ⊎ (s ≢ last) → r ≡ s
@@ -127,7 +127,7 @@ module _ (h : SpaceList) (payloads : Payloads) (is : IsSpaceList h) (graph : IsG
       )
     where
       -- the chunk is in no row, since nothing links to it
-      outside : (r : Place) (rs : List Place) → IsChain h (link_at h r) rs → Holds h r → Contains rs q → ⊥
+      outside : (r : Place) (rs : List Place) → IsChain h (link_at h r) rs → HasCell h r → Contains rs q → ⊥
       outside r [] is_chain held_r inside = Contains-none q inside
       outside r (s ∷ rs) is_chain held_r inside =
           ⊎_elim
@@ -201,7 +201,7 @@ module _ (h : SpaceList) (payloads : Payloads) (is : IsSpaceList h) (graph : IsG
   new_chunk = record { held = (holds_written h is q free.held (chunk_words word) q).1 free.held; is = ap kind_of here_words }
 
   -- nothing links to what was a free cell
-  placed_unlinked : (c : Place) → Holds placed c → link_at placed c ≢ 0 → place_in (link_at placed c) ≢ q
+  placed_unlinked : (c : Place) → HasCell placed c → link_at placed c ≢ 0 → place_in (link_at placed c) ≢ q
   placed_unlinked c held_c some to = by_place (same_or_other c q)
     where
       by_place : (c ≡ q) ⊎ (c ≢ q) → ⊥
@@ -261,7 +261,7 @@ module _ (h : SpaceList) (payloads : Payloads) (is : IsSpaceList h) (graph : IsG
   abbrev placed_chunks : List Place
   placed_chunks = chunks_from placed (length (cells_of placed)) (link_at placed p)
 
-  last_held : Holds placed last
+  last_held : HasCell placed last
   last_held = held placed payloads spaces first.graph p last q (kept.objects p object) has_placed ends_placed new_chunk (ap link_of here_words) placed_unlinked
 
   last_low : first_pointer (get_or (cell_at placed last) 0 0) ≤ 7
@@ -307,8 +307,8 @@ module _ (h : SpaceList) (payloads : Payloads) (is : IsSpaceList h) (graph : IsG
       there placed payloads spaces first.graph last last_held 7 (link_to q) last_low (omega arith) c apart
       ∙ fresh_same h payloads is graph q free (chunk_words word) r at k d inside
     where
-      last_here : Holds h last
-      last_here = subst (Holds h) has.2 (row_held h p (chunks_from h (length (cells_of h)) (link_at h p)) object (graph.ends p object) has.0 last has.1)
+      last_here : HasCell h last
+      last_here = subst (HasCell h) has.2 (row_held h p (chunks_from h (length (cells_of h)) (link_at h p)) object (graph.ends p object) has.0 last has.1)
 
       low_here : first_pointer (get_or (cell_at h last) 0 0) ≤ 7
       low_here = subst (λ (ws : List ℕ). first_pointer (get_or ws 0 0) ≤ 7) (cell_kept h is q free.held (chunk_words word) last last_other) last_low

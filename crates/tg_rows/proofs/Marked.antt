@@ -18,7 +18,7 @@ use Rattle.tg_space.specs.Rows.{chunks_from, link_at, row_of}
 use Rattle.tg_space.specs.declared.kind.Kind.{Kind}
 use Rattle.tg_space.specs.declared.kind.Kind.TheVariants.{Full as FullKind, Nursery}
 use Rattle.tg_payload.specs.Table.{Payloads}
-use Rattle.tg_index.specs.Bits.{SetsBit, bit_of}
+use Rattle.tg_index.specs.Bits.{SetsBit, bit_in}
 use Rattle.tg_index.specs.Slots.{Slots, IsFirstVacant}
 use Rattle.tg_rows.specs.Graph.{IsGraph}
 use Rattle.tg_space.specs.Numbering.{followed_place}
@@ -37,33 +37,33 @@ use Rattle.tg_rows.proofs.IndexKept.{at_number}
 -- ---- one row
 
 -- the same cells are known to lie in Old, and the same of them are marked
-pub aged_by : (row later : IndexedRow) → later.cells.items ≡ row.cells.items → later.old_cells ≡ row.old_cells → ((n : ℕ) → bit_of later.noted n ≡ bit_of row.noted n) → IsAged row → IsAged later
+pub aged_by : (row later : IndexedRow) → later.cells.items ≡ row.cells.items → later.old_cells ≡ row.old_cells → ((n : ℕ) → bit_in later.noted n ≡ bit_in row.noted n) → IsAged row → IsAged later
 aged_by row later cells old marks is = record {
   within = let low = is.within in omega (arith, low, old, ap (λ (ps : List Place). length ps) cells);
   cells = subst (All IsOldPlace) (sym (ap (λ n. take n later.cells.items) old ∙ ap (take row.old_cells) cells)) is.cells;
   marks = λ n here. let low = is.marks n (sym (marks n) ∙ here) in omega (arith, low, old);
 }
 
-pub marked_by : (places : List Place) (row later : IndexedRow) → later.cells.items ≡ row.cells.items → later.old_cells ≡ row.old_cells → ((n : ℕ) → bit_of later.noted n ≡ bit_of row.noted n) → IsMarked places row → IsMarked places later
+pub marked_by : (places : List Place) (row later : IndexedRow) → later.cells.items ≡ row.cells.items → later.old_cells ≡ row.old_cells → ((n : ℕ) → bit_in later.noted n ≡ bit_in row.noted n) → IsMarked places row → IsMarked places later
 marked_by places row later cells old marks is = record {
   aged = aged_by row later cells old marks is.aged;
   marked = λ n d low has. marks n ∙ is.marked n d (omega (arith, low, old)) (subst (λ (ps : List Place). Contains places (get_or ps n d)) cells has);
 }
 
 -- no cell is known to lie in Old
-pub none_aged : (row : IndexedRow) → row.old_cells ≡ 0 → ((n : ℕ) → bit_of row.noted n ≡ 0) → IsAged row
+pub none_aged : (row : IndexedRow) → row.old_cells ≡ 0 → ((n : ℕ) → bit_in row.noted n ≡ 0) → IsAged row
 none_aged row none marks = record {
   within = omega (arith, none);
   cells = subst (λ n. All IsOldPlace (take n row.cells.items)) (sym none) (All-nil IsOldPlace);
   marks = λ n here. let no = marks n in absurd (omega (arith, no, here));
 }
 
-pub none_marked : (places : List Place) (row : IndexedRow) → row.old_cells ≡ 0 → ((n : ℕ) → bit_of row.noted n ≡ 0) → IsMarked places row
+pub none_marked : (places : List Place) (row : IndexedRow) → row.old_cells ≡ 0 → ((n : ℕ) → bit_in row.noted n ≡ 0) → IsMarked places row
 none_marked places row none marks = record { aged = none_aged row none marks; marked = λ n d low has. absurd (omega (arith, none, low)) }
 
 -- an empty set has no mark
-pub no_marks : (words : List ℕ) → words ≡ [] → (n : ℕ) → bit_of words n ≡ 0
-no_marks words none n = ap (λ (ws : List ℕ). bit_of ws n) none ∙ bit_at-zero (n % 64)
+pub no_marks : (words : List ℕ) → words ≡ [] → (n : ℕ) → bit_in words n ≡ 0
+no_marks words none n = ap (λ (ws : List ℕ). bit_in ws n) none ∙ bit_at-zero (n % 64)
 
 -- other cells are remembered, but no cell of the row that wasn't
 pub marked_beside : (places later : List Place) (row : IndexedRow) → ((p : Place) → Contains row.cells.items p → IsOldPlace p → (Contains places p → ⊥) → Contains later p → ⊥) → IsMarked places row → IsMarked later row
@@ -75,7 +75,7 @@ marked_beside places later row apart is = record {
       subst IsOldPlace (get_or-take row.old_cells row.cells.items n d low) (is.aged.cells n d (omega (arith, low, length-take-le row.old_cells row.cells.items within))) in
       ⊎_elim (λ here. here)
       (λ unmarked. absurd (apart (get_or row.cells.items n d) (Contains-get_or row.cells.items n d (omega arith)) old (λ was. unmarked (is.marked n d low was)) has))
-      (cases_eq (bit_of row.noted n) 1);
+      (cases_eq (bit_in row.noted n) 1);
 }
 
 pub marked_beside_none : (places : List Place) (row : IndexedRow) → IsMarked places row → IsMarked [] row
@@ -86,7 +86,7 @@ pub aged_grown : (row later : IndexedRow) (chunk : Place) → later.cells.items 
 aged_grown row later chunk grown same marks is = record {
   within = let low = is.within in omega (arith, low, same, ap (λ (ps : List Place). length ps) grown ∙ length-append row.cells.items (chunk ∷ []));
   cells = subst (All IsOldPlace) (sym (ap (λ n. take n later.cells.items) same ∙ ap (λ (ps : List Place). take row.old_cells ps) grown ∙ take-append-le row.old_cells row.cells.items (chunk ∷ []) is.within)) is.cells;
-  marks = λ n here. let low = is.marks n (ap (λ (words : List ℕ). bit_of words n) (sym marks) ∙ here) in omega (arith, low, same);
+  marks = λ n here. let low = is.marks n (ap (λ (words : List ℕ). bit_in words n) (sym marks) ∙ here) in omega (arith, low, same);
 }
 
 pub marked_grown : (places : List Place) (row later : IndexedRow) (chunk : Place) → later.cells.items ≡ row.cells.items ++ chunk ∷ [] → later.old_cells ≡ row.old_cells → later.noted ≡ row.noted → IsMarked places row → IsMarked places later
@@ -95,7 +95,7 @@ marked_grown places row later chunk grown same marks is = record {
   marked = λ n d low has.
       let within = is.aged.within in
       let here : get_or later.cells.items n d ≡ get_or row.cells.items n d = ap (λ (ps : List Place). get_or ps n d) grown ∙ get_or_append_left row.cells.items (chunk ∷ []) d n (omega (arith, low, same, within)) in
-      ap (λ (words : List ℕ). bit_of words n) marks ∙ is.marked n d (omega (arith, low, same)) (subst (Contains places) here has);
+      ap (λ (words : List ℕ). bit_in words n) marks ∙ is.marked n d (omega (arith, low, same)) (subst (Contains places) here has);
 }
 
 -- one more cell is marked
@@ -107,14 +107,14 @@ aged_set row later number cells old sets low is = record {
 }
 
 -- a cell is noted, and marked if it is known to lie in Old
-pub marked_noted : (places : List Place) (note : Option Place) (row later : IndexedRow) → IsAged later → later.cells.items ≡ row.cells.items → later.old_cells ≡ row.old_cells → ((n : ℕ) → bit_of row.noted n ≡ 1 → bit_of later.noted n ≡ 1) →
-    IfSome note (λ cell. (n : ℕ) → n < row.old_cells → get_or row.cells.items n cell ≡ cell → bit_of later.noted n ≡ 1) → IsMarked places row → IsMarked (with_note places note) later
+pub marked_noted : (places : List Place) (note : Option Place) (row later : IndexedRow) → IsAged later → later.cells.items ≡ row.cells.items → later.old_cells ≡ row.old_cells → ((n : ℕ) → bit_in row.noted n ≡ 1 → bit_in later.noted n ≡ 1) →
+    IfSome note (λ cell. (n : ℕ) → n < row.old_cells → get_or row.cells.items n cell ≡ cell → bit_in later.noted n ≡ 1) → IsMarked places row → IsMarked (with_note places note) later
 marked_noted places note row later aged cells old more noted is = record {
   aged = aged;
   marked = λ n d low has. by_note note noted n d (omega (arith, low, old)) (subst (λ (ps : List Place). Contains (with_note places note) (get_or ps n d)) cells has);
 }
   where
-    by_note : (o : Option Place) → IfSome o (λ cell. (n : ℕ) → n < row.old_cells → get_or row.cells.items n cell ≡ cell → bit_of later.noted n ≡ 1) → (n : ℕ) (d : Place) → n < row.old_cells → Contains (with_note places o) (get_or row.cells.items n d) → bit_of later.noted n ≡ 1
+    by_note : (o : Option Place) → IfSome o (λ cell. (n : ℕ) → n < row.old_cells → get_or row.cells.items n cell ≡ cell → bit_in later.noted n ≡ 1) → (n : ℕ) (d : Place) → n < row.old_cells → Contains (with_note places o) (get_or row.cells.items n d) → bit_in later.noted n ≡ 1
     by_note None _ n d low has = more n (is.marked n d low has)
     by_note (Some cell) at n d low has =
         let within = is.aged.within in
@@ -128,18 +128,18 @@ pub marked_set : (places : List Place) (note : Option Place) (row later : Indexe
 marked_set places note row later number cells old sets low at is =
     marked_noted places note row later (aged_set row later number cells old sets low is.aged) cells old more (by_note note at) is
   where
-    more : (n : ℕ) → bit_of row.noted n ≡ 1 → bit_of later.noted n ≡ 1
-    more n here = ⊎_elim (λ (same : n ≡ number). ap (λ k. bit_of later.noted k) same ∙ sets.here) (λ other. sets.others n other ∙ here) (cases_eq n number)
+    more : (n : ℕ) → bit_in row.noted n ≡ 1 → bit_in later.noted n ≡ 1
+    more n here = ⊎_elim (λ (same : n ≡ number). ap (λ k. bit_in later.noted k) same ∙ sets.here) (λ other. sets.others n other ∙ here) (cases_eq n number)
 
-    by_note : (o : Option Place) → IfSome o (λ cell. (n : ℕ) → n < length row.cells.items → get_or row.cells.items n cell ≡ cell → n ≡ number) → IfSome o (λ cell. (n : ℕ) → n < row.old_cells → get_or row.cells.items n cell ≡ cell → bit_of later.noted n ≡ 1)
+    by_note : (o : Option Place) → IfSome o (λ cell. (n : ℕ) → n < length row.cells.items → get_or row.cells.items n cell ≡ cell → n ≡ number) → IfSome o (λ cell. (n : ℕ) → n < row.old_cells → get_or row.cells.items n cell ≡ cell → bit_in later.noted n ≡ 1)
     by_note None _ = tt
-    by_note (Some cell) is_at = λ n below there. let within = is.aged.within in ap (λ k. bit_of later.noted k) (is_at n (omega arith) there) ∙ sets.here
+    by_note (Some cell) is_at = λ n below there. let within = is.aged.within in ap (λ k. bit_in later.noted k) (is_at n (omega arith) there) ∙ sets.here
 
 -- it isn't among those that are known to lie in Old
 pub marked_apart : (places : List Place) (note : Option Place) (row : IndexedRow) (number : ℕ) → row.old_cells ≤ number → IfSome note (λ cell. (n : ℕ) → n < length row.cells.items → get_or row.cells.items n cell ≡ cell → n ≡ number) → IsMarked places row → IsMarked (with_note places note) row
 marked_apart places note row number past at is = marked_noted places note row row is.aged refl refl (λ n here. here) (by_note note at) is
   where
-    by_note : (o : Option Place) → IfSome o (λ cell. (n : ℕ) → n < length row.cells.items → get_or row.cells.items n cell ≡ cell → n ≡ number) → IfSome o (λ cell. (n : ℕ) → n < row.old_cells → get_or row.cells.items n cell ≡ cell → bit_of row.noted n ≡ 1)
+    by_note : (o : Option Place) → IfSome o (λ cell. (n : ℕ) → n < length row.cells.items → get_or row.cells.items n cell ≡ cell → n ≡ number) → IfSome o (λ cell. (n : ℕ) → n < row.old_cells → get_or row.cells.items n cell ≡ cell → bit_in row.noted n ≡ 1)
     by_note None _ = tt
     by_note (Some cell) is_at = λ n below there. let within = is.aged.within in let same = is_at n (omega arith) there in absurd (omega (arith, same, below, past))
 
@@ -151,10 +151,10 @@ marked_moved kind starts to notes row later is full moved old marks = record {
     cells = λ k d low.
         let before : k < later.old_cells = first_below later.cells.items later.old_cells k low in
         subst IsOldPlace (sym (get_or-take later.old_cells later.cells.items k d before ∙ stays k d (omega (arith, before, old)))) (is_old k d (omega (arith, before, old)));
-    marks = λ n here. let low = is.aged.marks n (ap (λ (words : List ℕ). bit_of words n) (sym marks) ∙ here) in omega (arith, low, old);
+    marks = λ n here. let low = is.aged.marks n (ap (λ (words : List ℕ). bit_in words n) (sym marks) ∙ here) in omega (arith, low, old);
   };
   marked = λ n d low has.
-      ap (λ (words : List ℕ). bit_of words n) marks ∙ is.marked n d (omega (arith, low, old)) (subst (Contains notes) (stays n d (omega (arith, low, old))) has);
+      ap (λ (words : List ℕ). bit_in words n) marks ∙ is.marked n d (omega (arith, low, old)) (subst (Contains notes) (stays n d (omega (arith, low, old))) has);
 }
   where
     f : Place → Place
@@ -187,7 +187,7 @@ forgot_one notes row marks number cell sets at unnoted is = record {
     within = is.aged.within;
     cells = is.aged.cells;
     marks = λ n here.
-        ⊎_elim (λ same. let no : 1 ≡ 0 = sym here ∙ ap (λ k. bit_of marks k) same ∙ sets.here in absurd (omega (arith, no)))
+        ⊎_elim (λ same. let no : 1 ≡ 0 = sym here ∙ ap (λ k. bit_in marks k) same ∙ sets.here in absurd (omega (arith, no)))
         (λ other. is.aged.marks n (sym (sets.others n other) ∙ here))
         (cases_eq n number);
   };
@@ -202,8 +202,8 @@ forgot_one notes row marks number cell sets at unnoted is = record {
 }
 
 -- one more cell is known to lie in Old, and is marked where it is noted
-pub aged_one : (notes : List Place) (row : IndexedRow) (marks : List ℕ) → ((n : ℕ) → bit_of marks n ≡ 1 → n < row.old_cells + 1) → ((n : ℕ) → bit_of row.noted n ≡ 1 → bit_of marks n ≡ 1) →
-    (d : Place) → row.old_cells < length row.cells.items → IsOldPlace (get_or row.cells.items row.old_cells d) → (Contains notes (get_or row.cells.items row.old_cells d) → bit_of marks row.old_cells ≡ 1) → IsMarked notes row →
+pub aged_one : (notes : List Place) (row : IndexedRow) (marks : List ℕ) → ((n : ℕ) → bit_in marks n ≡ 1 → n < row.old_cells + 1) → ((n : ℕ) → bit_in row.noted n ≡ 1 → bit_in marks n ≡ 1) →
+    (d : Place) → row.old_cells < length row.cells.items → IsOldPlace (get_or row.cells.items row.old_cells d) → (Contains notes (get_or row.cells.items row.old_cells d) → bit_in marks row.old_cells ≡ 1) → IsMarked notes row →
     IsMarked notes (record { names = row.names; cells = row.cells; old_cells = row.old_cells + 1; noted = marks })
 aged_one notes row marks only more d inside here noted is = record {
   aged = record { within = omega (arith, inside); cells = All-more IsOldPlace row.cells.items row.old_cells d inside is.aged.cells here; marks = only };
@@ -211,13 +211,13 @@ aged_one notes row marks only more d inside here noted is = record {
       ⊎_elim
       (λ (same : n ≡ row.old_cells).
       let at : get_or row.cells.items n e ≡ get_or row.cells.items row.old_cells d = ap (λ k. get_or row.cells.items k e) same ∙ get_or_default row.cells.items row.old_cells e d inside in
-      ap (λ k. bit_of marks k) same ∙ noted (subst (Contains notes) at has))
+      ap (λ k. bit_in marks k) same ∙ noted (subst (Contains notes) at has))
       (λ other. more n (is.marked n e (omega (arith, low, other)) has))
       (cases_eq n row.old_cells);
 }
 
 -- where none is remembered, no mark is needed
-pub unmarked : (notes : List Place) → length notes ≡ 0 → (later : IndexedRow) → later.old_cells ≤ length later.cells.items → All IsOldPlace (take later.old_cells later.cells.items) → ((n : ℕ) → bit_of later.noted n ≡ 1 → n < later.old_cells) → IsMarked notes later
+pub unmarked : (notes : List Place) → length notes ≡ 0 → (later : IndexedRow) → later.old_cells ≤ length later.cells.items → All IsOldPlace (take later.old_cells later.cells.items) → ((n : ℕ) → bit_in later.noted n ≡ 1 → n < later.old_cells) → IsMarked notes later
 unmarked notes none later within old marks = record {
   aged = record { within = within; cells = old; marks = marks };
   marked = λ n d low has. let among = has.1 in absurd (omega (arith, none, among));

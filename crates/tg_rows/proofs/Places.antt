@@ -5,7 +5,7 @@ use Rattle.std.proofs.lemmas.Bool.{cases_lt}
 use Rattle.std.proofs.lemmas.List.Elements.{All-nil, All-get_or, All-from_get_or}
 use Rattle.tg_model.proofs.PlainLaws.{is_subject, is_worker}
 use Rattle.tg_word.specs.declared.Place.{Place}
-use Rattle.tg_space.specs.SpaceList.{SpaceList, IsSpaceList, Holds, space_of, cell_at, blocks_before, block_count, flat_of, cells_of, IsSpace}
+use Rattle.tg_space.specs.SpaceList.{SpaceList, IsSpaceList, HasCell, space_of, cell_at, blocks_before, block_count, flat_of, cells_of, IsSpace}
 use Rattle.tg_space.specs.Soundness.{AreSound, HasLayout, IsRootIn}
 use Rattle.tg_space.specs.Rows.{link_of, link_at}
 use Rattle.tg_space.specs.Targets.{cell_numbered}
@@ -18,7 +18,7 @@ use Rattle.tg_word.specs.Word.{IsPlace}
 -- the cell with a number
 pub record NumberedPlace (h : SpaceList) (number : ℕ) : Type 0 where
   pub place : Place
-  pub held : Holds h place
+  pub held : HasCell h place
   pub is : flat_of h place ≡ number
 
 -- the space with a block, by the number of the block
@@ -40,21 +40,21 @@ space_with h block (suc n) le lt = by_place (cases_lt block (blocks_before h n))
         record { space = n; inside = omega arith; low = above; high = omega arith }
 
 module _ (h : SpaceList) (is : IsSpaceList h) where
-  pub holds_from_places : (p : Place) → Contains (places_of h) p → Holds h p
+  pub holds_from_places : (p : Place) → Contains (places_of h) p → HasCell h p
   holds_from_places p has =
       let in_space = Contains-from_flat_map (places_in h) (range_with_len 0 (length h)) p has in
       let space = in_space.0 in
       let blocks = λ (block : ℕ). map (λ (cell : ℕ). let q : Place = record { space = space; block = block; cell = cell } in q) (range_with_len 0 64) in
       let in_block = Contains-from_flat_map blocks (range_with_len 0 (length (space_of h space))) p in_space.2 in
       let in_cell = Contains-from_map (λ (cell : ℕ). let q : Place = record { space = space; block = in_block.0; cell = cell } in q) (range_with_len 0 64) p in_block.2 in
-      subst (λ (q : Place). Holds h q) in_cell.2
+      subst (λ (q : Place). HasCell h q) in_cell.2
       (record {
         space = is_worker (length h) space in_space.1;
         block = is_worker (length (space_of h space)) in_block.0 in_block.1;
         cell = is_worker 64 in_cell.0 in_cell.1;
       })
 
-  pub places_from_holds : (p : Place) → Holds h p → Contains (places_of h) p
+  pub places_from_holds : (p : Place) → HasCell h p → Contains (places_of h) p
   places_from_holds p held =
       let blocks = λ (block : ℕ). map (λ (cell : ℕ). let q : Place = record { space = p.space; block = block; cell = cell } in q) (range_with_len 0 64) in
       let in_block : Contains (blocks p.block) p = Contains-map (λ (cell : ℕ). let q : Place = record { space = p.space; block = p.block; cell = cell } in q) (range_with_len 0 64) p.cell (is_subject 64 p.cell held.cell) in
@@ -74,25 +74,25 @@ module _ (h : SpaceList) (is : IsSpaceList h) where
         is = omega arith;
       }
 
-  pub cell_long : (p : Place) → Holds h p → length (cell_at h p) ≡ 8
+  pub cell_long : (p : Place) → HasCell h p → length (cell_at h p) ≡ 8
   cell_long p held =
       let whole = All-get_or (λ (words : List ℕ). length words ≡ 8) (cells_of h) (flat_of h p) [] (flat_inside h is.spaces p held) (all_cells_whole h is.spaces) in
       subst (λ (words : List ℕ). length words ≡ 8) (get_or-flat_of h is.spaces p held) whole
 
   module _ (roots : List Root) (sound : AreSound h roots) where
-    pub layout_at : (p : Place) → Holds h p → HasLayout h (cell_at h p)
+    pub layout_at : (p : Place) → HasCell h p → HasLayout h (cell_at h p)
     layout_at p held =
         subst (λ (words : List ℕ). HasLayout h words) (get_or-flat_of h is.spaces p held)
         (All-get_or (HasLayout h) (cells_of h) (flat_of h p) [] (flat_inside h is.spaces p held) sound.cells)
 
-    pub links_apart : (p q : Place) → Holds h p → Holds h q → link_at h p ≢ 0 → link_at h p ≡ link_at h q → p ≡ q
+    pub links_apart : (p q : Place) → HasCell h p → HasCell h q → link_at h p ≢ 0 → link_at h p ≡ link_at h q → p ≡ q
     links_apart p q hp hq some same =
         let at_p : link_of (cell_numbered h (flat_of h p)) ≡ link_at h p = ap link_of (get_or-flat_of h is.spaces p hp) in
         let at_q : link_of (cell_numbered h (flat_of h q)) ≡ link_at h q = ap link_of (get_or-flat_of h is.spaces q hq) in
         same_place h is.spaces p q hp hq
         (sound.links (flat_of h p) (flat_of h q) (flat_inside h is.spaces p hp) (flat_inside h is.spaces q hq) (λ z. some (sym at_p ∙ z)) (at_p ∙ same ∙ sym at_q))
 
-  pub sound_from_places : ((p : Place) → Holds h p → HasLayout h (cell_at h p)) → ((p q : Place) → Holds h p → Holds h q → link_at h p ≢ 0 → link_at h p ≡ link_at h q → p ≡ q) → AreSound h []
+  pub sound_from_places : ((p : Place) → HasCell h p → HasLayout h (cell_at h p)) → ((p q : Place) → HasCell h p → HasCell h q → link_at h p ≢ 0 → link_at h p ≡ link_at h q → p ≡ q) → AreSound h []
   sound_from_places layouts links = record {
     cells = All-from_get_or (HasLayout h) (cells_of h) [] (λ number inside.
         let at = place_numbered number inside in
@@ -108,7 +108,7 @@ module _ (h : SpaceList) (is : IsSpaceList h) where
   }
 
 -- a cell that is there has a place in range
-pub held_place : (h : SpaceList) → IsSpaceList h → (p : Place) → Holds h p → IsPlace p
+pub held_place : (h : SpaceList) → IsSpaceList h → (p : Place) → HasCell h p → IsPlace p
 held_place h is p held =
     let few = is.few in
     let space : IsSpace (get_or h p.space []) = All-get_or IsSpace h p.space [] held.space is.spaces in

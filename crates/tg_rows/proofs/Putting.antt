@@ -15,11 +15,11 @@ use Rattle.tg_word.specs.Word.{IsPlace, place_in, rights_in, word_at}
 use Rattle.tg_word.proofs.Packing.{is_present-word_at, place_in-word_at, rights_in-word_at}
 use Rattle.tg_block.specs.Cells.{kind_of}
 use Rattle.tg_block.specs.declared.CellKind.TheVariants.{Free, Object}
-use Rattle.tg_space.specs.SpaceList.{SpaceList, Holds, IsSpaceList, cell_at, cells_of, with_word_at}
+use Rattle.tg_space.specs.SpaceList.{SpaceList, HasCell, IsSpaceList, cell_at, cells_of, with_word_at}
 use Rattle.tg_space.specs.SpaceTable.{SpaceTable, IsNursery, IsSpaceTable, number_in_space, place_in_space, used_of}
 use Rattle.tg_space.specs.Soundness.{IsKindAt, RefersTo}
 use Rattle.tg_space.proofs.Tables.{table_list}
-use Rattle.tg_nursery.specs.Allocation.{HasLeft}
+use Rattle.tg_nursery.specs.Allocation.{HasRoomLeft}
 use Rattle.tg_payload.specs.Table.{Payloads}
 use Rattle.tg_rows.specs.Content.{IsNamed}
 use Rattle.tg_rows.specs.Graph.{IsGraph, content_in}
@@ -77,7 +77,7 @@ module _ (t : SpaceTable) (table : IsSpaceTable t) (payloads : Payloads) (graph 
   pub can_write : (q : Place) (i : ℕ) → Contains (row_of t.spaces p) q → i < 8 → CanWrite t q i
   can_write q i has inside = record { held = held; inside = inside; handed_out = λ young. by_count young (cases_lt (number_in_space q) (used_of t q.space)) }
     where
-      held : Holds t.spaces q
+      held : HasCell t.spaces q
       held = cell_held t.spaces payloads is graph p object q has
 
       by_count : 2 ≤ q.space → (number_in_space q < used_of t q.space) ⊎ (used_of t q.space ≤ number_in_space q) → number_in_space q < used_of t q.space
@@ -86,11 +86,11 @@ module _ (t : SpaceTable) (table : IsSpaceTable t) (payloads : Payloads) (graph 
           let free : IsKindAt t.spaces Free q = record { held = held; is = ap kind_of (table.fresh q held young high) } in
           absurd (All-contains (λ c. c ≢ q) (row_of t.spaces p) q (row_used t.spaces p qs object (graph.ends p object) q free) has refl)
 
-  module _ (name : ℕ) (spot : Spot) (found : IsSpotIn t.spaces name p (chunks_from t.spaces (length (cells_of t.spaces)) (link_at t.spaces p)) spot) (space : ℕ) (left : HasLeft t space (cells_for spot)) where
+  module _ (name : ℕ) (spot : Spot) (found : IsSpotIn t.spaces name p (chunks_from t.spaces (length (cells_of t.spaces)) (link_at t.spaces p)) spot) (space : ℕ) (left : HasRoomLeft t space (cells_for spot)) where
     pub can_put : CanPut t space spot
     can_put = by_spot spot found left
       where
-        by_spot : (spot : Spot) → IsSpotIn t.spaces name p qs spot → HasLeft t space (cells_for spot) → CanPut t space spot
+        by_spot : (spot : Spot) → IsSpotIn t.spaces name p qs spot → HasRoomLeft t space (cells_for spot) → CanPut t space spot
         by_spot (Reference q i) here enough =
             let reference = reference_found t.spaces p name q i here in
             let refers = found_refers t.spaces payloads is graph p object name q i reference in
@@ -169,11 +169,11 @@ module _ (t : SpaceTable) (table : IsSpaceTable t) (payloads : Payloads) (graph 
           (with_rights label (name_at t.spaces p) name rights) (content_in t.spaces payloads).value (new_label none)
           (slot_filled t.spaces payloads is graph p q i object empty.cell (empty.from, empty.to) word empty.empty refers (others none))
 
-      extended_becomes : (last : Place) → word_where (refers_to t.spaces name) t.spaces (row_of t.spaces p) ≡ None → last_of p qs ≡ last → HasLeft t space 1 → Result (table_put t space (Full last) rights to).spaces
+      extended_becomes : (last : Place) → word_where (refers_to t.spaces name) t.spaces (row_of t.spaces p) ≡ None → last_of p qs ≡ last → HasRoomLeft t space 1 → Result (table_put t space (Full last) rights to).spaces
       extended_becomes last none is_last enough =
           let ends = last_ends t.spaces p qs (graph.ends p object) in
           let chunk = place_in_space space (used_of t space) in
-          let held : Holds t.spaces chunk = record { space = nursery.1; block = omega (arith, enough); cell = omega arith } in
+          let held : HasCell t.spaces chunk = record { space = nursery.1; block = omega (arith, enough); cell = omega arith } in
           let free : IsKindAt t.spaces Free chunk = record { held = held; is = ap kind_of (table.fresh chunk held nursery.0 (omega arith)) } in
           relabel t.spaces (table_put t space (Full last) rights to).spaces payloads (IsNamed (content_in t.spaces payloads)) (with_label label (name_at t.spaces p) (name_in t.spaces word) (rights_in word))
           (with_rights label (name_at t.spaces p) name rights) (content_in t.spaces payloads).value (new_label none)
@@ -182,7 +182,7 @@ module _ (t : SpaceTable) (table : IsSpaceTable t) (payloads : Payloads) (graph 
       pub put_becomes : Becomes t.spaces (table_put t space spot rights to).spaces payloads (IsNamed (content_in t.spaces payloads)) (with_rights (content_in t.spaces payloads).label (name_at t.spaces p) name rights) (content_in t.spaces payloads).value
       put_becomes = by_spot spot found left
         where
-          by_spot : (spot : Spot) → IsSpotIn t.spaces name p qs spot → HasLeft t space (cells_for spot) → Result (table_put t space spot rights to).spaces
+          by_spot : (spot : Spot) → IsSpotIn t.spaces name p qs spot → HasRoomLeft t space (cells_for spot) → Result (table_put t space spot rights to).spaces
           by_spot (Reference q i) here enough = widened_becomes q i (reference_found t.spaces p name q i here)
           by_spot (Empty q i) here enough = filled_becomes q i here.0 here.1
           by_spot (Full last) here enough = extended_becomes last here.0 here.2 enough

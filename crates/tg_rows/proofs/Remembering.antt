@@ -11,7 +11,7 @@ use Rattle.tg_word.specs.Word.{IsPlace, link_to, place_in, rights_in, word_at}
 use Rattle.tg_word.proofs.Packing.{place_in-word_at}
 use Rattle.tg_block.specs.Cells.{free_cell, kind_of}
 use Rattle.tg_block.specs.declared.CellKind.TheVariants.{Free, Object}
-use Rattle.tg_space.specs.SpaceList.{SpaceList, IsSpaceList, Holds, cell_at, cells_of, space_of, with_block, with_cell_at, with_word_at}
+use Rattle.tg_space.specs.SpaceList.{SpaceList, IsSpaceList, HasCell, cell_at, cells_of, space_of, with_block, with_cell_at, with_word_at}
 use Rattle.tg_space.specs.SpaceTable.{SpaceTable, IsNursery, IsSpaceTable, place_in_space, used_of, with_spaces}
 use Rattle.tg_space.specs.Soundness.{IsKindAt, IsOldCell}
 use Rattle.tg_space.specs.Generations.{AreRemembered, NamesYoung}
@@ -19,7 +19,7 @@ use Rattle.tg_space.specs.Targets.{first_pointer, from_space, pointers_of}
 use Rattle.tg_space.specs.declared.kind.Kind.TheVariants.{Nursery}
 use Rattle.tg_space.specs.Rows.{chunks_from, link_at, row_of}
 use Rattle.tg_space.proofs.Tables.{cell_at-with_block, kept-with_block, table_list}
-use Rattle.tg_nursery.specs.Allocation.{HasLeft, room_made_for}
+use Rattle.tg_nursery.specs.Allocation.{HasRoomLeft, room_made_for}
 use Rattle.tg_payload.specs.Table.{Payloads}
 use Rattle.tg_rows.specs.Graph.{IsGraph}
 use Rattle.tg_rows.specs.Spots.{IsSpotIn, cells_for, chunk_words, last_of, narrowed, note_for, old_cell_if, refers_to, table_put, widened, word_where}
@@ -73,7 +73,7 @@ free_names names = Contains-none names.0 names.1
 
 -- the cells of Old that name young ones named some before, or are noted
 remembered_step : (h after : SpaceList) (places later : List Place) → AreRemembered h places → ((p : Place) → Contains places p → Contains later p) → ((p : Place) → Contains later p → Contains places p ⊎ IsOldCell after p) →
-    ((p : Place) → IsOldCell h p → Holds after p) → ((p : Place) → IsOldCell after p → NamesYoung (cell_at after p) → (Holds h p × NamesYoung (cell_at h p)) ⊎ Contains later p) → AreRemembered after later
+    ((p : Place) → IsOldCell h p → HasCell after p) → ((p : Place) → IsOldCell after p → NamesYoung (cell_at after p) → (HasCell h p × NamesYoung (cell_at h p)) ⊎ Contains later p) → AreRemembered after later
 remembered_step h after places later before more new kept named = record {
   cells = λ p has. ⊎_elim (λ old. let cell = before.cells p old in record { held = kept p cell; space = cell.space }) (λ cell. cell) (new p has);
   all = λ p cell names. ⊎_elim (λ was. more p (before.all p (record { held = was.0; space = cell.space }) was.1)) (λ has. has) (named p cell names);
@@ -89,7 +89,7 @@ nothing_remembered h none = record {
 }
 
 -- a cell outside Old is written
-pub remembered_young : (h : SpaceList) → IsSpaceList h → (q : Place) → Holds h q → q.space ≢ 0 → (words : List ℕ) (places : List Place) → AreRemembered h places → AreRemembered (with_cell_at h q words) places
+pub remembered_young : (h : SpaceList) → IsSpaceList h → (q : Place) → HasCell h q → q.space ≢ 0 → (words : List ℕ) (places : List Place) → AreRemembered h places → AreRemembered (with_cell_at h q words) places
 remembered_young h is q held young words places before =
     remembered_step h (with_cell_at h q words) places places before (λ p has. has) (λ p has. inl has) (λ p cell. (holds_written h is q held words p).1 cell.held)
     (λ p cell names.
@@ -111,7 +111,7 @@ remembered_room t grown space cells low made places before =
     by_test true same = subst (λ (x : SpaceTable). AreRemembered x.spaces places) (sym same) (remembered_block t.spaces space low places before)
 
 -- a word is written into a cell, which is noted if it has to be
-remembered_word : (h : SpaceList) → IsSpaceList h → (q : Place) → Holds h q → (i word : ℕ) → first_pointer (get_or (cell_at h q) 0 0) ≤ i → i < 8 → (places later : List Place) → AreRemembered h places →
+remembered_word : (h : SpaceList) → IsSpaceList h → (q : Place) → HasCell h q → (i word : ℕ) → first_pointer (get_or (cell_at h q) 0 0) ≤ i → i < 8 → (places later : List Place) → AreRemembered h places →
     ((p : Place) → Contains places p → Contains later p) → ((p : Place) → Contains later p → Contains places p ⊎ ((q ≡ p) × (q.space ≡ 0))) →
     (q.space ≡ 0 → (place_in word).space ≢ 0 → NamesYoung (cell_at h q) ⊎ Contains later q) → AreRemembered (with_word_at h q i word) later
 remembered_word h is q held i word low high places later before more new noted =
@@ -123,13 +123,13 @@ remembered_word h is q held i word low high places later before more new noted =
     old_here : (p : Place) → q ≡ p → q.space ≡ 0 → IsOldCell (with_word_at h q i word) p
     old_here p same old = subst (IsOldCell (with_word_at h q i word)) same (record { held = (holds_written h is q held (set (cell_at h q) i word) q).1 held; space = old })
 
-    by_place : (p : Place) → IsOldCell (with_word_at h q i word) p → NamesYoung (cell_at (with_word_at h q i word) p) → (p ≡ q) ⊎ (p ≢ q) → (Holds h p × NamesYoung (cell_at h p)) ⊎ Contains later p
+    by_place : (p : Place) → IsOldCell (with_word_at h q i word) p → NamesYoung (cell_at (with_word_at h q i word) p) → (p ≡ q) ⊎ (p ≢ q) → (HasCell h p × NamesYoung (cell_at h p)) ⊎ Contains later p
     by_place p cell names (inr other) =
         inl ((holds_written h is q held (set (cell_at h q) i word) p).0 cell.held, subst NamesYoung (cell_kept h is q held (set (cell_at h q) i word) p other) names)
     by_place p cell names (inl same) =
         let named : NamesYoung (set (cell_at h q) i word) = subst NamesYoung (ap (cell_at (with_word_at h q i word)) same ∙ cell_written h is q held (set (cell_at h q) i word)) names in
         let here = ⊎_elim (λ was. inl was) (λ young. noted (ap (λ (r : Place). r.space) (sym same) ∙ cell.space) young) (named_before (cell_at h q) (cell_long h is q held) i word low high named) in
-        subst (λ (r : Place). (Holds h r × NamesYoung (cell_at h r)) ⊎ Contains later r) (sym same) (⊎_elim (λ was. inl (held, was)) (λ has. inr has) here)
+        subst (λ (r : Place). (HasCell h r × NamesYoung (cell_at h r)) ⊎ Contains later r) (sym same) (⊎_elim (λ was. inl (held, was)) (λ has. inr has) here)
 
 -- ---- the cell that is noted
 
@@ -166,7 +166,7 @@ module _ (t : SpaceTable) (table : IsSpaceTable t) (payloads : Payloads) (graph 
   is : IsSpaceList t.spaces
   is = table_list t table
 
-  held_in_row : (q : Place) → Contains (row_of t.spaces p) q → Holds t.spaces q
+  held_in_row : (q : Place) → Contains (row_of t.spaces p) q → HasCell t.spaces q
   held_in_row q has = cell_held t.spaces payloads is graph p object q has
 
   -- a reference becomes one to the same cell, or to none
@@ -192,7 +192,7 @@ module _ (t : SpaceTable) (table : IsSpaceTable t) (payloads : Payloads) (graph 
   pub nothing_noted : length (space_of t.spaces 0) ≡ 0 → (name : ℕ) (spot : Spot) (young : Bool) → IsSpotIn t.spaces name p (chunks_from t.spaces (length (cells_of t.spaces)) (link_at t.spaces p)) spot → note_for spot young ≡ None
   nothing_noted none name spot young found = by_spot spot found
     where
-      not_old : (q : Place) → Holds t.spaces q → (wanted : Bool) → old_cell_if wanted q ≡ None
+      not_old : (q : Place) → HasCell t.spaces q → (wanted : Bool) → old_cell_if wanted q ≡ None
       not_old q held wanted = by_tests wanted (q.space == 0) refl
         where
           by_tests : (w b : Bool) → (q.space == 0) ≡ b → cond (w && not (not b)) (Some q) None ≡ None
@@ -230,8 +230,8 @@ module _ (t : SpaceTable) (table : IsSpaceTable t) (payloads : Payloads) (graph 
 
   -- ---- rights are put
 
-  module _ (name : ℕ) (spot : Spot) (found : IsSpotIn t.spaces name p (chunks_from t.spaces (length (cells_of t.spaces)) (link_at t.spaces p)) spot) (space : ℕ) (left : HasLeft t space (cells_for spot)) (nursery : IsNursery t space)
-      (to : Place) (target : Holds t.spaces to) (rights : RightSet) (young : Bool) (tells : to.space ≢ 0 → young ≡ true) (places later : List Place) (before : AreRemembered t.spaces places) where
+  module _ (name : ℕ) (spot : Spot) (found : IsSpotIn t.spaces name p (chunks_from t.spaces (length (cells_of t.spaces)) (link_at t.spaces p)) spot) (space : ℕ) (left : HasRoomLeft t space (cells_for spot)) (nursery : IsNursery t space)
+      (to : Place) (target : HasCell t.spaces to) (rights : RightSet) (young : Bool) (tells : to.space ≢ 0 → young ≡ true) (places later : List Place) (before : AreRemembered t.spaces places) where
     to_is : place_in (word_at rights to) ≡ to
     to_is = place_in-word_at rights to (held_place t.spaces is to target)
 
@@ -244,11 +244,11 @@ module _ (t : SpaceTable) (table : IsSpaceTable t) (payloads : Payloads) (graph 
         remembered_same q i (widened old rights) reference.cell reference.from reference.to
         (λ far. subst (λ (r : Place). r.space ≢ 0) (place_in-word_at (union (rights_in old) rights) (place_in old) there) far) places later noted before
 
-    extended_remembered : (last : Place) → last_of p qs ≡ last → HasLeft t space 1 → AreNoted places later (old_cell_if true last) → AreRemembered (table_put t space (Full last) rights to).spaces later
+    extended_remembered : (last : Place) → last_of p qs ≡ last → HasRoomLeft t space 1 → AreNoted places later (old_cell_if true last) → AreRemembered (table_put t space (Full last) rights to).spaces later
     extended_remembered last is_last enough noted =
         let chunk = place_in_space space (used_of t space) in
         let words = chunk_words (word_at rights to) in
-        let held : Holds t.spaces chunk = record { space = nursery.1; block = omega (arith, enough); cell = omega arith } in
+        let held : HasCell t.spaces chunk = record { space = nursery.1; block = omega (arith, enough); cell = omega arith } in
         let free : IsKindAt t.spaces Free chunk = record { held = held; is = ap kind_of (table.fresh chunk held nursery.0 (omega arith)) } in
         let ends = last_ends t.spaces p qs (graph.ends p object) in
         let has : Contains (row_of t.spaces p) last = subst (Contains (row_of t.spaces p)) is_last ends.0 in
@@ -266,7 +266,7 @@ module _ (t : SpaceTable) (table : IsSpaceTable t) (payloads : Payloads) (graph 
     pub put_remembered : AreNoted places later (note_for spot young) → AreRemembered (table_put t space spot rights to).spaces later
     put_remembered = by_spot spot found left
       where
-        by_spot : (spot : Spot) → IsSpotIn t.spaces name p qs spot → HasLeft t space (cells_for spot) → AreNoted places later (note_for spot young) → AreRemembered (table_put t space spot rights to).spaces later
+        by_spot : (spot : Spot) → IsSpotIn t.spaces name p qs spot → HasRoomLeft t space (cells_for spot) → AreNoted places later (note_for spot young) → AreRemembered (table_put t space spot rights to).spaces later
         by_spot (Reference q i) here enough noted = widened_remembered q i here noted
         by_spot (Empty q i) here enough noted =
             let empty = empty_found t.spaces p q i here.1 in

@@ -10,7 +10,7 @@ use Rattle.tg_rights.specs.RightSet.{RightSet, is_none_held}
 use Rattle.std.proofs.lemmas.List.Sums.{position_or_len_is}
 use Rattle.tg_word.specs.declared.Place.{Place}
 use Rattle.tg_word.specs.Word.{place_in, rights_in}
-use Rattle.tg_space.specs.SpaceList.{SpaceList, Holds, cell_at, cells_of}
+use Rattle.tg_space.specs.SpaceList.{SpaceList, HasCell, cell_at, cells_of}
 use Rattle.tg_space.specs.Targets.{first_pointer}
 use Rattle.tg_rows.specs.Rows.{IsChain, IsRow, edges_in, name_in, references_of, row_words, words_of}
 use Rattle.tg_space.specs.Rows.{chunks_from, link_at, row_of}
@@ -37,7 +37,7 @@ position_none p xs d fails =
 
 -- a cell of a row, after which a chain follows
 pub record IsInRow (h : SpaceList) (at : Place) (left : ℕ) : Type 0 where
-  pub held : Holds h at
+  pub held : HasCell h at
   pub tag : (slice_index (cell_at h at) 0 ≡ 1) ⊎ (slice_index (cell_at h at) 0 ≡ 2)
   pub ends : IsChain h (link_at h at) (chunks_from h left (link_at h at))
 

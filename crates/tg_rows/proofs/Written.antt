@@ -9,7 +9,7 @@ use Rattle.tg_word.specs.declared.Place.{Place}
 use Rattle.tg_word.specs.Word.{place_in, rights_in}
 use Rattle.tg_block.specs.Cells.{kind_of}
 use Rattle.tg_block.specs.declared.CellKind.TheVariants.{Object, Chunk}
-use Rattle.tg_space.specs.SpaceList.{SpaceList, IsSpaceList, Holds, cell_at, cells_of, with_word_at}
+use Rattle.tg_space.specs.SpaceList.{SpaceList, IsSpaceList, HasCell, cell_at, cells_of, with_word_at}
 use Rattle.tg_space.specs.Soundness.{HasLayout, HasLayoutOf, IsKindAt, IsReference, RefersTo, IsLink}
 use Rattle.tg_space.specs.Rows.{link_of, chunks_from, link_at, row_of}
 use Rattle.tg_space.specs.Targets.{first_pointer, pointers_of}
@@ -118,7 +118,7 @@ replaced_in f g (x ∷ xs) (suc k) d was is inside others here =
 
 -- ---- one word of a cell of a heap
 
-module _ (h : SpaceList) (payloads : Payloads) (is : IsSpaceList h) (graph : IsGraph h payloads) (q : Place) (held : Holds h q) (i word : ℕ) (low : first_pointer (get_or (cell_at h q) 0 0) ≤ i) (high : i < 8) where
+module _ (h : SpaceList) (payloads : Payloads) (is : IsSpaceList h) (graph : IsGraph h payloads) (q : Place) (held : HasCell h q) (i word : ℕ) (low : first_pointer (get_or (cell_at h q) 0 0) ≤ i) (high : i < 8) where
   abbrev after : SpaceList
   after = with_word_at h q i word
 
@@ -134,10 +134,10 @@ module _ (h : SpaceList) (payloads : Payloads) (is : IsSpaceList h) (graph : IsG
   long : length (cell_at h q) ≡ 8
   long = cell_long h is q held
 
-  pub held_before : (p : Place) → Holds after p → Holds h p
+  pub held_before : (p : Place) → HasCell after p → HasCell h p
   held_before p = (holds_written h is q held new_words p).0
 
-  pub held_after : (p : Place) → Holds h p → Holds after p
+  pub held_after : (p : Place) → HasCell h p → HasCell after p
   held_after p = (holds_written h is q held new_words p).1
 
   pub word_spaces : IsSpaceList (with_word_at h q i word)
@@ -195,7 +195,7 @@ module _ (h : SpaceList) (payloads : Payloads) (is : IsSpaceList h) (graph : IsG
           subst (HasLayoutOf after new_words) (sym new_kind) (subst (All (IsReference after)) (references_of_chunk new_words new_kind) row.references, row.link)
       by_kind (is_bad kind) = absurd (subst (HasLayoutOf h (cell_at h q)) kind (layout_at h is [] graph.sound q held))
 
-  pub word_layouts : RowCell after new_words → (p : Place) → Holds after p → HasLayout after (cell_at after p)
+  pub word_layouts : RowCell after new_words → (p : Place) → HasCell after p → HasLayout after (cell_at after p)
   word_layouts row p held_p = by_place (same_or_other p q)
     where
       by_place : (p ≡ q) ⊎ (p ≢ q) → HasLayout after (cell_at after p)
@@ -223,7 +223,7 @@ module _ (h : SpaceList) (payloads : Payloads) (is : IsSpaceList h) (graph : IsG
 -- ---- a reference is written
 
 -- a word before the link that is written keeps each link
-pub links_kept : (h : SpaceList) (payloads : Payloads) (is : IsSpaceList h) (graph : IsGraph h payloads) (q : Place) (held : Holds h q) (i word : ℕ) → first_pointer (get_or (cell_at h q) 0 0) ≤ i → i < 7 → (r : Place) → link_at (with_word_at h q i word) r ≡ link_at h r
+pub links_kept : (h : SpaceList) (payloads : Payloads) (is : IsSpaceList h) (graph : IsGraph h payloads) (q : Place) (held : HasCell h q) (i word : ℕ) → first_pointer (get_or (cell_at h q) 0 0) ≤ i → i < 7 → (r : Place) → link_at (with_word_at h q i word) r ≡ link_at h r
 links_kept h payloads is graph q held i word low less r = by_place (same_or_other r q)
   where
     high : i < 8
@@ -254,10 +254,10 @@ module _ (h : SpaceList) (payloads : Payloads) (is : IsSpaceList h) (graph : IsG
   high : i < 8
   high = let less = slot.1 in omega arith
 
-  held : Holds h q
+  held : HasCell h q
   held =
       let row = row_of h p in
-      subst (Holds h) has.2 (row_held h p chunks object (graph.ends p object) has.0 q has.1)
+      subst (HasCell h) has.2 (row_held h p chunks object (graph.ends p object) has.0 q has.1)
 
   stays : Stays h written
   stays = word_stays h payloads is graph q held i word low high

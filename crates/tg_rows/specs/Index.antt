@@ -12,7 +12,7 @@ use Rattle.tg_space.specs.declared.kind.Kind.TheVariants.{Full as FullKind, Nurs
 use Rattle.tg_block.specs.declared.CellKind.TheVariants.{Object}
 use Rattle.tg_space.specs.Rows.{row_of}
 use Rattle.tg_space.specs.Soundness.{IsKindAt}
-use Rattle.tg_index.specs.Bits.{bit_of}
+use Rattle.tg_index.specs.Bits.{bit_in}
 use Rattle.tg_index.specs.Slots.{Slots, IsIndexOf}
 use Rattle.std.specs.Map.{lookup}
 use Rattle.tg_rows.specs.Rows.{IsVertexAt, name_at, name_in, objects_of, row_words}
@@ -54,12 +54,12 @@ IsOldPlace p = from_space Nursery p.space ≡ false
 pub record IsAged (row : IndexedRow) : Type 0 where
   pub within : row.old_cells ≤ length row.cells.items
   pub cells : All IsOldPlace (take row.old_cells row.cells.items)
-  pub marks : (n : ℕ) → bit_of row.noted n ≡ 1 → n < row.old_cells
+  pub marks : (n : ℕ) → bit_in row.noted n ≡ 1 → n < row.old_cells
 
 -- those of them that are remembered are marked
 pub record IsMarked (remembered : List Place) (row : IndexedRow) : Type 0 where
   pub aged : IsAged row
-  pub marked : (n : ℕ) (d : Place) → n < row.old_cells → Contains remembered (slice_index_or row.cells.items n d) → bit_of row.noted n ≡ 1
+  pub marked : (n : ℕ) (d : Place) → n < row.old_cells → Contains remembered (slice_index_or row.cells.items n d) → bit_in row.noted n ≡ 1
 
 -- The index is that of the row of the vertex with this name, beside these remembered cells.
 pub record IsIndexed (h : SpaceList) (remembered : List Place) (name : ℕ) (row : IndexedRow) : Type 0 where

@@ -6,10 +6,10 @@ use Rattle.tg_word.specs.declared.Place.{Place}
 use Rattle.tg_word.specs.Word.{IsPlace, link_to, place_in, rights_in, word_at, nursery_space}
 use Rattle.tg_block.specs.declared.TheConstants.{LINK, WORDS}
 use Rattle.tg_block.specs.Cells.{chunk_tag}
-use Rattle.tg_space.specs.SpaceList.{SpaceList, Holds, cell_at, cells_of, with_cell_at, with_word_at}
+use Rattle.tg_space.specs.SpaceList.{SpaceList, HasCell, cell_at, cells_of, with_cell_at, with_word_at}
 use Rattle.tg_space.specs.SpaceTable.{SpaceTable, IsHandedOut, place_in_space, used_of, with_one_used, with_spaces, IsSpaceTable}
 use Rattle.tg_remember.specs.Notes.{noted}
-use Rattle.tg_nursery.specs.Allocation.{HasLeft, room_made_for}
+use Rattle.tg_nursery.specs.Allocation.{HasRoomLeft, room_made_for}
 use Rattle.tg_space.specs.Targets.{first_pointer, young_spaces}
 use Rattle.tg_rows.specs.Graph.{IsOutOfCells}
 use Rattle.tg_rows.specs.Rows.{IsVertexAt, name_at, name_in, references_of, IsRow}
@@ -178,7 +178,7 @@ pub record LacksCellsFor (t : SpaceTable) (space others holder name : ℕ) : Typ
 
 -- a word of a cell may be written
 pub record CanWrite (t : SpaceTable) (cell : Place) (index : ℕ) : Type 0 where
-  pub held : Holds t.spaces cell
+  pub held : HasCell t.spaces cell
   pub inside : index < WORDS
   pub handed_out : IsHandedOut t cell
 
@@ -192,13 +192,13 @@ pub record CanExtend (t : SpaceTable) (n : ℕ) (last : Place) : Type 0 where
   pub few : n < MAX_NURSERIES
   pub nursery : nursery_space n < length t.spaces
   pub last_can : CanWrite t last LINK
-  pub left : HasLeft t (nursery_space n) 1
+  pub left : HasRoomLeft t (nursery_space n) 1
 
 -- rights may be put where they go
 abbrev pub CanPut : SpaceTable → ℕ → Spot → Type 0
 CanPut t space (Reference cell index) = CanRewrite t cell index
 CanPut t space (Empty cell index) = CanWrite t cell index
-CanPut t space (Full last) = CanWrite t last LINK × HasLeft t space 1
+CanPut t space (Full last) = CanWrite t last LINK × HasRoomLeft t space 1
 
 -- rights over the object at a place may be put where they go in a row, with a chunk from a nursery if one is needed
 pub record CanPutRights (t : SpaceTable) (n : ℕ) (spot : Spot) (to : Place) : Type 0 where

@@ -14,7 +14,7 @@ use Rattle.tg_rows.specs.Content.{IsContent}
 use Rattle.tg_rows.specs.Rows.{IsVertexAt, name_at}
 use Rattle.tg_space.specs.Rows.{row_of}
 use Rattle.tg_rows.specs.Graph.{IsGraph, content_in}
-use Rattle.tg_nursery.specs.Allocation.{HasLeft}
+use Rattle.tg_nursery.specs.Allocation.{HasRoomLeft}
 
 -- an object with an empty row
 abbrev pub vertex_words : ℕ → ℕ → List ℕ
@@ -40,4 +40,4 @@ pub record KeepsRows (h after : SpaceList) : Type 0 where
 pub record TakesOneCell (old new : SpaceTable) (space : ℕ) : Type 0 where
   pub here : used_of new space ≤ used_of old space + 1
   pub others : (other : ℕ) → other ≢ space → used_of new other ≡ used_of old other
-  pub blocks : HasLeft old space 1 → (other : ℕ) → length (space_of new.spaces other) ≡ length (space_of old.spaces other)
+  pub blocks : HasRoomLeft old space 1 → (other : ℕ) → length (space_of new.spaces other) ≡ length (space_of old.spaces other)

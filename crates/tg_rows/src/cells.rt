@@ -7,19 +7,19 @@ ghost use Rattle.tg_word.specs.declared.TheConstants.{MAX_NURSERIES};
 ghost use Rattle.tg_model.specs.Graph.{listing_of};
 ghost use Rattle.tg_model.specs.Rules.{state_of, with_value, written_at};
 ghost use Rattle.tg_block.specs.declared.CellKind.TheVariants.{Object};
-ghost use Rattle.tg_space.specs.SpaceList.{Holds, cell_at, space_of};
+ghost use Rattle.tg_space.specs.SpaceList.{HasCell, cell_at, space_of};
 ghost use Rattle.tg_space.specs.SpaceTable.{IsSpaceTable, place_in_space, used_of};
 ghost use Rattle.tg_space.specs.Soundness.{IsKindAt};
 ghost use Rattle.tg_space.specs.Generations.{AreRemembered};
 ghost use Rattle.tg_space.specs.Targets.{young_spaces};
-ghost use Rattle.tg_nursery.specs.Allocation.{HasLeft};
+ghost use Rattle.tg_nursery.specs.Allocation.{HasRoomLeft};
 ghost use Rattle.tg_rows.specs.Content.{IsNamed};
 ghost use Rattle.tg_rows.specs.Inner.Following.{IsRowPut};
 ghost use Rattle.tg_rows.specs.Graph.{IsGraph, content_in};
 ghost use Rattle.tg_rows.specs.Rows.{IsVertexAt, name_at};
 ghost use Rattle.tg_rows.specs.Steps.{TakesOneCell, ChangesTo, KeepsRows};
 ghost use Rattle.tg_rows.specs.Spots.{note_for, vertex_put, with_note};
-ghost use Rattle.tg_rows.specs.Inner.Deeds.{AddsEdge, CanGive, CanMakeAt, CanReserve, HasObject, HasSpot, MakesRoom, MakesVertexAt, MakesVertexRoom};
+ghost use Rattle.tg_rows.specs.Inner.Deeds.{AddsEdgeToRow, CanGive, CanMakeAt, CanReserve, HasObject, HasSpot, MakesRoomInCells, MakesVertexAt, MakesVertexRoom};
 
 use crate::references::put;
 use crate::rows::{Spot, edges_of};
@@ -75,7 +75,7 @@ impl<P: Payload> Cells<P> {
     /// What a reference says.
     #[inline(always)]
     pub(crate) fn found_at(&self, cell: Place, index: usize) -> Found
-        requires held { Holds self.now.spaces.spaces cell }
+        requires held { HasCell self.now.spaces.spaces cell }
         requires inside { index < 8 }
         ensures { let word = slice_index (cell_at self.now.spaces.spaces cell) index in result ≡ record { place = place_in word; rights = rights_in word } }
     {
@@ -152,8 +152,8 @@ impl<P: Payload> Cells<P> {
     ) -> Result<(), RoomFault>
         requires row { HasSpot self.old from (name_at self.old.spaces.spaces to) spot }
         requires gift { CanGive self.old nursery to rights }
-        ensures edge { AddsEdge self.old self.new nursery from to rights result }
-        ensures had_room { HasLeft self.old.spaces (nursery_space nursery) 1 → length (space_of self.old.spaces.spaces 0) ≡ 0 → IsOk result }
+        ensures edge { AddsEdgeToRow self.old self.new nursery from to rights result }
+        ensures had_room { HasRoomLeft self.old.spaces (nursery_space nursery) 1 → length (space_of self.old.spaces.spaces 0) ≡ 0 → IsOk result }
         ensures put { OnOk result (IsRowPut self.old.spaces self.new.spaces self.old.remembered.places self.new.remembered.places from
             (name_at self.old.spaces.spaces to) spot (note_for spot (young_spaces to.space))) }
         ensures one_cell { OnOk result (TakesOneCell self.old.spaces self.new.spaces (nursery_space nursery)) }
@@ -215,9 +215,9 @@ impl<P: Payload> Cells<P> {
         cells: u64,
     ) -> Result<(), RoomFault>
         requires { CanReserve self.old nursery cells }
-        ensures room { MakesRoom self.old self.new nursery note cells result }
+        ensures room { MakesRoomInCells self.old self.new nursery note cells result }
         ensures payloads { self.new.payloads ≡ self.old.payloads }
-        ensures had_room { HasLeft self.old.spaces (nursery_space nursery) cells → note ≡ None → IsOk result }
+        ensures had_room { HasRoomLeft self.old.spaces (nursery_space nursery) cells → note ≡ None → IsOk result }
     {
         let Ok(()) = reserve_note(&mut self.remembered, note) else {
             return Err(RoomFault::OutOfMemory);
@@ -234,7 +234,7 @@ impl<P: Payload> Cells<P> {
         requires graph { IsGraph self.old.spaces.spaces self.old.payloads }
         requires fresh { ¬ IsNamed (content_in self.old.spaces.spaces self.old.payloads) name }
         requires spare { 0 < self.old.payloads.spare }
-        requires left { HasLeft self.old.spaces (nursery_space nursery) 1 }
+        requires left { HasRoomLeft self.old.spaces (nursery_space nursery) 1 }
         ensures placed { let content = content_in self.old.spaces.spaces self.old.payloads in
             ChangesTo self.old.spaces self.new.spaces self.new.payloads (λ x. IsNamed content x ⊎ (x ≡ name)) content.label (with_value content.value name draft) }
         ensures vertex { IsVertexAt self.new.spaces.spaces name result }

@@ -4,12 +4,12 @@ ghost use Rattle.std.specs.Prelude.{◌≡◌, ◌<◌, List, None, nat_eq, Err,
 ghost use Rattle.tg_word.specs.declared.Place.{Place as PlaceOf};
 ghost use Rattle.tg_block.specs.declared.CellKind.TheVariants.{Object};
 ghost use Rattle.tg_space.specs.Soundness.{IsKindAt};
-ghost use Rattle.tg_rows.specs.Inner.Following.{AreBehind, AreUncleared, IsReady, IsWay};
+ghost use Rattle.tg_rows.specs.Inner.Following.{AreBehind, AreUncleared, IsReadyToFollow, IsWay};
 ghost use Rattle.tg_rows.specs.Graph.{IsLongRow};
 ghost use Rattle.tg_rows.specs.Index.{AreIndexed, IsAged, IsMarked, IsRowIndex, MayIndex, indexed_in};
 ghost use Rattle.std.specs.Map.{lookup};
 ghost use Rattle.tg_rows.specs.Rows.{name_at};
-ghost use Rattle.tg_rows.specs.Inner.Deeds.{AddsEdge, CanGive, CanLook, CanMake, FollowsChange, HasObject, HasSpot, IsEdgeFound, IsReadied, KeepsIndexed, LooksAlong, LooksForNew, MakesVertex, TakesRights};
+ghost use Rattle.tg_rows.specs.Inner.Deeds.{AddsEdgeToRow, CanGive, CanLook, CanMake, FollowsChange, HasObject, HasSpot, IsEdgeFound, IsReadied, KeepsIndexed, LooksAlong, LooksForNew, MakesVertex, TakesRights};
 
 use crate::cells::{Cells, Found, VertexRefused};
 use crate::indexed_row::{IndexedRow, find_indexed, forget_if_empty, spot_for_new};
@@ -72,7 +72,7 @@ impl<P: Payload> Cells<P> {
         requires row { HasObject self.now from }
         requires none { lookup (nat_eq (name_at self.now.spaces.spaces from)) rows.old.entries ≡ None }
         ensures entries { rows.new.entries ≡ rows.old.entries }
-        ensures ready { IfOk result (IsReady self.now.spaces.spaces rows.new from) }
+        ensures ready { IfOk result (IsReadyToFollow self.now.spaces.spaces rows.new from) }
     {
         if !may_get_long(&self.spaces, from) {
             return Ok(Way::Walk);
@@ -169,7 +169,7 @@ impl<P: Payload> Cells<P> {
     ) -> Result<(), RoomFault>
         requires row { CanLook self.old rows.old from }
         requires gift { CanGive self.old nursery to rights }
-        ensures edge { AddsEdge self.old self.new nursery from to rights result }
+        ensures edge { AddsEdgeToRow self.old self.new nursery from to rights result }
         ensures rows { FollowsChange self.old self.new rows.old rows.new from result }
     {
         let Ok(way) = self.way_to_change(rows, from) else {

@@ -5,7 +5,7 @@ ghost use Rattle.std.specs.List.{All};
 ghost use Rattle.std.specs.Map.{lookup};
 ghost use Rattle.indexmap.specs.IndexMap.{index_map_len, values};
 ghost use Rattle.indexmap.specs.Layout.{set_value_at};
-ghost use Rattle.tg_index.specs.Bits.{bit_of};
+ghost use Rattle.tg_index.specs.Bits.{bit_in};
 ghost use Rattle.tg_space.specs.Collection.{new_place};
 ghost use Rattle.tg_space.specs.Numbering.{IsNumbered, followed_place, followed_word};
 ghost use Rattle.tg_space.specs.Targets.{from_space};
@@ -222,9 +222,9 @@ fn mark_noted(noted: &Remembered, row: &mut IndexedRow, old: usize)
 // Marks the cell with a number, one of so many. Where memory for the mark is refused, no mark changes.
 fn mark_cell(marks: &mut NumberSet, number: usize, cells: usize) -> Result<(), AllocError>
     requires { number < cells }
-    ensures here { OnOk result (bit_of marks.new number ≡ 1) }
-    ensures others { (n : ℕ) → n ≢ number → bit_of marks.new n ≡ bit_of marks.old n }
-    ensures refused { OnErr result ((n : ℕ) → bit_of marks.new n ≡ bit_of marks.old n) }
+    ensures here { OnOk result (bit_in marks.new number ≡ 1) }
+    ensures others { (n : ℕ) → n ≢ number → bit_in marks.new n ≡ bit_in marks.old n }
+    ensures refused { OnErr result ((n : ℕ) → bit_in marks.new n ≡ bit_in marks.old n) }
 {
     marks.reserve(cells)?;
     marks.insert(number);

@@ -3,7 +3,7 @@
 ghost use Rattle.std.specs.Prelude.{◌≡◌, ◌≢◌, ℕ, Option, Some, None, IsSome, ◌+◌, ◌*◌, ◌^◌, ◌<◌, ◌≤◌, length, slice_index_or, IfSome, OnOk};
 ghost use Rattle.tg_word.specs.declared.Place.{Place};
 ghost use Rattle.tg_index.specs.Slots.{IsIndexOf, PutsAt, place_number};
-ghost use Rattle.tg_rows.specs.Inner.Following.{HasRoomIn, IsBehind, IsNotedIn, HasSameIndex, NotesCell};
+ghost use Rattle.tg_rows.specs.Inner.Following.{HasRoomIn, IsRowFollowed, IsNotedIn, HasSameIndex, NotesCell};
 ghost use Rattle.tg_rows.specs.Index.{IsPlaceOf, IsRowIndex};
 ghost use Rattle.tg_rows.specs.declared.indexed_row.TheConstants.{CHUNK_REFERENCES, FEWER_IN_OBJECT};
 ghost use Rattle.tg_rows.specs.Spots.{IsSoundIndex, IsSoundIndexWithout, IsSpotOf};
@@ -59,7 +59,7 @@ impl IndexedRow {
         spot: Spot,
         note: Option<Place>,
     )
-        requires put { IsBehind spaces.now from name spot note self.old }
+        requires put { IsRowFollowed spaces.now from name spot note self.old }
         requires room { HasRoomIn self.old }
         ensures index { IsRowIndex spaces.now.spaces from self.new.names self.new.cells.items }
         ensures marks { NotesCell note self.old self.new }

@@ -4,7 +4,7 @@ use Rattle.tg_model.specs.declared.command.Command.{Command}
 use Rattle.tg_model.specs.declared.command.Command.TheVariants.{Grant, Inspect}
 use Rattle.tg_model.specs.declared.verb.Arguments.{Arguments}
 use Rattle.tg_model.specs.declared.verb.Arguments.TheVariants.{Bare, Target, Value, Rights, Move}
-use Rattle.tg_model.specs.Commands.{parts_of}
+use Rattle.tg_model.specs.Commands.{verb_and_arguments}
 use Rattle.tg_graph.specs.Heap.{HeapState}
 use Rattle.tg_rules.specs.declared.vertex.Parties.{Parties}
 use Rattle.tg_rules.specs.Verdict.{HasVertex}
@@ -25,7 +25,7 @@ last_behind x (Move y z rights) = z
 
 -- the vertex that a command of x names last, or x where it names none
 abbrev pub last_named : ℕ → Command → ℕ
-last_named x command = last_behind x (parts_of command).1
+last_named x command = last_behind x (verb_and_arguments command).1
 
 -- the two vertices of the heap that a command of x is about
 pub record AreParties (s : HeapState) (x : ℕ) (command : Command) (p : Parties) : Type 0 where

@@ -13,11 +13,11 @@ use Rattle.tg_script.specs.declared.run.Run.{Run}
 use Rattle.tg_text.specs.Sinks.{Wrote, WroteSome}
 use Rattle.tg_script.specs.Entering.{entered}
 use Rattle.tg_script.specs.Script.{Scene}
-use Rattle.tg_script.specs.Lines.{ReadsFrom, Passes, Follows, IsBehind, IsOfReading}
+use Rattle.tg_script.specs.Lines.{ReadsFrom, PassesLine, Follows, IsBehind, IsOfReading}
 use Rattle.tg_script.specs.Opening.{IsCommand}
 use Rattle.tg_script.specs.Inner.Run.{Shows, Handles, MakesEntry}
 use Rattle.tg_script.specs.Inner.Supply.{values_left}
-use Rattle.tg_script.specs.Inner.Telling.{LineText, Tells, TellsCut, IsTold, StandsTold, CutsTold, TellsAll}
+use Rattle.tg_script.specs.Inner.Telling.{LineText, TellsLines, TellsCut, IsTold, StandsTold, CutsTold, TellsAll}
 use Rattle.tg_script.proofs.LinesLaws.{reads_behind, behind-append, may_stop_writing}
 
 -- ---- one line and those behind it
@@ -34,7 +34,7 @@ pub record Under {P : Type 0} (told : LineText) (start : Script) (bytes : List �
   pub took : taken ≡ Some (before ++ sofar)
   pub had : r.store.entries ≡ begun ++ made
   pub cuts : (lines : List Line) (behind cut : List ℕ) (es : List Entry) → ReadsFrom s rest lines (Some fault.WriteFailed) behind → IsBehind lines rest behind → TellsCut told scene (l ∷ lines) cut es → CutsTold told start bytes t first behind (sofar ++ cut) (made ++ es)
-  pub goes_on : (lines : List Line) (end : Option ScriptFault) (behind text : List ℕ) (es : List Entry) → ReadsFrom s rest lines end behind → Tells told scene (l ∷ lines) text es → IsTold told start bytes t first end behind (sofar ++ text) (made ++ es)
+  pub goes_on : (lines : List Line) (end : Option ScriptFault) (behind text : List ℕ) (es : List Entry) → ReadsFrom s rest lines end behind → TellsLines told scene (l ∷ lines) text es → IsTold told start bytes t first end behind (sofar ++ text) (made ++ es)
 
 pub under_first : {P : Type 0} {told : LineText} {start : Script} {bytes : List ℕ} {t : Scene} {before : List ℕ} {r : Run P} {left taken : Option (List ℕ)} (first l : Line) → first ≡ l → Shows r t → left ≡ Some bytes → taken ≡ Some before → Under told start bytes t first r.store.entries before start r l left taken
 under_first {told = told} {start = start} {bytes = bytes} {t = t} {before = before} {r = r} first l same shows leaves took = record {
@@ -47,7 +47,7 @@ under_first {told = told} {start = start} {bytes = bytes} {t = t} {before = befo
   took = took ∙ ap Some (sym (append-nil before));
   had = sym (append-nil r.store.entries);
   cuts = λ lines behind cut es reads is_behind is_cut. (lines, reads, is_behind, subst (λ (x : Line). TellsCut told t (x ∷ lines) cut es) (sym same) is_cut);
-  goes_on = λ lines end behind text es reads tells. (lines, reads, subst (λ (x : Line). Tells told t (x ∷ lines) text es) (sym same) tells);
+  goes_on = λ lines end behind text es reads tells. (lines, reads, subst (λ (x : Line). TellsLines told t (x ∷ lines) text es) (sym same) tells);
 }
 
 wrote_known : (W : Option (List ℕ) → List ℕ → Option (List ℕ) → Type 0) (taken after : Option (List ℕ)) (known bytes : List ℕ) → taken ≡ Some known → W taken bytes after → W (Some known) bytes after
@@ -93,7 +93,7 @@ as_one : {X Y : Type 0} (P : X → Y → Type 0) {a b : X} {c d : Y} → a ≡ b
 as_one P {b = b} {c = c} e f h = subst (λ x. P x c) (sym e) (subst (λ y. P b y) (sym f) h)
 
 -- what is told of a line is written, and a further line is read
-pub under_next : {P : Type 0} {told : LineText} {start : Script} {bytes : List ℕ} {t : Scene} {first : Line} {begun : List Entry} {before : List ℕ} {s : Script} {r : Run P} {l : Line} {left taken : Option (List ℕ)} (a : Answer) (r' : Run P) (after : Option (List ℕ)) (next : Line) (s' : Script) (left' : Option (List ℕ)) → Under told start bytes t first begun before s r l left taken → Handles r l a r' → MakesEntry r l a r' → Wrote taken (told l a (values_left r.supply)) after → ((rest : List ℕ) → left ≡ Some rest → (rest' : List ℕ) × (left' ≡ Some rest') × Passes s rest next s' rest') → Under told start bytes t first begun before s' r' next left' after
+pub under_next : {P : Type 0} {told : LineText} {start : Script} {bytes : List ℕ} {t : Scene} {first : Line} {begun : List Entry} {before : List ℕ} {s : Script} {r : Run P} {l : Line} {left taken : Option (List ℕ)} (a : Answer) (r' : Run P) (after : Option (List ℕ)) (next : Line) (s' : Script) (left' : Option (List ℕ)) → Under told start bytes t first begun before s r l left taken → Handles r l a r' → MakesEntry r l a r' → Wrote taken (told l a (values_left r.supply)) after → ((rest : List ℕ) → left ≡ Some rest → (rest' : List ℕ) × (left' ≡ Some rest') × PassesLine s rest next s' rest') → Under told start bytes t first begun before s' r' next left' after
 under_next {told = told} {start = start} {bytes = bytes} {t = t} {first = first} {begun = begun} {before = before} {s = s} {r = r} {l = l} {left = left} {taken = taken} a r' after next s' left' h handles makes wrote came =
     let v = handles h.scene h.shows in
     let n = came h.rest h.leaves in

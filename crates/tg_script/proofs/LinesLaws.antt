@@ -15,7 +15,7 @@ use Rattle.tg_text.specs.declared.fault.ScriptFault.TheVariants as fault
 use Rattle.tg_text.specs.Sinks.{KeepsBytes, Wrote}
 use Rattle.std.specs.Prelude.{IfErr, Result}
 use Rattle.std.proofs.lemmas.Result.{err_from_is_err_and}
-use Rattle.tg_script.specs.Lines.{CountsFailures, IsBehind, IsFresh, NextLine, OnlyReads, Passes, ReadsFrom, line_bytes, read_failures, write_failures}
+use Rattle.tg_script.specs.Lines.{CountsFailures, IsBehind, IsNewScript, NextLine, OnlyReads, PassesLine, ReadsFrom, line_bytes, read_failures, write_failures}
 use Rattle.tg_script.specs.Inner.Beginning.{ReadsFirst, ReadsFront}
 
 one_more : (text : List ℕ) (byte : ℕ) → IsOneLine text → byte ≢ 10 → IsOneLine (text ++ byte ∷ [])
@@ -39,7 +39,7 @@ fetches_known room before bytes outcome text after known h =
 -- ---- many lines
 
 -- what is read from a script of which no line was read is the whole of it
-pub fresh_front : (workers : ℕ) (s : Script) (bytes : List ℕ) → IsFresh s workers → ReadsFront workers bytes [] s bytes
+pub fresh_front : (workers : ℕ) (s : Script) (bytes : List ℕ) → IsNewScript s workers → ReadsFront workers bytes [] s bytes
 fresh_front workers s bytes fresh lines end left h =
     let A : ℕ → Type 0 = λ x. Reads x s.lines.room s.count s.opening bytes lines end left in
     let B : ℕ → Type 0 = λ x. Reads workers x s.count s.opening bytes lines end left in
@@ -47,7 +47,7 @@ fresh_front workers s bytes fresh lines end left h =
     let D : Bool → Type 0 = λ x. Reads workers MOST_BYTES 0 x bytes lines end left in
     subst D fresh.opening (subst C fresh.count (subst B fresh.room (subst A fresh.workers h)))
 
-pub front_more : (workers : ℕ) (t u : Script) (bytes rest after : List ℕ) (front : List Line) (l : Line) → ReadsFront workers bytes front t rest → Passes t rest l u after → ReadsFront workers bytes (front ++ l ∷ []) u after
+pub front_more : (workers : ℕ) (t u : Script) (bytes rest after : List ℕ) (front : List Line) (l : Line) → ReadsFront workers bytes front t rest → PassesLine t rest l u after → ReadsFront workers bytes (front ++ l ∷ []) u after
 front_more workers t u bytes rest after front l b p =
     λ lines end left h. subst (λ x. ReadsScript workers bytes x end left) (sym (append_assoc front (l ∷ []) lines)) (b (l ∷ lines) end left (p lines end left h))
 

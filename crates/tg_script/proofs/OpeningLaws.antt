@@ -16,7 +16,7 @@ use Rattle.tg_model.specs.declared.opening.OpeningFault.{OpeningFault}
 use Rattle.tg_model.specs.declared.opening.OpeningFault.TheVariants.{BadWorkers, BadLimits, BadEdge, BadValues}
 use Rattle.tg_model.specs.declared.opening.TheConstants.{MAX_VERTICES}
 use Rattle.tg_model.specs.Opened.{Plan, JoinsWorkers, ValueFits, HasWorkers, HasLimits, HasValues, IsFirstWithout, IsValuesFault, IsFaultTo}
-use Rattle.tg_script.specs.Lines.{ReadsFrom, Passes, Follows, IsOfReading}
+use Rattle.tg_script.specs.Lines.{ReadsFrom, PassesLine, Follows, IsOfReading}
 use Rattle.tg_script.specs.Opening.{edge_lines, IsCommand}
 use Rattle.tg_script.specs.Inner.Beginning.{ReadsFront, StopsAtEdges}
 use Rattle.tg_script.proofs.LinesLaws.{front_all, front_more}
@@ -25,7 +25,7 @@ edge_lines-push : (edges : List Edge) (edge : Edge) → edge_lines (edges ++ edg
 edge_lines-push [] edge = refl
 edge_lines-push (e ∷ edges) edge = ap (λ x. line.Edge e ∷ x) (edge_lines-push edges edge)
 
-pub edges_more : (workers : ℕ) (t u : Script) (bytes rest after : List ℕ) (edges more : List Edge) (edge : Edge) → more ≡ edges ++ edge ∷ [] → ReadsFront workers bytes (edge_lines edges) t rest → Passes t rest (line.Edge edge) u after → ReadsFront workers bytes (edge_lines more) u after
+pub edges_more : (workers : ℕ) (t u : Script) (bytes rest after : List ℕ) (edges more : List Edge) (edge : Edge) → more ≡ edges ++ edge ∷ [] → ReadsFront workers bytes (edge_lines edges) t rest → PassesLine t rest (line.Edge edge) u after → ReadsFront workers bytes (edge_lines more) u after
 edges_more workers t u bytes rest after edges more edge same b p =
     let P : List Line → Type 0 = λ x. ReadsFront workers bytes x u after in
     subst P (sym (edge_lines-push edges edge) ∙ ap edge_lines (sym same)) (front_more workers t u bytes rest after (edge_lines edges) (line.Edge edge) b p)
@@ -38,7 +38,7 @@ edges_fault workers t bytes rest edges f left b of_reading h = record {
 }
 
 -- there was no memory for an edge
-pub edges_unkept : (workers : ℕ) (t u : Script) (bytes rest after : List ℕ) (edges : List Edge) (edge : Edge) → ReadsFront workers bytes (edge_lines edges) t rest → Passes t rest (line.Edge edge) u after → StopsAtEdges workers bytes fault.OutOfMemory after
+pub edges_unkept : (workers : ℕ) (t u : Script) (bytes rest after : List ℕ) (edges : List Edge) (edge : Edge) → ReadsFront workers bytes (edge_lines edges) t rest → PassesLine t rest (line.Edge edge) u after → StopsAtEdges workers bytes fault.OutOfMemory after
 edges_unkept workers t u bytes rest after edges edge b p =
     let more = edges ++ edge ∷ [] in
     record {

@@ -9,7 +9,7 @@ use Rattle.tg_text.specs.Texts.{answer_text}
 use Rattle.tg_entries.specs.Texts.{entry_text}
 use Rattle.tg_script.specs.Entering.{AreEntered, entered}
 use Rattle.tg_script.specs.Script.{Scene, Serves, IsAdmissible, IsCut}
-use Rattle.tg_script.specs.Inner.Telling.{Tells, TellsCut, entry_of_line, reply_of_line}
+use Rattle.tg_script.specs.Inner.Telling.{TellsLines, TellsCut, entry_of_line, reply_of_line}
 
 -- ---- replies
 
@@ -19,7 +19,7 @@ admissible_then s t l a lines wants text rest (inr refused) is told =
     let P : Scene → Type 0 = λ x. IsAdmissible x lines wants rest in
     (wants + 1, inr (refused.0, wants, rest, refused.1, refl, is ∙ ap (λ x. answer_text x ++ rest) refused.2, subst P refused.3 told))
 
-pub replies_admissible : (lines : List Line) (s : Scene) (text : List ℕ) (es : List Entry) → Tells reply_of_line s lines text es → (wants : ℕ) × IsAdmissible s lines wants text
+pub replies_admissible : (lines : List Line) (s : Scene) (text : List ℕ) (es : List Entry) → TellsLines reply_of_line s lines text es → (wants : ℕ) × IsAdmissible s lines wants text
 replies_admissible [] s text es h = (0, (refl, h.0))
 replies_admissible (l ∷ lines) s text es h =
     let k = replies_admissible lines h.1 h.2 h.3 h.7 in
@@ -32,7 +32,7 @@ replies_cut (l ∷ m ∷ lines) s front es h = (h.0, h.1, h.2, h.4, h.5, replies
 
 -- ---- entries
 
-pub entries_told : (lines : List Line) (s : Scene) (text : List ℕ) (es : List Entry) → Tells entry_of_line s lines text es → AreEntered s lines es × (text ≡ flat_map entry_text es)
+pub entries_told : (lines : List Line) (s : Scene) (text : List ℕ) (es : List Entry) → TellsLines entry_of_line s lines text es → AreEntered s lines es × (text ≡ flat_map entry_text es)
 entries_told [] s text es h = (h.1, h.0 ∙ ap (flat_map entry_text) (sym h.1))
 entries_told (l ∷ lines) s text es h =
     let k = entries_told lines h.1 h.2 h.3 h.7 in

@@ -15,15 +15,15 @@ abbrev pub ReadsFrom : Script → List ℕ → List Line → Option ScriptFault 
 ReadsFrom s bytes lines end left = Reads s.workers s.lines.room s.count s.opening bytes lines end left
 
 -- a script of which no line was read, with so many workers
-pub record IsFresh (s : Script) (number : ℕ) : Type 0 where
+pub record IsNewScript (s : Script) (number : ℕ) : Type 0 where
   pub workers : s.workers ≡ number
   pub room : s.lines.room ≡ MOST_BYTES
   pub count : s.count ≡ 0
   pub opening : s.opening ≡ true
 
 -- the line is taken: whatever is read behind it is read behind it
-abbrev pub Passes : Script → List ℕ → Line → Script → List ℕ → Type 0
-Passes s bytes l t rest =
+abbrev pub PassesLine : Script → List ℕ → Line → Script → List ℕ → Type 0
+PassesLine s bytes l t rest =
     (lines : List Line) (end : Option ScriptFault) (left : List ℕ) → ReadsFrom t rest lines end left → ReadsFrom s bytes (l ∷ lines) end left
 
 -- a fault that is met in reading, or in finishing what was written before more is read
@@ -38,7 +38,7 @@ IsOfKeeping f = IsOfReading f ⊎ (f ≡ fault.OutOfMemory)
 
 -- a line, the end of the input, or the first fault, and the bytes that are left behind it
 abbrev pub NextLine : Script → List ℕ → Result (Option Line) ScriptFault → Script → List ℕ → Type 0
-NextLine s bytes (Ok (Some l)) t rest = Passes s bytes l t rest
+NextLine s bytes (Ok (Some l)) t rest = PassesLine s bytes l t rest
 NextLine s bytes (Ok None) t rest = ReadsFrom s bytes [] None rest
 NextLine s bytes (Err f) t rest = IsOfReading f × ReadsFrom s bytes [] (Some f) rest
 

@@ -25,11 +25,11 @@ pub(crate) struct Script {
 impl Script {
     ghost use Rattle.std.specs.Prelude.{◌≡◌, ◌+◌, ◌<◌, ◌≤◌, ℕ, List, Some, IfOk, IfSome};
     ghost use Rattle.tg_text.specs.declared.fetch.TheConstants.{MOST_BYTES};
-    ghost use Rattle.tg_script.specs.Lines.{IsFresh, IsOfReading, NextLine, OnlyReads, TakesLine, Follows};
+    ghost use Rattle.tg_script.specs.Lines.{IsNewScript, IsOfReading, NextLine, OnlyReads, TakesLine, Follows};
 
     /// No line was read.
     pub(crate) fn new(workers: u64) -> Script
-        ensures { IsFresh result workers }
+        ensures { IsNewScript result workers }
     {
         Script {
             lines: Lines::new(),

@@ -110,8 +110,8 @@ pub record KeeperNames : Type 0 where
   pub handed : ℕ
   pub roll : RoundTable
 
-abbrev pub names_of : Blanks → KeeperNames
-names_of blanks = record { handed = blanks.handed.name; roll = blanks.roll }
+abbrev pub ledger_names : Blanks → KeeperNames
+ledger_names blanks = record { handed = blanks.handed.name; roll = blanks.roll }
 
 -- A store may be shared with blanks by the round whose ledger has this name and so many parts, whose keeper's ledger and roll have
 -- these names, and which has this start: the blanks are the round's, that of the sessions has one part more than vertices may be made,

@@ -30,7 +30,7 @@ pub(crate) struct Metered<L: Round, V: Ledger, E: Ledger, P: Payload> {
 /// What is to be put behind a lock, a session for each active subject, by rising name, its one keeper, and the purse
 /// that has all shares.
 #[derive(Drop)]
-pub(crate) struct Opened<L: Round, V: Ledger, E: Ledger, P: Payload> {
+pub(crate) struct OpenedStore<L: Round, V: Ledger, E: Ledger, P: Payload> {
     pub(crate) metered: Metered<L, V, E, P>,
     pub(crate) sessions: Vec<Session<L>>,
     pub(crate) keeper: Keeper<L>,
@@ -60,7 +60,7 @@ impl<L: Round, V: Ledger, E: Ledger, P: Payload> Metered<L, V, E, P> {
         parts: PurseBlanks,
         whole: Portion,
         store: Store<P>,
-    ) -> Result<Opened<L, V, E, P>, Store<P>>
+    ) -> Result<OpenedStore<L, V, E, P>, Store<P>>
         requires shareable { MayShare L.name L.parts L.keeper L.start blanks store }
         requires shares { MayShareOut V.name V.parts E.name E.parts parts whole store }
         ensures store { IfOk result (λ opened. opened.metered.locked.store ≡ store) }
@@ -71,7 +71,7 @@ impl<L: Round, V: Ledger, E: Ledger, P: Payload> Metered<L, V, E, P> {
         match Locked::open(alloc, blanks, store) {
             Ok((locked, sessions, keeper)) => {
                 let (till, purse) = Till::open(parts, whole);
-                Ok(Opened {
+                Ok(OpenedStore {
                     metered: Metered { locked, till },
                     sessions,
                     keeper,

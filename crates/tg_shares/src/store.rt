@@ -7,7 +7,7 @@ ghost use Rattle.tg_passes.specs.declared.signed.Maker.TheVariants as maker;
 ghost use Rattle.tg_passes.specs.Passes.{entries_by};
 ghost use Rattle.tg_shares.specs.Shares.{MayShareOut};
 
-use crate::metered::{Metered, Opened};
+use crate::metered::{Metered, OpenedStore};
 use crate::purse::{Portion, Purse, PurseBlanks};
 use std::alloc::Global;
 use std::sync::ledger::Ledger;
@@ -56,7 +56,7 @@ impl<L: Round, V: Ledger, E: Ledger, P: Payload> MeteredStore<L, V, E, P> {
         ensures purse { IfOk result (λ opened. opened.purse ≡ whole) }
         ensures handed_back { IfErr result (λ refused. refused ≡ store) }
     {
-        let Opened {
+        let OpenedStore {
             metered,
             sessions,
             keeper,

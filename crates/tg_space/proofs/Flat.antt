@@ -9,7 +9,7 @@ use Rattle.std.proofs.lemmas.List.Elements.{All-nil, All-append, All-get_or, All
 use Rattle.tg_word.specs.declared.Place.{Place}
 use Rattle.tg_word.specs.declared.TheConstants.{SPACES}
 use Rattle.tg_block.specs.Cells.{IsBlock}
-use Rattle.tg_space.specs.SpaceList.{SpaceList, BlockList, IsSpace, IsSpaceList, Holds, space_of, cell_at, blocks_before, block_count, flat_of, cells_of}
+use Rattle.tg_space.specs.SpaceList.{SpaceList, BlockList, IsSpace, IsSpaceList, HasCell, space_of, cell_at, blocks_before, block_count, flat_of, cells_of}
 
 -- a list of blocks has 64 cells a block
 pub length-blocks : (blocks : BlockList) → All IsBlock blocks → length (flat_map (λ (b : List (List ℕ)). b) blocks) ≡ 64 * length blocks
@@ -38,11 +38,11 @@ before_mono h a b le =
     rw (take-take a b h le) at (sum_by-take-le (λ (x : BlockList). length x) (take b h) a)
 
 module _ (h : SpaceList) (are : All IsSpace h) where
-  pub flat_inside : (p : Place) → Holds h p → flat_of h p < length (cells_of h)
+  pub flat_inside : (p : Place) → HasCell h p → flat_of h p < length (cells_of h)
   flat_inside p holds =
       omega (arith, before_more h p.space holds.space, before_le h (p.space + 1), length-cells_of h are)
 
-  pub get_or-flat_of : (p : Place) → Holds h p → get_or (cells_of h) (flat_of h p) [] ≡ cell_at h p
+  pub get_or-flat_of : (p : Place) → HasCell h p → get_or (cells_of h) (flat_of h p) [] ≡ cell_at h p
   get_or-flat_of p holds =
       let blocks = space_of h p.space in
       let shape : All IsBlock blocks = (All-get_or IsSpace h p.space [] holds.space are).1 in
@@ -58,11 +58,11 @@ module _ (h : SpaceList) (are : All IsSpace h) where
       ap (λ n. get_or (cells_of h) n []) at_outer ∙ outer ∙ ap (λ n. get_or (flat_map (λ (b : List (List ℕ)). b) blocks) n []) at_inner ∙ inner
 
   -- a number is in the space whose blocks reach over it, and in no other
-  same_space : (p q : Place) → Holds h p → Holds h q → flat_of h p ≡ flat_of h q → p.space < q.space → ⊥
+  same_space : (p q : Place) → HasCell h p → HasCell h q → flat_of h p ≡ flat_of h q → p.space < q.space → ⊥
   same_space p q hp hq e lt =
       omega (arith, before_mono h (p.space + 1) q.space (omega arith), before_more h p.space hp.space)
 
-  pub same_place : (p q : Place) → Holds h p → Holds h q → flat_of h p ≡ flat_of h q → p ≡ q
+  pub same_place : (p q : Place) → HasCell h p → HasCell h q → flat_of h p ≡ flat_of h q → p ≡ q
   same_place p q hp hq e =
       let le : p.space ≤ q.space = ⊎_elim (λ g. absurd (same_space q p hq hp (sym e) g)) (λ l. l) (cases_lt q.space p.space) in
       let ge : q.space ≤ p.space = ⊎_elim (λ g. absurd (same_space p q hp hq e g)) (λ l. l) (cases_lt p.space q.space) in

@@ -4,31 +4,31 @@ use Rattle.std.specs.List.{All}
 use Rattle.std.proofs.lemmas.List.Elements.{All-weaker}
 use Rattle.tg_word.specs.declared.Place.{Place}
 use Rattle.tg_word.specs.Word.{place_in, rights_in, word_at}
-use Rattle.tg_space.specs.SpaceList.{SpaceList, Holds, flat_of}
+use Rattle.tg_space.specs.SpaceList.{SpaceList, HasCell, flat_of}
 use Rattle.tg_space.specs.Numbering.{AreNumbersOf, AreStarts, IsNumbered, NamesNumbered, followed_place, moved_place, number_by, renamed_word}
 use Rattle.tg_space.specs.Soundness.{IsPointer, NamesCell}
 use Rattle.tg_space.specs.Targets.{moved_word}
 use Rattle.tg_space.proofs.Flat.{before_few, blocks_all, flat_inside, length-cells_of}
 
 -- the number of a cell that is there
-pub number_is : (starts : List ℕ) (h : SpaceList) → AreStarts starts h → (p : Place) → Holds h p → number_by starts p ≡ flat_of h p
+pub number_is : (starts : List ℕ) (h : SpaceList) → AreStarts starts h → (p : Place) → HasCell h p → number_by starts p ≡ flat_of h p
 number_is starts h are p held = ap (λ n. 64 * (n + p.block) + p.cell) (are.1 p.space held.space)
 
 -- so its new place is the same
-pub followed_is : (from : ℕ → Bool) (starts : List ℕ) (h : SpaceList) (to : ℕ → Place) → AreStarts starts h → (p : Place) → Holds h p → followed_place from starts to p ≡ moved_place from h to p
+pub followed_is : (from : ℕ → Bool) (starts : List ℕ) (h : SpaceList) (to : ℕ → Place) → AreStarts starts h → (p : Place) → HasCell h p → followed_place from starts to p ≡ moved_place from h to p
 followed_is from starts h to are p held = ap (λ n. cond (from p.space) (to n) p) (number_is starts h are p held)
 
 module _ (h : SpaceList) (starts : List ℕ) (words : ℕ) (numbers : AreNumbersOf h starts words) where
   -- each cell that is there has a number
-  pub is_numbered : (p : Place) → Holds h p → IsNumbered starts words p
+  pub is_numbered : (p : Place) → HasCell h p → IsNumbered starts words p
   is_numbered p held = record {
     space = let low = held.space in let enough = numbers.before.0 in omega (arith, low, enough);
     inside = let same = number_is starts h numbers.before p held in let inside = flat_inside h numbers.spaces.spaces p held in let whole = numbers.whole in omega (arith, same, inside, whole);
     few = let whole = numbers.whole in omega (arith, whole, length-cells_of h numbers.spaces.spaces, before_few h numbers.spaces (length h), blocks_all h (length h) (omega arith));
   }
 
-  pub are_numbered : (ps : List Place) → All (Holds h) ps → All (IsNumbered starts words) ps
-  are_numbered ps held = All-weaker (Holds h) (IsNumbered starts words) is_numbered ps held
+  pub are_numbered : (ps : List Place) → All (HasCell h) ps → All (IsNumbered starts words) ps
+  are_numbered ps held = All-weaker (HasCell h) (IsNumbered starts words) is_numbered ps held
 
   -- and so has each cell that words name
   pub names_numbered : (pointers : List ℕ) → All (IsPointer h) pointers → All (NamesNumbered starts words) pointers

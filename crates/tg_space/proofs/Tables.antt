@@ -7,7 +7,7 @@ use Rattle.std.proofs.lemmas.Bool.{cases_eq, cases_lt}
 use Rattle.tg_word.specs.declared.Place.{Place}
 use Rattle.tg_word.specs.declared.TheConstants.{SPACES}
 use Rattle.tg_block.specs.Cells.{IsBlock, free_cell, free_block, cell_of}
-use Rattle.tg_space.specs.SpaceList.{SpaceList, BlockList, IsEmptyFrom, IsSpace, IsSpaceList, Holds, space_of, block_of, cell_at, blocks_before, block_count, with_cell_at, with_word_at, with_block, flat_of, cells_of}
+use Rattle.tg_space.specs.SpaceList.{SpaceList, BlockList, IsEmptyFrom, IsSpace, IsSpaceList, HasCell, space_of, block_of, cell_at, blocks_before, block_count, with_cell_at, with_word_at, with_block, flat_of, cells_of}
 use Rattle.tg_space.specs.declared.kind.Kind.TheVariants.{Full, Nursery}
 use Rattle.tg_space.specs.declared.limits.Limits.{Limits}
 use Rattle.tg_space.specs.SpaceTable.{SpaceTable, adopted, with_adopted, IsSpaceTable, IsPrefixCount, IsHandedOut, used_of, number_in_space, with_spaces}
@@ -32,14 +32,14 @@ same_starts starts a b same count = record {
   counts = λ space le. let inside : space ≤ length a = omega (arith, same.long) in count.counts space inside ∙ sym (same_before a b same space inside);
 }
 
-pub same_holds : (a b : SpaceList) → SameShape a b → (p : Place) → Holds b p → Holds a p
+pub same_holds : (a b : SpaceList) → SameShape a b → (p : Place) → HasCell b p → HasCell a p
 same_holds a b same p holds = record {
   space = omega (arith, same.long, holds.space);
   block = omega (arith, same.blocks p.space, holds.block);
   cell = holds.cell;
 }
 
-pub holds_same : (a b : SpaceList) → SameShape a b → (p : Place) → Holds a p → Holds b p
+pub holds_same : (a b : SpaceList) → SameShape a b → (p : Place) → HasCell a p → HasCell b p
 holds_same a b same p holds = record {
   space = omega (arith, same.long, holds.space);
   block = omega (arith, same.blocks p.space, holds.block);
@@ -47,14 +47,14 @@ holds_same a b same p holds = record {
 }
 
 -- the block of a held cell has 64 cells
-pub block_whole : (h : SpaceList) (p : Place) → IsSpaceList h → Holds h p → p.cell < length (block_of h p.space p.block)
+pub block_whole : (h : SpaceList) (p : Place) → IsSpaceList h → HasCell h p → p.cell < length (block_of h p.space p.block)
 block_whole h p is holds =
     let blocks : All IsBlock (space_of h p.space) = (All-get_or IsSpace h p.space [] holds.space is.spaces).1 in
     let long : length (block_of h p.space p.block) ≡ 64 = (All-get_or IsBlock (space_of h p.space) p.block [] holds.block blocks).0 in
     omega (arith, holds.cell)
 
 -- a write of a cell keeps the shape
-pub shape_cell : (h : SpaceList) (p : Place) (words : List ℕ) → Holds h p → SameShape h (with_cell_at h p words)
+pub shape_cell : (h : SpaceList) (p : Place) (words : List ℕ) → HasCell h p → SameShape h (with_cell_at h p words)
 shape_cell h p words holds = record {
   long = length-set h p.space new_space;
   blocks = λ space. by_space space (cases_eq space p.space);
@@ -72,11 +72,11 @@ shape_cell h p words holds = record {
     by_space space (inr other) = ap (λ (blocks : BlockList). length blocks) (get_or-set_other h p.space space new_space [] other)
 
 -- and so does one of a word
-pub shape_written : (h : SpaceList) (p : Place) (i word : ℕ) → Holds h p → SameShape h (with_word_at h p i word)
+pub shape_written : (h : SpaceList) (p : Place) (i word : ℕ) → HasCell h p → SameShape h (with_word_at h p i word)
 shape_written h p i word = shape_cell h p (set (cell_at h p) i word)
 
 -- a write to a cell that was handed out keeps a table of spaces
-pub table_cell : (t : SpaceTable) (p : Place) (words : List ℕ) → IsSpaceTable t → Holds t.spaces p → IsHandedOut t p → All IsSpace (with_cell_at t.spaces p words) → IsSpaceTable (with_spaces t (with_cell_at t.spaces p words))
+pub table_cell : (t : SpaceTable) (p : Place) (words : List ℕ) → IsSpaceTable t → HasCell t.spaces p → IsHandedOut t p → All IsSpace (with_cell_at t.spaces p words) → IsSpaceTable (with_spaces t (with_cell_at t.spaces p words))
 table_cell t p words is holds handed whole =
     let shape = shape_cell t.spaces p words holds in
     record {
@@ -106,9 +106,9 @@ pub count_few : (t : SpaceTable) → IsSpaceTable t → block_count t.spaces ≤
 count_few t is =
     omega (arith, before_few t.spaces (table_list t is) (length t.spaces), blocks_all t.spaces (length t.spaces) (omega arith))
 
-pub flat_facts : (t now : SpaceTable) (starts : List ℕ) (p : Place) (start : ℕ) → t ≡ now → IsSpaceTable t × IsPrefixCount starts t.spaces → Holds now.spaces p → start ≡ get_or starts p.space start → FlatFacts now.spaces p start
+pub flat_facts : (t now : SpaceTable) (starts : List ℕ) (p : Place) (start : ℕ) → t ≡ now → IsSpaceTable t × IsPrefixCount starts t.spaces → HasCell now.spaces p → start ≡ get_or starts p.space start → FlatFacts now.spaces p start
 flat_facts t now starts p start same is holds read =
-    let held : Holds t.spaces p = subst (λ (x : SpaceTable). Holds x.spaces p) (sym same) holds in
+    let held : HasCell t.spaces p = subst (λ (x : SpaceTable). HasCell x.spaces p) (sym same) holds in
     let table : IsSpaceTable now = subst (λ (x : SpaceTable). IsSpaceTable x) same is.0 in
     record {
       starts = get_or_read starts p.space start (omega (arith, is.1.long, held.space)) read 0 ∙ is.1.counts p.space (omega (arith, held.space)) ∙ ap (λ (x : SpaceTable). blocks_before x.spaces p.space) same;
@@ -116,14 +116,14 @@ flat_facts t now starts p start same is holds read =
       few = omega (arith, length-cells_of now.spaces table.blocks, count_few now table);
     }
 
-pub flat_facts_at : (t now : SpaceTable) (starts : List ℕ) (p : Place) (start n : ℕ) → t ≡ now → IsSpaceTable t × IsPrefixCount starts t.spaces → Holds now.spaces p → n ≡ p.space → start ≡ get_or starts n start → FlatFacts now.spaces p start
+pub flat_facts_at : (t now : SpaceTable) (starts : List ℕ) (p : Place) (start n : ℕ) → t ≡ now → IsSpaceTable t × IsPrefixCount starts t.spaces → HasCell now.spaces p → n ≡ p.space → start ≡ get_or starts n start → FlatFacts now.spaces p start
 flat_facts_at t now starts p start n same is holds space read = flat_facts t now starts p start same is holds (subst (λ (m : ℕ). start ≡ get_or starts m start) space read)
 
 -- the words of a cell that are read from its space are those that are numbered among all cells
-pub numbered_is : (t now : SpaceTable) (p : Place) (blocks : BlockList) (words : List ℕ) → t ≡ now → IsSpaceTable t → Holds now.spaces p → blocks ≡ get_or t.spaces p.space blocks → words ≡ cell_of (get_or blocks p.block []) p.cell
+pub numbered_is : (t now : SpaceTable) (p : Place) (blocks : BlockList) (words : List ℕ) → t ≡ now → IsSpaceTable t → HasCell now.spaces p → blocks ≡ get_or t.spaces p.space blocks → words ≡ cell_of (get_or blocks p.block []) p.cell
     → words ≡ get_or (cells_of now.spaces) (flat_of now.spaces p) []
 numbered_is t now p blocks words same is holds read cell =
-    let held : Holds t.spaces p = subst (λ (x : SpaceTable). Holds x.spaces p) (sym same) holds in
+    let held : HasCell t.spaces p = subst (λ (x : SpaceTable). HasCell x.spaces p) (sym same) holds in
     let table : IsSpaceTable now = subst (λ (x : SpaceTable). IsSpaceTable x) same is in
     let space : blocks ≡ space_of now.spaces p.space = get_or_read t.spaces p.space blocks held.space read [] ∙ ap (λ (x : SpaceTable). space_of x.spaces p.space) same in
     cell ∙ ap (λ (s : BlockList). cell_of (get_or s p.block []) p.cell) space ∙ sym (get_or-flat_of now.spaces table.blocks p holds)
@@ -146,11 +146,11 @@ next_cell t now space count same is inside read =
     }
 
 -- the table with the words of one cell written over, as a call left the cell's space
-pub cell_put : (t now : SpaceTable) (starts : List ℕ) (p : Place) (blocks left : BlockList) (words : List (List ℕ) → List ℕ) → t ≡ now → IsSpaceTable t × IsPrefixCount starts t.spaces → Holds now.spaces p → IsHandedOut now p
+pub cell_put : (t now : SpaceTable) (starts : List ℕ) (p : Place) (blocks left : BlockList) (words : List (List ℕ) → List ℕ) → t ≡ now → IsSpaceTable t × IsPrefixCount starts t.spaces → HasCell now.spaces p → IsHandedOut now p
     → blocks ≡ get_or t.spaces p.space blocks → left ≡ set blocks p.block (set (get_or blocks p.block []) p.cell (words (get_or blocks p.block []))) → IsSpace left
     → IsSpaceTable (with_spaces t (set t.spaces p.space left)) × IsPrefixCount starts (set t.spaces p.space left)
 cell_put t now starts p blocks left words same is holds handed read changed whole =
-    let held : Holds t.spaces p = subst (λ (x : SpaceTable). Holds x.spaces p) (sym same) holds in
+    let held : HasCell t.spaces p = subst (λ (x : SpaceTable). HasCell x.spaces p) (sym same) holds in
     let handed_out : IsHandedOut t p = subst (λ (x : SpaceTable). IsHandedOut x p) (sym same) handed in
     let space : blocks ≡ space_of t.spaces p.space = get_or_read t.spaces p.space blocks held.space read [] in
     let written : List ℕ = words (block_of t.spaces p.space p.block) in
@@ -190,10 +190,10 @@ module _ (h : SpaceList) (space : ℕ) (low : space < length h) where
       by_space (inr other) = omega (arith, ap (λ (b : BlockList). length b) (get_or-set_other h space s grown [] other))
 
   -- a cell of the grown heap is a cell of the one before, or a free cell
-  pub cell_at-with_block : (p : Place) → Holds (with_block h space) p → (Holds h p × (cell_at (with_block h space) p ≡ cell_at h p)) ⊎ (cell_at (with_block h space) p ≡ free_cell)
+  pub cell_at-with_block : (p : Place) → HasCell (with_block h space) p → (HasCell h p × (cell_at (with_block h space) p ≡ cell_at h p)) ⊎ (cell_at (with_block h space) p ≡ free_cell)
   cell_at-with_block p holds = by_space (cases_eq p.space space)
     where
-      in_space : space_of (with_block h space) p.space ≡ grown → p.space ≡ space → (p.block < length (space_of h space)) ⊎ (length (space_of h space) ≤ p.block) → (Holds h p × (cell_at (with_block h space) p ≡ cell_at h p)) ⊎ (cell_at (with_block h space) p ≡ free_cell)
+      in_space : space_of (with_block h space) p.space ≡ grown → p.space ≡ space → (p.block < length (space_of h space)) ⊎ (length (space_of h space) ≤ p.block) → (HasCell h p × (cell_at (with_block h space) p ≡ cell_at h p)) ⊎ (cell_at (with_block h space) p ≡ free_cell)
       in_space here same (inl below) =
           inl (
             record { space = omega arith; block = omega (arith, ap (λ (k : ℕ). length (space_of h k)) same); cell = holds.cell },
@@ -209,7 +209,7 @@ module _ (h : SpaceList) (space : ℕ) (low : space < length h) where
           ∙ ap (λ (b : List (List ℕ)). cell_of b p.cell) (get_or_push (space_of h space) free_block [] p.block at)
           ∙ get_or-replicate 64 p.cell free_cell [] holds.cell)
 
-      by_space : (p.space ≡ space) ⊎ (p.space ≢ space) → (Holds h p × (cell_at (with_block h space) p ≡ cell_at h p)) ⊎ (cell_at (with_block h space) p ≡ free_cell)
+      by_space : (p.space ≡ space) ⊎ (p.space ≢ space) → (HasCell h p × (cell_at (with_block h space) p ≡ cell_at h p)) ⊎ (cell_at (with_block h space) p ≡ free_cell)
       by_space (inl same) =
           in_space (ap (λ (k : ℕ). space_of (with_block h space) k) same ∙ space_of-with_block) same (cases_lt p.block (length (space_of h space)))
       by_space (inr other) =
@@ -220,10 +220,10 @@ module _ (h : SpaceList) (space : ℕ) (low : space < length h) where
           )
 
   -- a cell of the heap before stays as it was
-  pub kept-with_block : (p : Place) → Holds h p → Holds (with_block h space) p × (cell_at (with_block h space) p ≡ cell_at h p)
+  pub kept-with_block : (p : Place) → HasCell h p → HasCell (with_block h space) p × (cell_at (with_block h space) p ≡ cell_at h p)
   kept-with_block p holds = by_space (cases_eq p.space space)
     where
-      by_space : (p.space ≡ space) ⊎ (p.space ≢ space) → Holds (with_block h space) p × (cell_at (with_block h space) p ≡ cell_at h p)
+      by_space : (p.space ≡ space) ⊎ (p.space ≢ space) → HasCell (with_block h space) p × (cell_at (with_block h space) p ≡ cell_at h p)
       by_space (inl same) =
           let here : space_of (with_block h space) p.space ≡ grown = ap (λ (k : ℕ). space_of (with_block h space) k) same ∙ space_of-with_block in
           let below : p.block < length (space_of h space) = omega (arith, holds.block, ap (λ (k : ℕ). length (space_of h k)) same) in (
@@ -271,7 +271,7 @@ put_in_place t aged old enough few grown_is is_aged = record {
     unused : (space : ℕ) → used_of (with_adopted t Nursery aged old) space ≡ 0
     unused space = ⊎_elim (λ (low : space < length t.spaces). get_or-replicate (length t.spaces) space 0 0 low) (λ (past : length t.spaces ≤ space). get_or_past (replicate (length t.spaces) 0) space 0 (rw (length-replicate {A = ℕ} (length t.spaces) 0) past)) (cases_lt space (length t.spaces))
 
-    no_block : (p : Place) → Holds (adopted Nursery t.spaces aged old) p → 2 ≤ p.space → ⊥
+    no_block : (p : Place) → HasCell (adopted Nursery t.spaces aged old) p → 2 ≤ p.space → ⊥
     no_block p holds nursery =
         let none : (k : ℕ) → get_or (replicate {A = BlockList} (length t.spaces - 2) []) k [] ≡ [] = λ k. ⊎_elim
         (λ (low : k < length t.spaces - 2). get_or-replicate (length t.spaces - 2) k [] [] low)
@@ -279,7 +279,7 @@ put_in_place t aged old enough few grown_is is_aged = record {
         (cases_lt k (length t.spaces - 2)) in
         by_space p.space refl none holds nursery
       where
-        by_space : (n : ℕ) → p.space ≡ n → ((k : ℕ) → get_or (replicate {A = BlockList} (length t.spaces - 2) []) k [] ≡ []) → Holds (adopted Nursery t.spaces aged old) p → 2 ≤ p.space → ⊥
+        by_space : (n : ℕ) → p.space ≡ n → ((k : ℕ) → get_or (replicate {A = BlockList} (length t.spaces - 2) []) k [] ≡ []) → HasCell (adopted Nursery t.spaces aged old) p → 2 ≤ p.space → ⊥
         by_space zero is none holds nursery = absurd (omega arith)
         by_space (suc zero) is none holds nursery = absurd (omega arith)
         by_space (suc (suc k)) is none holds nursery =

@@ -4,9 +4,9 @@ use Rattle.std.proofs.lemmas.List.{get_or-set_same, get_or-set_other}
 use Rattle.std.proofs.lemmas.Bool.{cases_eq}
 use Rattle.tg_word.specs.declared.Place.{Place}
 use Rattle.tg_block.specs.Cells.{cell_of}
-use Rattle.tg_space.specs.SpaceList.{SpaceList, BlockList, Holds, space_of, cell_at, with_cell_at, with_word_at}
+use Rattle.tg_space.specs.SpaceList.{SpaceList, BlockList, HasCell, space_of, cell_at, with_cell_at, with_word_at}
 
-module _ (h : SpaceList) (p : Place) (words : List ℕ) (holds : Holds h p) where
+module _ (h : SpaceList) (p : Place) (words : List ℕ) (holds : HasCell h p) where
   abbrev block : List (List ℕ)
   block = get_or (space_of h p.space) p.block []
 
@@ -45,7 +45,7 @@ module _ (h : SpaceList) (p : Place) (words : List ℕ) (holds : Holds h p) wher
           ap (λ s. cell_of (get_or (space_of h s) q.block []) q.cell) (sym es)
 
 -- a write of one word is one of its cell
-module _ (h : SpaceList) (p : Place) (i word : ℕ) (holds : Holds h p) where
+module _ (h : SpaceList) (p : Place) (i word : ℕ) (holds : HasCell h p) where
   pub written : p.cell < length (get_or (space_of h p.space) p.block []) → cell_at (with_word_at h p i word) p ≡ set (cell_at h p) i word
   written = cell_written h p (set (cell_at h p) i word) holds
 

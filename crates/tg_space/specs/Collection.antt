@@ -5,7 +5,7 @@ use Rattle.tg_word.specs.declared.TheConstants.{CELLS, MOST_SPACE_BLOCKS}
 use Rattle.tg_word.specs.declared.Place.{Place}
 use Rattle.tg_word.specs.Word.{link_to, place_in}
 use Rattle.tg_block.specs.Cells.{free_cell, all_are_zero}
-use Rattle.tg_space.specs.SpaceList.{SpaceList, BlockList, Holds, cell_at, cells_of}
+use Rattle.tg_space.specs.SpaceList.{SpaceList, BlockList, HasCell, cell_at, cells_of}
 use Rattle.tg_space.specs.SpaceTable.{adopted, kept_blocks}
 use Rattle.tg_space.specs.Closure.{IsInClosure}
 use Rattle.tg_space.specs.Targets.{from_space, targets_of, all_root_targets, image_of, IsImage}
@@ -68,7 +68,7 @@ pub record AreFewBlocks (space_blocks kept more : ℕ) (made : Collected) : Type
 
 -- the place is in the new blocks
 pub record IsNewPlace (kind : Kind) (h : SpaceList) (aged old : BlockList) (p : Place) : Type 0 where
-  pub held : Holds (adopted kind h aged old) p
+  pub held : HasCell (adopted kind h aged old) p
   pub behind : p.space ≡ 0 → kept_blocks kind h ≤ p.block
 
 -- where the cell with a number goes

@@ -4,7 +4,7 @@ use Rattle.std.specs.List.{Contains}
 use Rattle.tg_model.specs.Walks.{Walk}
 use Rattle.tg_word.specs.declared.Place.{Place}
 use Rattle.tg_word.specs.Word.{place_in}
-use Rattle.tg_space.specs.SpaceList.{SpaceList, Holds, cell_at, cells_of, flat_of}
+use Rattle.tg_space.specs.SpaceList.{SpaceList, HasCell, cell_at, cells_of, flat_of}
 use Rattle.tg_space.specs.Soundness.{IsOldCell}
 use Rattle.tg_space.specs.Targets.{young_spaces, pointers_of, root_targets_of, targets_of}
 use Rattle.tg_space.specs.declared.kind.Kind.{Kind}
@@ -17,13 +17,13 @@ use Rattle.tg_space.specs.declared.root.Root.TheVariants.{Row, Remembered}
 -- the cell with a number is one of Aged, or of a nursery
 pub record IsAgedCell (h : SpaceList) (c : ℕ) : Type 0 where
   pub place : Place
-  pub held : Holds h place
+  pub held : HasCell h place
   pub aged : place.space ≡ 1
   pub at : flat_of h place ≡ c
 
 pub record IsNurseryCell (h : SpaceList) (c : ℕ) : Type 0 where
   pub place : Place
-  pub held : Holds h place
+  pub held : HasCell h place
   pub nursery : 2 ≤ place.space
   pub at : flat_of h place ≡ c
 

@@ -8,7 +8,7 @@ use Rattle.tg_block.specs.declared.TheConstants.{CHUNK_POINTERS, LINK, OBJECT_PO
 use Rattle.tg_block.specs.Cells.{kind_of}
 use Rattle.tg_block.specs.declared.CellKind.{CellKind}
 use Rattle.tg_block.specs.declared.CellKind.TheVariants.{Free, Object, Chunk, Bad}
-use Rattle.tg_space.specs.SpaceList.{SpaceList, Holds, cell_at, cells_of}
+use Rattle.tg_space.specs.SpaceList.{SpaceList, HasCell, cell_at, cells_of}
 use Rattle.tg_space.specs.Rows.{link_of}
 use Rattle.tg_space.specs.Targets.{cell_numbered}
 use Rattle.tg_space.specs.declared.root.Root.{Root}
@@ -16,7 +16,7 @@ use Rattle.tg_space.specs.declared.root.Root.TheVariants.{Row, Remembered}
 
 -- the place names an object, or a chunk
 pub record IsKindAt (h : SpaceList) (kind : CellKind) (p : Place) : Type 0 where
-  pub held : Holds h p
+  pub held : HasCell h p
   pub is : kind_of (cell_at h p) ≡ kind
 
 -- a reference is empty, or has at least one right over an object
@@ -51,7 +51,7 @@ HasLayout h words = HasLayoutOf h words (kind_of words)
 
 -- a cell of Old
 pub record IsOldCell (h : SpaceList) (p : Place) : Type 0 where
-  pub held : Holds h p
+  pub held : HasCell h p
   pub space : p.space ≡ 0
 
 -- a root stands for a row, from its object or from a later cell on, or for a remembered cell of Old
@@ -70,7 +70,7 @@ pub record AreSound (h : SpaceList) (roots : List Root) : Type 0 where
 -- a reference or link is empty, or names a cell that is not free
 pub record NamesCell (h : SpaceList) (word : ℕ) : Type 0 where
   pub present : IsTrue (is_present word)
-  pub held : Holds h (place_in word)
+  pub held : HasCell h (place_in word)
   pub used : 0 < slice_index (cell_at h (place_in word)) 0
 
 abbrev pub IsPointer : SpaceList → ℕ → Type 0

@@ -27,7 +27,7 @@ abbrev pub block_of : SpaceList → ℕ → ℕ → List (List ℕ)
 block_of h space block = slice_index_or (space_of h space) block []
 
 -- the place names a cell
-pub record Holds (h : SpaceList) (p : Place) : Type 0 where
+pub record HasCell (h : SpaceList) (p : Place) : Type 0 where
   pub space : p.space < length h
   pub block : p.block < length (space_of h p.space)
   pub cell : p.cell < CELLS

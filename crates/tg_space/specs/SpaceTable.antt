@@ -6,7 +6,7 @@ use Rattle.tg_word.specs.declared.TheConstants.{SPACES, CELLS, MOST_SPACE_BLOCKS
 use Rattle.tg_word.specs.Word.{nursery_space}
 use Rattle.tg_block.specs.Cells.{free_cell}
 use Rattle.tg_space.specs.declared.limits.TheConstants.{MOST_BLOCKS}
-use Rattle.tg_space.specs.SpaceList.{SpaceList, BlockList, IsSpace, Holds, space_of, cell_at, blocks_before, block_count}
+use Rattle.tg_space.specs.SpaceList.{SpaceList, BlockList, IsSpace, HasCell, space_of, cell_at, blocks_before, block_count}
 use Rattle.tg_space.specs.declared.kind.Kind.{Kind}
 use Rattle.tg_space.specs.declared.kind.Kind.TheVariants.{Full, Nursery}
 
@@ -60,7 +60,7 @@ pub record IsSpaceTable (t : SpaceTable) : Type 0 where
   pub counted : length t.used ≡ length t.spaces
   pub within : (space : ℕ) → space < length t.spaces → used_of t space ≤ CELLS * length (space_of t.spaces space)
   -- a cell of a nursery that was not handed out is free
-  pub fresh : (p : Place) → Holds t.spaces p → 2 ≤ p.space → used_of t p.space ≤ number_in_space p → cell_at t.spaces p ≡ free_cell
+  pub fresh : (p : Place) → HasCell t.spaces p → 2 ≤ p.space → used_of t p.space ≤ number_in_space p → cell_at t.spaces p ≡ free_cell
 
 -- the number of blocks before each space, and before the end
 pub record IsPrefixCount (starts : List ℕ) (h : SpaceList) : Type 0 where

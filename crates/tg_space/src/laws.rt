@@ -7,7 +7,7 @@ ghost use Rattle.tg_model.specs.declared.opening.TheConstants.{MAX_LASTING_VERTI
 ghost use Rattle.tg_space.specs.declared.limits.TheConstants.{MOST_BLOCKS};
 ghost use Rattle.tg_word.specs.declared.TheConstants.{AGED, BLOCK_AT, CELLS, CELL_AT, MAX_NURSERIES, MOST_SPACE_BLOCKS, OLD, PRESENT_AT, SPACES, SPACE_AT};
 ghost use Rattle.tg_word.specs.declared.Place.{Place};
-ghost use Rattle.tg_space.specs.SpaceList.{Holds, IsSpaceList, SpaceList, cell_at, cells_of, flat_of, with_block, with_word_at};
+ghost use Rattle.tg_space.specs.SpaceList.{HasCell, IsSpaceList, SpaceList, cell_at, cells_of, flat_of, with_block, with_word_at};
 ghost use Rattle.tg_space.specs.Closure.{IsComplete, IsInClosure, IsTraced};
 ghost use Rattle.tg_space.specs.Soundness.{AreSound, IsPointer};
 ghost use Rattle.tg_space.specs.Targets.{cell_numbered, pointers_of};
@@ -22,22 +22,22 @@ pub fn traced_and_complete_is_the_closure()
 /// A place names one cell: held cells have numbers below the number of all cells, each its own, and the number names
 /// the same words as the place.
 pub fn places_name_cells()
-    ensures inside { (h : SpaceList) → IsSpaceList h → (p : Place) → Holds h p → flat_of h p < length (cells_of h) }
-    ensures apart { (h : SpaceList) → IsSpaceList h → (p q : Place) → Holds h p → Holds h q → flat_of h p ≡ flat_of h q → p ≡ q }
-    ensures words { (h : SpaceList) → IsSpaceList h → (p : Place) → Holds h p → cell_numbered h (flat_of h p) ≡ cell_at h p }
+    ensures inside { (h : SpaceList) → IsSpaceList h → (p : Place) → HasCell h p → flat_of h p < length (cells_of h) }
+    ensures apart { (h : SpaceList) → IsSpaceList h → (p q : Place) → HasCell h p → HasCell h q → flat_of h p ≡ flat_of h q → p ≡ q }
+    ensures words { (h : SpaceList) → IsSpaceList h → (p : Place) → HasCell h p → cell_numbered h (flat_of h p) ≡ cell_at h p }
 {}
 
 /// Setting a word changes one cell, and that in one word.
 pub fn writes_change_one_word()
-    ensures changed { (h : SpaceList) (p : Place) (i word : ℕ) → IsSpaceList h → Holds h p → cell_at (with_word_at h p i word) p ≡ slice_set (cell_at h p) i word }
-    ensures others { (h : SpaceList) (p q : Place) (i word : ℕ) → Holds h p → q ≢ p → cell_at (with_word_at h p i word) q ≡ cell_at h q }
-    ensures places { (h : SpaceList) (p q : Place) (i word : ℕ) → Holds h p → Holds (with_word_at h p i word) q ↔ Holds h q }
+    ensures changed { (h : SpaceList) (p : Place) (i word : ℕ) → IsSpaceList h → HasCell h p → cell_at (with_word_at h p i word) p ≡ slice_set (cell_at h p) i word }
+    ensures others { (h : SpaceList) (p q : Place) (i word : ℕ) → HasCell h p → q ≢ p → cell_at (with_word_at h p i word) q ≡ cell_at h q }
+    ensures places { (h : SpaceList) (p q : Place) (i word : ℕ) → HasCell h p → HasCell (with_word_at h p i word) q ↔ HasCell h q }
 {}
 
 /// A new block adds free cells, and changes no other cell.
 pub fn new_blocks_are_free()
-    ensures kept { (h : SpaceList) (space : ℕ) (p : Place) → space < length h → Holds h p → Holds (with_block h space) p × (cell_at (with_block h space) p ≡ cell_at h p) }
-    ensures added { (h : SpaceList) (space : ℕ) (p : Place) → space < length h → Holds (with_block h space) p → (Holds h p × (cell_at (with_block h space) p ≡ cell_at h p)) ⊎ (cell_at (with_block h space) p ≡ free_cell) }
+    ensures kept { (h : SpaceList) (space : ℕ) (p : Place) → space < length h → HasCell h p → HasCell (with_block h space) p × (cell_at (with_block h space) p ≡ cell_at h p) }
+    ensures added { (h : SpaceList) (space : ℕ) (p : Place) → space < length h → HasCell (with_block h space) p → (HasCell h p × (cell_at (with_block h space) p ≡ cell_at h p)) ⊎ (cell_at (with_block h space) p ≡ free_cell) }
 {}
 
 /// In sound spaces each reference and link is empty, or names a held cell that is not free.

@@ -4,7 +4,7 @@ ghost use Rattle.tg_block.specs.declared.TheConstants.{WORDS};
 ghost use Rattle.tg_block.specs.Cells.{free_cell};
 ghost use Rattle.tg_word.specs.Word.{IsPlace, nursery_space};
 ghost use Rattle.tg_word.specs.declared.TheConstants.{CELLS, MAX_NURSERIES, MOST_SPACE_BLOCKS, SPACES};
-ghost use Rattle.tg_space.specs.SpaceList.{Holds, IsEmptyFrom, block_count, cell_at, cells_of, flat_of, space_of, with_block, with_cell_at, with_word_at};
+ghost use Rattle.tg_space.specs.SpaceList.{HasCell, IsEmptyFrom, block_count, cell_at, cells_of, flat_of, space_of, with_block, with_cell_at, with_word_at};
 ghost use Rattle.tg_space.specs.SpaceTable.{IsFull, IsHandedOut, IsNursery, IsPrefixCount, IsSpaceTable, kept_blocks, no_blocks, place_in_space, used_of, with_adopted, with_one_used, with_spaces};
 
 use crate::adoption::Adoption;
@@ -122,7 +122,7 @@ impl Spaces {
     /// Whether a place names a cell.
     #[inline]
     pub fn holds(&self, place: Place) -> bool
-        ensures { IsTrue result ↔ Holds self.now.spaces place }
+        ensures { IsTrue result ↔ HasCell self.now.spaces place }
     {
         place.space < self.spaces.len() as u64
             && place.block < self.spaces[place.space as usize].len()
@@ -132,7 +132,7 @@ impl Spaces {
     /// A word of a cell.
     #[inline]
     pub fn read(&self, place: Place, i: usize) -> u64
-        requires held { Holds self.now.spaces place }
+        requires held { HasCell self.now.spaces place }
         requires inside { i < WORDS }
         ensures { result ≡ slice_index (cell_at self.now.spaces place) i }
     {
@@ -142,7 +142,7 @@ impl Spaces {
     /// Sets a word of a cell. Where the cell is in a nursery, it was handed out.
     #[inline]
     pub fn write(&mut self, place: Place, i: usize, word: u64)
-        requires held { Holds self.old.spaces place }
+        requires held { HasCell self.old.spaces place }
         requires inside { i < WORDS }
         requires handed_out { IsHandedOut self.old place }
         ensures { self.new ≡ with_spaces self.old (with_word_at self.old.spaces place i word) }
@@ -154,7 +154,7 @@ impl Spaces {
     /// Sets all words of a cell. Where the cell is in a nursery, it was handed out.
     #[inline]
     pub fn write_cell(&mut self, place: Place, words: [u64; WORDS])
-        requires held { Holds self.old.spaces place }
+        requires held { HasCell self.old.spaces place }
         requires handed_out { IsHandedOut self.old place }
         ensures { self.new ≡ with_spaces self.old (with_cell_at self.old.spaces place words) }
     {
@@ -165,7 +165,7 @@ impl Spaces {
     /// The words of a cell.
     #[inline]
     pub fn cell(&self, place: Place) -> [u64; WORDS]
-        requires { Holds self.now.spaces place }
+        requires { HasCell self.now.spaces place }
         ensures words { result ≡ cell_at self.now.spaces place }
         ensures numbered { result ≡ slice_index_or (cells_of self.now.spaces) (flat_of self.now.spaces place) [] }
         ensures whole { length result ≡ WORDS }
@@ -177,7 +177,7 @@ impl Spaces {
     /// The words of a cell, where they stand.
     #[inline(always)]
     pub fn words(&self, place: Place) -> &[u64; WORDS]
-        requires { Holds self.now.spaces place }
+        requires { HasCell self.now.spaces place }
         ensures words { result.now ≡ cell_at self.now.spaces place }
         ensures numbered { result.now ≡ slice_index_or (cells_of self.now.spaces) (flat_of self.now.spaces place) [] }
         ensures whole { length result.now ≡ WORDS }
@@ -193,7 +193,7 @@ impl Spaces {
         requires nursery { IsNursery self.old space }
         requires room { used_of self.old space < CELLS * length (space_of self.old.spaces space) }
         ensures place { result ≡ place_in_space space (used_of self.old space) }
-        ensures held { Holds self.old.spaces result }
+        ensures held { HasCell self.old.spaces result }
         ensures free { cell_at self.old.spaces result ≡ free_cell }
         ensures counted { self.new ≡ with_one_used self.old space }
         ensures handed_out { IsHandedOut self.new result }

@@ -20,11 +20,11 @@ use Rattle.tg_graph.specs.Standing.{IsReached}
 use Rattle.tg_rows.proofs.Listing.{listed, listed_from}
 use Rattle.tg_rows.proofs.Members.{Contains-cases, Contains-from_map, Contains-map, Contains-none}
 use Rattle.tg_store.specs.Inner.Reaching.{FindsIn, FindsMore, IsEdgeOf, IsFoundIn, IsReachedEdgeOf, names_found}
-use Rattle.tg_store.specs.declared.store.picture.Found.{Found}
+use Rattle.tg_store.specs.declared.store.picture.FoundVertices.{FoundVertices}
 
 -- ---- one vertex more
 
-module _ (h : SpaceList) (old new : Found) (name : ℕ) (place : Place) (is : IsFoundIn h old) (vertices : new.vertices.items ≡ old.vertices.items ++ (name, place) ∷ []) where
+module _ (h : SpaceList) (old new : FoundVertices) (name : ℕ) (place : Place) (is : IsFoundIn h old) (vertices : new.vertices.items ≡ old.vertices.items ++ (name, place) ∷ []) where
   names_pushed : names_found new.vertices.items ≡ names_found old.vertices.items ++ name ∷ []
   names_pushed = ap names_found vertices ∙ map-append (λ (v : ℕ × Place). v.0) old.vertices.items ((name, place) ∷ [])
 
@@ -57,7 +57,7 @@ module _ (h : SpaceList) (old new : Found) (name : ℕ) (place : Place) (is : Is
       }
 
 -- where it was found before
-pub finds_none : (h : SpaceList) (found : Found) (name : ℕ) → IsFoundIn h found → list_any (nat_eq name) found.names.keys ≡ true → FindsIn h found found (λ x. x ≡ name)
+pub finds_none : (h : SpaceList) (found : FoundVertices) (name : ℕ) → IsFoundIn h found → list_any (nat_eq name) found.names.keys ≡ true → FindsIn h found found (λ x. x ≡ name)
 finds_none h found name is any = record {
   found = is;
   made = refl;
@@ -71,7 +71,7 @@ finds_none h found name is any = record {
 }
 
 -- nothing is found yet
-pub finds_nothing : (h : SpaceList) (found : Found) → found.vertices.items ≡ [] → found.names.keys ≡ [] → IsFoundIn h found
+pub finds_nothing : (h : SpaceList) (found : FoundVertices) → found.vertices.items ≡ [] → found.names.keys ≡ [] → IsFoundIn h found
 finds_nothing h found vertices names = record {
   named = names ∙ sym (ap names_found vertices);
   below = subst (λ (vs : List (ℕ × Place)). All (λ x. x < found.made) (names_found vs)) (sym vertices) (All-nil (λ x. x < found.made));
@@ -80,7 +80,7 @@ finds_nothing h found vertices names = record {
 }
 
 -- there are no more than names
-pub few_found : (h : SpaceList) (found : Found) → IsFoundIn h found → length found.vertices.items ≤ found.made
+pub few_found : (h : SpaceList) (found : FoundVertices) → IsFoundIn h found → length found.vertices.items ≤ found.made
 few_found h found is =
     let names = names_found found.vertices.items in
     let few = length-le_from_distinct_below names found.made is.once
@@ -91,10 +91,10 @@ few_found h found is =
 -- ---- one row more
 
 -- names that were found stay so where vertices come behind
-pub found_behind : (old new : Found) (more : List (ℕ × Place)) → new.vertices.items ≡ old.vertices.items ++ more → names_found new.vertices.items ≡ names_found old.vertices.items ++ names_found more
+pub found_behind : (old new : FoundVertices) (more : List (ℕ × Place)) → new.vertices.items ≡ old.vertices.items ++ more → names_found new.vertices.items ≡ names_found old.vertices.items ++ names_found more
 found_behind old new more behind = ap names_found behind ∙ map-append (λ (v : ℕ × Place). v.0) old.vertices.items more
 
-pub stays_found : (old new : Found) (more : List (ℕ × Place)) → new.vertices.items ≡ old.vertices.items ++ more → (x : ℕ) → Contains (names_found old.vertices.items) x → Contains (names_found new.vertices.items) x
+pub stays_found : (old new : FoundVertices) (more : List (ℕ × Place)) → new.vertices.items ≡ old.vertices.items ++ more → (x : ℕ) → Contains (names_found old.vertices.items) x → Contains (names_found new.vertices.items) x
 stays_found old new more behind x has = subst (λ (xs : List ℕ). Contains xs x) (sym (found_behind old new more behind)) (Contains-append_left (names_found old.vertices.items) (names_found more) x has)
 
 -- what one more name makes of those that are there
@@ -102,7 +102,7 @@ push_is : (xs : List ℕ) (y x : ℕ) → Contains (xs ++ y ∷ []) x ↔ (Conta
 push_is xs y x = (Contains-push_cases xs y x, ⊎_elim (Contains-append_left xs (y ∷ []) x) (λ (at : y ≡ x). subst (Contains (xs ++ y ∷ [])) at (Contains-push xs y)))
 
 -- one subject more
-pub subjects_more : (old new : Found) (names : List ℕ) (name : ℕ) → FindsMore old new (λ x. x ≡ name) → ((x : ℕ) → Contains (names_found old.vertices.items) x ↔ Contains names x) → (x : ℕ) → Contains (names_found new.vertices.items) x ↔ Contains (names ++ name ∷ []) x
+pub subjects_more : (old new : FoundVertices) (names : List ℕ) (name : ℕ) → FindsMore old new (λ x. x ≡ name) → ((x : ℕ) → Contains (names_found old.vertices.items) x ↔ Contains names x) → (x : ℕ) → Contains (names_found new.vertices.items) x ↔ Contains (names ++ name ∷ []) x
 subjects_more old new names name finds are x = (
   λ has. (push_is names name x).1 (⊎_elim (λ was. inl ((are x).0 was)) (λ came. inr (sym (finds.only x came)))
       (Contains-append_cases (names_found old.vertices.items) (names_found finds.more) x (subst (λ (xs : List ℕ). Contains xs x) (found_behind old new finds.more finds.behind) has))),
@@ -117,14 +117,14 @@ abbrev pub row_edges : ℕ → List (ℕ × RightSet) → List Edge
 row_edges from row = map (edge_from from) row
 
 -- The first edges of a row were put behind a list, and the vertices to which they lead were found.
-pub record FollowsRow (label : ℕ → ℕ → RightSet) (from : ℕ) (row : List (ℕ × RightSet)) (old new : Found) (before after : List Edge) (n : ℕ) : Type 0 where
+pub record FollowsRow (label : ℕ → ℕ → RightSet) (from : ℕ) (row : List (ℕ × RightSet)) (old new : FoundVertices) (before after : List Edge) (n : ℕ) : Type 0 where
   pub more : List (ℕ × Place)
   pub behind : new.vertices.items ≡ old.vertices.items ++ more
   pub only : (x : ℕ) → Contains (names_found more) x → HasEdge label from x
   pub all : (x : ℕ × RightSet) → Contains (take n row) x → Contains (names_found new.vertices.items) x.0
   pub edges : after ≡ before ++ row_edges from (take n row)
 
-module _ (label : ℕ → ℕ → RightSet) (from : ℕ) (row : List (ℕ × RightSet)) (old : Found) (before : List Edge) where
+module _ (label : ℕ → ℕ → RightSet) (from : ℕ) (row : List (ℕ × RightSet)) (old : FoundVertices) (before : List Edge) where
   pub row_begins : FollowsRow label from row old old before before 0
   row_begins = record {
     more = [];
@@ -134,7 +134,7 @@ module _ (label : ℕ → ℕ → RightSet) (from : ℕ) (row : List (ℕ × Rig
     edges = sym (append-nil before);
   }
 
-  module _ (now next : Found) (after later : List Edge) (n : ℕ) (a : ℕ × RightSet) (low : n < length row) (here : a ≡ get_or row n a) (so_far : FollowsRow label from row old now before after n) where
+  module _ (now next : FoundVertices) (after later : List Edge) (n : ℕ) (a : ℕ × RightSet) (low : n < length row) (here : a ≡ get_or row n a) (so_far : FollowsRow label from row old now before after n) where
     taken : take (n + 1) row ≡ take n row ++ a ∷ []
     taken = take_more row n a low ∙ ap (λ (x : ℕ × RightSet). take n row ++ x ∷ []) (sym here)
 
@@ -158,7 +158,7 @@ module _ (label : ℕ → ℕ → RightSet) (from : ℕ) (row : List (ℕ × Rig
     }
 
   -- the whole row, which is the listing of the vertex
-  module _ (new : Found) (after : List Edge) (n made : ℕ) (past : length row ≤ n) (is : row ≡ listing_of label made from) (follows : FollowsRow label from row old new before after n) where
+  module _ (new : FoundVertices) (after : List Edge) (n made : ℕ) (past : length row ≤ n) (is : row ≡ listing_of label made from) (follows : FollowsRow label from row old new before after n) where
     whole : take n row ≡ row
     whole = take_all n row past
 
@@ -211,13 +211,13 @@ module _ (label : ℕ → ℕ → RightSet) (from : ℕ) (row : List (ℕ × Rig
 -- ---- the walk
 
 -- The rows of the first n that were found were walked along: their edges are the list's, and those to whom they lead were found.
-pub record Walks (c : Content) (subjects : List ℕ) (found : Found) (edges : List Edge) (n : ℕ) : Type 0 where
+pub record Walks (c : Content) (subjects : List ℕ) (found : FoundVertices) (edges : List Edge) (n : ℕ) : Type 0 where
   pub roots : (x : ℕ) → Contains subjects x → Contains (names_found found.vertices.items) x
   pub reached : (x : ℕ) → Contains (names_found found.vertices.items) x → IsReached c subjects x
   pub closed : (a b : ℕ) → Contains (names_found (take n found.vertices.items)) a → HasEdge c.label a b → Contains (names_found found.vertices.items) b
   pub shown : (edge : Edge) → Contains edges edge ↔ (Contains (names_found (take n found.vertices.items)) edge.from × IsEdgeOf c.label edge)
 
-pub walk_begins : (c : Content) (subjects : List ℕ) (found : Found) → ((x : ℕ) → Contains (names_found found.vertices.items) x ↔ Contains subjects x) → Walks c subjects found [] 0
+pub walk_begins : (c : Content) (subjects : List ℕ) (found : FoundVertices) → ((x : ℕ) → Contains (names_found found.vertices.items) x ↔ Contains subjects x) → Walks c subjects found [] 0
 walk_begins c subjects found are = record {
   roots = λ x has. (are x).1 has;
   reached = λ x has. begins ((are x).0 has);
@@ -226,7 +226,7 @@ walk_begins c subjects found are = record {
 }
 
 -- the walk goes on with the row of a vertex that was read
-module _ (c : Content) (subjects : List ℕ) (old new : Found) (before after : List Edge) (n : ℕ) (v : ℕ × Place) (walks : Walks c subjects old before n) (low : n < length old.vertices.items) (here : v ≡ get_or old.vertices.items n v) (finds : FindsMore old new (HasEdge c.label v.0)) where
+module _ (c : Content) (subjects : List ℕ) (old new : FoundVertices) (before after : List Edge) (n : ℕ) (v : ℕ × Place) (walks : Walks c subjects old before n) (low : n < length old.vertices.items) (here : v ≡ get_or old.vertices.items n v) (finds : FindsMore old new (HasEdge c.label v.0)) where
   abbrev walked : List ℕ
   walked = names_found (take n old.vertices.items)
 
@@ -259,7 +259,7 @@ module _ (c : Content) (subjects : List ℕ) (old new : Found) (before after : L
   }
 
 -- at the end all that is reached was walked along
-pub walk_over : (c : Content) (subjects : List ℕ) (found : Found) (edges : List Edge) (n : ℕ) → Walks c subjects found edges n → length found.vertices.items ≤ n → (edge : Edge) → Contains edges edge ↔ IsReachedEdgeOf c subjects edge
+pub walk_over : (c : Content) (subjects : List ℕ) (found : FoundVertices) (edges : List Edge) (n : ℕ) → Walks c subjects found edges n → length found.vertices.items ≤ n → (edge : Edge) → Contains edges edge ↔ IsReachedEdgeOf c subjects edge
 walk_over c subjects found edges n walks past edge = (
   λ has. let is = (walks.shown edge).0 has in record { from = walks.reached edge.from (subst (λ (xs : List ℕ). Contains xs edge.from) whole is.0); is = is.1 },
   λ is. (walks.shown edge).1 (walked_of edge.from (all_found edge.from is.from), is.is),
@@ -277,7 +277,7 @@ walk_over c subjects found edges n walks past edge = (
 -- ---- what is read
 
 -- a vertex that was read
-pub vertex_at : (h : SpaceList) (found : Found) (n : ℕ) (v : ℕ × Place) → IsFoundIn h found → n < length found.vertices.items → v ≡ get_or found.vertices.items n v → IsVertexAt h v.0 v.1
+pub vertex_at : (h : SpaceList) (found : FoundVertices) (n : ℕ) (v : ℕ × Place) → IsFoundIn h found → n < length found.vertices.items → v ≡ get_or found.vertices.items n v → IsVertexAt h v.0 v.1
 vertex_at h found n v is low here = subst (λ (w : ℕ × Place). IsVertexAt h w.0 w.1) (sym here) (is.placed n v low)
 
 -- an edge of a listing

@@ -14,7 +14,7 @@ use Rattle.std.proofs.lemmas.Map.Steps.{le-length_from_below}
 use Rattle.std.proofs.lemmas.Map.Views.{list_any-from_Contains}
 use Rattle.tg_subjects.specs.declared.subject.Subject.{Subject}
 use Rattle.tg_word.specs.declared.TheConstants.{MAX_NURSERIES}
-use Rattle.tg_subjects.specs.Subjects.{AreSubjects, IsHeld, IsLeastFree, IsSubjectNamed, names_of, nurseries_of, nursery_held, places_of, without}
+use Rattle.tg_subjects.specs.Subjects.{AreSubjects, IsHeld, IsLeastFree, IsSubjectNamed, names_of, nurseries_of, nursery_held, subject_places, without}
 
 -- ---- the columns of the table
 
@@ -133,7 +133,7 @@ subjects_same old new names nurseries are = record {
 pub record Moves (old new : List Subject) (at : ℕ) (place : Place) : Type 0 where
   pub names : names_of new ≡ names_of old
   pub nurseries : nurseries_of new ≡ nurseries_of old
-  pub places : places_of new ≡ slice_set (places_of old) at place
+  pub places : subject_places new ≡ slice_set (subject_places old) at place
 
 pub moved : (ss : List Subject) (at : ℕ) (place : Place) (s : Subject) → s ≡ get_or ss at s → Moves ss (slice_set ss at (record { name = s.name; nursery = s.nursery; place = place })) at place
 moved ss at place s is = record {

@@ -16,8 +16,8 @@ abbrev pub nurseries_of : List Subject → List ℕ
 nurseries_of subjects = map (λ s. s.nursery) subjects
 
 -- where their objects are
-abbrev pub places_of : List Subject → List Place
-places_of subjects = map (λ s. s.place) subjects
+abbrev pub subject_places : List Subject → List Place
+subject_places subjects = map (λ s. s.place) subjects
 
 -- ---- what holds of every table
 

@@ -2,7 +2,7 @@
 ghost use Rattle.std.specs.Prelude.{◌≡◌, ◌≢◌, ◌↔◌, ◌<◌, ◌++◌, ◌∷◌, [], IfOk, IfSome, IsSome, IsTrue, None, length, slice_set};
 ghost use Rattle.std.specs.List.{All, Contains};
 ghost use Rattle.tg_word.specs.declared.TheConstants.{MAX_NURSERIES};
-ghost use Rattle.tg_subjects.specs.Subjects.{AreSubjects, IsAt, IsHeld, IsLeastFree, IsSubjectNamed, names_of, nurseries_of, nursery_held, places_of, without};
+ghost use Rattle.tg_subjects.specs.Subjects.{AreSubjects, IsAt, IsHeld, IsLeastFree, IsSubjectNamed, names_of, nurseries_of, nursery_held, subject_places, without};
 
 use crate::subject::Subject;
 use std::alloc::{AllocError, Global};
@@ -121,7 +121,7 @@ impl Subjects {
         requires inside { at < length self.old }
         ensures names { names_of self.new ≡ names_of self.old }
         ensures nurseries { nurseries_of self.new ≡ nurseries_of self.old }
-        ensures places { places_of self.new ≡ slice_set (places_of self.old) at place }
+        ensures places { subject_places self.new ≡ slice_set (subject_places self.old) at place }
         ensures subjects { AreSubjects self.new }
     {
         self.items[at].place = place;

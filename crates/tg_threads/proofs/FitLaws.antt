@@ -15,7 +15,7 @@ use Rattle.tg_shared.specs.Receipts.{Stands}
 use Rattle.tg_weave.specs.declared.task.Told.{Told}
 use Rattle.tg_weave.specs.declared.task.Told.TheVariants as came
 use Rattle.tg_weave.specs.Boxes.{Boxed}
-use Rattle.tg_weave.specs.Shares.{runner_of, is_run_by, lines_of, told_of}
+use Rattle.tg_weave.specs.Shares.{runner_of, is_run_by, share_of, told_of}
 use Rattle.tg_weave.specs.Telling.{entry_answer, told_answer, IsThere, text_of_told}
 use Rattle.tg_weave.proofs.ShareLaws.{run_same, run_past, runner_below}
 use Rattle.tg_threads.specs.Output.{Arena, Tells, AreTold, is_retire_of, served_behind}
@@ -112,7 +112,7 @@ seen_same workers x seen served l t low same = by_run (is_run_by workers x l) re
 
 -- the lines of all workers, one by one
 abbrev Own : Arena → ℕ → Seen → List Entry → List Boxed → List Told → Type 0
-Own arena workers seen entries bs ts = (x : ℕ) → x < workers → FitAll arena (seen x) entries (lines_of workers x bs) (told_of workers x (map (λ b. b.line) bs) ts)
+Own arena workers seen entries bs ts = (x : ℕ) → x < workers → FitAll arena (seen x) entries (share_of workers x bs) (told_of workers x (map (λ b. b.line) bs) ts)
 
 tail_fits : (arena : Arena) (served : ℕ → Bool) (entries : List Entry) (c : Bool) (b : Boxed) (t : Told) (bs : List Boxed) (ps : List (Line × Told)) →
     FitAll arena served entries (cond c (b ∷ bs) bs) (map (λ (q : Line × Told). q.1) (cond c ((b.line, t) ∷ ps) ps)) → FitAll arena (cond c (served_past served b.line t) served) entries bs (map (λ (q : Line × Told). q.1) ps)
@@ -137,14 +137,14 @@ woven arena workers served seen entries (b ∷ bs) (t ∷ ts) low within same co
   told_by x = filter (λ (q : Line × Told). is_run_by workers x q.0) (zip (map (λ (c : Boxed). c.line) bs) ts)
 
   rest : Own arena workers (seen_past workers seen b.line t) entries bs ts
-  rest x below = tail_fits arena (seen x) entries (is_run_by workers x b.line) b t (lines_of workers x bs) (told_by x) (own x below)
+  rest x below = tail_fits arena (seen x) entries (is_run_by workers x b.line) b t (share_of workers x bs) (told_by x) (own x below)
 
   by_runner : (o : Option ℕ) → runner_of workers b.line ≡ o → Fits arena served entries b t
   by_runner None by =
       subst (Fits arena served entries b) (sym (nobodys.0 by)) (nobodys_told arena workers served b.line b.value within (All-head IsCommand b.line (map (λ (c : Boxed). c.line) bs) commands) by, tt)
   by_runner (Some y) by =
       let below = runner_below workers y b.line low by in
-      let fits = head_fits arena (seen y) entries (is_run_by workers y b.line) b t (lines_of workers y bs) (told_by y) (run_same workers y y b.line by refl) (own y below) in
+      let fits = head_fits arena (seen y) entries (is_run_by workers y b.line) b t (share_of workers y bs) (told_by y) (run_same workers y y b.line by refl) (own y below) in
       (told_same arena workers y (seen y) served b.line b.value (entry_at entries t) (told_answer entries t) by (same y below) fits.0, fits.1)
 woven arena workers served seen entries bs ts low within same commands nobodys own = absurd nobodys
 

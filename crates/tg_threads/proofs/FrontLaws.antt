@@ -24,7 +24,7 @@ use Rattle.tg_shared.proofs.Knowing.{since_is}
 use Rattle.tg_weave.specs.declared.task.Told.{Told}
 use Rattle.tg_weave.specs.declared.task.Told.TheVariants as came
 use Rattle.tg_weave.specs.Boxes.{Boxed}
-use Rattle.tg_threads.specs.Output.{Arena, AtFront, EntersOrRefuses, IsCollected, IsCountTold, IsMade, IsOfStore, IsServed, IsUncollected, LeavesAtFront, Tells, arena_of}
+use Rattle.tg_threads.specs.Output.{Arena, AtFront, EntersOrRefuses, TellsCollection, IsCountTold, TellsMade, IsOfStore, IsServed, IsUncollected, LeavesAtFront, Tells, arena_of}
 use Rattle.tg_threads.specs.Tasks.{RunsOne, Runs, served_past}
 
 -- ---- a store with exactly the entries that a session has seen
@@ -68,7 +68,7 @@ module _ (shared : SharedStart) (fewer more : List Entry) (begins : BeginsWith m
   enters_wider x d (Some e) a h = h
   enters_wider x d None a h = (h.0, refused_wider x d h.0 h.1, h.2)
 
-  made_wider : (x : ℕ) (making : Value → Deed) (box : Option Value) (e : Option Entry) (a : Answer) → IsMade shared fewer x making box e a → IsMade shared more x making box e a
+  made_wider : (x : ℕ) (making : Value → Deed) (box : Option Value) (e : Option Entry) (a : Answer) → TellsMade shared fewer x making box e a → TellsMade shared more x making box e a
   made_wider x making (Some value) e a h = enters_wider x (making value) e a h
   made_wider x making None e a h = h
 
@@ -87,7 +87,7 @@ module _ (shared : SharedStart) (helpers : ℕ) (fewer more : List Entry) (begin
   abbrev large : Arena
   large = arena_of shared helpers more
 
-  collected_wider : (k : Kind) (e : Option Entry) (a : Answer) → IsCollected small k e a → IsCollected large k e a
+  collected_wider : (k : Kind) (e : Option Entry) (a : Answer) → TellsCollection small k e a → TellsCollection large k e a
   collected_wider k e a (none, inl count) = (none, inl (count.0, count_wider shared fewer more begins k count.0 count.1, count.2))
   collected_wider k e a (none, inr refused) =
       (none, inr (refused.0, record { want = refused.1.want; full = λ is. front_wider shared fewer more begins _ (refused.1.full is) }, refused.2))

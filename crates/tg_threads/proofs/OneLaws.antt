@@ -21,7 +21,7 @@ use Rattle.tg_text.specs.declared.answer.Answer.TheVariants as told
 use Rattle.tg_text.specs.Texts.{answer_text}
 use Rattle.tg_script.specs.Script.{Scene, Answers, AnswersMaking, IsOutput, create_of, spawn_of, stock_left}
 use Rattle.tg_weave.specs.Boxes.{first_of, behind_first, box_of, stock_behind, boxed}
-use Rattle.tg_threads.specs.Output.{Arena, EntersOrRefuses, IsMade, IsServed, Tells, AreTold, HasEach, IsOfFirst, IsOfOne, served_behind}
+use Rattle.tg_threads.specs.Output.{Arena, EntersOrRefuses, TellsMade, IsServed, Tells, AreTold, HasEach, IsOfFirst, IsOfOneThread, served_behind}
 use Rattle.tg_threads.proofs.TellLaws.{asked_of, making_of, none_is_some}
 
 -- ---- the history is that of the lines
@@ -103,10 +103,10 @@ spawned_left true false made rest stock room more = absurd (more refl)
 spawned_left false c made rest stock room more = absurd (room refl)
 
 -- a line that makes a vertex, which took the first box
-making_one : (arena : Arena) (s : Scene) (x : ℕ) (making : Value → Deed) (stock : List Value) (b : Bool) (en : Entry) (a : Answer) → IsServed b (IsMade arena.shared arena.entries x making (first_of stock) (Some en) a) (Some en) a → IsLegalEntry s.graph en → HasRoom en →
+making_one : (arena : Arena) (s : Scene) (x : ℕ) (making : Value → Deed) (stock : List Value) (b : Bool) (en : Entry) (a : Answer) → IsServed b (TellsMade arena.shared arena.entries x making (first_of stock) (Some en) a) (Some en) a → IsLegalEntry s.graph en → HasRoom en →
     ((value : Value) (rest : List Value) → answer_of s.graph x (making value) ≢ reply.VerticesFull → answer_of s.graph x (making value) ≢ reply.WorkersFull → stock_left (answer_of s.graph x (making value)) rest s.stock ≡ rest) →
     AnswersMaking s x making stock a (record s { graph = step s.graph en.worker en.deed; stock = behind_first stock })
-making_one arena s x making [] b en a h legal room left = absurd (none_is_some en (sym (asked_of b (IsMade arena.shared arena.entries x making None (Some en) a) en a h).1.0))
+making_one arena s x making [] b en a h legal room left = absurd (none_is_some en (sym (asked_of b (TellsMade arena.shared arena.entries x making None (Some en) a) en a h).1.0))
 making_one arena s x making (value ∷ rest) b en a h legal room left =
     let entered : EntersOrRefuses arena.shared arena.entries x (making value) (Some en) a = (asked_of b (EntersOrRefuses arena.shared arena.entries x (making value) (Some en) a) en a h).1 in
     let is : en.reply ≡ answer_of s.graph x (making value) = legal.reply ∙ (λ i. answer_of s.graph (entered.0 i) (entered.1 i)) in
@@ -148,7 +148,7 @@ runs_plain (l ∷ lines) s arena served made text legal h first entered room = b
         later t (served_behind served l (Some en)) more rest lawful.1 told_rest (All-tail IsOfFirst l lines first) (omega (arith, entered, ap (λ (l : List Entry). length l) made_is)) (All-tail HasRoom en more rooms),
       )
 
-pub plain_run : (lines : List Line) (s : Scene) (arena : Arena) (served : ℕ → Bool) (entries made : List Entry) (text : List ℕ) → IsLegal s.graph entries → AreTold arena served (boxed s.stock lines) made text → HasEach entries made → IsOfOne lines made → IsOutput s lines text
+pub plain_run : (lines : List Line) (s : Scene) (arena : Arena) (served : ℕ → Bool) (entries made : List Entry) (text : List ℕ) → IsLegal s.graph entries → AreTold arena served (boxed s.stock lines) made text → HasEach entries made → IsOfOneThread lines made → IsOutput s lines text
 plain_run lines s arena served entries made text legal told each one =
     let first = made_first lines s.stock arena served made text told one.first in
     let same : entries ≡ made = sym (only_first entries (λ x other. each x ∙ first_none made first x other)) ∙ each 0 ∙ first_keep made first in

@@ -33,7 +33,7 @@ use Rattle.tg_weave.specs.declared.task.Told.{Told}
 use Rattle.tg_weave.specs.declared.work.Work.{Work}
 use Rattle.tg_weave.specs.declared.work.Finished.{Finished}
 use Rattle.tg_weave.specs.Boxes.{Boxed, boxed}
-use Rattle.tg_weave.specs.Shares.{IsInScriptOrder, all_lines, is_run_by, lines_in, lines_of}
+use Rattle.tg_weave.specs.Shares.{IsInScriptOrder, all_shares, is_run_by, lines_in, share_of}
 use Rattle.tg_weave.specs.Telling.{text_of_told}
 use Rattle.tg_script.specs.Entering.{plan_of}
 use Rattle.tg_threads.specs.Output.{Arena, IsNewStore, IsRaceOutput, RaceText, arena_of}
@@ -64,14 +64,14 @@ commands_behind [] lines h = refl
 -- ---- what the threads brought back
 
 pub all_brought : {P : Type 0} (shared : SharedStart) (helpers workers : ℕ) (bs : List Boxed) (works : List (Work SessionState P)) (sessions : List SessionState) (all : List (Finished SessionState)) → AreFresh (range_with_len 0 workers) sessions →
-    map (λ w. w.session) works ≡ sessions → map lines_in works ≡ all_lines (length sessions) bs → AllBring shared helpers workers (map assigned_of works) all → AllBring shared helpers workers (all_assigned workers bs) all
+    map (λ w. w.session) works ≡ sessions → map lines_in works ≡ all_shares (length sessions) bs → AllBring shared helpers workers (map assigned_of works) all → AllBring shared helpers workers (all_assigned workers bs) all
 all_brought shared helpers workers bs works sessions all fresh is lines h =
     let P : List (ℕ × List Boxed) → Type 0 = λ g. AllBring shared helpers workers g all in
-    subst P (each_assigned workers bs works sessions fresh is (lines ∙ ap (λ (n : ℕ). all_lines n bs) (fresh_length workers sessions fresh))) h
+    subst P (each_assigned workers bs works sessions fresh is (lines ∙ ap (λ (n : ℕ). all_shares n bs) (fresh_length workers sessions fresh))) h
 
 -- one from each worker
 pub brought_by_each : (shared : SharedStart) (helpers workers : ℕ) (bs : List Boxed) (all : List (Finished SessionState)) → AllBring shared helpers workers (all_assigned workers bs) all → length all ≡ workers
-brought_by_each shared helpers workers bs all h = bring_as_many shared helpers workers (all_assigned workers bs) all h ∙ length-map-range_with_len (λ x. (x, lines_of workers x bs)) 0 workers
+brought_by_each shared helpers workers bs all h = bring_as_many shared helpers workers (all_assigned workers bs) all h ∙ length-map-range_with_len (λ x. (x, share_of workers x bs)) 0 workers
 
 -- as many as each worker has lines
 pub brought_whole : (shared : SharedStart) (helpers workers : ℕ) (stock : List Value) (lines : List Line) (all lent : List (Finished SessionState)) → lent ≡ all → AllBring shared helpers workers (all_assigned workers (boxed stock lines)) all →

@@ -43,8 +43,8 @@ use Rattle.tg_weave.specs.Boxes.{Boxed}
 use Rattle.tg_weave.proofs.ShareLaws.{named}
 use Rattle.tg_threads.proofs.FrontLaws.{front_seen, runs_wider}
 use Rattle.tg_threads.proofs.ShareLaws.{mapped_each}
-use Rattle.tg_threads.specs.Output.{Arena, AtFront, EntersOrRefuses, IsCollected, IsMade, IsOfStore, IsServed, Tells, arena_of, has_thread}
-use Rattle.tg_threads.specs.Tasks.{IsRunBy, HasAsked, HasMade, HasCollected, HasRun, RunsOne, Runs, is_deed, served_past, subject_spawned, subjects_spawned}
+use Rattle.tg_threads.specs.Output.{Arena, AtFront, EntersOrRefuses, TellsCollection, TellsMade, IsOfStore, IsServed, Tells, arena_of, has_thread}
+use Rattle.tg_threads.specs.Tasks.{IsRunBy, HasAsked, HasMadeVertex, HasCollected, HasRun, RunsOne, Runs, is_deed, served_past, subject_spawned, subjects_spawned}
 
 -- ---- why a session refuses
 
@@ -122,7 +122,7 @@ asked_none start d none (came.Entered at) old new h = no_subject old new at d h.
 asked_none start d none (came.Collected kept) old new h = absurd h
 asked_none start d none (came.Refused r) old new h = ap subjects_spawned h.1.kept.1
 
-made_none : (start : SharedStart) (making : Value → Deed) → ((value : Value) (r : Reply) → subject_spawned (making value) r ≡ []) → (box : Option Value) (t : Told) (old new : SessionState) → HasMade start making box t old new → subjects_spawned new.receipts ≡ subjects_spawned old.receipts
+made_none : (start : SharedStart) (making : Value → Deed) → ((value : Value) (r : Reply) → subject_spawned (making value) r ≡ []) → (box : Option Value) (t : Told) (old new : SessionState) → HasMadeVertex start making box t old new → subjects_spawned new.receipts ≡ subjects_spawned old.receipts
 made_none start making none None t old new h = ap subjects_spawned h.1.1
 made_none start making none (Some value) t old new h = asked_none start (making value) (none value) t old new h
 
@@ -144,7 +144,7 @@ still_each old new sessions same fresh = subst (λ (names : List ℕ). AreFresh 
 pub plain_each : (start : SharedStart) (command : Command) (t : Told) (old new : SessionState) (sessions : List SessionState) → HasAsked start (deed.Plain command) t old new → AreFresh (subjects_spawned old.receipts) sessions → AreFresh (subjects_spawned new.receipts) sessions
 plain_each start command t old new sessions h = still_each old new sessions (asked_none start (deed.Plain command) (λ r. refl) t old new h)
 
-pub create_each : (start : SharedStart) (label : RightSet) (box : Option Value) (t : Told) (old new : SessionState) (sessions : List SessionState) → HasMade start (create_of label) box t old new → AreFresh (subjects_spawned old.receipts) sessions → AreFresh (subjects_spawned new.receipts) sessions
+pub create_each : (start : SharedStart) (label : RightSet) (box : Option Value) (t : Told) (old new : SessionState) (sessions : List SessionState) → HasMadeVertex start (create_of label) box t old new → AreFresh (subjects_spawned old.receipts) sessions → AreFresh (subjects_spawned new.receipts) sessions
 create_each start label box t old new sessions h = still_each old new sessions (made_none start (create_of label) (λ value r. refl) box t old new h)
 
 -- one more of a subject that was made
@@ -213,8 +213,8 @@ asked_runs shared helpers workers x served command box t old new is by =
 
 -- the same of a deed that makes a vertex
 pub made_runs : (shared : SharedStart) (helpers workers x : ℕ) (served : ℕ → Bool) (b : Boxed) (making : Value → Deed) (t : Told) (old new : SessionState) → served old.worker ≡ true → runner_named workers x ≡ Some old.worker →
-    ((e : Option Entry) (a : Answer) → IsServed (served x) (IsMade shared (entries_of new.seen) x making b.value e a) e a → Tells (arena_now shared helpers new) served b.line b.value e a) →
-    HasMade shared making b.value t old new → HasRun (arena_now shared helpers new) served b t old new
+    ((e : Option Entry) (a : Answer) → IsServed (served x) (TellsMade shared (entries_of new.seen) x making b.value e a) e a → Tells (arena_now shared helpers new) served b.line b.value e a) →
+    HasMadeVertex shared making b.value t old new → HasRun (arena_now shared helpers new) served b t old new
 made_runs shared helpers workers x served b making t old new is by tells h = by_box b.value refl h where
   on : served x ≡ true
   on = served_by workers x served old by is
@@ -222,18 +222,18 @@ made_runs shared helpers workers x served b making t old new is by tells h = by_
   same : x ≡ old.worker
   same = (named x workers old.worker by).1
 
-  by_box : (box : Option Value) → b.value ≡ box → HasMade shared making box t old new → HasRun (arena_now shared helpers new) served b t old new
+  by_box : (box : Option Value) → b.value ≡ box → HasMadeVertex shared making box t old new → HasRun (arena_now shared helpers new) served b t old new
   by_box None none h =
       let k = none_more old new h.1 in
       let told : Tells (arena_now shared helpers new) served b.line b.value None (answer.Refused refusal.Stock) = tells None (answer.Refused refusal.Stock)
-      (as_served (served x) (IsMade shared (entries_of new.seen) x making b.value None (answer.Refused refusal.Stock)) None (answer.Refused refusal.Stock) on
-      (subst (λ box. IsMade shared (entries_of new.seen) x making box None (answer.Refused refusal.Stock)) (sym none) (refl, refl))) in
+      (as_served (served x) (TellsMade shared (entries_of new.seen) x making b.value None (answer.Refused refusal.Stock)) None (answer.Refused refusal.Stock) on
+      (subst (λ box. TellsMade shared (entries_of new.seen) x making box None (answer.Refused refusal.Stock)) (sym none) (refl, refl))) in
       ([], k.0, k.1, k.2, subst (λ a. RunsOne (arena_now shared helpers new) served b a []) (sym h.0) (refl, told), subst (λ l. BeginsWith l old.seen) (sym h.1.6) (whole old.seen))
   by_box (Some value) some h = told_runs shared helpers served b (making value) t old new as_told h where
     as_told : (e : Option Entry) (a : Answer) → EntersOrRefuses shared (entries_of new.seen) old.worker (making value) e a → Tells (arena_now shared helpers new) served b.line b.value e a
     as_told e a h =
-        tells e a (as_served (served x) (IsMade shared (entries_of new.seen) x making b.value e a) e a on
-        (subst (λ box. IsMade shared (entries_of new.seen) x making box e a) (sym some) (subst (λ n. EntersOrRefuses shared (entries_of new.seen) n (making value) e a) (sym same) h)))
+        tells e a (as_served (served x) (TellsMade shared (entries_of new.seen) x making b.value e a) e a on
+        (subst (λ box. TellsMade shared (entries_of new.seen) x making box e a) (sym some) (subst (λ n. EntersOrRefuses shared (entries_of new.seen) n (making value) e a) (sym same) h)))
 
 -- a line that isn't refused, and asks for a deed, is of a worker whose lines are run
 pub served_of : (served : Bool) (l : Line) (refused : Bool) → refused ≡ (if served then false else is_deed l) → refused ≡ false → is_deed l ≡ true → served ≡ true
@@ -241,7 +241,7 @@ served_of true l refused is not_refused asks = refl
 served_of false l refused is not_refused asks = absurd (false≢true (sym not_refused ∙ is ∙ asks))
 
 -- a collection
-pub collected_runs : (arena : Arena) (served : ℕ → Bool) (b : Boxed) (k : Kind) (t : Told) (old new : SessionState) → ((e : Option Entry) (a : Answer) → IsCollected arena k e a → Tells arena served b.line b.value e a) → HasCollected arena k t → HasLooked old new → HasRun arena served b t old new
+pub collected_runs : (arena : Arena) (served : ℕ → Bool) (b : Boxed) (k : Kind) (t : Told) (old new : SessionState) → ((e : Option Entry) (a : Answer) → TellsCollection arena k e a → Tells arena served b.line b.value e a) → HasCollected arena k t → HasLooked old new → HasRun arena served b t old new
 collected_runs arena served b k (came.Entered at) old new tells h looked = absurd h
 collected_runs arena served b k (came.Collected kept) old new tells h looked = let n = looked_none old new looked in ([], n.0, n.1, n.2, (refl, tells None (answer.Collected kept) (refl, inl (kept, h, refl))), looked.grown)
 collected_runs arena served b k (came.Refused r) old new tells h looked = let n = looked_none old new looked in ([], n.0, n.1, n.2, (refl, tells None (answer.Refused r) (refl, inr (r, h, refl))), looked.grown)

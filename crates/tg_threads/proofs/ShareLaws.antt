@@ -6,14 +6,14 @@ use Rattle.std.proofs.lemmas.List.Elements.{All-nil, All-cons, All-head, All-tai
 use Rattle.tg_shared.specs.Sessions.{SessionState, AreFresh, IsFresh}
 use Rattle.tg_weave.specs.declared.work.Work.{Work}
 use Rattle.tg_weave.specs.Boxes.{Boxed}
-use Rattle.tg_weave.specs.Shares.{is_run_by, lines_of, all_lines, lines_in}
+use Rattle.tg_weave.specs.Shares.{is_run_by, share_of, all_shares, lines_in}
 use Rattle.tg_weave.proofs.ShareLaws.{run_by}
 use Rattle.tg_threads.specs.Tasks.{HadNone, IsRunBy, all_assigned, assigned_of}
 
 -- each is run by the worker that is given it
-pub own_lines : (workers x : ℕ) (bs : List Boxed) → All (IsRunBy workers x) (lines_of workers x bs)
+pub own_lines : (workers x : ℕ) (bs : List Boxed) → All (IsRunBy workers x) (share_of workers x bs)
 own_lines workers x bs =
-    All-weaker (λ b. is_run_by workers x b.line ≡ true) (IsRunBy workers x) (λ b by. run_by workers x b.line by) (lines_of workers x bs)
+    All-weaker (λ b. is_run_by workers x b.line ≡ true) (IsRunBy workers x) (λ b by. run_by workers x b.line by) (share_of workers x bs)
     (filter_passes (λ b. is_run_by workers x b.line) bs)
 
 paired : {W : Type 0} (f : W → ℕ) (g : W → List Boxed) (h : ℕ → List Boxed) (works : List W) → map g works ≡ map h (map f works) → map {B = ℕ × List Boxed} (λ w. (f w, g w)) works ≡ map {B = ℕ × List Boxed} (λ x. (x, h x)) (map f works)
@@ -25,13 +25,13 @@ paired f g h (w ∷ works) same =
 
 -- the sessions of all workers, by number, with their lines
 pub each_assigned : {P : Type 0} (workers : ℕ) (bs : List Boxed) (works : List (Work SessionState P)) (sessions : List SessionState) → AreFresh (range_with_len 0 workers) sessions → map (λ w. w.session) works ≡ sessions →
-    map lines_in works ≡ all_lines workers bs → map assigned_of works ≡ all_assigned workers bs
+    map lines_in works ≡ all_shares workers bs → map assigned_of works ≡ all_assigned workers bs
 each_assigned {P = P} workers bs works sessions fresh is lines =
     let session : Work SessionState P → SessionState = λ w. w.session in
     let worker : SessionState → ℕ = λ s. s.worker in
     let named : map (λ (w : Work SessionState P). w.session.worker) works ≡ range_with_len 0 workers = sym (map-map worker session works) ∙ ap (map worker) is ∙ fresh.0 in
-    paired (λ w. w.session.worker) lines_in (λ x. lines_of workers x bs) works (lines ∙ ap (map (λ x. lines_of workers x bs)) (sym named))
-    ∙ ap (map {B = ℕ × List Boxed} (λ x. (x, lines_of workers x bs))) named
+    paired (λ w. w.session.worker) lines_in (λ x. share_of workers x bs) works (lines ∙ ap (map (λ x. share_of workers x bs)) (sym named))
+    ∙ ap (map {B = ℕ × List Boxed} (λ x. (x, share_of workers x bs))) named
 
 pub mapped_each : {X Y : Type 0} (f : X → Y) (P : Y → Type 0) (xs : List X) → All P (map f xs) → All (λ x. P (f x)) xs
 mapped_each f P [] h = All-nil (λ x. P (f x))

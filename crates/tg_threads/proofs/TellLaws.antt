@@ -17,7 +17,7 @@ use Rattle.tg_script.specs.Opening.{IsCommand}
 use Rattle.tg_script.specs.Script.{create_of, spawn_of}
 use Rattle.tg_weave.specs.Shares.{runner_of, is_run_by}
 use Rattle.tg_weave.proofs.ShareLaws.{named}
-use Rattle.tg_threads.specs.Output.{Arena, EntersOrRefuses, IsMade, IsServed, Tells, has_thread, is_retire_of}
+use Rattle.tg_threads.specs.Output.{Arena, EntersOrRefuses, TellsMade, IsServed, Tells, has_thread, is_retire_of}
 
 pub none_is_some : {X : Type 0} (x : X) → None ≡ Some x → ⊥
 none_is_some x h = cc
@@ -39,13 +39,13 @@ asked_of true asked e a h = (refl, h)
 asked_of false asked e a h = absurd (none_is_some e (sym h.0))
 
 -- and there was a box
-pub made_of_box : (arena : Arena) (x : ℕ) (making : Value → Deed) (box : Option Value) (e : Entry) (a : Answer) → IsMade arena.shared arena.entries x making box (Some e) a → (value : Value) × (box ≡ Some value) × EntersOrRefuses arena.shared arena.entries x (making value) (Some e) a
+pub made_of_box : (arena : Arena) (x : ℕ) (making : Value → Deed) (box : Option Value) (e : Entry) (a : Answer) → TellsMade arena.shared arena.entries x making box (Some e) a → (value : Value) × (box ≡ Some value) × EntersOrRefuses arena.shared arena.entries x (making value) (Some e) a
 made_of_box arena x making (Some value) e a h = (value, refl, h)
 made_of_box arena x making None e a h = absurd (none_is_some e (sym h.0))
 
 -- so the entry is the worker's, whose lines are run
-pub making_of : (arena : Arena) (x : ℕ) (making : Value → Deed) (b : Bool) (box : Option Value) (e : Entry) (a : Answer) → IsServed b (IsMade arena.shared arena.entries x making box (Some e) a) (Some e) a → (b ≡ true) × (e.worker ≡ x)
-making_of arena x making b box e a h = let asked = asked_of b (IsMade arena.shared arena.entries x making box (Some e) a) e a h in (asked.0, (made_of_box arena x making box e a asked.1).2.0)
+pub making_of : (arena : Arena) (x : ℕ) (making : Value → Deed) (b : Bool) (box : Option Value) (e : Entry) (a : Answer) → IsServed b (TellsMade arena.shared arena.entries x making box (Some e) a) (Some e) a → (b ≡ true) × (e.worker ≡ x)
+making_of arena x making b box e a h = let asked = asked_of b (TellsMade arena.shared arena.entries x making box (Some e) a) e a h in (asked.0, (made_of_box arena x making box e a asked.1).2.0)
 
 named_by : (workers x y : ℕ) → x < workers → y ≡ x → cond (nat_lt x workers) (Some x) None ≡ Some y
 named_by workers x y low same = ap (λ b. cond b (Some x) None) (lt-ltb x workers low) ∙ ap (λ z. Some z) (sym same)
@@ -74,8 +74,8 @@ nobodys_told arena workers served l box within command by = refused l command by
 
   refused : (l : Line) → IsCommand l → runner_of workers l ≡ None → Tells arena served l box None (answer.Refused refusal.Worker)
   refused (line.Edge edge) command by = absurd (false≢true command.0)
-  refused (line.Create x label) command by = refused_of (served x) (IsMade arena.shared arena.entries x (create_of label) box None (answer.Refused refusal.Worker)) (unserved x by)
-  refused (line.Spawn x label) command by = refused_of (served x) (IsMade arena.shared arena.entries x (spawn_of label) box None (answer.Refused refusal.Worker)) (unserved x by)
+  refused (line.Create x label) command by = refused_of (served x) (TellsMade arena.shared arena.entries x (create_of label) box None (answer.Refused refusal.Worker)) (unserved x by)
+  refused (line.Spawn x label) command by = refused_of (served x) (TellsMade arena.shared arena.entries x (spawn_of label) box None (answer.Refused refusal.Worker)) (unserved x by)
   refused (line.Plain x c) command by = refused_of (served x) (EntersOrRefuses arena.shared arena.entries x (deed.Plain c) None (answer.Refused refusal.Worker)) (unserved x by)
   refused l command by = absurd (none_is_some 0 (sym by))
 
@@ -87,8 +87,8 @@ told_same arena workers y served other l box e a by same h = told l by h where
 
   told : (l : Line) → runner_of workers l ≡ Some y → Tells arena served l box e a → Tells arena other l box e a
   told (line.Edge edge) by h = absurd h
-  told (line.Create x label) by h = subst (λ b. IsServed b (IsMade arena.shared arena.entries x (create_of label) box e a) e a) (as_own x by) h
-  told (line.Spawn x label) by h = subst (λ b. IsServed b (IsMade arena.shared arena.entries x (spawn_of label) box e a) e a) (as_own x by) h
+  told (line.Create x label) by h = subst (λ b. IsServed b (TellsMade arena.shared arena.entries x (create_of label) box e a) e a) (as_own x by) h
+  told (line.Spawn x label) by h = subst (λ b. IsServed b (TellsMade arena.shared arena.entries x (spawn_of label) box e a) e a) (as_own x by) h
   told (line.Plain x c) by h = subst (λ b. IsServed b (EntersOrRefuses arena.shared arena.entries x (deed.Plain c) e a) e a) (as_own x by) h
   told l by h = h
 

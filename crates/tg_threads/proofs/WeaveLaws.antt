@@ -19,7 +19,7 @@ use Rattle.tg_weave.specs.declared.task.Told.{Told}
 use Rattle.tg_weave.specs.declared.task.Told.TheVariants as came
 use Rattle.tg_weave.specs.declared.work.Finished.{Finished}
 use Rattle.tg_weave.specs.Boxes.{Boxed, boxed, stock_behind}
-use Rattle.tg_weave.specs.Shares.{all_sessions, runner_of, is_run_by, lines_of, told_of, IsInScriptOrder}
+use Rattle.tg_weave.specs.Shares.{all_sessions, runner_of, is_run_by, share_of, told_of, IsInScriptOrder}
 use Rattle.tg_weave.proofs.OrderLaws.{count_of}
 use Rattle.tg_passes.specs.Passes.{BeginsWith, entries_of}
 use Rattle.tg_threads.specs.Output.{Arena, HasEach, arena_of, has_thread}
@@ -49,13 +49,13 @@ brings_at shared helpers workers (b ∷ given) all (suc k) a h at =
 record IsBrought (shared : SharedStart) (helpers workers : ℕ) (bs : List Boxed) (all : List (Finished SessionState)) (x : ℕ) (f : Finished SessionState) : Type 0 where
   at : slice_get all x ≡ Some f
   worker : f.session.worker ≡ x
-  runs : Runs (arena_seen shared helpers f) (has_thread workers) (lines_of workers x bs) f.told.items f.session.receipts
+  runs : Runs (arena_seen shared helpers f) (has_thread workers) (share_of workers x bs) f.told.items f.session.receipts
   none : All IsFresh f.spawned.items
   handed : f.session.handed ≡ 0
 
 brought : (shared : SharedStart) (helpers workers : ℕ) (bs : List Boxed) (all : List (Finished SessionState)) → AllBring shared helpers workers (all_assigned workers bs) all → (x : ℕ) → x < workers → (f : Finished SessionState) × IsBrought shared helpers workers bs all x f
 brought shared helpers workers bs all h x low =
-    let as_given : ℕ → ℕ × List Boxed = λ y. (y, lines_of workers y bs) in
+    let as_given : ℕ → ℕ × List Boxed = λ y. (y, share_of workers y bs) in
     let long : length (all_assigned workers bs) ≡ workers = length-map-range_with_len as_given 0 workers in
     let at : slice_get (all_assigned workers bs) x ≡ Some (as_given x) =
     slice_get-get_or (all_assigned workers bs) x (0, []) (omega (arith, low, long)) ∙ ap (λ a. Some a) (get_or-map-range_with_len as_given 0 workers x x (0, []) low (omega arith)) in
@@ -77,9 +77,9 @@ one_long : {X Y : Type 0} (c : Bool) (x : X) (y : Y) (xs : List X) (ys : List Y)
 one_long true x y xs ys h = ap suc h
 one_long false x y xs ys h = h
 
-lines_long : (workers x : ℕ) (bs : List Boxed) → length (lines_of workers x bs) ≡ count_of workers x (map (λ b. b.line) bs)
+lines_long : (workers x : ℕ) (bs : List Boxed) → length (share_of workers x bs) ≡ count_of workers x (map (λ b. b.line) bs)
 lines_long workers x [] = refl
-lines_long workers x (b ∷ bs) = one_long (is_run_by workers x b.line) b b.line (lines_of workers x bs) (filter (is_run_by workers x) (map (λ (c : Boxed). c.line) bs)) (lines_long workers x bs)
+lines_long workers x (b ∷ bs) = one_long (is_run_by workers x b.line) b b.line (share_of workers x bs) (filter (is_run_by workers x) (map (λ (c : Boxed). c.line) bs)) (lines_long workers x bs)
 
 map_at : {X Y : Type 0} (f : X → Y) (xs : List X) (k : ℕ) (x : X) (d : Y) → slice_get xs k ≡ Some x → get_or (map f xs) k d ≡ f x
 map_at f xs k x d at = get_or_from_slice_get (map f xs) k (f x) d (slice_get-map f xs k ∙ ap (option_map f) at)
@@ -91,10 +91,10 @@ each_told shared helpers workers stock lines all h =
     let long_of : Finished SessionState → ℕ = λ f. length f.told.items in
     let bs = boxed stock lines in
     fill_by_all (λ x. count_of workers x lines) (map long_of all) workers 0
-    (length-map all long_of ∙ bring_as_many shared helpers workers (all_assigned workers bs) all h ∙ length-map-range_with_len (λ x. (x, lines_of workers x bs)) 0 workers)
+    (length-map all long_of ∙ bring_as_many shared helpers workers (all_assigned workers bs) all h ∙ length-map-range_with_len (λ x. (x, share_of workers x bs)) 0 workers)
     (λ x low.
     let b = brought shared helpers workers bs all h x low in
-    map_at long_of all x b.0 0 b.1.at ∙ runs_long (arena_seen shared helpers b.0) (has_thread workers) (lines_of workers x bs) b.0.told.items b.0.session.receipts b.1.runs
+    map_at long_of all x b.0 0 b.1.at ∙ runs_long (arena_seen shared helpers b.0) (has_thread workers) (share_of workers x bs) b.0.told.items b.0.session.receipts b.1.runs
     ∙ lines_long workers x bs ∙ ap (count_of workers x) (lines_boxed stock lines))
 
 -- ---- with the journal
@@ -125,15 +125,15 @@ All_own P (g ∷ all) (suc k) f held at = All_own P all k f (All_behind P g.spaw
 
 -- what was told of worker x's lines fits them, and tells of its entries
 record IsOwn (arena : Arena) (workers : ℕ) (entries : List Entry) (bs : List Boxed) (x : ℕ) (ts : List Told) : Type 0 where
-  fits : FitAll arena (has_thread workers) entries (lines_of workers x bs) ts
+  fits : FitAll arena (has_thread workers) entries (share_of workers x bs) ts
   made : made_of entries ts ≡ filter (λ e. e.worker == x) entries
 
 own_of : (shared : SharedStart) (helpers workers start x : ℕ) (entries : List Entry) (bs : List Boxed) (all : List (Finished SessionState)) (f : Finished SessionState) → IsBrought shared helpers workers bs all x f →
     All (HasSeenFront entries) (all_sessions all) → All (MatchesSince entries start) (all_sessions all) → All (HasOwn entries) (all_sessions all) → IsOwn (arena_of shared helpers entries) workers entries bs x f.told.items
 own_of shared helpers workers start x entries bs all f b seen matching own =
     let stands = standing entries start f.session (All_own (MatchesSince entries start) all x f matching b.at) in
-    let runs = runs_wider shared helpers (entries_of f.session.seen) entries (All_own (HasSeenFront entries) all x f seen b.at) (has_thread workers) (lines_of workers x bs) f.told.items f.session.receipts b.runs in
-    let fit = all_fit (arena_of shared helpers entries) f.session.worker (has_thread workers) entries (lines_of workers x bs) f.told.items f.session.receipts runs stands in
+    let runs = runs_wider shared helpers (entries_of f.session.seen) entries (All_own (HasSeenFront entries) all x f seen b.at) (has_thread workers) (share_of workers x bs) f.told.items f.session.receipts b.runs in
+    let fit = all_fit (arena_of shared helpers entries) f.session.worker (has_thread workers) entries (share_of workers x bs) f.told.items f.session.receipts runs stands in
     record {
       fits = fit.0;
       made = fit.1 ∙ All_own (HasOwn entries) all x f own b.at ∙ ap (λ w. filter (λ e. e.worker == w) entries) b.worker;
@@ -198,7 +198,7 @@ each_session P fresh (f ∷ all) each =
 -- no session of one who is no worker of the opening has a receipt
 others_none : (shared : SharedStart) (helpers workers x : ℕ) (bs : List Boxed) (all : List (Finished SessionState)) → AllBring shared helpers workers (all_assigned workers bs) all → workers ≤ x → All (λ s. s.worker ≡ x → s.receipts ≡ []) (all_sessions all)
 others_none shared helpers workers x bs all h past =
-    let long : length all ≡ workers = bring_as_many shared helpers workers (all_assigned workers bs) all h ∙ length-map-range_with_len (λ x. (x, lines_of workers x bs)) 0 workers in
+    let long : length all ≡ workers = bring_as_many shared helpers workers (all_assigned workers bs) all h ∙ length-map-range_with_len (λ x. (x, share_of workers x bs)) 0 workers in
     each_session (λ s. s.worker ≡ x → s.receipts ≡ []) (λ s h is. h.0) all
     (λ i low. let b = brought shared helpers workers bs all h i (omega (arith, low, long)) in (b.0, b.1.at, (λ is. absurd (omega (arith, is, b.1.worker, low, long, past))), b.1.none))
 
@@ -212,7 +212,7 @@ sum_none (s ∷ sessions) none =
 -- the sessions that the threads brought back have handed out no receipt
 pub brought_none_handed : (shared : SharedStart) (helpers workers : ℕ) (bs : List Boxed) (all : List (Finished SessionState)) → AllBring shared helpers workers (all_assigned workers bs) all → handed_of (all_sessions all) ≡ 0
 brought_none_handed shared helpers workers bs all h =
-    let long : length all ≡ workers = bring_as_many shared helpers workers (all_assigned workers bs) all h ∙ length-map-range_with_len (λ x. (x, lines_of workers x bs)) 0 workers in
+    let long : length all ≡ workers = bring_as_many shared helpers workers (all_assigned workers bs) all h ∙ length-map-range_with_len (λ x. (x, share_of workers x bs)) 0 workers in
     sum_none (all_sessions all)
     (each_session (λ s. s.handed ≡ 0) (λ s h. h.1) all (λ i low. let b = brought shared helpers workers bs all h i (omega (arith, low, long)) in (b.0, b.1.at, b.1.handed, b.1.none)))
 
@@ -253,7 +253,7 @@ raced shared helpers workers start stock lines all ts entries low commands bring
     let own = own_race shared helpers workers start stock lines all ts entries bring order seen closes shared_out in
     let fits = woven (arena_of shared helpers entries) workers (has_thread workers) (λ x. has_thread workers) entries bs ts low (thread_within workers) (λ x below. refl) (subst (All IsCommand) same commands)
     (subst (λ ls. AllZip (λ l t. runner_of workers l ≡ None → t ≡ came.Refused refusal.Worker) ls ts) same order.nobodys)
-    (λ x below. subst (λ ls. FitAll (arena_of shared helpers entries) (has_thread workers) entries (lines_of workers x bs) (told_of workers x ls ts)) same (own x below).fits) in
+    (λ x below. subst (λ ls. FitAll (arena_of shared helpers entries) (has_thread workers) entries (share_of workers x bs) (told_of workers x ls ts)) same (own x below).fits) in
     record {
       made = made_of entries ts;
       told = fit_told (arena_of shared helpers entries) (has_thread workers) entries bs ts fits;

@@ -106,9 +106,9 @@ EntersOrRefuses shared entries x d (Some e) a = (e.worker ≡ x) × (e.deed ≡ 
 EntersOrRefuses shared entries x d None a = (r : Refusal) × IsOfStore shared entries x d r × (a ≡ told.Refused r)
 
 -- x asked for a vertex, an object or a subject, with this box or with none
-abbrev pub IsMade : SharedStart → List Entry → ℕ → (Value → Deed) → Option Value → Option Entry → Answer → Type 0
-IsMade shared entries x making (Some value) e a = EntersOrRefuses shared entries x (making value) e a
-IsMade shared entries x making None e a = IsRefused refusal.Stock e a
+abbrev pub TellsMade : SharedStart → List Entry → ℕ → (Value → Deed) → Option Value → Option Entry → Answer → Type 0
+TellsMade shared entries x making (Some value) e a = EntersOrRefuses shared entries x (making value) e a
+TellsMade shared entries x making None e a = IsRefused refusal.Stock e a
 
 -- this is told where the worker's lines are run, and else that there is no such worker
 abbrev pub IsServed : Bool → Type 0 → Option Entry → Answer → Type 0
@@ -126,18 +126,18 @@ pub record IsUncollected (arena : Arena) (k : Kind) (r : Refusal) : Type 0 where
   pub full : r ≡ refusal.Heap → AtFront arena.shared arena.entries (λ s. LacksRoomToCollect k arena.helpers s.heap)
 
 -- a collection has no entry
-abbrev pub IsCollected : Arena → Kind → Option Entry → Answer → Type 0
-IsCollected arena k e a =
+abbrev pub TellsCollection : Arena → Kind → Option Entry → Answer → Type 0
+TellsCollection arena k e a =
     (e ≡ None) × (((kept : Option ℕ) × IsCountTold arena.shared arena.entries k kept × (a ≡ told.Collected kept)) ⊎ ((r : Refusal) × IsUncollected arena k r × (a ≡ told.Refused r)))
 
 -- What is told of a line, where the lines of these workers are run.
 abbrev pub Tells : Arena → (ℕ → Bool) → Line → Option Value → Option Entry → Answer → Type 0
 Tells arena served (line.Edge edge) box e a = ⊥
-Tells arena served (line.Create x label) box e a = IsServed (served x) (IsMade arena.shared arena.entries x (create_of label) box e a) e a
-Tells arena served (line.Spawn x label) box e a = IsServed (served x) (IsMade arena.shared arena.entries x (spawn_of label) box e a) e a
+Tells arena served (line.Create x label) box e a = IsServed (served x) (TellsMade arena.shared arena.entries x (create_of label) box e a) e a
+Tells arena served (line.Spawn x label) box e a = IsServed (served x) (TellsMade arena.shared arena.entries x (spawn_of label) box e a) e a
 Tells arena served (line.Plain x command) box e a = IsServed (served x) (EntersOrRefuses arena.shared arena.entries x (deed.Plain command) e a) e a
-Tells arena served line.Full box e a = IsCollected arena kind.Full e a
-Tells arena served line.Minor box e a = IsCollected arena kind.Nursery e a
+Tells arena served line.Full box e a = TellsCollection arena kind.Full e a
+Tells arena served line.Minor box e a = TellsCollection arena kind.Nursery e a
 
 -- ---- what is written for all of them
 
@@ -194,7 +194,7 @@ IsOfFirst line.Minor = ⊥
 
 -- all lines are commands of worker 0, each has its entry, and none was answered that no more vertices may be made, or that no more
 -- subjects may be active
-pub record IsOfOne (lines : List Line) (made : List Entry) : Type 0 where
+pub record IsOfOneThread (lines : List Line) (made : List Entry) : Type 0 where
   pub first : All IsOfFirst lines
   pub entered : length made ≡ length lines
   pub room : All (λ e. (e.reply ≢ reply.VerticesFull) × (e.reply ≢ reply.WorkersFull)) made

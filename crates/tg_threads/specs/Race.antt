@@ -21,7 +21,7 @@ use Rattle.tg_threads.specs.declared.fault.RaceFault.{RaceFault}
 use Rattle.tg_threads.specs.declared.fault.RaceFault.TheVariants as fault
 use Rattle.tg_threads.specs.declared.threads.ThreadsFault.{ThreadsFault}
 use Rattle.tg_threads.specs.declared.threads.ThreadsFault.TheVariants as threads
-use Rattle.tg_threads.specs.declared.race.Opened.{Opened}
+use Rattle.tg_threads.specs.declared.race.OpenedRace.{OpenedRace}
 use Rattle.tg_threads.specs.declared.race.Raced.{Raced}
 use Rattle.tg_weave.specs.Boxes.{boxed}
 use Rattle.tg_passes.specs.Passes.{BeginsWith, entries_of}
@@ -171,7 +171,7 @@ pub record IsClosedRace (start : SharedStart) (sessions : List SessionState) (st
   pub none_handed : store.handed ≡ 0
 
 -- the whole script was read, and a store of its opening has no entry yet
-abbrev pub OpensRace : {P : Type 0} → Start → List ℕ → Result (Opened P) RaceFault → List ℕ → Type 0
+abbrev pub OpensRace : {P : Type 0} → Start → List ℕ → Result (OpenedRace P) RaceFault → List ℕ → Type 0
 OpensRace start bytes (Ok opened) left =
     (lines : List Line) × IsWhole start bytes lines left × (opened.lines.items ≡ commands_of lines) × (opened.store.opening ≡ plan_of start lines)
 OpensRace start bytes (Err (fault.Script f)) left = IsNotRun start bytes f left

@@ -30,7 +30,7 @@ use Rattle.tg_weave.specs.declared.task.Told.TheVariants as came
 use Rattle.tg_weave.specs.declared.work.Work.{Work}
 use Rattle.tg_weave.specs.declared.work.Finished.{Finished}
 use Rattle.tg_weave.specs.Boxes.{Boxed, boxed_of}
-use Rattle.tg_weave.specs.Shares.{runner_of, lines_of, lines_in}
+use Rattle.tg_weave.specs.Shares.{runner_of, share_of, lines_in}
 use Rattle.tg_weave.specs.Telling.{IsThere, text_of_told}
 use Rattle.tg_threads.specs.Output.{Arena, Tells, IsCountTold, IsOfStore, IsUncollected, AreTold, HasEach, arena_of, has_thread, is_retire_of}
 
@@ -73,9 +73,9 @@ HasAsked shared d (came.Collected kept) old new = ⊥
 HasAsked shared d (came.Refused r) old new = IsOfStore shared (entries_of new.seen) old.worker d r × HasLooked old new
 
 -- a session asked for a vertex, an object or a subject, with this box; without one it asked for nothing
-abbrev pub HasMade : SharedStart → (Value → Deed) → Option Value → Told → SessionState → SessionState → Type 0
-HasMade shared making (Some value) t old new = HasAsked shared (making value) t old new
-HasMade shared making None t old new = (t ≡ came.Refused refusal.Stock) × KeepsReceipts old new
+abbrev pub HasMadeVertex : SharedStart → (Value → Deed) → Option Value → Told → SessionState → SessionState → Type 0
+HasMadeVertex shared making (Some value) t old new = HasAsked shared (making value) t old new
+HasMadeVertex shared making None t old new = (t ≡ came.Refused refusal.Stock) × KeepsReceipts old new
 
 -- the heap was collected, or memory, room or threads were wanting
 abbrev pub HasCollected : Arena → Kind → Told → Type 0
@@ -144,7 +144,7 @@ assigned_of w = (w.session.worker, lines_in w)
 
 -- each worker, by number, and the lines that its thread is given: all that it runs
 abbrev pub all_assigned : ℕ → List Boxed → List (ℕ × List Boxed)
-all_assigned workers bs = map (λ x. (x, lines_of workers x bs)) (range_with_len 0 workers)
+all_assigned workers bs = map (λ x. (x, share_of workers x bs)) (range_with_len 0 workers)
 
 -- the same, as a thread's handle has it
 abbrev pub promised_by : {T P : Type 0} → PromisedHandle T (Assigned P) → ℕ × List Boxed

@@ -106,7 +106,7 @@ fn race<
 {
     let helpers = settings.helpers;
     let opened = open_race(alloc, source, sink, settings, workers)?;
-    let Opened { store, lines } = opened;
+    let OpenedRace { store, lines } = opened;
     let blanks = Blanks::new(alloc, store.opening().max_vertices() + 1)?;
     let raced = share::<Brand, P, G, R>(
         rt,
@@ -125,7 +125,7 @@ fn race<
 
 // A store with no entry, and the lines that are to be run in it.
 #[derive(Drop)]
-pub(crate) struct Opened<P: Payload> {
+pub(crate) struct OpenedRace<P: Payload> {
     store: Store<P>,
     lines: Vec<Line>,
 }
@@ -137,7 +137,7 @@ fn open_race<P: Payload, S: Source, K: Sink>(
     sink: &mut K,
     settings: Settings,
     workers: Vec<Draft<P>>,
-) -> Result<Opened<P>, RaceFault>
+) -> Result<OpenedRace<P>, RaceFault>
     requires startable { MayStart settings workers.items }
     ensures limits { IfOk result (λ opened. opened.store.heap.table.limits ≡ settings.limits) }
     ensures new { IfOk result (λ opened. (opened.store.opening.workers ≡ settings.workers) × (opened.store.entries ≡ [])) }
@@ -156,7 +156,7 @@ fn open_race<P: Payload, S: Source, K: Sink>(
         settings.max_vertices,
         settings.limits,
     )?;
-    Ok(Opened {
+    Ok(OpenedRace {
         store,
         lines: whole.lines,
     })

@@ -14,7 +14,7 @@ ghost use Rattle.tg_shared.specs.Sessions.{AtSeen, HasLooked, LeavesAtSeen};
 ghost use Rattle.tg_shared.specs.declared.receipt.Receipt.{Receipt as ReceiptOf};
 ghost use Rattle.tg_text.specs.declared.answer.Refusal.{Refusal as RefusalOf};
 ghost use Rattle.tg_threads.specs.Output.{arena_of, is_retire_of};
-ghost use Rattle.tg_threads.specs.Tasks.{HadNone, HasAsked, HasCollected, HasMade, HasRun, IsRunBy, IsToldOrGone, KeepsSpawned, RunsTasks, is_deed, may_make_subject, served_past};
+ghost use Rattle.tg_threads.specs.Tasks.{HadNone, HasAsked, HasCollected, HasMadeVertex, HasRun, IsRunBy, IsToldOrGone, KeepsSpawned, RunsTasks, is_deed, may_make_subject, served_past};
 ghost use Rattle.tg_weave.specs.Boxes.{boxed_of};
 
 use crate::threads::ThreadsFault;
@@ -169,7 +169,7 @@ fn create<L: Round, P: Payload, R: Wait>(
     label: Label,
     draft: Option<Draft<P>>,
 ) -> Result<Told, ThreadsFault>
-    ensures told { IsToldOrGone L.start session.old session.new (λ told. HasMade L.start (create_of label) draft told session.old session.new) result }
+    ensures told { IsToldOrGone L.start session.old session.new (λ told. HasMadeVertex L.start (create_of label) draft told session.old session.new) result }
 {
     let Some(draft) = draft else {
         return Ok(Told::Refused(Refusal::Stock));
@@ -194,7 +194,7 @@ fn spawn<L: Round, P: Payload, R: Wait>(
     draft: Option<Draft<P>>,
 ) -> Result<Told, ThreadsFault>
     requires room { vec_len spawned.old < vec_capacity spawned.old }
-    ensures told { IsToldOrGone L.start session.old session.new (λ told. HasMade L.start (spawn_of label) draft told session.old session.new) result }
+    ensures told { IsToldOrGone L.start session.old session.new (λ told. HasMadeVertex L.start (spawn_of label) draft told session.old session.new) result }
     ensures spawned { KeepsSpawned 1 session.old session.new spawned.old spawned.new result }
 {
     let Some(draft) = draft else {

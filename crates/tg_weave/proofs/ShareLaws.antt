@@ -14,7 +14,7 @@ use Rattle.tg_model.specs.declared.value.Value.{Value}
 use Rattle.tg_weave.specs.Boxes.{Boxed, box_of, boxed, boxed_of, stock_behind}
 use Rattle.tg_weave.specs.declared.task.Task.{Task}
 use Rattle.tg_weave.specs.declared.work.Finished.{Finished}
-use Rattle.tg_weave.specs.Shares.{runner_of, is_run_by, lines_of, all_lines, all_sessions, sessions_in}
+use Rattle.tg_weave.specs.Shares.{runner_of, is_run_by, share_of, all_shares, all_sessions, sessions_in}
 
 pub map_push : {X Y : Type 0} (f : X → Y) (xs : List X) (x : X) → map f (xs ++ x ∷ []) ≡ map f xs ++ f x ∷ []
 map_push f xs x = map-append f xs (x ∷ [])
@@ -94,20 +94,20 @@ run_past workers x l low past = false_from_ne_true (is_run_by workers x l) (λ t
 
 -- ---- a worker's lines
 
-pub lines_same : (workers x : ℕ) (bs : List Boxed) (b : Boxed) → is_run_by workers x b.line ≡ true → lines_of workers x (bs ++ b ∷ []) ≡ lines_of workers x bs ++ b ∷ []
+pub lines_same : (workers x : ℕ) (bs : List Boxed) (b : Boxed) → is_run_by workers x b.line ≡ true → share_of workers x (bs ++ b ∷ []) ≡ share_of workers x bs ++ b ∷ []
 lines_same workers x bs b by =
-    filter-append (λ c. is_run_by workers x c.line) bs (b ∷ []) ∙ ap (λ t. lines_of workers x bs ++ cond t (b ∷ []) []) by
+    filter-append (λ c. is_run_by workers x c.line) bs (b ∷ []) ∙ ap (λ t. share_of workers x bs ++ cond t (b ∷ []) []) by
 
-pub lines_other : (workers x : ℕ) (bs : List Boxed) (b : Boxed) → is_run_by workers x b.line ≡ false → lines_of workers x (bs ++ b ∷ []) ≡ lines_of workers x bs
+pub lines_other : (workers x : ℕ) (bs : List Boxed) (b : Boxed) → is_run_by workers x b.line ≡ false → share_of workers x (bs ++ b ∷ []) ≡ share_of workers x bs
 lines_other workers x bs b by =
-    filter-append (λ c. is_run_by workers x c.line) bs (b ∷ []) ∙ ap (λ t. lines_of workers x bs ++ cond t (b ∷ []) []) by ∙ append-nil (lines_of workers x bs)
+    filter-append (λ c. is_run_by workers x c.line) bs (b ∷ []) ∙ ap (λ t. share_of workers x bs ++ cond t (b ∷ []) []) by ∙ append-nil (share_of workers x bs)
 
 -- ---- the works, worker by worker
 
 -- so much is given out of these lines
 pub record IsDealt (workers : ℕ) (bs : List Boxed) (given : List (List Boxed)) : Type 0 where
   pub long : length given ≡ workers
-  pub at : (x : ℕ) → x < workers → get_or given x [] ≡ lines_of workers x bs
+  pub at : (x : ℕ) → x < workers → get_or given x [] ≡ share_of workers x bs
 
 pub dealt_none : {W : Type 0} (boxes : W → List Boxed) (works : List W) → All (λ w. boxes w ≡ []) works → IsDealt (length works) [] (map boxes works)
 dealt_none {W = W} boxes works none = record {
@@ -119,8 +119,8 @@ dealt_none {W = W} boxes works none = record {
   go (w ∷ works) none zero low = All-head (λ v. boxes v ≡ []) w works none
   go (w ∷ works) none (suc x) low = go works (All-tail (λ v. boxes v ≡ []) w works none) x (omega (arith, low))
 
-pub dealt_all : (workers : ℕ) (bs : List Boxed) (given : List (List Boxed)) → IsDealt workers bs given → given ≡ all_lines workers bs
-dealt_all workers bs given dealt = fill_by_all (λ x. lines_of workers x bs) given workers [] dealt.long dealt.at
+pub dealt_all : (workers : ℕ) (bs : List Boxed) (given : List (List Boxed)) → IsDealt workers bs given → given ≡ all_shares workers bs
+dealt_all workers bs given dealt = fill_by_all (λ x. share_of workers x bs) given workers [] dealt.long dealt.at
 
 -- a line that no session runs
 pub dealt_nobodys : {T : Type 0} (boxing : T → Boxed) (workers n : ℕ) (ts : List T) (t : T) (given : List (List Boxed)) → n ≡ workers → runner_of n (boxing t).line ≡ None → IsDealt workers (map boxing ts) given → IsDealt workers (map boxing (ts ++ t ∷ [])) given
@@ -132,12 +132,12 @@ dealt_nobodys boxing workers n ts t given same by dealt =
     })
 
 -- a line that the session of worker y runs
-pub dealt_one : (workers y : ℕ) (bs : List Boxed) (b : Boxed) (given : List (List Boxed)) (more : List Boxed) → y < workers → runner_of workers b.line ≡ Some y → IsDealt workers bs given → more ≡ lines_of workers y bs ++ b ∷ [] →
+pub dealt_one : (workers y : ℕ) (bs : List Boxed) (b : Boxed) (given : List (List Boxed)) (more : List Boxed) → y < workers → runner_of workers b.line ≡ Some y → IsDealt workers bs given → more ≡ share_of workers y bs ++ b ∷ [] →
     IsDealt workers (bs ++ b ∷ []) (set given y more)
 dealt_one workers y bs b given more low by dealt is = record {
   long = length-set given y more ∙ dealt.long;
   at = λ x below. ⊎_elim
-      (λ (same : x ≡ y). subst (λ z. get_or (set given y more) z [] ≡ lines_of workers z (bs ++ b ∷ [])) (sym same)
+      (λ (same : x ≡ y). subst (λ z. get_or (set given y more) z [] ≡ share_of workers z (bs ++ b ∷ [])) (sym same)
       (get_or-set_same given y more [] (omega (arith, low, dealt.long)) ∙ is ∙ sym (lines_same workers y bs b (run_same workers y y b.line by refl))))
       (λ (other : x ≢ y). get_or-set_other given y x more [] other ∙ dealt.at x below
       ∙ sym (lines_other workers x bs b (run_other workers x y b.line by (λ same. other (sym same)))))
@@ -149,6 +149,6 @@ pub dealt_step : {W : Type 0} (boxes : W → List Boxed) (works : List W) (worke
     w ≡ get_or works y w → boxes after ≡ boxes w ++ b ∷ [] → IsDealt workers (bs ++ b ∷ []) (map boxes (set works y after))
 dealt_step boxes works workers y bs b w after low by dealt at is =
     let within : y < length works = omega (arith, low, dealt.long, length-map works boxes) in
-    let here : boxes w ≡ lines_of workers y bs = ap boxes at ∙ sym (get_or-map boxes works y w [] within) ∙ dealt.at y low in
+    let here : boxes w ≡ share_of workers y bs = ap boxes at ∙ sym (get_or-map boxes works y w [] within) ∙ dealt.at y low in
     subst (IsDealt workers (bs ++ b ∷ [])) (sym (map-set boxes works y after))
     (dealt_one workers y bs b (map boxes works) (boxes after) low by dealt (is ∙ ap (λ l. l ++ b ∷ []) here))

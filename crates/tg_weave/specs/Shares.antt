@@ -29,12 +29,12 @@ is_run_by workers x l = option_map_or (λ y. y == x) (runner_of workers l) false
 -- ---- who has which lines
 
 -- the lines that worker x's session runs, in script order
-abbrev pub lines_of : ℕ → ℕ → List Boxed → List Boxed
-lines_of workers x bs = filter (λ b. is_run_by workers x b.line) bs
+abbrev pub share_of : ℕ → ℕ → List Boxed → List Boxed
+share_of workers x bs = filter (λ b. is_run_by workers x b.line) bs
 
 -- those of each worker, by number
-abbrev pub all_lines : ℕ → List Boxed → List (List Boxed)
-all_lines workers bs = map (λ x. lines_of workers x bs) (range_with_len 0 workers)
+abbrev pub all_shares : ℕ → List Boxed → List (List Boxed)
+all_shares workers bs = map (λ x. share_of workers x bs) (range_with_len 0 workers)
 
 -- the lines that a session is given
 abbrev pub lines_in : {S P : Type 0} → Work S P → List Boxed

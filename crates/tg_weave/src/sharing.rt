@@ -3,7 +3,7 @@ ghost use Rattle.std.specs.Prelude.{◌≡◌, ◌<◌, ◌++◌, ◌∷◌, [],
 ghost use Rattle.std.specs.List.{All};
 ghost use Rattle.std.specs.Vec.Iter.{into_iter_items};
 ghost use Rattle.tg_weave.specs.Boxes.{box_of, boxed, boxed_of, stock_behind};
-ghost use Rattle.tg_weave.specs.Shares.{all_lines, lines_in};
+ghost use Rattle.tg_weave.specs.Shares.{all_shares, lines_in};
 
 use crate::task::{Task, runner};
 use crate::work::Work;
@@ -24,7 +24,7 @@ pub fn share_out<S: Drop, P: Payload>(
 ) -> Result<Vec<Work<S, P>>, AllocError>
     requires { 0 < length sessions.items }
     ensures sessions { IfOk result (λ works. map (λ w. w.session) works.items ≡ sessions.items) }
-    ensures lines { IfOk result (λ works. map lines_in works.items ≡ all_lines (length sessions.items) (boxed stock.items lines.now)) }
+    ensures lines { IfOk result (λ works. map lines_in works.items ≡ all_shares (length sessions.items) (boxed stock.items lines.now)) }
 {
     let tasks = box_lines(alloc, stock, lines)?;
     let works = works_of(alloc, sessions)?;
@@ -85,7 +85,7 @@ fn deal<S: Drop, P: Payload>(
     requires workers { 0 < length works.items }
     requires none { All (λ w. w.tasks.items ≡ []) works.items }
     ensures sessions { IfOk result (λ dealt. map (λ w. w.session) dealt.items ≡ map (λ w. w.session) works.items) }
-    ensures lines { IfOk result (λ dealt. map lines_in dealt.items ≡ all_lines (length works.items) (map boxed_of tasks.items)) }
+    ensures lines { IfOk result (λ dealt. map lines_in dealt.items ≡ all_shares (length works.items) (map boxed_of tasks.items)) }
 {
     let workers = works.len() as u64;
     for task in tasks {

@@ -3,7 +3,7 @@ use Rattle.std.proofs.Common.{◌≡◌, ◌∙◌, ℕ, ◌+◌, ◌<◌, List,
 use Rattle.std.proofs.lemmas.List.{take_more, flat_map_more}
 use Rattle.std.specs.List.{flat_map}
 use Rattle.tg_plain.specs.declared.text.PlainText.{PlainText}
-use Rattle.tg_plain.specs.Grown.{Adds}
+use Rattle.tg_plain.specs.Grown.{Appends}
 
 -- a text that has grown by the texts of all before this one grew by its text
 pub grew : {X : Type 0} (text_of : X → List ℕ) (xs : List X) (i : ℕ) (x : X) (front old new : List ℕ) → i < length xs → x ≡ get_or xs i x →
@@ -15,13 +15,13 @@ grew {X} text_of xs i x front old new inside is before now =
 
 -- the same of a text that may be short
 pub adds_next : {X : Type 0} (text_of : X → List ℕ) (xs : List X) (i : ℕ) (x : X) (front old new : PlainText) → i < length xs → x ≡ get_or xs i x →
-    Adds front (flat_map text_of (take i xs)) old → Adds old (text_of x) new → Adds front (flat_map text_of (take (i + 1) xs)) new
+    Appends front (flat_map text_of (take i xs)) old → Appends old (text_of x) new → Appends front (flat_map text_of (take (i + 1) xs)) new
 adds_next {X} text_of xs i x front old new inside is before now =
     λ full. let last = now full in let first = before (last.0) in
     (first.0, grew text_of xs i x front.bytes.items old.bytes.items new.bytes.items inside is (first.1) (last.1))
 
 -- one text and then another
-pub adds_both : (a b c : PlainText) (s t : List ℕ) → Adds a s b → Adds b t c → Adds a (s ++ t) c
+pub adds_both : (a b c : PlainText) (s t : List ℕ) → Appends a s b → Appends b t c → Appends a (s ++ t) c
 adds_both a b c s t one other =
     λ full. let last = other full in let first = one (last.0) in
     (first.0, last.1 ∙ ap (λ (ys : List ℕ). ys ++ t) (first.1) ∙ append_assoc a.bytes.items s t)

@@ -8,8 +8,8 @@ use Rattle.tg_rights.specs.RightSet.{letter_of}
 use Rattle.tg_model.specs.Picture.{Shown}
 use Rattle.tgcould.specs.declared.query.Query.{Query}
 use Rattle.tgcould.specs.declared.query.Query.TheVariants.{Hold, Who, What}
-use Rattle.tgcould.specs.declared.query.Vertex.{Vertex}
-use Rattle.tgcould.specs.declared.query.Vertex.TheVariants.{Named, New}
+use Rattle.tgcould.specs.declared.query.VertexWord.{VertexWord}
+use Rattle.tgcould.specs.declared.query.VertexWord.TheVariants.{Named, New}
 use Rattle.tgcould.specs.Told.{NeverComes}
 
 -- ---- the command line
@@ -24,14 +24,14 @@ abbrev pub texts_of : ArgMatches → List ℕ → List (List ℕ)
 texts_of matches option = values_of (matched_of (found_of matches) option)
 
 -- the text writes the number in decimal digits
-abbrev pub Writes : List ℕ → ℕ → Type 0
-Writes text n = IsNumeral 10 (without_leading_plus text) × (n ≡ digits_value 10 (without_leading_plus text))
+abbrev pub WritesWord : List ℕ → ℕ → Type 0
+WritesWord text n = IsNumeral 10 (without_leading_plus text) × (n ≡ digits_value 10 (without_leading_plus text))
 
 -- ---- questions
 
 -- the word is a vertex of a question
-abbrev pub IsVertex : List ℕ → Vertex → Type 0
-IsVertex word (Named n) = Writes word n
+abbrev pub IsVertex : List ℕ → VertexWord → Type 0
+IsVertex word (Named n) = WritesWord word n
 IsVertex word New = word ≡ codes "new"
 
 -- the three words are the question
@@ -57,7 +57,7 @@ pub record IsQuestion (text : List ℕ) (question : Query) : Type 0 where
 -- ---- policies
 
 -- the text is a question, and what it asks about never comes about
-pub record IsKept (p : Shown) (silent : List ℕ) (text : List ℕ) : Type 0 where
+pub record IsKeptPolicy (p : Shown) (silent : List ℕ) (text : List ℕ) : Type 0 where
   pub question : Query
   pub is : IsQuestion text question
   pub never : NeverComes p silent question

@@ -10,7 +10,7 @@ use Rattle.tg_text.specs.declared.line.Line.TheVariants as line
 use Rattle.tg_text.specs.Grammar.{line_text}
 use Rattle.tgcould.specs.declared.options.TheConstants.{SILENT, AS_IF}
 use Rattle.tgcould.specs.declared.supposed.Supposed.{Supposed}
-use Rattle.tgcould.specs.Policies.{Writes, texts_of}
+use Rattle.tgcould.specs.Policies.{WritesWord, texts_of}
 
 -- behind `edge ` the text is the line of this edge, which joins two different vertices
 pub record WritesEdge (text : List ℕ) (edge : Edge) : Type 0 where
@@ -18,8 +18,8 @@ pub record WritesEdge (text : List ℕ) (edge : Edge) : Type 0 where
   pub differ : edge.from ≢ edge.to
 
 -- each text writes the name in its place: no text is left out, and no other name is there
-abbrev pub AreNames : List (List ℕ) → List ℕ → Type 0
-AreNames texts names = AllZip Writes texts names
+abbrev pub AreNameTexts : List (List ℕ) → List ℕ → Type 0
+AreNameTexts texts names = AllZip WritesWord texts names
 
 -- each text writes the edge in its place: no text is left out, and no other edge is there
 abbrev pub AreEdges : List (List ℕ) → List Edge → Type 0
@@ -27,7 +27,7 @@ AreEdges texts edges = AllZip WritesEdge texts edges
 
 -- exactly what all values of the two options write
 pub record IsSupposed (matches : ArgMatches) (supposed : Supposed) : Type 0 where
-  pub silent : AreNames (texts_of matches SILENT.now) supposed.silent.items
+  pub silent : AreNameTexts (texts_of matches SILENT.now) supposed.silent.items
   pub edges : AreEdges (texts_of matches AS_IF.now) supposed.edges.items
 
 -- ---- the graph that is asked about

@@ -9,28 +9,28 @@ use Rattle.tg_could.specs.declared.answer.Answer.{Answer}
 use Rattle.tg_could.specs.Answered.{IsAnswer}
 use Rattle.tg_could.specs.Turns.{NeverHolds}
 use Rattle.tg_plain.specs.declared.text.PlainText.{PlainText}
-use Rattle.tg_plain.specs.Grown.{Adds}
+use Rattle.tg_plain.specs.Grown.{Appends}
 use Rattle.tgcould.specs.declared.query.Query.{Query}
 use Rattle.tgcould.specs.declared.query.Query.TheVariants.{Hold, Who, What}
-use Rattle.tgcould.specs.declared.query.Vertex.{Vertex}
-use Rattle.tgcould.specs.declared.query.Vertex.TheVariants.{Named, New}
+use Rattle.tgcould.specs.declared.query.VertexWord.{VertexWord}
+use Rattle.tgcould.specs.declared.query.VertexWord.TheVariants.{Named, New}
 use Rattle.tgcould.specs.declared.stars.Holders.{Holders}
-use Rattle.tgcould.specs.declared.stars.Held.{Held}
+use Rattle.tgcould.specs.declared.stars.HeldRights.{HeldRights}
 use Rattle.tgcould.specs.Texts.{answer_text}
 
 -- the name of a vertex of a question: the next to be made has the number of those that were
-abbrev pub named_in : Shown → Vertex → ℕ
+abbrev pub named_in : Shown → VertexWord → ℕ
 named_in p (Named name) = name
 named_in p New = p.made
 
 -- it is an answer of each graph of which this is the picture
-abbrev pub Answers : Shown → List ℕ → ℕ → Right → ℕ → Answer → Type 0
-Answers p silent x right y answer = (g : ProtectionGraph) → IsPictureOf p g → IsAnswer silent g x right y answer
+abbrev pub AnswersShown : Shown → List ℕ → ℕ → Right → ℕ → Answer → Type 0
+AnswersShown p silent x right y answer = (g : ProtectionGraph) → IsPictureOf p g → IsAnswer silent g x right y answer
 
 -- where memory wasn't wanting, the text of an answer to the question stands behind what was there
 abbrev pub TellsHold : Shown → List ℕ → ℕ → Right → ℕ → PlainText → PlainText → Type 0
 TellsHold p silent x right y old new =
-    new.is_short ≡ false → (answer : Answer) × Answers p silent x right y answer × Adds old (answer_text answer) new
+    new.is_short ≡ false → (answer : Answer) × AnswersShown p silent x right y answer × Appends old (answer_text answer) new
 
 -- on each graph of which this is the picture x never holds the right over y
 abbrev pub IsNever : Shown → List ℕ → ℕ → Right → ℕ → Type 0
@@ -39,32 +39,32 @@ IsNever p silent x right y = (g : ProtectionGraph) → IsPictureOf p g → Never
 -- ---- questions with a star
 
 -- x is listed: by its name, or as one that isn't made yet where those are listed
-abbrev pub IsHolder : Shown → Holders → ℕ → Type 0
-IsHolder p holders x = Contains holders.names.items x ⊎ ((holders.later ≡ true) × (p.made ≤ x))
+abbrev pub IsShownHolder : Shown → Holders → ℕ → Type 0
+IsShownHolder p holders x = Contains holders.names.items x ⊎ ((holders.later ≡ true) × (p.made ≤ x))
 
 -- Whoever isn't listed never holds the right over y. This is of all names: those that were made, and those that may yet be.
 abbrev pub ListsWho : Shown → List ℕ → Right → ℕ → Holders → Type 0
-ListsWho p silent right y holders = (x : ℕ) → ¬ IsHolder p holders x → IsNever p silent x right y
+ListsWho p silent right y holders = (x : ℕ) → ¬ IsShownHolder p holders x → IsNever p silent x right y
 
 -- the right over y stands in a list of vertices and rights
-pub record IsHeld (over : List (ℕ × RightSet)) (right : Right) (y : ℕ) : Type 0 where
+pub record IsHeldOverBy (over : List (ℕ × RightSet)) (right : Right) (y : ℕ) : Type 0 where
   pub rights : RightSet
   pub there : Contains over (y, rights)
   pub is : has rights right ≡ true
 
 -- the right over y is listed: by the name, or as one over those that aren't made yet
-abbrev pub IsHeldBy : Shown → Held → Right → ℕ → Type 0
-IsHeldBy p held right y = IsHeld held.over.items right y ⊎ ((has held.later right ≡ true) × (p.made ≤ y))
+abbrev pub IsHeldBy : Shown → HeldRights → Right → ℕ → Type 0
+IsHeldBy p held right y = IsHeldOverBy held.over.items right y ⊎ ((has held.later right ≡ true) × (p.made ≤ y))
 
 -- A right that isn't listed x never holds. This is of rights over all names: those that were made, and those that may yet be.
-abbrev pub ListsWhat : Shown → List ℕ → ℕ → Held → Type 0
+abbrev pub ListsWhat : Shown → List ℕ → ℕ → HeldRights → Type 0
 ListsWhat p silent x held = (right : Right) (y : ℕ) → ¬ IsHeldBy p held right y → IsNever p silent x right y
 
 -- nobody is listed, and nothing
 abbrev pub IsNobody : Holders → Type 0
 IsNobody holders = (length holders.names.items ≡ 0) × (holders.later ≡ false)
 
-abbrev pub IsNothing : Held → Type 0
+abbrev pub IsNothing : HeldRights → Type 0
 IsNothing held = (length held.over.items ≡ 0) × (is_none_held held.later ≡ true)
 
 -- ---- what never comes about

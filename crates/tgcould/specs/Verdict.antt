@@ -12,15 +12,15 @@ use Rattle.tg_plain.specs.Lines.{IsOutcomeOf}
 use Rattle.tgcould.specs.declared.options.TheConstants.{NEVER}
 use Rattle.tgcould.specs.declared.query.Query.{Query}
 use Rattle.tgcould.specs.declared.query.Query.TheVariants.{Hold, Who, What}
-use Rattle.tgcould.specs.declared.query.Vertex.{Vertex}
-use Rattle.tgcould.specs.declared.query.Vertex.TheVariants.{Named, New}
+use Rattle.tgcould.specs.declared.query.VertexWord.{VertexWord}
+use Rattle.tgcould.specs.declared.query.VertexWord.TheVariants.{Named, New}
 use Rattle.tgcould.specs.declared.supposed.Supposed.{Supposed}
 use Rattle.tgcould.specs.Policies.{IsQuestion, texts_of}
 use Rattle.tgcould.specs.Supposed.{IsSupposed}
 use Rattle.tg_could.specs.Reached.{with_edges}
 
 -- the name of a vertex of a question: the next to be made has the number of those that were
-abbrev pub named_on : ProtectionGraph → Vertex → ℕ
+abbrev pub named_on : ProtectionGraph → VertexWord → ℕ
 named_on g (Named name) = name
 named_on g New = g.made
 
@@ -43,7 +43,7 @@ AreKept matches supposed p =
 
 -- A script was read to its end, and on the graph that it leaves all policies are kept. If it is known which bytes the reader had, the script
 -- is these.
-pub record Passes (options : PlainOptions) (matches : ArgMatches) (remaining : Option (List ℕ)) : Type 0 where
+pub record PassesPolicies (options : PlainOptions) (matches : ArgMatches) (remaining : Option (List ℕ)) : Type 0 where
   pub outcome : Outcome
   pub left : IfSome remaining (λ bytes. IsOutcomeOf options bytes outcome)
   pub supposed : Supposed

@@ -1,11 +1,11 @@
 //! The answers to all questions.
 ghost use Rattle.std.specs.Prelude.{◌≡◌, IfOk, IsTrue};
 ghost use Rattle.std.specs.List.{All};
-ghost use Rattle.tgcould.specs.Policies.{IsKept, texts_of};
+ghost use Rattle.tgcould.specs.Policies.{IsKeptPolicy, texts_of};
 ghost use Rattle.tgcould.specs.Told.{NeverComes};
 
-use crate::ask::{Told, tell};
-use crate::notes::Notes;
+use crate::ask::{Said, tell};
+use crate::notes::Remarks;
 use crate::query::{Query, read_question};
 use clap::ArgMatches;
 use std::alloc::{AllocError, Global};
@@ -17,7 +17,7 @@ use tg_plain::{PlainFault, PlainText};
 pub struct Answers {
     alloc: Global,
     text: PlainText,
-    notes: Notes,
+    notes: Remarks,
     // Whether each stands behind its question, and an empty line behind it.
     are_headed: bool,
 }
@@ -30,7 +30,7 @@ impl Answers {
         Answers {
             alloc,
             text: PlainText::new(alloc),
-            notes: Notes::new(alloc, boxes),
+            notes: Remarks::new(alloc, boxes),
             are_headed: questions > 1,
         }
     }
@@ -40,7 +40,7 @@ impl Answers {
     pub fn add_all(&mut self, scene: &Scene, matches: &ArgMatches, option: &str, must_never: bool)
         ensures before { self.new.notes.status ≡ 0 → self.old.notes.status ≡ 0 }
         ensures kept { self.new.notes.status ≡ 0 → IsTrue must_never →
-            All (IsKept scene.now.picture.now scene.now.silent.now) (texts_of matches.now option.now) }
+            All (IsKeptPolicy scene.now.picture.now scene.now.silent.now) (texts_of matches.now option.now) }
     {
         let values = matches.get_strs(option).unwrap_or(&[]);
         self.add_each(scene, values, must_never);
@@ -50,7 +50,7 @@ impl Answers {
     fn add_each(&mut self, scene: &Scene, texts: &[&str], must_never: bool)
         ensures before { self.new.notes.status ≡ 0 → self.old.notes.status ≡ 0 }
         ensures kept { self.new.notes.status ≡ 0 → IsTrue must_never →
-            All (λ text. IsKept scene.now.picture.now scene.now.silent.now text.now) texts.now }
+            All (λ text. IsKeptPolicy scene.now.picture.now scene.now.silent.now text.now) texts.now }
     {
         for text in texts {
             self.add_text(scene, text, must_never);
@@ -61,7 +61,7 @@ impl Answers {
     fn add_text(&mut self, scene: &Scene, text: &str, must_never: bool)
         ensures before { self.new.notes.status ≡ 0 → self.old.notes.status ≡ 0 }
         ensures kept { self.new.notes.status ≡ 0 → IsTrue must_never →
-            IsKept scene.now.picture.now scene.now.silent.now text.now }
+            IsKeptPolicy scene.now.picture.now scene.now.silent.now text.now }
     {
         match read_question(text) {
             Ok(query) => self.add_noted(scene, text, query, must_never),
@@ -80,7 +80,7 @@ impl Answers {
     }
 
     // Adds the answer to a question, whose text this is.
-    fn add(&mut self, scene: &Scene, text: &str, query: Query) -> Told
+    fn add(&mut self, scene: &Scene, text: &str, query: Query) -> Said
         ensures never { IsTrue result.is_never → NeverComes scene.now.picture.now scene.now.silent.now query }
         ensures status { self.new.notes.status ≡ self.old.notes.status }
     {

@@ -2,12 +2,12 @@
 ghost use Rattle.std.specs.Prelude.{◌≡◌, ℕ, List, IsTrue, true, false};
 ghost use Rattle.tg_rights.specs.declared.Right.{Right as TheRight};
 ghost use Rattle.tg_model.specs.Picture.{Shown};
-ghost use Rattle.tg_plain.specs.Grown.{Adds};
+ghost use Rattle.tg_plain.specs.Grown.{Appends};
 ghost use Rattle.tgcould.specs.Texts.{answer_text};
-ghost use Rattle.tgcould.specs.Told.{Answers, IsNever, IsNobody, IsNothing, NeverComes, TellsHold, named_in};
+ghost use Rattle.tgcould.specs.Told.{AnswersShown, IsNever, IsNobody, IsNothing, NeverComes, TellsHold, named_in};
 
-use crate::query::{Query, Vertex};
-use crate::stars::{Held, Holders, held_by, holders_of};
+use crate::query::{Query, VertexWord};
+use crate::stars::{HeldRights, Holders, held_by, holders_of};
 use crate::text::add_answer;
 use std::alloc::Global;
 use tg_could::{Answer, Question, Scene, could_hold};
@@ -17,7 +17,7 @@ use tg_rights::{Right, Rights};
 
 /// What was told of a question.
 #[derive(Clone, Copy)]
-pub struct Told {
+pub struct Said {
     /// Whether what is asked never comes about.
     pub is_never: bool,
     /// Whether neither this nor the other was shown.
@@ -26,8 +26,8 @@ pub struct Told {
     pub made: u64,
 }
 
-/// Adds the answer to a question.
-pub fn tell(alloc: Global, text: &mut PlainText, scene: &Scene, query: Query) -> Told
+/// Appends the answer to a question.
+pub fn tell(alloc: Global, text: &mut PlainText, scene: &Scene, query: Query) -> Said
     ensures { IsTrue result.is_never → NeverComes scene.now.picture.now scene.now.silent.now query }
 {
     match query {
@@ -42,17 +42,17 @@ pub fn tell(alloc: Global, text: &mut PlainText, scene: &Scene, query: Query) ->
 }
 
 // The name of a vertex of a question.
-fn name_of(scene: &Scene, vertex: Vertex) -> u64
+fn name_of(scene: &Scene, vertex: VertexWord) -> u64
     ensures { result ≡ named_in scene.now.picture.now vertex }
 {
     match vertex {
-        Vertex::Named(name) => name,
-        Vertex::New => scene.picture.made(),
+        VertexWord::Named(name) => name,
+        VertexWord::New => scene.picture.made(),
     }
 }
 
-// Adds whether x could come to hold the right over y.
-fn tell_hold(alloc: Global, text: &mut PlainText, scene: &Scene, question: Question) -> Told
+// Appends whether x could come to hold the right over y.
+fn tell_hold(alloc: Global, text: &mut PlainText, scene: &Scene, question: Question) -> Said
     ensures text { TellsHold scene.now.picture.now scene.now.silent.now question.x question.right question.y text.old text.new }
     ensures never { IsTrue result.is_never →
         IsNever scene.now.picture.now scene.now.silent.now question.x question.right question.y }
@@ -66,14 +66,14 @@ fn tell_hold(alloc: Global, text: &mut PlainText, scene: &Scene, question: Quest
     }
 }
 
-// Adds the text of an answer.
-fn tell_answer(text: &mut PlainText, answer: &Answer) -> Told
-    ensures text { Adds text.old (answer_text answer.now) text.new }
+// Appends the text of an answer.
+fn tell_answer(text: &mut PlainText, answer: &Answer) -> Said
+    ensures text { Appends text.old (answer_text answer.now) text.new }
     ensures never { IsTrue result.is_never → (p : Shown) (silent : List ℕ) (x : ℕ) (right : TheRight) (y : ℕ) →
-        Answers p silent x right y answer.now → IsNever p silent x right y }
+        AnswersShown p silent x right y answer.now → IsNever p silent x right y }
 {
     add_answer(text, answer);
-    Told {
+    Said {
         is_never: is_never(answer),
         is_open: matches!(answer, Answer::Open),
         made: makings(answer.turns()),
@@ -83,7 +83,7 @@ fn tell_answer(text: &mut PlainText, answer: &Answer) -> Told
 // Whether an answer is that it never comes about.
 fn is_never(answer: &Answer) -> bool
     ensures { IsTrue result → (p : Shown) (silent : List ℕ) (x : ℕ) (right : TheRight) (y : ℕ) →
-        Answers p silent x right y answer.now → IsNever p silent x right y }
+        AnswersShown p silent x right y answer.now → IsNever p silent x right y }
 {
     matches!(answer, Answer::Never(_))
 }
@@ -100,18 +100,18 @@ fn makings(turns: &[(u64, Deed)]) -> u64 {
 }
 
 // What was told by a list.
-fn listed(is_never: bool) -> Told
+fn listed(is_never: bool) -> Said
     ensures { result.is_never ≡ is_never }
 {
-    Told {
+    Said {
         is_never,
         is_open: false,
         made: 0,
     }
 }
 
-// Adds who could come to hold the right over y.
-fn tell_who(alloc: Global, text: &mut PlainText, scene: &Scene, right: Right, y: u64) -> Told
+// Appends who could come to hold the right over y.
+fn tell_who(alloc: Global, text: &mut PlainText, scene: &Scene, right: Right, y: u64) -> Said
     ensures { IsTrue result.is_never → (x : ℕ) → IsNever scene.now.picture.now scene.now.silent.now x right y }
 {
     match holders_of(alloc, scene, right, y) {
@@ -123,8 +123,8 @@ fn tell_who(alloc: Global, text: &mut PlainText, scene: &Scene, right: Right, y:
     }
 }
 
-// Adds these names and `new`, with a space between two, or that there are none.
-fn add_holders(text: &mut PlainText, holders: &Holders) -> Told
+// Appends these names and `new`, with a space between two, or that there are none.
+fn add_holders(text: &mut PlainText, holders: &Holders) -> Said
     ensures { IsTrue result.is_never → IsNobody holders.now }
 {
     let first = text.len();
@@ -139,27 +139,27 @@ fn add_holders(text: &mut PlainText, holders: &Holders) -> Told
     listed(is_never)
 }
 
-// Adds a name to the list that begins here, with a space between two.
+// Appends a name to the list that begins here, with a space between two.
 fn add_name(text: &mut PlainText, first: usize, name: u64) {
     add_space(text, first);
     text.add_number(name);
 }
 
-// Adds those who are made later.
+// Appends those who are made later.
 fn add_new(text: &mut PlainText, first: usize) {
     add_space(text, first);
     text.add("new");
 }
 
-// Adds a space, unless the list begins here.
+// Appends a space, unless the list begins here.
 fn add_space(text: &mut PlainText, first: usize) {
     if text.len() > first {
         text.add(" ");
     }
 }
 
-// Adds which rights x could come to hold, and over whom.
-fn tell_what(alloc: Global, text: &mut PlainText, scene: &Scene, x: u64) -> Told
+// Appends which rights x could come to hold, and over whom.
+fn tell_what(alloc: Global, text: &mut PlainText, scene: &Scene, x: u64) -> Said
     ensures { IsTrue result.is_never → (right : TheRight) (y : ℕ) → IsNever scene.now.picture.now scene.now.silent.now x right y }
 {
     match held_by(alloc, scene, x) {
@@ -171,8 +171,8 @@ fn tell_what(alloc: Global, text: &mut PlainText, scene: &Scene, x: u64) -> Told
     }
 }
 
-// Adds each vertex with the rights over it, with a space between two, or that there are none.
-fn add_held(text: &mut PlainText, held: &Held) -> Told
+// Appends each vertex with the rights over it, with a space between two, or that there are none.
+fn add_held(text: &mut PlainText, held: &HeldRights) -> Said
     ensures { IsTrue result.is_never → IsNothing held.now }
 {
     let first = text.len();
@@ -189,7 +189,7 @@ fn add_held(text: &mut PlainText, held: &Held) -> Told
     listed(is_never)
 }
 
-// Adds the rights over a vertex of the list.
+// Appends the rights over a vertex of the list.
 fn add_rights(text: &mut PlainText, rights: Rights) {
     text.add(":");
     text.add_rights(rights);

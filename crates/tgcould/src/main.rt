@@ -11,7 +11,7 @@
 
 ghost use Rattle.std.specs.Prelude.{◌≡◌, IfOk};
 ghost use Rattle.tg_plain.specs.declared.options.PlainOptions.{PlainOptions};
-ghost use Rattle.tgcould.specs.Verdict.{Passes};
+ghost use Rattle.tgcould.specs.Verdict.{PassesPolicies};
 
 mod answers;
 mod ask;
@@ -44,7 +44,7 @@ struct Asking;
 impl<R: AllocGlobal + Print + Eprint + Input> Program<R> for Asking {
     // If the status is 0, all policies are kept.
     fn run(&self, rt: &R, matches: &ArgMatches) -> Result<u8, PlainFault>
-        ensures { IfOk result (λ status. status ≡ 0 → (options : PlainOptions) × (reader : R.Reader) × Passes options matches.now (R.Reader.remaining reader)) }
+        ensures { IfOk result (λ status. status ≡ 0 → (options : PlainOptions) × (reader : R.Reader) × PassesPolicies options matches.now (R.Reader.remaining reader)) }
     {
         if !are_accepted(rt, matches) {
             return Ok(2);

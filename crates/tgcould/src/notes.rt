@@ -2,13 +2,13 @@
 ghost use Rattle.std.specs.Prelude.{◌≡◌};
 ghost use Rattle.tgcould.specs.Policies.{status_after};
 
-use crate::ask::Told;
+use crate::ask::Said;
 use itoa::Buffer;
 use std::alloc::Global;
 
 /// What standard error says of answers, and the exit status.
 #[derive(Drop)]
-pub struct Notes {
+pub struct Remarks {
     /// The lines, where memory was never wanting.
     pub text: String,
     /// Whether memory was wanting for a part of them.
@@ -19,12 +19,12 @@ pub struct Notes {
     boxes: u64,
 }
 
-impl Notes {
+impl Remarks {
     /// No note. So many boxes are left in the stock.
-    pub fn new(alloc: Global, boxes: u64) -> Notes
+    pub fn new(alloc: Global, boxes: u64) -> Remarks
         ensures { result.status ≡ 0 }
     {
-        Notes {
+        Remarks {
             text: String::new(alloc),
             is_short: false,
             status: 0,
@@ -34,7 +34,7 @@ impl Notes {
 
     /// Adds how many boxes the lines of an answer want beside those that are left, and whether what must never come
     /// about could.
-    pub fn add(&mut self, question: &str, told: Told, must_never: bool)
+    pub fn add(&mut self, question: &str, told: Said, must_never: bool)
         ensures { self.new.status ≡ status_after self.old.status must_never told.is_never }
     {
         let more = told.made.saturating_sub(self.boxes);
@@ -72,7 +72,7 @@ impl Notes {
         });
     }
 
-    /// Notes that a text is no question. The words of the command line were looked at before, so none comes.
+    /// Remarks that a text is no question. The words of the command line were looked at before, so none comes.
     pub fn refuse(&mut self)
         ensures { self.new.status ≡ 2 }
     {

@@ -8,7 +8,7 @@ use tg_rights::Right;
 
 /// A vertex of a question.
 #[derive(Clone, Copy)]
-pub enum Vertex {
+pub enum VertexWord {
     /// The one of this name, whether it was made or not.
     Named(u64),
     /// The next that is made.
@@ -19,11 +19,11 @@ pub enum Vertex {
 #[derive(Clone, Copy)]
 pub enum Query {
     /// Could x come to hold the right over y? `3 r 7`
-    Hold { x: Vertex, right: Right, y: Vertex },
+    Hold { x: VertexWord, right: Right, y: VertexWord },
     /// Who could come to hold the right over y? `* r 7`
-    Who { right: Right, y: Vertex },
+    Who { right: Right, y: VertexWord },
     /// Which rights could x come to hold, and over whom? `3 * *`
-    What { x: Vertex },
+    What { x: VertexWord },
 }
 
 const NO_WORDS: &str = "a question is 'X RIGHT Y', '* RIGHT Y' or 'X * *'";
@@ -110,17 +110,17 @@ fn hold_question(x: &str, right: &str, y: &str) -> Result<Query, &'static str>
 }
 
 // The vertex that a word is, or why it is none.
-fn vertex_of(word: &str) -> Result<Vertex, &'static str>
+fn vertex_of(word: &str) -> Result<VertexWord, &'static str>
     ensures { IfOk result (IsVertex word.now) }
 {
     if is_new(word) {
-        return Ok(Vertex::New);
+        return Ok(VertexWord::New);
     }
     if let Some(reason) = reason_of_number(word) {
         return Err(reason);
     }
     match word.parse::<u64>() {
-        Ok(name) => Ok(Vertex::Named(name)),
+        Ok(name) => Ok(VertexWord::Named(name)),
         Err(_) => Err(NO_WORDS),
     }
 }

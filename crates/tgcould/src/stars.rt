@@ -6,7 +6,7 @@ ghost use Rattle.tg_rights.specs.declared.Right.{Right as TheRight};
 ghost use Rattle.tg_could.specs.declared.chance.Chance.TheVariants.{Never};
 ghost use Rattle.tg_could.specs.Told.{TellsWho, IsLeftOut};
 ghost use Rattle.tg_could.specs.Listed.{TellsWhat};
-ghost use Rattle.tgcould.specs.Told.{ListsWho, ListsWhat, IsHeld};
+ghost use Rattle.tgcould.specs.Told.{ListsWho, ListsWhat, IsHeldOverBy};
 
 use std::alloc::{AllocError, Global};
 use tg_could::{Chance, Scene, What, Who, what_could, who_could};
@@ -23,7 +23,7 @@ pub struct Holders {
 
 /// What somebody could come to hold.
 #[derive(Drop)]
-pub struct Held {
+pub struct HeldRights {
     /// The vertices that were made, by their names, with the rights over each.
     pub over: Vec<(u64, Rights)>,
     /// The rights over those that are made later.
@@ -79,7 +79,7 @@ fn is_never(chance: Chance) -> bool
 }
 
 /// What x could come to hold: a right over a name that isn't listed it never holds, whether the name was made or not.
-pub fn held_by(alloc: Global, scene: &Scene, x: u64) -> Result<Held, AllocError>
+pub fn held_by(alloc: Global, scene: &Scene, x: u64) -> Result<HeldRights, AllocError>
     ensures { IfOk result (ListsWhat scene.now.picture.now scene.now.silent.now x) }
 {
     let what = what_could(alloc, scene, x)?;
@@ -87,7 +87,7 @@ pub fn held_by(alloc: Global, scene: &Scene, x: u64) -> Result<Held, AllocError>
 }
 
 // The rights that one search tells.
-fn list_held(alloc: Global, scene: &Scene, what: &What, x: u64) -> Result<Held, AllocError>
+fn list_held(alloc: Global, scene: &Scene, what: &What, x: u64) -> Result<HeldRights, AllocError>
     requires { TellsWhat scene.now.silent.now scene.now.picture.now x what.now }
     ensures { IfOk result (ListsWhat scene.now.picture.now scene.now.silent.now x) }
 {
@@ -96,13 +96,13 @@ fn list_held(alloc: Global, scene: &Scene, what: &What, x: u64) -> Result<Held, 
         add_rights(&mut rows, y, what.over(y))?;
     }
     let later = what.over_later();
-    Ok(Held { over: rows, later })
+    Ok(HeldRights { over: rows, later })
 }
 
 // Adds a vertex with the rights over it, unless there are none.
 fn add_rights(rows: &mut Vec<(u64, Rights)>, y: u64, rights: Rights) -> Result<(), AllocError>
-    ensures kept { OnOk result ((right : TheRight) (k : ℕ) → IsHeld rows.old.items right k → IsHeld rows.new.items right k) }
-    ensures added { OnOk result ((right : TheRight) → has rights right ≡ true → IsHeld rows.new.items right y) }
+    ensures kept { OnOk result ((right : TheRight) (k : ℕ) → IsHeldOverBy rows.old.items right k → IsHeldOverBy rows.new.items right k) }
+    ensures added { OnOk result ((right : TheRight) → has rights right ≡ true → IsHeldOverBy rows.new.items right y) }
 {
     if rights.is_empty() {
         return Ok(());

@@ -3,8 +3,8 @@ ghost use Rattle.std.specs.Prelude.{◌≡◌, ◌≢◌, ◌++◌, codes, IfOk,
 ghost use Rattle.std.specs.List.{AllZip};
 ghost use Rattle.tg_text.specs.declared.line.Line.{Line as TheLine};
 ghost use Rattle.tg_text.specs.Grammar.{line_text};
-ghost use Rattle.tgcould.specs.Policies.{Writes, texts_of};
-ghost use Rattle.tgcould.specs.Supposed.{AreEdges, AreNames, IsSupposed, Supposes, WritesEdge};
+ghost use Rattle.tgcould.specs.Policies.{WritesWord, texts_of};
+ghost use Rattle.tgcould.specs.Supposed.{AreEdges, AreNameTexts, IsSupposed, Supposes, WritesEdge};
 
 use crate::checks::refuse;
 use crate::options::{AS_IF, SILENT};
@@ -52,7 +52,7 @@ fn silent_of<R: Eprint>(
     alloc: Global,
     matches: &ArgMatches,
 ) -> Result<Option<Vec<u64>>, AllocError>
-    ensures { IfOk result (λ read. IfSome read (λ names. AreNames (texts_of matches.now SILENT.now) names.items)) }
+    ensures { IfOk result (λ read. IfSome read (λ names. AreNameTexts (texts_of matches.now SILENT.now) names.items)) }
 {
     read_names(rt, alloc, matches.get_strs(SILENT).unwrap_or(&[]))
 }
@@ -64,7 +64,7 @@ fn read_names<R: Eprint>(
     alloc: Global,
     texts: &[&str],
 ) -> Result<Option<Vec<u64>>, AllocError>
-    ensures { IfOk result (λ read. IfSome read (λ names. AllZip (λ text name. Writes text.now name) texts.now names.items)) }
+    ensures { IfOk result (λ read. IfSome read (λ names. AllZip (λ text name. WritesWord text.now name) texts.now names.items)) }
 {
     let mut names = Vec::new(alloc);
     for text in texts {

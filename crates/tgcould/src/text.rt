@@ -2,7 +2,7 @@
 ghost use Rattle.std.specs.Prelude.{◌≡◌, ◌++◌};
 ghost use Rattle.std.specs.List.{flat_map};
 ghost use Rattle.tg_text.specs.Grammar.{line_text};
-ghost use Rattle.tg_plain.specs.Grown.{Adds};
+ghost use Rattle.tg_plain.specs.Grown.{Appends};
 ghost use Rattle.tgcould.specs.Texts.{more_text, answer_text, turn_text, wanting_text, could_text};
 
 use tg_could::Answer;
@@ -10,9 +10,9 @@ use tg_model::Deed;
 use tg_plain::PlainText;
 use tg_text::{Line, line_bytes, line_of_deed};
 
-/// Adds the text of an answer: its word, and behind `could` the lines that do it.
+/// Appends the text of an answer: its word, and behind `could` the lines that do it.
 pub fn add_answer(text: &mut PlainText, answer: &Answer)
-    ensures { Adds text.old (answer_text answer.now) text.new }
+    ensures { Appends text.old (answer_text answer.now) text.new }
 {
     match answer {
         Answer::Never(_) => text.add("never\n"),
@@ -22,9 +22,9 @@ pub fn add_answer(text: &mut PlainText, answer: &Answer)
     }
 }
 
-// Adds turns that lead there, none where it is so already.
+// Appends turns that lead there, none where it is so already.
 fn add_could(text: &mut PlainText, turns: &[(u64, Deed)])
-    ensures { Adds text.old (could_text turns.now) text.new }
+    ensures { Appends text.old (could_text turns.now) text.new }
 {
     if turns.is_empty() {
         text.add("now\n");
@@ -34,43 +34,43 @@ fn add_could(text: &mut PlainText, turns: &[(u64, Deed)])
     }
 }
 
-// Adds turns that lead there where so many more vertices may be made.
+// Appends turns that lead there where so many more vertices may be made.
 fn add_wanting(text: &mut PlainText, turns: &[(u64, Deed)], names: u64)
-    ensures { Adds text.old (wanting_text names ++ flat_map turn_text turns.now) text.new }
+    ensures { Appends text.old (wanting_text names ++ flat_map turn_text turns.now) text.new }
 {
     add_names_more(text, names);
     add_turns(text, turns);
 }
 
-// Adds that so many names are wanting.
+// Appends that so many names are wanting.
 fn add_names_more(text: &mut PlainText, names: u64)
-    ensures { Adds text.old (wanting_text names) text.new }
+    ensures { Appends text.old (wanting_text names) text.new }
 {
     text.add("could, with ");
     text.add_number(names);
     text.add(names_more(names));
 }
 
-// Adds turns, each as a line of a script.
+// Appends turns, each as a line of a script.
 fn add_turns(text: &mut PlainText, turns: &[(u64, Deed)])
-    ensures { Adds text.old (flat_map turn_text turns.now) text.new }
+    ensures { Appends text.old (flat_map turn_text turns.now) text.new }
 {
     for turn in turns {
         add_turn(text, turn);
     }
 }
 
-// Adds a turn, as a line of a script.
+// Appends a turn, as a line of a script.
 fn add_turn(text: &mut PlainText, turn: &(u64, Deed))
-    ensures { Adds text.old (turn_text turn.now) text.new }
+    ensures { Appends text.old (turn_text turn.now) text.new }
 {
     add_line(text, line_of_deed(turn.0, &turn.1));
     text.add("\n");
 }
 
-// Adds a line of a script, without its line feed.
+// Appends a line of a script, without its line feed.
 fn add_line(text: &mut PlainText, line: Line)
-    ensures { Adds text.old (line_text line) text.new }
+    ensures { Appends text.old (line_text line) text.new }
 {
     match line_bytes(*text.bytes.allocator(), line) {
         Ok(bytes) => text.add_bytes(bytes.as_slice()),

@@ -1,9 +1,9 @@
 //! The exit status, which is 0 only if all policies are kept.
 ghost use Rattle.std.specs.Prelude.{◌≡◌, IfOk};
 ghost use Rattle.std.specs.List.{All};
-ghost use Rattle.tgcould.specs.Policies.{IsKept, texts_of};
+ghost use Rattle.tgcould.specs.Policies.{IsKeptPolicy, texts_of};
 ghost use Rattle.tgcould.specs.Supposed.{IsSupposed};
-ghost use Rattle.tgcould.specs.Verdict.{AreKept, Passes};
+ghost use Rattle.tgcould.specs.Verdict.{AreKept, PassesPolicies};
 
 use crate::answers::Answers;
 use crate::checks::are_made;
@@ -25,7 +25,7 @@ pub fn status_of<R: AllocGlobal + Print + Eprint, B: Read + Drop>(
     reader: B,
 ) -> Result<u8, PlainFault>
     requires { IsSupposed matches.now supposed.now }
-    ensures { IfOk result (λ status. status ≡ 0 → Passes options.entry matches.now (B.remaining reader)) }
+    ensures { IfOk result (λ status. status ≡ 0 → PassesPolicies options.entry matches.now (B.remaining reader)) }
 {
     let Outcome { picture, boxes } = Outcome::read(rt.alloc(), options, reader)?;
     status_on(rt, matches, supposed, picture, boxes)
@@ -59,7 +59,7 @@ fn print_answers<R: AllocGlobal + Print + Eprint>(
     scene: &Scene,
     boxes: u64,
 ) -> Result<u8, PlainFault>
-    ensures { IfOk result (λ status. status ≡ 0 → All (IsKept scene.now.picture.now scene.now.silent.now) (texts_of matches.now NEVER.now)) }
+    ensures { IfOk result (λ status. status ≡ 0 → All (IsKeptPolicy scene.now.picture.now scene.now.silent.now) (texts_of matches.now NEVER.now)) }
 {
     let mut answers = Answers::new(rt.alloc(), boxes, questions_in(matches));
     answers.add_all(scene, matches, ASK, false);

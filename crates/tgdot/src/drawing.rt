@@ -1,7 +1,7 @@
 //! The picture of the last graph, as a text for `dot`.
 
 use crate::picture::write_ends;
-use crate::run::Run;
+use crate::run::ScriptRun;
 use tg_plain::{PlainFault, PlainRun, PlainText, Script};
 use tg_text::Line;
 
@@ -9,13 +9,13 @@ use tg_text::Line;
 /// would take is there too. A fault in the script leaves nothing to be drawn.
 pub fn write_last(text: &mut PlainText, script: &Script) -> Result<(), PlainFault> {
     script.whole()?;
-    let mut run = Run::new(script.alloc, PlainRun::open(script)?);
+    let mut run = ScriptRun::new(script.alloc, PlainRun::open(script)?);
     write_run(text, script, &mut run);
     Ok(())
 }
 
 // Runs the lines that are no collection, and writes the graph that they leave.
-fn write_run(text: &mut PlainText, script: &Script, run: &mut Run) {
+fn write_run(text: &mut PlainText, script: &Script, run: &mut ScriptRun) {
     run.open(script);
     for line in script.lines.as_slice() {
         if !matches!(line.line, Line::Full) {
@@ -28,21 +28,21 @@ fn write_run(text: &mut PlainText, script: &Script, run: &mut Run) {
 }
 
 // Writes the digraph.
-fn write_digraph(text: &mut PlainText, run: &Run) {
+fn write_digraph(text: &mut PlainText, run: &ScriptRun) {
     text.add("digraph store {\n");
     write_vertices(text, run);
     write_edges(text, run);
     text.add("}\n");
 }
 
-fn write_vertices(text: &mut PlainText, run: &Run) {
+fn write_vertices(text: &mut PlainText, run: &ScriptRun) {
     for name in run.names.iter() {
         write_vertex(text, run, *name);
     }
 }
 
 // A vertex: a box or a circle.
-fn write_vertex(text: &mut PlainText, run: &Run, name: u64) {
+fn write_vertex(text: &mut PlainText, run: &ScriptRun, name: u64) {
     text.add("    ");
     text.add_number(name);
     text.add(shape_of(run, name));
@@ -50,7 +50,7 @@ fn write_vertex(text: &mut PlainText, run: &Run, name: u64) {
 }
 
 // The shape of a vertex. The border of one who retired is dashed.
-fn shape_of(run: &Run, name: u64) -> &'static str {
+fn shape_of(run: &ScriptRun, name: u64) -> &'static str {
     if run.is_subject(name) {
         " [shape=box "
     } else if run.was_subject(name) {
@@ -60,14 +60,14 @@ fn shape_of(run: &Run, name: u64) -> &'static str {
     }
 }
 
-fn write_edges(text: &mut PlainText, run: &Run) {
+fn write_edges(text: &mut PlainText, run: &ScriptRun) {
     for ends in run.edges.iter() {
         write_edge(text, run, *ends);
     }
 }
 
 // An edge, with the letters of its rights, where it is there.
-fn write_edge(text: &mut PlainText, run: &Run, ends: (u64, u64)) {
+fn write_edge(text: &mut PlainText, run: &ScriptRun, ends: (u64, u64)) {
     let held = run.held(ends);
     if !held.is_empty() {
         write_ends(text, ends);
@@ -78,7 +78,7 @@ fn write_edge(text: &mut PlainText, run: &Run, ends: (u64, u64)) {
 }
 
 // The colour of what is reached, and of what isn't.
-fn colour_of(run: &Run, name: u64) -> &'static str {
+fn colour_of(run: &ScriptRun, name: u64) -> &'static str {
     if run.is_reached(name) {
         "color=black fontcolor=black]\n"
     } else {

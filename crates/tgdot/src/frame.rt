@@ -7,7 +7,7 @@ use tg_plain::PlainText;
 
 /// What a vertex takes up in each picture.
 #[derive(Clone, Copy)]
-pub struct Room {
+pub struct Extent {
     /// The columns of the longest of its lines.
     pub columns: usize,
     /// Whether it ever has a third line, of a note.
@@ -16,7 +16,7 @@ pub struct Room {
     pub ever_subject: bool,
 }
 
-const NO_ROOM: Room = Room {
+const NO_ROOM: Extent = Extent {
     columns: 0,
     is_noted: false,
     ever_subject: false,
@@ -32,7 +32,7 @@ const MOST_IN_CIRCLE: usize = 12;
 #[derive(Drop)]
 pub struct Frame {
     /// The room of each vertex.
-    pub vertices: BTreeMap<u64, Room>,
+    pub vertices: BTreeMap<u64, Extent>,
     /// For each edge, by its ends, the columns of its longest label.
     pub edges: BTreeMap<(u64, u64), usize>,
     /// The columns of the longest heading or answer.
@@ -142,7 +142,7 @@ impl Frame {
 }
 
 // Widens the room of a vertex, so that it holds the lines of its text.
-fn widen_room(room: &mut Room, scratch: &mut PlainText, shot: &Shot, name: u64) {
+fn widen_room(room: &mut Extent, scratch: &mut PlainText, shot: &Shot, name: u64) {
     scratch.clear();
     scratch.add_number(name);
     room.columns = room.columns.max(scratch.len());

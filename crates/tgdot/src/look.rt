@@ -26,7 +26,7 @@ pub enum Stroke {
 
 /// How a vertex or an edge looks.
 #[derive(Clone, Copy)]
-pub struct Look {
+pub struct Style {
     /// Its colour, and that of its text.
     pub colour: Colour,
     /// Its line.
@@ -35,15 +35,15 @@ pub struct Look {
     pub is_bold: bool,
 }
 
-impl Look {
+impl Style {
     /// The look of what a subject reaches, or of what none does.
-    pub fn reached(reached: bool, is_bold: bool) -> Look {
+    pub fn reached(reached: bool, is_bold: bool) -> Style {
         let (colour, stroke) = if reached {
             (Colour::Black, Stroke::Solid)
         } else {
             (Colour::Grey, Stroke::Dotted)
         };
-        Look {
+        Style {
             colour,
             stroke,
             is_bold,

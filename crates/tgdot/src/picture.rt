@@ -1,6 +1,6 @@
 //! The picture of a step, as a text for `dot`.
 
-use crate::frame::{Frame, Room};
+use crate::frame::{Frame, Extent};
 use crate::shot::{EdgeView, Shot};
 use tg_plain::PlainText;
 
@@ -83,7 +83,7 @@ fn write_vertex(text: &mut PlainText, shot: &Shot, name: u64) {
 
 // The shape and the size of a vertex, which are its own for all steps. All circles have room for so many columns; one
 // with a longer text is an ellipse of their height.
-fn write_room(text: &mut PlainText, room: Room, circle: usize) {
+fn write_room(text: &mut PlainText, room: Extent, circle: usize) {
     if room.ever_subject {
         let height = if room.is_noted { NOTED_HEIGHT } else { HEIGHT };
         text.add(" [shape=box width=");

@@ -13,7 +13,7 @@ use tg_text::{Answer, Line, Refusal, StockItem};
 /// and between which vertices there are edges, so that nobody has to ask each pair of vertices for its edge. It
 /// remembers whether memory was wanting for a part of it.
 #[derive(Drop)]
-pub struct Run {
+pub struct ScriptRun {
     alloc: Global,
     plain: PlainRun,
     // What all vertices store that were ever made, by name.
@@ -30,10 +30,10 @@ pub struct Run {
     is_short: bool,
 }
 
-impl Run {
+impl ScriptRun {
     /// A run of which nothing is known but the graph.
-    pub fn new(alloc: Global, plain: PlainRun) -> Run {
-        Run {
+    pub fn new(alloc: Global, plain: PlainRun) -> ScriptRun {
+        ScriptRun {
             alloc,
             plain,
             values: Vec::new(alloc),

@@ -1,8 +1,8 @@
 //! What a step shows.
 
-use crate::look::{Colour, Look, Stroke};
+use crate::look::{Colour, Style, Stroke};
 use crate::marks::{Marks, NO_MARKS};
-use crate::run::Run;
+use crate::run::ScriptRun;
 use std::alloc::Global;
 use tg_model::{Law, Value};
 use tg_plain::{PlainRun, PlainText, Script, ScriptLine};
@@ -21,7 +21,7 @@ pub struct Shot {
     /// What stands out.
     pub marks: Marks,
     /// The run.
-    pub run: Run,
+    pub run: ScriptRun,
 }
 
 /// A vertex in a picture.
@@ -30,7 +30,7 @@ pub struct VertexView {
     /// Whether it is a subject, or was one until it retired.
     pub ever_subject: bool,
     /// How it looks.
-    pub look: Look,
+    pub look: Style,
 }
 
 /// An edge in a picture. Its text are the rights that are held, and those that are missing.
@@ -39,7 +39,7 @@ pub struct EdgeView {
     held: Rights,
     missing: Rights,
     /// How it looks.
-    pub look: Look,
+    pub look: Style,
 }
 
 impl Shot {
@@ -50,7 +50,7 @@ impl Shot {
             heading: PlainText::new(alloc),
             told: PlainText::new(alloc),
             marks: NO_MARKS,
-            run: Run::new(alloc, plain),
+            run: ScriptRun::new(alloc, plain),
         }
     }
 
@@ -133,10 +133,10 @@ impl Shot {
     }
 
     // How a vertex looks.
-    fn look_of(&self, name: u64) -> Look {
+    fn look_of(&self, name: u64) -> Style {
         let named = Some(name);
         let is_bold = self.marks.named.contains(&named);
-        let mut look = Look::reached(self.run.is_reached(name), is_bold);
+        let mut look = Style::reached(self.run.is_reached(name), is_bold);
         if self.run.has_retired(name) {
             look.stroke = Stroke::Dashed;
         }
@@ -151,7 +151,7 @@ impl Shot {
         let held = self.run.held(ends);
         let missing = self.marks.missing_at(ends);
         let is_changed = self.marks.changed == Some(ends);
-        let mut look = Look::reached(self.run.is_reached(ends.0), is_changed);
+        let mut look = Style::reached(self.run.is_reached(ends.0), is_changed);
         if !missing.is_empty() {
             look.colour = Colour::Red;
             look.stroke = Stroke::Dashed;

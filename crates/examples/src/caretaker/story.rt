@@ -26,7 +26,7 @@ const MOST_VERTICES: u64 = 10;
 
 // The steps of the story.
 #[derive(Clone, Copy)]
-enum Step {
+enum Move {
     HandOn,
     Read,
     Write,
@@ -38,7 +38,7 @@ enum Step {
 
 // Who asks for what, as it is told.
 #[derive(Clone, Copy)]
-struct Asked {
+struct Request {
     worker: u64,
     words: &'static str,
     command: Command,
@@ -47,21 +47,21 @@ struct Asked {
 // The visitor reads the document, before and after a collection and a write of the caretaker. It gives the right back,
 // and can't read the document any more. Then the caretaker gives up its own: no one can read the document or hand it
 // on, and the next collection drops it.
-const STEPS: [Step; 14] = [
-    Step::HandOn,
-    Step::Read,
-    Step::Collect,
-    Step::Read,
-    Step::Write,
-    Step::Read,
-    Step::WriteAsVisitor,
-    Step::GiveBack,
-    Step::Collect,
-    Step::Read,
-    Step::GiveUp,
-    Step::HandOn,
-    Step::Collect,
-    Step::Read,
+const STEPS: [Move; 14] = [
+    Move::HandOn,
+    Move::Read,
+    Move::Collect,
+    Move::Read,
+    Move::Write,
+    Move::Read,
+    Move::WriteAsVisitor,
+    Move::GiveBack,
+    Move::Collect,
+    Move::Read,
+    Move::GiveUp,
+    Move::HandOn,
+    Move::Collect,
+    Move::Read,
 ];
 
 /// What the workers and the document store.
@@ -146,7 +146,7 @@ fn tell_story<P: Payload, R: Print + AllocGlobal>(
 fn act<P: Payload, R: Print>(
     rt: &R,
     store: &mut Store<P>,
-    step: Step,
+    step: Move,
     document: u64,
 ) -> Result<(), StoryFault> {
     match step.asked(document) {
@@ -155,27 +155,27 @@ fn act<P: Payload, R: Print>(
     }
 }
 
-impl Step {
+impl Move {
     // Who asks for what; `None` for a collection.
-    fn asked(self, document: u64) -> Option<Asked> {
+    fn asked(self, document: u64) -> Option<Request> {
         let (worker, words, command) = match self {
-            Step::HandOn => (CARETAKER, "caretaker hands r on", hand_on(document)),
-            Step::Read => (VISITOR, "visitor reads", read(document)),
-            Step::Write => (CARETAKER, "caretaker writes 2", write(document)),
-            Step::WriteAsVisitor => (VISITOR, "visitor writes 2", write(document)),
-            Step::GiveBack => (
+            Move::HandOn => (CARETAKER, "caretaker hands r on", hand_on(document)),
+            Move::Read => (VISITOR, "visitor reads", read(document)),
+            Move::Write => (CARETAKER, "caretaker writes 2", write(document)),
+            Move::WriteAsVisitor => (VISITOR, "visitor writes 2", write(document)),
+            Move::GiveBack => (
                 VISITOR,
                 "visitor gives r back",
                 give_up(document, read_right()),
             ),
-            Step::GiveUp => (
+            Move::GiveUp => (
                 CARETAKER,
                 "caretaker gives up rw",
                 give_up(document, read_and_write()),
             ),
-            Step::Collect => return None,
+            Move::Collect => return None,
         };
-        Some(Asked {
+        Some(Request {
             worker,
             words,
             command,

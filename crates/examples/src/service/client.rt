@@ -21,7 +21,7 @@ pub struct Leave {
 
 /// What is known of a client: its name, and its document's.
 #[derive(Clone, Copy)]
-pub struct Place {
+pub struct DocumentPlace {
     pub client: u64,
     pub document: u64,
 }
@@ -60,7 +60,7 @@ pub fn welcome<L: Round, R: Wait + AllocGlobal>(
     service: &mut Session<L>,
     clients: &mut Vec<Session<L>>,
     rights: Label,
-) -> Result<Place, StoreFault> {
+) -> Result<DocumentPlace, StoreFault> {
     let document = make_zero(rt, store, service, rights)?;
     let client = spawn(rt, store, service, clients, rights)?;
     let grant = Command::Grant {
@@ -69,7 +69,7 @@ pub fn welcome<L: Round, R: Wait + AllocGlobal>(
         rights,
     };
     command(rt, store, service, grant)?;
-    Ok(Place { client, document })
+    Ok(DocumentPlace { client, document })
 }
 
 // Spawns a client over which the service has these rights. Answers its name.
@@ -93,7 +93,7 @@ pub fn welcome_and_lose<L: Round, R: Wait + AllocGlobal>(
     service: &mut Session<L>,
     clients: &mut Vec<Session<L>>,
     rights: Label,
-) -> Result<Place, StoreFault> {
+) -> Result<DocumentPlace, StoreFault> {
     let place = welcome(rt, store, service, clients, rights)?;
     if let Some(hung) = clients.last_mut() {
         make_zero(rt, store, hung, rights)?;

@@ -2,7 +2,7 @@
 ghost use Rattle.std.specs.Prelude.{◌≡◌, true};
 ghost use Rattle.tg_shared.specs.Sessions.{MayShare};
 
-use super::client::{Leave, Place, welcome, welcome_and_lose, work, work_and_leave, zero};
+use super::client::{Leave, DocumentPlace, welcome, welcome_and_lose, work, work_and_leave, zero};
 use crate::fault::StoryFault;
 use crate::opening::{label, limits};
 use crate::sessions::reply_to;
@@ -137,7 +137,7 @@ fn tell_all<L: Round, P: Payload, R: Wait + Print>(
     keeper: &mut Keeper<L>,
     service: &mut Session<L>,
     documents: [u64; 3],
-    hung: Place,
+    hung: DocumentPlace,
 ) -> Result<(), StoryFault>
     requires may_end { L.start.may_end ≡ true }
 {
@@ -232,7 +232,7 @@ fn end_if_silent<L: Round, P: Payload, R: Wait + Print>(
     store: &SharedStore<L, P>,
     keeper: &mut Keeper<L>,
     service: &mut Session<L>,
-    place: Place,
+    place: DocumentPlace,
 ) -> Result<(), StoryFault>
     requires may_end { L.start.may_end ≡ true }
 {

@@ -12,8 +12,8 @@ ghost use Rattle.tg_model.specs.Rules.{answer_of, step};
 ghost use Rattle.tg_model.specs.declared.command.Command.TheVariants.{Read};
 ghost use Rattle.tg_model.specs.declared.command.Deed.TheVariants.{Plain};
 ghost use Rattle.tg_store.specs.Store.{IsFaithful, graph_of_store};
-ghost use Rattle.examples.specs.Alone.{IsAlone, IsUntaken, TellsOnly};
-ghost use Rattle.examples.specs.Desk.{IsKept, StandsNow, graph_of_desk, shown_at};
+ghost use Rattle.examples.specs.Alone.{IsAlone, IsUntaken, TellsOnlyValue};
+ghost use Rattle.examples.specs.Desk.{DeskIsKept, StandsNow, graph_of_desk, shown_at};
 
 use super::fault::DeskFault;
 use std::alloc::Global;
@@ -28,7 +28,7 @@ pub const OWNER: u64 = 0;
 
 /// A store in which an owner has a thing and what stands in for it. Of every desk it is proved, whatever its clients
 /// ask for: none but the owner holds any right over the thing, nor one to change what stands in for it; and nobody may
-/// take from the owner (`IsKept`).
+/// take from the owner (`DeskIsKept`).
 #[derive(Drop)]
 pub struct Desk<P: Payload> {
     store: Store<P>,
@@ -37,13 +37,13 @@ pub struct Desk<P: Payload> {
 }
 
 impl<P: Payload> Model for Desk<P> {
-    ghost use Rattle.examples.specs.Desk.{DeskState, IsKept};
+    ghost use Rattle.examples.specs.Desk.{DeskState, DeskIsKept};
 
     ghost Value = { DeskState };
 
     ghost view = { λ d. record { store = d.store; thing = d.thing; stand_in = d.stand_in } };
 
-    ghost invariant = { λ d. IsKept (record { store = d.store; thing = d.thing; stand_in = d.stand_in }) };
+    ghost invariant = { λ d. DeskIsKept (record { store = d.store; thing = d.thing; stand_in = d.stand_in }) };
 }
 
 impl<P: Payload> Desk<P> {
@@ -68,7 +68,7 @@ impl<P: Payload> Desk<P> {
     /// The store. That the owner's are its own is told here.
     pub fn store(&self) -> &Store<P>
         ensures same { result.now ≡ self.now.store }
-        ensures kept { IsKept self.now }
+        ensures kept { DeskIsKept self.now }
     {
         &self.store
     }
@@ -94,7 +94,7 @@ impl<P: Payload> Desk<P> {
         ensures step { OnOk result (StandsNow (step (graph_of_desk self.old) client (Plain command)) self.old self.new) }
         ensures refused { OnErr result (StandsNow (graph_of_desk self.old) self.old self.new) }
         ensures left { shown_at self.new ≡ shown_at self.old }
-        ensures told { IfOk result (λ reply. command ≡ Read self.old.stand_in → TellsOnly (shown_at self.old) reply) }
+        ensures told { IfOk result (λ reply. command ≡ Read self.old.stand_in → TellsOnlyValue (shown_at self.old) reply) }
     {
         if client == OWNER {
             return Err(DeskFault::IsOwner);
@@ -223,7 +223,7 @@ fn furnish<P: Payload>(
     stand_in: Draft<P>,
 ) -> Result<(u64, u64), StoreFault>
     requires untaken { IsUntaken OWNER (graph_of_store store.old) }
-    ensures { IfOk result (λ names. IsKept (record { store = store.new; thing = names.0; stand_in = names.1 })) }
+    ensures { IfOk result (λ names. DeskIsKept (record { store = store.new; thing = names.0; stand_in = names.1 })) }
 {
     match made(store, rights, thing) {
         Ok(thing) => match made(store, rights, stand_in) {

@@ -6,7 +6,7 @@ ghost use Rattle.tg_model.specs.Graph.{ProtectionGraph};
 ghost use Rattle.tg_journal.specs.declared.entry.Entry.{Entry};
 ghost use Rattle.tg_journal.specs.History.{IsLegal, graph_after};
 ghost use Rattle.tg_could.specs.Turns.{NeverHolds};
-ghost use Rattle.examples.specs.Alone.{IsAlone, LeavesBe, Reads, Withholds, changes};
+ghost use Rattle.examples.specs.Alone.{IsAlone, LeavesBe, ReadsValue, Withholds, changes};
 
 /// Rights over a vertex that its owner alone holds and never hands on, nobody else ever holds, whatever anybody does.
 pub fn what_is_never_handed_on_stays_the_owners()
@@ -20,7 +20,7 @@ pub fn to_stop_is_to_take_back()
     ensures left { (owner y : ℕ) (g : ProtectionGraph) (es : List Entry) → IsAlone changes owner y g → All (Withholds changes owner y) es → All (LeavesBe owner y) es →
         (graph_after g es).value y ≡ g.value y }
     ensures told { (owner y : ℕ) (g : ProtectionGraph) (es : List Entry) → IsAlone changes owner y g → IsLegal g es → All (Withholds changes owner y) es → All (LeavesBe owner y) es →
-        All (Reads y (g.value y)) es }
+        All (ReadsValue y (g.value y)) es }
 {}
 
 /// In the words of `tg_could`: while the owner is silent, nobody else ever comes to hold such a right.

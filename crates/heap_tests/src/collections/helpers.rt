@@ -14,7 +14,7 @@ use tg_space::{Kind, Root, Spaces};
 // A heap to collect: what stands in it, how many blocks each space may have, and how many first cells have their rows
 // as roots.
 #[derive(Clone, Copy)]
-struct Heap {
+struct TriedHeap {
     content: Content,
     space_blocks: u64,
     rows: u64,
@@ -43,7 +43,7 @@ fn refusal_of<R: Threads + Wait + Sync, G: Gate>(
 fn refusal<R: Threads + Wait + Sync, G: Gate>(
     rt: &R,
     alloc: Global,
-    heap: Heap,
+    heap: TriedHeap,
     helpers: u32,
     gate: &G,
 ) -> Option<Option<HelpersFault>>
@@ -58,19 +58,19 @@ fn refusal<R: Threads + Wait + Sync, G: Gate>(
 // missed. A helper that comes a second time lets the others go first, so that one of two has claimed a chunk before all
 // are gone.
 #[derive(Drop)]
-struct Meet {
+struct HelpersMeet {
     // How often each helper has passed.
     passes: Vec<AtomicU64>,
     missed: AtomicU64,
 }
 
-impl Meet {
-    fn of(alloc: Global, helpers: u32) -> Option<Meet> {
+impl HelpersMeet {
+    fn of(alloc: Global, helpers: u32) -> Option<HelpersMeet> {
         let mut passes = Vec::new(alloc);
         for _ in 0..helpers {
             passes.push(AtomicU64::new(0)).ok()?;
         }
-        Some(Meet {
+        Some(HelpersMeet {
             passes,
             missed: AtomicU64::new(0),
         })
@@ -95,7 +95,7 @@ impl Meet {
     }
 }
 
-impl Gate for Meet {
+impl Gate for HelpersMeet {
     fn pass(&self, helper: u32) {
         if let Some(passes) = self.passes.get(helper as usize) {
             if passes.fetch_add(1, Ordering::SeqCst) == 1 {
@@ -129,10 +129,10 @@ struct Met {
 }
 
 // A full collection of the heap by so many helpers who meet.
-fn met_on<R: Threads + Wait + Sync>(rt: &R, alloc: Global, heap: Heap, helpers: u32) -> Option<Met>
+fn met_on<R: Threads + Wait + Sync>(rt: &R, alloc: Global, heap: TriedHeap, helpers: u32) -> Option<Met>
     requires { (1 ≤ helpers) × (helpers ≤ 8) }
 {
-    let gate = Meet::of(alloc, helpers)?;
+    let gate = HelpersMeet::of(alloc, helpers)?;
     let refusal = refusal(rt, alloc, heap, helpers, &gate)?;
     Some(Met {
         passes: gate.passes(),
@@ -143,7 +143,7 @@ fn met_on<R: Threads + Wait + Sync>(rt: &R, alloc: Global, heap: Heap, helpers: 
 
 // What helpers who meet leave of all linked cells, by one, two, three and eight.
 fn met_on_linked<R: Threads + Wait + Sync>(rt: &R, alloc: Global) -> [Option<Met>; 4] {
-    let heap = Heap {
+    let heap = TriedHeap {
         content: Content::Linked,
         space_blocks: 16,
         rows: CELLS,
@@ -181,7 +181,7 @@ fn helpers_at_one_gate(rt: HostRuntime) {
 // Whether two helpers are refused in a heap that wants a block for each and may have one, where their passes are as
 // they should.
 fn is_one_refused<R: Threads + Wait + Sync>(rt: &R, alloc: Global) -> Option<bool> {
-    let heap = Heap {
+    let heap = TriedHeap {
         content: Content::Alone,
         space_blocks: 1,
         rows: 64,
@@ -219,7 +219,7 @@ fn refusal_of_full<R: Threads + Wait + Sync>(
 ) -> Option<Option<HelpersFault>>
     requires { (1 ≤ helpers) × (helpers ≤ 8) }
 {
-    let heap = Heap {
+    let heap = TriedHeap {
         content: Content::Alone,
         space_blocks: 2,
         rows: CELLS,

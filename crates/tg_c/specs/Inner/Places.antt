@@ -13,12 +13,12 @@ abbrev pub Holds : {S : Type 0} → Bool → S → Option S → Type 0
 Holds is_open held had = MatchOption had (is_open ≡ false) (λ one. (is_open ≡ true) × (held ≡ one))
 
 -- What a place held was taken out of it, if it was open, and it is closed then.
-pub record IsTaken {S A : Type 0} (was_open : Bool) (held : S) (is_open : Bool) (result : Option (Box S A)) : Type 0 where
+pub record IsTakenOut {S A : Type 0} (was_open : Bool) (held : S) (is_open : Bool) (result : Option (Box S A)) : Type 0 where
   pub taken : MatchOption result (was_open ≡ false) (λ opened. (was_open ≡ true) × (opened.value ≡ held))
   pub closed : is_open ≡ false
 
 -- This was put in a place, which is open then.
-pub record IsPut {S : Type 0} (given : S) (is_open : Bool) (held : S) : Type 0 where
+pub record IsPutBack {S : Type 0} (given : S) (is_open : Bool) (held : S) : Type 0 where
   pub «open» : is_open ≡ true
   pub opened : held ≡ given
 

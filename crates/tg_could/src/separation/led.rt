@@ -5,9 +5,9 @@ ghost use Rattle.tg_rights.specs.declared.Right.TheVariants.{G};
 ghost use Rattle.tg_model.specs.Opened.{label_in};
 ghost use Rattle.tg_model.specs.Picture.{Holds};
 ghost use Rattle.tg_could.specs.Turns.{IsSilent};
-ghost use Rattle.tg_could.specs.Separation.{Keeps, place_in};
+ghost use Rattle.tg_could.specs.Separation.{KeepsSides, place_in};
 ghost use Rattle.tg_could.specs.Answered.{IsDecided};
-ghost use Rattle.tg_could.specs.LedNames.{AreLed, IsPut, IsTurned, TurnsTo, is_in, LeadsOn, sides_led, number_led};
+ghost use Rattle.tg_could.specs.LedNames.{AreLed, IsPut, IsTurned, TurnsTo, is_on_side, LeadsOn, sides_led, number_led};
 ghost use Rattle.tg_could.specs.LedNames.{ActsOn, AreTurned, BringsTo, IsOrMakes, KeepsEach, NobodyGets, StaysLed, StaysLedAlong};
 ghost use Rattle.tg_could.specs.Scenes.{OnGraphs, TakesTurns};
 
@@ -93,7 +93,7 @@ impl LedNames {
     // Puts a vertex into a set.
     fn put(&mut self, step: Hop) -> Result<(), AllocError>
         ensures put { OnOk result (IsPut (sides_led self.old) step.forward step.vertex (sides_led self.new)) }
-        ensures more { OnOk result (is_in (sides_led self.old) step.forward step.vertex ≡ false → number_led self.old < number_led self.new) }
+        ensures more { OnOk result (is_on_side (sides_led self.old) step.forward step.vertex ≡ false → number_led self.old < number_led self.new) }
     {
         if step.forward {
             self.forward.insert(step.vertex)?;
@@ -106,8 +106,8 @@ impl LedNames {
     // Where an edge leads to that isn't in the sets yet.
     fn led_on(&self, edge: &Edge, right: Right, y: u64) -> Option<Hop>
         ensures leads { IfSome result (λ step. LeadsOn (sides_led self.now) right y edge.now step.forward step.vertex) }
-        ensures new { IfSome result (λ step. is_in (sides_led self.now) step.forward step.vertex ≡ false) }
-        ensures keeps { IfNone result (Keeps (sides_led self.now) right y (λ a b. edge.now.label) edge.now.from edge.now.to) }
+        ensures new { IfSome result (λ step. is_on_side (sides_led self.now) step.forward step.vertex ≡ false) }
+        ensures keeps { IfNone result (KeepsSides (sides_led self.now) right y (λ a b. edge.now.label) edge.now.from edge.now.to) }
     {
         let from = self.place(edge.from);
         let to = self.place(edge.to);
@@ -184,7 +184,7 @@ impl LedNames {
     fn turned(&self, scene: &Scene, y: u64, subject: u64) -> Option<bool>
         ensures acts { IfSome result (λ forward. TakesTurns scene.now subject) }
         ensures leads { IfSome result (λ forward. TurnsTo (sides_led self.now) scene.now.picture.now y forward subject) }
-        ensures new { IfSome result (λ forward. is_in (sides_led self.now) forward subject ≡ false) }
+        ensures new { IfSome result (λ forward. is_on_side (sides_led self.now) forward subject ≡ false) }
         ensures turned { IfNone result (TakesTurns scene.now subject → IsTurned (sides_led self.now) scene.now.picture.now y subject) }
     {
         if is_silent(scene.silent, scene.picture.made(), subject) {

@@ -1,7 +1,7 @@
 //! Islands: those who act, joined where one can hand on to another what it gets.
 ghost use Rattle.std.specs.Prelude.{◌≡◌, IsTrue};
 ghost use Rattle.std.specs.List.{All};
-ghost use Rattle.tg_could.specs.View.{JoinsEntry, IsOfOne, word_of as word_in};
+ghost use Rattle.tg_could.specs.View.{JoinsEntry, IsOfOne, name_word as word_in};
 
 use crate::search::growth::table;
 use crate::search::names::Names;

@@ -1,7 +1,7 @@
 //! Words of 64 bits as sets of islands.
 ghost use Rattle.std.specs.Prelude.{◌≡◌, IsTrue};
 ghost use Rattle.std.specs.Int.{IsPowerOfTwo};
-ghost use Rattle.tg_could.specs.View.{is_within as within, meets as meeting, word_of as word_in, IsBridged};
+ghost use Rattle.tg_could.specs.View.{is_at_most as within, meets as meeting, name_word as word_in, IsBridged};
 
 /// Whether each bit of a word is set in another.
 pub(crate) fn is_within(word: u64, other: u64) -> bool

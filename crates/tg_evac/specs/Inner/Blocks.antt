@@ -7,7 +7,7 @@ use Rattle.tg_space.specs.SpaceList.{BlockList}
 use Rattle.tg_evac.specs.Copies.{HaveOpenBlock}
 
 -- it may stand behind the full ones
-pub record MayClose {A : Type 0} (full : BlockList) (last : Vec (List ℕ) A) : Type 0 where
+pub record MayCloseBlock {A : Type 0} (full : BlockList) (last : Vec (List ℕ) A) : Type 0 where
   pub whole : IsBlock last.items
   pub opened : HaveOpenBlock full last
   pub room : length full < MOST_SPACE_BLOCKS

@@ -11,7 +11,7 @@ use Rattle.tg_evac.specs.declared.copies.Ahead.{Ahead}
 use Rattle.tg_evac.specs.declared.copies.TheConstants.{NEAR}
 
 -- the words are those of so many won cells from the first on, and there is room for no more
-pub record HasRead (h : SpaceList) (won : List Win) (ahead : Ahead) : Type 0 where
+pub record HasReadAhead (h : SpaceList) (won : List Win) (ahead : Ahead) : Type 0 where
   pub few : ahead.count ≤ NEAR
   pub read : AreRead h won ahead.first ahead.count ahead.words
 

@@ -3,7 +3,7 @@ use Rattle.std.specs.Prelude.{◌≡◌, ℕ, ◌+◌, ◌<◌, ◌≤◌, false
 use Rattle.std.specs.List.{All}
 use Rattle.tg_word.specs.declared.TheConstants.{MOST_SPACE_BLOCKS}
 use Rattle.tg_word.specs.declared.Place.{Place}
-use Rattle.tg_space.specs.SpaceList.{SpaceList, BlockList, Holds}
+use Rattle.tg_space.specs.SpaceList.{SpaceList, BlockList, HasCell}
 use Rattle.tg_space.specs.Soundness.{IsPointer, IsRootIn}
 use Rattle.tg_space.specs.Targets.{from_space}
 use Rattle.tg_space.specs.declared.kind.Kind.{Kind}
@@ -21,12 +21,12 @@ pub record MayClaimRoot {Fixed : Type 0} (kind : Kind) (h : SpaceList) (one : Ro
 -- of a cell that is held
 pub record MayClaimAt {Fixed : Type 0} (kind : Kind) (h : SpaceList) (place : Place) (w : Walked Fixed) : Type 0 where
   pub walk : MayWalk kind h w
-  pub held : Holds h place
+  pub held : HasCell h place
 
 -- which isn't moved
 pub record MayClaimKept {Fixed : Type 0} (kind : Kind) (h : SpaceList) (place : Place) (w : Walked Fixed) : Type 0 where
   pub walk : MayWalk kind h w
-  pub held : Holds h place
+  pub held : HasCell h place
   pub kept : from_space kind place.space ≡ false
 
 -- of the chunks to which a link leads

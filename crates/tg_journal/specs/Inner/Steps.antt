@@ -10,18 +10,18 @@ use Rattle.tg_journal.specs.declared.replay.AuditFault.TheVariants.{OutOfMemory,
 use Rattle.tg_journal.specs.declared.vertices.Vertex.{Vertex}
 use Rattle.tg_journal.specs.Auditing.{StandsAt}
 use Rattle.tg_journal.specs.History.{IsLegalEntry}
-use Rattle.tg_journal.specs.Live.{AuditState, IsAsBefore, IsAt, IsGap, label_between, value_of}
+use Rattle.tg_journal.specs.Live.{AuditState, IsSameGraph, HasVertexAt, IsGap, label_between, value_of}
 
 -- This is answered, and the graph becomes the next one; where memory is wanting, it is as before but for what names store that
 -- weren't made yet.
-pub record Answers {E : Type 0} (old new : ProtectionGraph) (answer : Reply) (next : ProtectionGraph) (result : Result Reply E) : Type 0 where
+pub record AnswersStep {E : Type 0} (old new : ProtectionGraph) (answer : Reply) (next : ProtectionGraph) (result : Result Reply E) : Type 0 where
   pub reply : IfOk result (λ reply. reply ≡ answer)
   pub step : OnOk result (new ≡ next)
-  pub refused : OnErr result (IsAsBefore old new)
+  pub refused : OnErr result (IsSameGraph old new)
 
 -- the place of the vertex with a name, or where it would go
-pub record IsPlace (vs : List Vertex) (x : ℕ) (result : Result ℕ ℕ) : Type 0 where
-  pub found : IfOk result (IsAt vs x)
+pub record FindsPlace (vs : List Vertex) (x : ℕ) (result : Result ℕ ℕ) : Type 0 where
+  pub found : IfOk result (HasVertexAt vs x)
   pub absent : IfErr result (IsGap vs x)
 
 -- the vertices have these labels and values then; where memory is wanting, they are as they were

@@ -9,12 +9,12 @@ use tg_rights::Label;
 
 impl LiveGraph {
     ghost use Rattle.tg_model.specs.Graph.{IsReachable};
-    ghost use Rattle.tg_journal.specs.Live.{IsSwept, graph_kept};
+    ghost use Rattle.tg_journal.specs.Live.{IsSweptGraph, graph_kept};
 
     /// Forgets all vertices that no subject reaches. Fails only when out of memory, and the
     /// graph is then as it was.
     pub(crate) fn sweep(&mut self) -> Result<(), AllocError>
-        ensures swept { OnOk result (IsSwept (graph_kept self.old) (graph_kept self.new)) }
+        ensures swept { OnOk result (IsSweptGraph (graph_kept self.old) (graph_kept self.new)) }
         ensures refused { OnErr result (self.new ≡ self.old) }
     {
         let names = self.reached()?;

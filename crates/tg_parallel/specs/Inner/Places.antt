@@ -7,7 +7,7 @@ use Rattle.tg_race.specs.Race.{with_chunk, with_claimed_block}
 use Rattle.tg_race.specs.declared.race_table.CellWord.{CellWord}
 use Rattle.tg_race.specs.Seats.{Board, IsWordIn, Seated}
 use Rattle.tg_parallel.specs.declared.own_blocks.OwnBlocks.{OwnBlocks}
-use Rattle.tg_parallel.specs.Seats.{HasRoomFor, IsHeldBy, IsReady, KnowsNext, used_of}
+use Rattle.tg_parallel.specs.Seats.{HasRoomFor, HoldsBlocks, IsSeatReady, KnowsNext, cells_used}
 
 -- so many cells were won, and more, each for a place of Old or of Aged
 pub record HasWonAt (k : ℕ) (helper : Seated) : Type 0 where
@@ -38,21 +38,21 @@ pub record DrawsBlock (aged : Bool) (old new : Seated) (number : ℕ) : Type 0 w
 
 -- a cell isn't won yet, and all blocks are full
 pub record MayDraw (board : Board) (helper : Seated) (b : OwnBlocks) : Type 0 where
-  pub held : IsHeldBy board helper b
+  pub held : HoldsBlocks board helper b
   pub room : length helper.done.won + 3 < board.table.id.words
-  pub full : used_of b.aged helper.done ≡ CELLS * length b.numbers.items
+  pub full : cells_used b.aged helper.done ≡ CELLS * length b.numbers.items
 
 -- a cell isn't won yet, and the next place is known
 pub record MayMakeReady (limit : ℕ) (board : Board) (helper : Seated) (b : OwnBlocks) : Type 0 where
-  pub held : IsHeldBy board helper b
+  pub held : HoldsBlocks board helper b
   pub room : length helper.done.won + 3 < board.table.id.words
   pub few : limit ≤ MOST_SPACE_BLOCKS
   pub next : KnowsNext limit helper.done b
 
 -- a cell isn't won yet, and the next place is ready for it
 pub record MayFindNext (board : Board) (at : CellWord) (helper : Seated) (b : OwnBlocks) : Type 0 where
-  pub held : IsHeldBy board helper b
+  pub held : HoldsBlocks board helper b
   pub word : IsWordIn board at
   pub room : HasRoomFor board at.cell helper
-  pub ready : IsReady (used_of b.aged helper.done) b
+  pub ready : IsSeatReady (cells_used b.aged helper.done) b
   pub some : b.next ≢ b.end

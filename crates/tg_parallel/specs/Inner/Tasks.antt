@@ -15,7 +15,7 @@ pub record MayCollectBy {G : Type 0} (helpers : ℕ) (task : Task G) : Type 0 wh
   pub few : helpers ≤ MOST_HELPERS
 
 -- a helper at the table that has done nothing yet, and may be split into so many
-pub record StandsFor (helpers : ℕ) (board : Board) (s : Seated) : Type 0 where
+pub record IsNewSeat (helpers : ℕ) (board : Board) (s : Seated) : Type 0 where
   pub own : s.table ≡ board.table
   pub fresh : s.done ≡ empty helpers
   pub some : 1 ≤ helpers

@@ -13,44 +13,44 @@ use Rattle.tg_plain.specs.declared.script.Script.{Script}
 use Rattle.tg_plain.specs.Lines.{all_lines, lines_of}
 
 -- the bytes are these lines, and then the fault, or the end, and these bytes are left
-abbrev pub ReadsFrom : Reading → List ℕ → List Line → Option ScriptFault → List ℕ → Type 0
-ReadsFrom s bytes lines end left = Reads s.workers s.lines.room s.count s.opening bytes lines end left
+abbrev pub ReadsPlainFrom : Reading → List ℕ → List Line → Option ScriptFault → List ℕ → Type 0
+ReadsPlainFrom s bytes lines end left = Reads s.workers s.lines.room s.count s.opening bytes lines end left
 
 -- no line was read, with so many workers
-pub record IsFresh (s : Reading) (number : ℕ) : Type 0 where
+pub record IsNewReading (s : Reading) (number : ℕ) : Type 0 where
   pub workers : s.workers ≡ number
   pub room : s.lines.room ≡ MOST_BYTES
   pub count : s.count ≡ 0
   pub opening : s.opening ≡ true
 
 -- the line is taken: whatever is read behind it is read behind it
-abbrev pub Passes : Reading → List ℕ → Line → Reading → List ℕ → Type 0
-Passes s bytes l t rest =
-    (lines : List Line) (end : Option ScriptFault) (left : List ℕ) → ReadsFrom t rest lines end left → ReadsFrom s bytes (l ∷ lines) end left
+abbrev pub PassesPlainLine : Reading → List ℕ → Line → Reading → List ℕ → Type 0
+PassesPlainLine s bytes l t rest =
+    (lines : List Line) (end : Option ScriptFault) (left : List ℕ) → ReadsPlainFrom t rest lines end left → ReadsPlainFrom s bytes (l ∷ lines) end left
 
 -- these lines of a script were taken: whatever is read behind them is read behind them
-abbrev pub ReadsFront : ℕ → List ℕ → List Line → Reading → List ℕ → Type 0
-ReadsFront workers bytes front t rest =
-    (lines : List Line) (end : Option ScriptFault) (left : List ℕ) → ReadsFrom t rest lines end left → ReadsScript workers bytes (front ++ lines) end left
+abbrev pub ReadsPlainFront : ℕ → List ℕ → List Line → Reading → List ℕ → Type 0
+ReadsPlainFront workers bytes front t rest =
+    (lines : List Line) (end : Option ScriptFault) (left : List ℕ) → ReadsPlainFrom t rest lines end left → ReadsScript workers bytes (front ++ lines) end left
 
 -- a line, the end of the input, or the first fault, and the bytes that are left behind it
-abbrev pub NextLine : Reading → List ℕ → Result (Option Line) ScriptFault → Reading → List ℕ → Type 0
-NextLine s bytes (Ok (Some l)) t rest = Passes s bytes l t rest
-NextLine s bytes (Ok None) t rest = ReadsFrom s bytes [] None rest
-NextLine s bytes (Err f) t rest = ReadsFrom s bytes [] (Some f) rest
+abbrev pub NextPlainLine : Reading → List ℕ → Result (Option Line) ScriptFault → Reading → List ℕ → Type 0
+NextPlainLine s bytes (Ok (Some l)) t rest = PassesPlainLine s bytes l t rest
+NextPlainLine s bytes (Ok None) t rest = ReadsPlainFrom s bytes [] None rest
+NextPlainLine s bytes (Err f) t rest = ReadsPlainFrom s bytes [] (Some f) rest
 
 -- the line may stand where it came, and now one more line was read
-pub record Follows (s : Reading) (l : Line) (t : Reading) : Type 0 where
+pub record FollowsReading (s : Reading) (l : Line) (t : Reading) : Type 0 where
   pub stands : MayStand s.workers s.opening l
   pub workers : t.workers ≡ s.workers
   pub count : t.count ≡ s.count + 1
   pub opening : t.opening ≡ opening_after s.opening l
 
 -- the line in the buffer is taken, or is bad
-abbrev pub TakesLine : Reading → Result (Option Line) ScriptFault → Reading → Type 0
-TakesLine s (Ok (Some l)) t = LineFits l × (s.buffer ≡ line_text l) × Follows s l t × (t.lines ≡ s.lines)
-TakesLine s (Ok None) t = ⊥
-TakesLine s (Err f) t = (f ≡ fault.BadLine (s.count + 1)) × IsBadText s.workers s.opening s.buffer × (t ≡ s)
+abbrev pub TakesPlainLine : Reading → Result (Option Line) ScriptFault → Reading → Type 0
+TakesPlainLine s (Ok (Some l)) t = LineFits l × (s.buffer ≡ line_text l) × FollowsReading s l t × (t.lines ≡ s.lines)
+TakesPlainLine s (Ok None) t = ⊥
+TakesPlainLine s (Err f) t = (f ≡ fault.BadLine (s.count + 1)) × IsBadText s.workers s.opening s.buffer × (t ≡ s)
 
 -- ---- the lines of a script
 
@@ -66,13 +66,13 @@ pub record KeepsOptions (s t : Script) : Type 0 where
   pub stock : t.stock ≡ s.stock
 
 -- an edge line is added where there is no other
-abbrev pub MayAdd : Script → Line → Type 0
-MayAdd s (line.Edge edge) = s.lines.items ≡ []
-MayAdd s (line.Create x label) = Unit {0}
-MayAdd s (line.Spawn x label) = Unit {0}
-MayAdd s (line.Plain x command) = Unit {0}
-MayAdd s line.Full = Unit {0}
-MayAdd s line.Minor = Unit {0}
+abbrev pub MayAddLine : Script → Line → Type 0
+MayAddLine s (line.Edge edge) = s.lines.items ≡ []
+MayAddLine s (line.Create x label) = Unit {0}
+MayAddLine s (line.Spawn x label) = Unit {0}
+MayAddLine s (line.Plain x command) = Unit {0}
+MayAddLine s line.Full = Unit {0}
+MayAddLine s line.Minor = Unit {0}
 
 -- it stands behind the others that are no edge lines
 abbrev pub AddsOther : Script → Line → Script → Type 0
@@ -98,6 +98,6 @@ IsReadAs bytes outcome s = (left : List ℕ) × ReadsScript s.workers bytes (all
 
 -- These ledgers, each by its name and the number of its parts, may count how often a source is asked and fails: each blank is its
 -- ledger's, and has a part.
-pub record MayCount (asks all_asks fails all_fails : ℕ) (ask fail : Blank) : Type 0 where
+pub record MayCountBoth (asks all_asks fails all_fails : ℕ) (ask fail : Blank) : Type 0 where
   pub asked : (ask.name ≡ asks) × (ask.parts ≡ all_asks) × (0 < ask.parts)
   pub failures : (fail.name ≡ fails) × (fail.parts ≡ all_fails) × (0 < fail.parts)

@@ -14,9 +14,9 @@ use Rattle.tg_space.specs.Soundness.{IsKindAt}
 use Rattle.tg_space.specs.Generations.{AreRemembered}
 use Rattle.tg_space.specs.declared.room_fault.RoomFault.{RoomFault}
 use Rattle.tg_space.specs.declared.room_fault.RoomFault.TheVariants.{HeapFull}
-use Rattle.tg_nursery.specs.Allocation.{HasFewerLeft, HasLeft, room_made_for}
+use Rattle.tg_nursery.specs.Allocation.{HasFewerLeft, HasRoomLeft, room_made_for}
 use Rattle.tg_rows.specs.Content.{IsNamed}
-use Rattle.tg_rows.specs.Inner.Following.{IsReady, IsRowPut, IsWay}
+use Rattle.tg_rows.specs.Inner.Following.{IsReadyToFollow, IsRowPut, IsWay}
 use Rattle.tg_rows.specs.Graph.{IsGraph, IsLongRow, content_in, rights_found}
 use Rattle.tg_rows.specs.Index.{AreIndexed, Indexes, MayIndex, SameIndexed, indexed_in}
 use Rattle.tg_rows.specs.Rows.{IsVertexAt, name_at}
@@ -95,24 +95,24 @@ pub record IsEdgeFound {P : Type 0} (cells : Cells P) (p : Place) (name : ℕ) (
 
 -- There is room for a note, if there is one, and for so many cells of a nursery, and nothing else changed. Where it is refused, there
 -- may be room for the note.
-pub record MakesRoom {P A : Type 0} (old new : Cells P) (n : ℕ) (wanted : Option Place) (count : ℕ) (result : Result A RoomFault) : Type 0 where
+pub record MakesRoomInCells {P A : Type 0} (old new : Cells P) (n : ℕ) (wanted : Option Place) (count : ℕ) (result : Result A RoomFault) : Type 0 where
   pub remembered : new.remembered.places ≡ old.remembered.places
   pub note : OnOk result (IfSome wanted (λ _. 0 < new.remembered.spare))
   pub spaces : OnOk result (new.spaces ≡ room_made_for old.spaces (nursery_space n) count)
   pub table : OnOk result (IsSpaceTable new.spaces)
-  pub left : OnOk result (HasLeft new.spaces (nursery_space n) count)
+  pub left : OnOk result (HasRoomLeft new.spaces (nursery_space n) count)
   pub refused : OnErr result (new.spaces ≡ old.spaces)
   pub full : result ≡ Err HeapFull → HasFewerLeft old.spaces (nursery_space n) count × IsFull old.spaces (nursery_space n)
 
 -- the same, and there is room for one payload
 pub record MakesVertexRoom {P A : Type 0} (old new : Cells P) (n : ℕ) (wanted : Option Place) (count : ℕ) (result : Result A RoomFault) : Type 0 where
-  pub room : MakesRoom old new n wanted count result
+  pub room : MakesRoomInCells old new n wanted count result
   pub payloads : new.payloads.entries ≡ old.payloads.entries
   pub spare : OnOk result (0 < new.payloads.spare)
 
 -- Rights over one object were put in the row of another, and the written cell is remembered if it has to be; where it is refused,
 -- there may be room for one more note.
-pub record AddsEdge {P A : Type 0} (old new : Cells P) (n : ℕ) (p q : Place) (rights : RightSet) (result : Result A RoomFault) : Type 0 where
+pub record AddsEdgeToRow {P A : Type 0} (old new : Cells P) (n : ℕ) (p q : Place) (rights : RightSet) (result : Result A RoomFault) : Type 0 where
   pub added : let content = content_in old.spaces.spaces old.payloads in
       OnOk result (ChangesTo old.spaces new.spaces old.payloads (IsNamed content)
       (with_rights content.label (name_at old.spaces.spaces p) (name_at old.spaces.spaces q) rights) content.value)
@@ -166,7 +166,7 @@ pub record KeepsIndexed {P : Type 0} (cells : Cells P) (rows later : Indexes) : 
 -- the same, and the row of an object may be changed once it was looked along so
 pub record IsReadied {P E : Type 0} (cells : Cells P) (before later : Indexes) (p : Place) (result : Result Way E) : Type 0 where
   pub rows : KeepsIndexed cells before later
-  pub ready : IfOk result (IsReady cells.spaces.spaces later p)
+  pub ready : IfOk result (IsReadyToFollow cells.spaces.spaces later p)
 
 -- The indexes are those of the rows after a change of the row of an object, which has one then if it is long; of the other names, the
 -- same have one, and of all where the change was refused.

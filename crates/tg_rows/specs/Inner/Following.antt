@@ -8,7 +8,7 @@ use Rattle.tg_space.specs.SpaceList.{SpaceList, IsSpaceList, cell_at}
 use Rattle.tg_space.specs.SpaceTable.{SpaceTable, IsNursery, IsSpaceTable}
 use Rattle.tg_space.specs.Soundness.{AreSound, IsKindAt}
 use Rattle.tg_space.specs.Rows.{row_of}
-use Rattle.tg_nursery.specs.Allocation.{HasLeft}
+use Rattle.tg_nursery.specs.Allocation.{HasRoomLeft}
 use Rattle.tg_payload.specs.Table.{Payloads}
 use Rattle.tg_index.specs.Slots.{HasRoom}
 use Rattle.tg_rows.specs.Graph.{IsGraph}
@@ -70,10 +70,10 @@ pub record IsReadyNew (h : SpaceList) (rows : Indexes) (from : Place) (row : Ind
   pub room : HasRoomIn row
 
 -- the row of the object at a place may be changed once it was looked along so
-abbrev pub IsReady : SpaceList → Indexes → Place → Way → Type 0
-IsReady h rows from Walk = IsReadyShort h rows from
-IsReady h rows from (Index at) = IsReadyAt rows (name_at h from) at
-IsReady h rows from (New row) = IsReadyNew h rows from row.value
+abbrev pub IsReadyToFollow : SpaceList → Indexes → Place → Way → Type 0
+IsReadyToFollow h rows from Walk = IsReadyShort h rows from
+IsReadyToFollow h rows from (Index at) = IsReadyAt rows (name_at h from) at
+IsReadyToFollow h rows from (New row) = IsReadyNew h rows from row.value
 
 -- ---- rights were put in a row
 
@@ -90,7 +90,7 @@ pub record IsPutAt (old new : SpaceTable) (from : Place) (name : ℕ) (spot : Sp
   pub object : IsKindAt old.spaces Object from
   pub found : IsSpotFor old.spaces name from spot
   pub nursery : IsNursery old space
-  pub left : HasLeft old space (cells_for spot)
+  pub left : HasRoomLeft old space (cells_for spot)
   pub target : IsVertexAt old.spaces name to
   pub some : is_none_held rights ≡ false
   pub put : new ≡ table_put old space spot rights to
@@ -104,7 +104,7 @@ pub record IsRowPut (old new : SpaceTable) (places later : List Place) (from : P
   pub remembered : later ≡ with_note places note
 
 -- this index is still that of the row before rights were put so
-pub record IsBehind (new : SpaceTable) (from : Place) (name : ℕ) (spot : Spot) (note : Option Place) (row : IndexedRow) : Type 0 where
+pub record IsRowFollowed (new : SpaceTable) (from : Place) (name : ℕ) (spot : Spot) (note : Option Place) (row : IndexedRow) : Type 0 where
   pub old : SpaceTable
   pub put : IsPutAt old new from name spot note
   pub index : IsRowIndex old.spaces from row.names row.cells.items
@@ -118,7 +118,7 @@ pub record AreBehind (new : SpaceTable) (later : List Place) (rows : Indexes) (w
   pub graph : IsGraph old.spaces payloads
   pub object : IsKindAt old.spaces Object from
   pub indexed : AreIndexed old.spaces places rows.entries
-  pub looked : IsReady old.spaces rows from way
+  pub looked : IsReadyToFollow old.spaces rows from way
   pub put : IsRowPut old new places later from name spot note
 
 -- the cell, if there is one, is the one to be noted in the row that has this index

@@ -38,11 +38,11 @@ RunsLine told old l new before failures result after failures' =
     (a : Answer) × Handles old l a new × MakesEntry old l a new × Writes before failures (told l a (values_left old.supply)) result after failures'
 
 -- the text for the lines, and their entries
-abbrev pub Tells : LineText → Scene → List Line → List ℕ → List Entry → Type 0
-Tells told s [] text es = (text ≡ []) × (es ≡ [])
-Tells told s (l ∷ lines) text es =
+abbrev pub TellsLines : LineText → Scene → List Line → List ℕ → List Entry → Type 0
+TellsLines told s [] text es = (text ≡ []) × (es ≡ [])
+TellsLines told s (l ∷ lines) text es =
     (a : Answer) × (t : Scene) × (rest : List ℕ) × (more : List Entry) × Serves s l a t × (text ≡ told l a s.stock ++ rest) × (es ≡ entered l a s.stock ++ more)
-    × Tells told t lines rest more
+    × TellsLines told t lines rest more
 
 -- the same where what is told of the last line was cut short
 abbrev pub TellsCut : LineText → Scene → List Line → List ℕ → List Entry → Type 0
@@ -57,7 +57,7 @@ TellsCut told s (l ∷ m ∷ lines) front es =
 
 -- the lines behind the first are read so far, and the text and the entries are those of all of them
 abbrev pub IsTold : LineText → Script → List ℕ → Scene → Line → Option ScriptFault → List ℕ → List ℕ → List Entry → Type 0
-IsTold told s bytes t first end left text es = (lines : List Line) × ReadsFrom s bytes lines end left × Tells told t (first ∷ lines) text es
+IsTold told s bytes t first end left text es = (lines : List Line) × ReadsFrom s bytes lines end left × TellsLines told t (first ∷ lines) text es
 
 -- such a text stands behind what was written before, and such entries behind those that there were
 abbrev pub StandsTold : LineText → Script → List ℕ → Scene → Line → List Entry → List ℕ → Option ScriptFault → List ℕ → List Entry → Option (List ℕ) → Type 0

@@ -3,7 +3,7 @@ ghost use Rattle.std.specs.Prelude.{◌≡◌, ◌<◌, ◌≤◌, ◌*◌, ◌^
 ghost use Rattle.tg_block.specs.declared.TheConstants.{WORDS};
 ghost use Rattle.tg_word.specs.Word.{place_in};
 ghost use Rattle.tg_word.specs.declared.TheConstants.{MOST_SPACE_CELLS, SPACES};
-ghost use Rattle.tg_space.specs.SpaceList.{Holds, blocks_before, cells_of, flat_of};
+ghost use Rattle.tg_space.specs.SpaceList.{HasCell, blocks_before, cells_of, flat_of};
 ghost use Rattle.tg_space.specs.SpaceTable.{IsSpaceTable};
 
 use crate::spaces::Spaces;
@@ -24,7 +24,7 @@ impl Spaces {
     /// by block. It takes the same short time in every heap.
     #[inline(always)]
     pub fn flat(&self, place: Place) -> u64
-        requires { Holds self.now.spaces place }
+        requires { HasCell self.now.spaces place }
         ensures flat { result ≡ flat_of self.now.spaces place }
         ensures inside { result < length (cells_of self.now.spaces) }
     {
@@ -34,7 +34,7 @@ impl Spaces {
     /// The number of the cell that a word names.
     #[inline(always)]
     pub fn target_of(&self, word: u64) -> u64
-        requires { Holds self.now.spaces (place_in word) }
+        requires { HasCell self.now.spaces (place_in word) }
         ensures flat { result ≡ flat_of self.now.spaces (place_in word) }
         ensures inside { result < length (cells_of self.now.spaces) }
     {
@@ -52,7 +52,7 @@ impl Spaces {
     #[inline(always)]
     pub fn unflat(&self, number: u64) -> Place
         requires { number < length (cells_of self.now.spaces) }
-        ensures held { Holds self.now.spaces result }
+        ensures held { HasCell self.now.spaces result }
         ensures flat { flat_of self.now.spaces result ≡ number }
     {
         self.unflat_from(number, OLD)
@@ -62,7 +62,7 @@ impl Spaces {
     #[inline(always)]
     fn unflat_from(&self, number: u64, near: u64) -> Place
         requires { number < length (cells_of self.now.spaces) }
-        ensures held { Holds self.now.spaces result }
+        ensures held { HasCell self.now.spaces result }
         ensures flat { flat_of self.now.spaces result ≡ number }
     {
         let block = number / CELLS;

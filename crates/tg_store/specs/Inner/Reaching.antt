@@ -9,7 +9,7 @@ use Rattle.tg_space.specs.SpaceList.{SpaceList}
 use Rattle.tg_rows.specs.Content.{Content, IsNamed}
 use Rattle.tg_rows.specs.Rows.{IsVertexAt}
 use Rattle.tg_graph.specs.Standing.{IsReached}
-use Rattle.tg_store.specs.declared.store.picture.Found.{Found}
+use Rattle.tg_store.specs.declared.store.picture.FoundVertices.{FoundVertices}
 
 -- the names of a content are below `made`, and so are those to which its edges lead
 pub record AreBelow (c : Content) (made : ℕ) : Type 0 where
@@ -21,21 +21,21 @@ abbrev pub names_found : List (ℕ × Place) → List ℕ
 names_found vertices = map (λ v. v.0) vertices
 
 -- vertices of a heap, each once, with the set of their names, all below `made`
-pub record IsFoundIn (h : SpaceList) (found : Found) : Type 0 where
+pub record IsFoundIn (h : SpaceList) (found : FoundVertices) : Type 0 where
   pub named : found.names.keys ≡ names_found found.vertices.items
   pub below : All (λ x. x < found.made) (names_found found.vertices.items)
   pub once : IsDistinct (λ a b. a == b) (names_found found.vertices.items)
   pub placed : All (λ v. IsVertexAt h v.0 v.1) found.vertices.items
 
 -- vertices came behind those that were found: none but these, and all of these are found then
-pub record FindsMore (old new : Found) (these : ℕ → Type 0) : Type 0 where
+pub record FindsMore (old new : FoundVertices) (these : ℕ → Type 0) : Type 0 where
   pub more : List (ℕ × Place)
   pub behind : new.vertices.items ≡ old.vertices.items ++ more
   pub only : (x : ℕ) → Contains (names_found more) x → these x
   pub all : (x : ℕ) → these x → Contains (names_found new.vertices.items) x
 
 -- The same in a heap, where those were found; and so are all of them then.
-pub record FindsIn (h : SpaceList) (old new : Found) (these : ℕ → Type 0) : Type 0 where
+pub record FindsIn (h : SpaceList) (old new : FoundVertices) (these : ℕ → Type 0) : Type 0 where
   pub found : IsFoundIn h new
   pub made : new.made ≡ old.made
   pub more : FindsMore old new these

@@ -2,7 +2,7 @@
 use Rattle.std.specs.Prelude.{◌≡◌, ◌+◌, ◌≤◌, ℕ, List, length}
 
 -- in front of `end`, which lies in the bytes, there is room for so many
-pub record HasRoomFor (most end : ℕ) (bytes : List ℕ) : Type 0 where
+pub record HasRoomForText (most end : ℕ) (bytes : List ℕ) : Type 0 where
   pub room : most ≤ end
   pub inside : end ≤ length bytes
 

@@ -3,7 +3,7 @@ use Rattle.tg_word.specs.Word.{nursery_space}
 use Rattle.tg_word.specs.declared.Place.{Place}
 use Rattle.tg_word.specs.declared.TheConstants.{SPACES}
 use Rattle.tg_block.specs.Cells.{free_cell}
-use Rattle.tg_space.specs.SpaceList.{Holds, block_count, cell_at, space_of}
+use Rattle.tg_space.specs.SpaceList.{HasCell, block_count, cell_at, space_of}
 use Rattle.tg_space.specs.SpaceTable.{IsSpaceTable}
 use Rattle.tg_graph.proofs.opening.add_blocks.Given as goal
 
@@ -17,5 +17,5 @@ invariant-loop-worker l = record {
   left : (x : ℕ) → l.worker ≤ x → length (space_of l.spaces.spaces (nursery_space x)) ≡ 0;
   old : length (space_of l.spaces.spaces 0) ≡ 0;
   count : block_count l.spaces.spaces ≤ l.worker;
-  free : (p : Place) → Holds l.spaces.spaces p → cell_at l.spaces.spaces p ≡ free_cell;
+  free : (p : Place) → HasCell l.spaces.spaces p → cell_at l.spaces.spaces p ≡ free_cell;
 }

@@ -7,7 +7,7 @@ use Rattle.tg_rights.specs.RightSet.{is_none_held, no_rights, RightSet}
 use Rattle.tg_model.specs.Graph.{with_rights}
 use Rattle.tg_word.specs.Word.{nursery_space}
 use Rattle.tg_word.specs.declared.Place.{Place}
-use Rattle.tg_subjects.specs.Subjects.{places_of}
+use Rattle.tg_subjects.specs.Subjects.{subject_places}
 use Rattle.tg_subjects.specs.declared.subject.Subject.{Subject}
 use Rattle.tg_payload.specs.Table.{Payloads}
 use Rattle.tg_space.specs.SpaceList.{SpaceList}
@@ -23,9 +23,9 @@ abbrev nobody : Subject
 nobody = record { name = 0; nursery = 0; place = record { space = 0; block = 0; cell = 0 } }
 
 -- the subject with a number is the vertex with that name
-vertex_numbered : (h : SpaceList) (subjects : List Subject) (x : ℕ) → ((y : ℕ) (p : Place) → slice_get (places_of subjects) y ≡ Some p → IsVertexAt h y p) → x < length subjects → IsVertexAt h x (slice_index_or subjects x nobody).place
+vertex_numbered : (h : SpaceList) (subjects : List Subject) (x : ℕ) → ((y : ℕ) (p : Place) → slice_get (subject_places subjects) y ≡ Some p → IsVertexAt h y p) → x < length subjects → IsVertexAt h x (slice_index_or subjects x nobody).place
 vertex_numbered h subjects x at low =
-    let places = places_of subjects in
+    let places = subject_places subjects in
     let within : x < length places = let many = length-map subjects (λ (s : Subject). s.place) in omega (arith, many, low) in
     subst (IsVertexAt h x) (get_or-map (λ (s : Subject). s.place) subjects x nobody nobody.place low) (at x (slice_index_or places x nobody.place) (slice_get-get_or places x nobody.place within))
 

@@ -6,7 +6,7 @@ use Rattle.std.proofs.lemmas.List.Elements.{All-nil}
 use Rattle.tg_model.specs.declared.value.Value.{Value}
 use Rattle.tg_word.specs.Word.{nursery_space}
 use Rattle.tg_word.specs.declared.Place.{Place}
-use Rattle.tg_subjects.specs.Subjects.{names_of, nurseries_of, places_of}
+use Rattle.tg_subjects.specs.Subjects.{names_of, nurseries_of, subject_places}
 use Rattle.tg_subjects.specs.declared.subject.Subject.{Subject}
 use Rattle.tg_space.specs.SpaceTable.{used_of}
 use Rattle.tg_graph.specs.Heap.{AreAtHome}
@@ -51,7 +51,7 @@ loop-draft-init g c =
     let workers = length c.args.drafts.items in
     record {
       left = c.into_iter-draft-iterator.ensures.into_iter_gives.0;
-      opened = subst (λ (subjects : List Subject). IsOpened t payloads (places_of subjects) workers t.limits no_labels []) (sym c.requires.subjects)
+      opened = subst (λ (subjects : List Subject). IsOpened t payloads (subject_places subjects) workers t.limits no_labels []) (sym c.requires.subjects)
           (nothing_opened t payloads workers t.limits c.requires.few c.requires.blocks c.requires.blocks.table c.requires.payloads);
       names = ap names_of c.requires.subjects;
       numbers = ap nurseries_of c.requires.subjects;
@@ -80,14 +80,14 @@ loop-draft-preserved g c =
     let long : length (yielded ++ draft ∷ []) ≡ length yielded + 1 = length_push yielded draft in
     let count = before.count in
     let named : name ≡ length yielded = omega (arith, c.len-name.ensures.number, count) in
-    let counted : length (places_of subjects) ≡ length subjects = length-map subjects (λ (s : Subject). s.place) in
+    let counted : length (subject_places subjects) ≡ length subjects = length-map subjects (λ (s : Subject). s.place) in
     let numbered : c.add.result ≡ length yielded = next_free subjects (length yielded) c.add.result before.numbers c.add.ensures.nursery in
     let used_is = λ (x : ℕ). ap (λ (us : List ℕ). get_or us (nursery_space x) 0) step.used in
     let other = λ (x : ℕ) (ne : nursery_space x ≢ nursery_space name). used_is x ∙ get_or-set_other t.used (nursery_space name) (nursery_space x) (used_of t (nursery_space name) + 1) 0 ne in
     record {
       left = append_assoc yielded (draft ∷ []) c.next.new.self.rest.items ∙ ap (λ (l : List Value). yielded ++ l) (sym c.in-Some.ensures.steps.0) ∙ before.left;
-      opened = one_more_opened t after c.loop-draft.cells.payloads c.place_vertex-place.new.self.payloads (places_of subjects) (places_of c.add.new.self) (length c.args.drafts.items) c.args.cells.now.spaces.limits yielded draft place name
-          before.opened (counted ∙ count) (omega (arith, named, counted, count)) step.placed step.vertex step.blocks (ap places_of added ∙ places_more subjects x);
+      opened = one_more_opened t after c.loop-draft.cells.payloads c.place_vertex-place.new.self.payloads (subject_places subjects) (subject_places c.add.new.self) (length c.args.drafts.items) c.args.cells.now.spaces.limits yielded draft place name
+          before.opened (counted ∙ count) (omega (arith, named, counted, count)) step.placed step.vertex step.blocks (ap subject_places added ∙ places_more subjects x);
       names = ap names_of added ∙ names_more subjects x (length yielded) before.names named ∙ ap (range_with_len 0) (sym long);
       numbers = ap nurseries_of added ∙ nurseries_more subjects x (length yielded) before.numbers numbered ∙ ap (range_with_len 0) (sym long);
       home = subst AreAtHome (sym added) (more_at_home subjects x before.home (ap (λ (p : Place). p.space) step.next ∙ ap nursery_space (named ∙ sym numbered)));
@@ -117,7 +117,7 @@ returns g c =
     let all = all_came c.loop-draft.yielded c.loop-draft.draft-iterator.rest.items c.args.drafts.items done.left (sym c.loop-draft.draft-iterator.rest.ok.0 ∙ c.in-None.ensures.steps.0) in
     let ranged = ap (λ (vs : List Value). range_with_len 0 (length vs)) all in
     record {
-      opened = subst (λ (vs : List Value). IsOpened c.loop-draft.cells.spaces c.loop-draft.cells.payloads (places_of c.loop-draft.subjects) (length c.args.drafts.items) c.args.cells.now.spaces.limits no_labels vs) all done.opened;
+      opened = subst (λ (vs : List Value). IsOpened c.loop-draft.cells.spaces c.loop-draft.cells.payloads (subject_places c.loop-draft.subjects) (length c.args.drafts.items) c.args.cells.now.spaces.limits no_labels vs) all done.opened;
       names = done.names ∙ ranged;
       numbers = done.numbers ∙ ranged;
       nurseries = done.home;

@@ -1,7 +1,7 @@
 use Rattle.std.proofs.Common.{◌≡◌, ◌++◌, ◌+◌, ◌≤◌, ℕ, length}
 use Rattle.std.specs.List.{range_with_len}
 use Rattle.tg_word.specs.Word.{nursery_space}
-use Rattle.tg_subjects.specs.Subjects.{names_of, nurseries_of, places_of}
+use Rattle.tg_subjects.specs.Subjects.{names_of, nurseries_of, subject_places}
 use Rattle.tg_space.specs.SpaceTable.{IsSpaceTable, used_of}
 use Rattle.tg_graph.specs.Heap.{AreAtHome}
 use Rattle.tg_graph.specs.Opened.{IsOpened, no_labels}
@@ -10,7 +10,7 @@ use Rattle.tg_graph.proofs.opening.place_workers.Given as goal
 abbrev pub invariant-loop-draft : goal.invariant-loop-draft
 invariant-loop-draft g l = record {
   left : l.yielded ++ l.draft-iterator.rest.items ≡ l.fn.drafts.items;
-  opened : IsOpened l.cells.spaces l.cells.payloads (places_of l.subjects) (length l.fn.drafts.items) l.initial.cells.spaces.limits no_labels l.yielded;
+  opened : IsOpened l.cells.spaces l.cells.payloads (subject_places l.subjects) (length l.fn.drafts.items) l.initial.cells.spaces.limits no_labels l.yielded;
   names : names_of l.subjects ≡ range_with_len 0 (length l.yielded);
   numbers : nurseries_of l.subjects ≡ range_with_len 0 (length l.yielded);
   home : AreAtHome l.subjects;

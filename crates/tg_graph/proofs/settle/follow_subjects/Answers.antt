@@ -3,7 +3,7 @@ use Rattle.std.proofs.Common.{◌≡◌, ℕ, ◌<◌, ◌≤◌, List, ◌++◌
 use Rattle.std.proofs.lemmas.List.{append-nil, drop_all, get_or-map, get_or_default, length-map, take_all}
 use Rattle.std.proofs.lemmas.List.Edits.{map_over_more}
 use Rattle.tg_word.specs.declared.Place.{Place}
-use Rattle.tg_subjects.specs.Subjects.{names_of, places_of}
+use Rattle.tg_subjects.specs.Subjects.{names_of, subject_places}
 use Rattle.tg_subjects.specs.declared.subject.Subject.{Subject}
 use Rattle.tg_space.specs.Targets.{from_space}
 use Rattle.tg_space.specs.Collection.{new_place}
@@ -23,9 +23,9 @@ pub loop-at-preserved : goal.loop-at-preserved
 loop-at-preserved c =
     let f = followed_place (from_space c.args.moves.kind) c.args.moves.numbering.now.starts (new_place c.args.moves.forward.now.words) in
     let before = c.loop-at.invariant in
-    let xs = places_of c.args.subjects.now in
+    let xs = subject_places c.args.subjects.now in
     let subjects = c.loop-at.subjects in
-    let ys = places_of subjects in
+    let ys = subject_places subjects in
     let i = c.loop-at.at in
     let p = (get_or c.as_slice.result.now i nobody).place in
     let many = as_many c.args.subjects.now subjects before.names in
@@ -47,7 +47,7 @@ place-requires c =
     let words = length c.args.moves.forward.now.words in
     let f = followed_place (from_space c.args.moves.kind) starts (new_place c.args.moves.forward.now.words) in
     let before = c.loop-at.invariant in
-    let xs = places_of c.args.subjects.now in
+    let xs = subject_places c.args.subjects.now in
     let subjects = c.loop-at.subjects in
     let i = c.loop-at.at in
     let many = as_many c.args.subjects.now subjects before.names in
@@ -55,13 +55,13 @@ place-requires c =
     let inside : i < length xs = let low = c.loop-at-test.true in let count = c.len-at-end.ensures.number in omega (arith, low, count, long) in
     let low : i < length subjects = omega (arith, inside, many, long) in
     let here : (get_or subjects i nobody).place ≡ get_or xs i nobody.place =
-    sym (get_or-map (λ (x : Subject). x.place) subjects i nobody nobody.place low) ∙ still_at Place f xs (places_of subjects) i nobody.place before.places inside in
+    sym (get_or-map (λ (x : Subject). x.place) subjects i nobody nobody.place low) ∙ still_at Place f xs (subject_places subjects) i nobody.place before.places inside in
     subst (λ (ss : List Subject). IsNumbered starts words (get_or ss i nobody).place) (sym c.as_slice.ensures.value) (subst (IsNumbered starts words) (sym here) (c.requires i nobody.place inside))
 
 pub returns : goal.returns
 returns c =
     let f = followed_place (from_space c.args.moves.kind) c.args.moves.numbering.now.starts (new_place c.args.moves.forward.now.words) in
-    let xs = places_of c.args.subjects.now in
+    let xs = subject_places c.args.subjects.now in
     let i = c.loop-at.at in
     let past : length xs ≤ i = let same = length-map c.args.subjects.now (λ (x : Subject). x.place) in let end = c.loop-at-test.false in let count = c.len-at-end.ensures.number in omega arith in
     let done = c.loop-at.invariant in

@@ -1,4 +1,4 @@
-use Rattle.tg_index.specs.Bits.{numbers_of}
+use Rattle.tg_index.specs.Bits.{numbers_set}
 use Rattle.tg_index.proofs.BitLemmas.{none_number}
 use Rattle.tg_index.proofs.SlotLemmas.{taken_hole, taken_next, vacant_next, within_less, within_next}
 use Rattle.tg_index.proofs.RowIndex.take_first.Goals as goal
@@ -14,7 +14,7 @@ pub invariant_of-self-2 : goal.invariant_of-self-2
 invariant_of-self-2 c =
     let asked = rw (← c.self.view_is) at c.requires in
     within_next _ _ _ _ c.self.invariant asked.room.places
-    (vacant_next (numbers_of c.self.inside.holes) c.self.inside.next c.self.inside.places asked.vacant (none_number c.self.inside.holes (c.first.ensures.none c.in_default.is)))
+    (vacant_next (numbers_set c.self.inside.holes) c.self.inside.next c.self.inside.places asked.vacant (none_number c.self.inside.holes (c.first.ensures.none c.in_default.is)))
 
 pub returns-clause-taken : goal.returns-clause-taken
 returns-clause-taken c = rw (← c.self.view_is) (taken_next c.self.inside.holes c.self.inside.next (c.first.ensures.none c.in_default.is))

@@ -2,7 +2,7 @@ use Rattle.std.proofs.Common.{ℕ, ap, subst}
 use Rattle.tg_space.specs.declared.kind.Kind.{Kind}
 use Rattle.tg_race.specs.declared.record.Counts.{Counts}
 use Rattle.tg_space.specs.declared.room_fault.RoomFault.TheVariants.{HeapFull}
-use Rattle.tg_evac.specs.Collects.{Collects}
+use Rattle.tg_evac.specs.Collects.{CollectsRoots}
 use Rattle.tg_evac.proofs.Passing.{collects_refused}
 use Rattle.tg_parallel.proofs.many.collect_alone.Goals as goal
 
@@ -12,5 +12,5 @@ returns-in_err-table g c = collects_refused c.from_residual.result _ c.from_resi
 pub returns : goal.returns
 returns g c =
     let t = c.args.task.now.spaces.now in let roots = c.args.task.now.roots.now in let helpers = c.in_ok-table.field-0.table.counts.helpers in
-    subst (λ (n : ℕ). Collects HeapFull c.args.task.now.kind t roots n n c.finish.result) (ap (λ (k : Counts). k.helpers) c.in_ok-table.ensures.counts)
-    (subst (λ (kind : Kind). Collects HeapFull kind t roots helpers helpers c.finish.result) c.of-plan.ensures.plan.same c.finish.ensures)
+    subst (λ (n : ℕ). CollectsRoots HeapFull c.args.task.now.kind t roots n n c.finish.result) (ap (λ (k : Counts). k.helpers) c.in_ok-table.ensures.counts)
+    (subst (λ (kind : Kind). CollectsRoots HeapFull kind t roots helpers helpers c.finish.result) c.of-plan.ensures.plan.same c.finish.ensures)

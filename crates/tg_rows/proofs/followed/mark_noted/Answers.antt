@@ -3,7 +3,7 @@ use Rattle.std.proofs.lemmas.Bool.{cases_eq, false≢true}
 use Rattle.std.proofs.lemmas.List.{get_or-take, length-take-le}
 use Rattle.std.proofs.lemmas.Option.{get_or_from_slice_get}
 use Rattle.std.specs.List.{All, Contains}
-use Rattle.tg_index.specs.Bits.{bit_of}
+use Rattle.tg_index.specs.Bits.{bit_in}
 use Rattle.tg_rows.specs.Inner.Cells.{CellList}
 use Rattle.tg_rows.specs.Inner.Followed.{KeepsMarks}
 use Rattle.tg_rows.specs.Index.{IsOldPlace}
@@ -51,7 +51,7 @@ loop-row-preserved c =
           let others = w.mark_cell.ensures.others in
           let marked = aged_one notes row marks
           (λ n set. ⊎_elim (λ same. omega (arith, same)) (λ other. let low = was.marked.aged.marks n (sym (others n other) ∙ set) in omega (arith, low)) (cases_eq n row.old_cells))
-          (λ n set. ⊎_elim (λ same. ap (λ k. bit_of marks k) same ∙ here_now) (λ other. others n other ∙ set) (cases_eq n row.old_cells))
+          (λ n set. ⊎_elim (λ same. ap (λ k. bit_in marks k) same ∙ here_now) (λ other. others n other ∙ set) (cases_eq n row.old_cells))
           cell (omega (arith, below, long)) old (λ has. here_now) was.marked in
           subst (λ (r : IndexedRow). KeepsMarks notes c.args.row.now (record { names = r.names; cells = r.cells; old_cells = r.old_cells + 1; noted = r.noted })) (sym w.row-is)
           (record { names = was.names; cells = was.cells; marked = marked })

@@ -4,7 +4,7 @@ use Rattle.tg_rows.specs.Spots.{refers_to}
 use Rattle.tg_rows.proofs.Walks.{position_is, position_none}
 use Rattle.tg_rows.proofs.Slots.{same_test}
 use borrow.Author.Count.{falls}
-use Rattle.tg_space.specs.SpaceList.{Holds}
+use Rattle.tg_space.specs.SpaceList.{HasCell}
 use Rattle.tg_space.specs.Soundness.{RefersTo}
 use Rattle.tg_rows.proofs.rows.position_of.Goals as goal
 
@@ -30,7 +30,7 @@ pub read-requires-clause-held : goal.read-requires-clause-held
 read-requires-clause-held c =
     let h = c.args.spaces.now.spaces in
     let word = get_or c.args.words.now c.loop-k.k 0 in
-    subst (Holds h) (sym c.place_of.ensures) (⊎_elim (λ zero. absurd (c.if-word-ne0.true zero)) (λ (to : RefersTo h word). to.object.held) (c.requires c.loop-k.k 0 c.loop-k-test.true))
+    subst (HasCell h) (sym c.place_of.ensures) (⊎_elim (λ zero. absurd (c.if-word-ne0.true zero)) (λ (to : RefersTo h word). to.object.held) (c.requires c.loop-k.k 0 c.loop-k-test.true))
 
 pub loop-k-smaller : goal.loop-k-smaller
 loop-k-smaller c = falls (length c.args.words.now) c.loop-k.k c.loop-k-test.true

@@ -3,7 +3,7 @@ use Rattle.std.proofs.lemmas.List.{take_more, take_all}
 use Rattle.tg_rights.specs.RightSet.{RightSet, is_none_held, label_of}
 use Rattle.tg_word.specs.declared.Place.{Place}
 use Rattle.tg_word.specs.Word.{place_in, rights_in}
-use Rattle.tg_space.specs.SpaceList.{Holds, SpaceList}
+use Rattle.tg_space.specs.SpaceList.{HasCell, SpaceList}
 use Rattle.tg_space.specs.Soundness.{RefersTo}
 use Rattle.tg_rows.specs.Rows.{edges_in, name_at, name_in}
 use Rattle.tg_rows.proofs.Walks.{edges_in-append}
@@ -56,9 +56,9 @@ read-requires-clause-held c =
     let h = c.args.spaces.now.spaces in
     let word = get_or c.args.words.now c.loop-word.word-index 0 in
     let some : label_of (rights_in word) ≡ Some c.in-Some.label = sym (c.new.ensures ∙ ap label_of c.rights_of.ensures) ∙ c.in-Some.is in
-    let held : Holds h (place_in word) =
+    let held : HasCell h (place_in word) =
     ⊎_elim (λ (zero : word ≡ 0). let none : label_of (rights_in word) ≡ None = ap (λ (w : ℕ). label_of (rights_in w)) zero in absurd cc) (λ (to : RefersTo h word). to.object.held) (c.requires c.loop-word.word-index 0 c.loop-word-test.true) in
-    subst (Holds h) (sym c.place_of.ensures) held
+    subst (HasCell h) (sym c.place_of.ensures) held
 
 pub loop-word-smaller : goal.loop-word-smaller
 loop-word-smaller c = falls (length c.args.words.now) c.loop-word.word-index c.loop-word-test.true

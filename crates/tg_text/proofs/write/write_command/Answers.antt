@@ -3,7 +3,7 @@ use Rattle.std.specs.Fmt.{decimal}
 use Rattle.std.specs.List.{join_with_byte}
 use Rattle.tg_model.specs.declared.verb.Verb.{Verb}
 use Rattle.tg_model.specs.declared.verb.Arguments.{Arguments}
-use Rattle.tg_model.specs.Commands.{parts_of, word_of}
+use Rattle.tg_model.specs.Commands.{verb_and_arguments, word_of}
 use Rattle.tg_text.specs.Grammar.{words_of_arguments}
 use Rattle.tg_text.specs.Sinks.{Writes}
 use Rattle.tg_text.specs.Inner.Words.{words_behind}
@@ -22,12 +22,12 @@ pub returns : goal.returns
 returns g c =
     let s = g.K.Sink in
     subst (λ (text : List ℕ). Writes (s.taken c.args.sink.now) (s.failures c.args.sink.now) text c.write_arguments.result (s.taken c.write_arguments.new.sink) (s.failures c.write_arguments.new.sink))
-    (same_text c.args.worker c.word.result.now c.parts-verb.result (parts_of c.args.command) c.parts-verb.ensures c.word.ensures)
+    (same_text c.args.worker c.word.result.now c.parts-verb.result (verb_and_arguments c.args.command) c.parts-verb.ensures c.word.ensures)
     (writes_then _ _ _ _ _ _ _ _ _ c.in_ok-write_front.ensures c.write_arguments.ensures)
 
 pub returns-in_err-write_front : goal.returns-in_err-write_front
 returns-in_err-write_front g c =
     let s = g.K.Sink in
     subst (λ (text : List ℕ). Writes (s.taken c.args.sink.now) (s.failures c.args.sink.now) text c.from_residual.result (s.taken c.write_front.new.sink) (s.failures c.write_front.new.sink))
-    (same_text c.args.worker c.word.result.now c.parts-verb.result (parts_of c.args.command) c.parts-verb.ensures c.word.ensures)
+    (same_text c.args.worker c.word.result.now c.parts-verb.result (verb_and_arguments c.args.command) c.parts-verb.ensures c.word.ensures)
     (writes_cut_first _ _ _ _ _ _ _ c.from_residual.ensures.0 c.in_err-write_front.ensures)

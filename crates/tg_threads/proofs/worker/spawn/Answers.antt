@@ -3,7 +3,7 @@ use Rattle.std.specs.Prelude.{IfOk}
 use Rattle.tg_model.specs.declared.value.Value.{Value}
 use Rattle.tg_script.specs.Script.{spawn_of}
 use Rattle.tg_shared.specs.Sessions.{AreFresh, SessionState}
-use Rattle.tg_threads.specs.Tasks.{HasMade, subjects_spawned}
+use Rattle.tg_threads.specs.Tasks.{HasMadeVertex, subjects_spawned}
 use Rattle.tg_threads.proofs.RunLaws.{has_receipt, heap_front, not_made_asked, not_spawned, ok_where, one_spawned, still_each, told_of_answer}
 use Rattle.tg_threads.proofs.worker.spawn.Goals as goal
 
@@ -12,7 +12,7 @@ returns-in-Ok-clause-told g c =
     let old = c.args.session.now in
     let new = c.spawn.new.self in
     record {
-      asked = subst (λ (box : Option Value). HasMade g.L.Round.start (spawn_of c.args.label) box c.last_told.result old new) (sym c.in-Some.is)
+      asked = subst (λ (box : Option Value). HasMadeVertex g.L.Round.start (spawn_of c.args.label) box c.last_told.result old new) (sym c.in-Some.is)
           (told_of_answer g.L.Round.start old new (spawn_of c.args.label c.in-Some.draft) _ c.last_told.result c.in-Ok.ensures.receipt c.last_told.ensures);
       gone = tt;
     }
@@ -22,7 +22,7 @@ returns-in-Err-clause-told g c =
     let old = c.args.session.now in
     let new = c.spawn.new.self in
     record {
-      asked = subst (λ (box : Option Value). IfOk c.not_made.result (λ t. HasMade g.L.Round.start (spawn_of c.args.label) box t old new)) (sym c.in-Some.is)
+      asked = subst (λ (box : Option Value). IfOk c.not_made.result (λ t. HasMadeVertex g.L.Round.start (spawn_of c.args.label) box t old new)) (sym c.in-Some.is)
           (not_made_asked g.L.Round.start (spawn_of c.args.label c.in-Some.draft) c.in-Err.refused.why c.not_made.result old new (heap_front g.L.Round.start new.seen _ c.in-Err.ensures.refusals.heap_full) c.not_made.ensures.fault c.in-Err.ensures.refusals.full (c.in-Err.ensures.workers_full) (c.in-Err.ensures.refused)
           c.not_made.ensures.refused c.not_made.ensures.entered);
       gone = search rules;

@@ -3,7 +3,7 @@ use Rattle.std.proofs.Math.Seq.{map-set_same}
 use Rattle.std.proofs.lemmas.List.{length-map}
 use Rattle.std.proofs.lemmas.List.Elements.{All-weaker}
 use Rattle.tg_weave.specs.Boxes.{boxed_of}
-use Rattle.tg_weave.specs.Shares.{all_lines, lines_in, runner_of}
+use Rattle.tg_weave.specs.Shares.{all_shares, lines_in, runner_of}
 use Rattle.tg_weave.specs.declared.work.Work.{Work}
 use Rattle.tg_weave.proofs.ShareLaws.{IsDealt, all_came, map_push, one_more, runner_below, dealt_none, dealt_all, dealt_nobodys, dealt_step}
 use Rattle.tg_weave.proofs.sharing.deal.Goals as goal
@@ -56,4 +56,4 @@ loop-task-preserved g c = record {
 pub returns-clause-lines : goal.returns-clause-lines
 returns-clause-lines g c =
     let all : c.loop-task.yielded ≡ c.args.tasks.items = all_came c.loop-task.yielded c.loop-task.task-iterator.rest.items c.args.tasks.items c.loop-task.invariant.left (sym c.loop-task.task-iterator.rest.ok.0 ∙ c.in-None.ensures.steps.0) in
-    dealt_all (length c.args.works.items) (map boxed_of c.loop-task.yielded) (map lines_in c.loop-task.works.items) c.loop-task.invariant.dealt ∙ ap (λ ts. all_lines (length c.args.works.items) (map boxed_of ts)) all
+    dealt_all (length c.args.works.items) (map boxed_of c.loop-task.yielded) (map lines_in c.loop-task.works.items) c.loop-task.invariant.dealt ∙ ap (λ ts. all_shares (length c.args.works.items) (map boxed_of ts)) all

@@ -1,7 +1,7 @@
 use Rattle.std.proofs.Common.{◌≡◌, ◌<◌, ℕ, List, length, map, sym, subst}
 use Rattle.std.specs.Prelude.{IfOk}
 use Rattle.tg_weave.specs.Boxes.{Boxed, boxed}
-use Rattle.tg_weave.specs.Shares.{all_lines, lines_in}
+use Rattle.tg_weave.specs.Shares.{all_shares, lines_in}
 use Rattle.tg_weave.specs.declared.work.Work.{Work}
 use Rattle.tg_weave.proofs.ShareLaws.{as_many}
 use Rattle.tg_weave.proofs.sharing.share_out.Goals as goal
@@ -18,5 +18,5 @@ returns-clause-sessions g c =
 pub returns-clause-lines : goal.returns-clause-lines
 returns-clause-lines g c =
     let whole : List Boxed = boxed c.args.stock.items c.args.lines.now in
-    subst (λ (n : ℕ). IfOk c.deal.result (λ works. map lines_in works.items ≡ all_lines n whole)) (as_many _ c.in_ok-works.works.items c.args.sessions.items c.in_ok-works.ensures.sessions)
-    (subst (λ (bs : List Boxed). IfOk c.deal.result (λ works. map lines_in works.items ≡ all_lines (length c.in_ok-works.works.items) bs)) c.in_ok-tasks.ensures c.deal.ensures.lines)
+    subst (λ (n : ℕ). IfOk c.deal.result (λ works. map lines_in works.items ≡ all_shares n whole)) (as_many _ c.in_ok-works.works.items c.args.sessions.items c.in_ok-works.ensures.sessions)
+    (subst (λ (bs : List Boxed). IfOk c.deal.result (λ works. map lines_in works.items ≡ all_shares (length c.in_ok-works.works.items) bs)) c.in_ok-tasks.ensures c.deal.ensures.lines)

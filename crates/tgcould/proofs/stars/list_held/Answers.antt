@@ -2,12 +2,12 @@ use Rattle.std.proofs.Common.{ℕ, inl, inr, ⊎_elim, below_more, arith}
 use Rattle.std.proofs.lemmas.Bool.Decides.{leb_tells}
 use Rattle.tg_rights.specs.declared.Right.{Right}
 use Rattle.tg_could.specs.Listed.{IsLeftOut}
-use Rattle.tgcould.specs.Told.{IsHeld}
+use Rattle.tgcould.specs.Told.{IsHeldOverBy}
 use Rattle.tgcould.proofs.stars.list_held.Goals as goal
 
 pub loop-y-preserved : goal.loop-y-preserved
 loop-y-preserved c =
-    let Shown : ℕ → Type 0 = λ k. (right : Right) → (¬ IsHeld c.add_rights.new.rows.items right k) → IsLeftOut c.args.what.now right k in
+    let Shown : ℕ → Type 0 = λ k. (right : Right) → (¬ IsHeldOverBy c.add_rights.new.rows.items right k) → IsLeftOut c.args.what.now right k in
     below_more Shown c.loop-y.y
     (λ k below right without. c.loop-y.invariant k below right (λ has. without (c.in_ok-add_rights.ensures.kept right k has)))
     (λ right without. (c.over.ensures right).0 (λ has. without (c.in_ok-add_rights.ensures.added right has)))

@@ -1,7 +1,7 @@
 use Rattle.std.proofs.Common.{take}
 use Rattle.std.specs.List.{AllZip}
-use Rattle.tgcould.specs.Policies.{Writes}
+use Rattle.tgcould.specs.Policies.{WritesWord}
 use Rattle.tgcould.proofs.supposed.read_names.Given as goal
 
 abbrev pub invariant-loop-text : goal.invariant-loop-text
-invariant-loop-text g l = AllZip (λ text name. Writes text.now name) (take l.text-index l.texts) l.names.items
+invariant-loop-text g l = AllZip (λ text name. WritesWord text.now name) (take l.text-index l.texts) l.names.items

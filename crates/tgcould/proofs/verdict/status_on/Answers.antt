@@ -3,7 +3,7 @@ use Rattle.std.specs.List.{All}
 use Rattle.std.proofs.lemmas.Result.{IfOk-weaker}
 use Rattle.tg_model.specs.declared.edge.Edge.{Edge}
 use Rattle.tgcould.specs.declared.options.TheConstants.{NEVER}
-use Rattle.tgcould.specs.Policies.{IsKept, texts_of}
+use Rattle.tgcould.specs.Policies.{IsKeptPolicy, texts_of}
 use Rattle.tgcould.specs.Supposed.{Supposes}
 use Rattle.tgcould.proofs.VerdictLaws.{all_kept_supposed}
 use Rattle.tgcould.proofs.verdict.status_on.Goals as goal
@@ -16,5 +16,5 @@ returns g c =
     (λ status kept zero.
     all_kept_supposed p q c.args.matches.now c.args.supposed.now c.made.result c.made.ensures (c.if-not-are_made.ensures refl)
     (subst (λ (es : List Edge). Supposes p es q) c.as_slice.ensures.value c.in_ok-picture.ensures)
-    (subst (λ (ns : List ℕ). All (IsKept q ns) (texts_of c.args.matches.now NEVER.now)) c.as_slice-2.ensures.value (kept zero)))
+    (subst (λ (ns : List ℕ). All (IsKeptPolicy q ns) (texts_of c.args.matches.now NEVER.now)) c.as_slice-2.ensures.value (kept zero)))
     c.print_answers.ensures

@@ -1,6 +1,6 @@
 use Rattle.std.proofs.Common.{subst}
 use Rattle.tg_could.specs.declared.separation.Membership.{Membership}
-use Rattle.tg_could.specs.Separation.{AreApart, Suits, sides_of, place_in}
+use Rattle.tg_could.specs.Separation.{SidesAreApart, Suits, sides_of, place_in}
 use Rattle.tg_could.proofs.MarkLaws.{idle-fits, apart-fits, suits-fits}
 use Rattle.tg_could.proofs.separation.Separation.fits.Goals as goal
 
@@ -12,8 +12,8 @@ returns-then-are_apart c t =
     let e = c.args.edge.now in
     let apart = c.are_apart.ensures c.if-are_apart.true in
     apart-fits (sides_of c.args.self.now) c.args.question.x c.args.question.right c.args.question.y e
-    (subst (λ (p : Membership). AreApart p (place_in (sides_of c.args.self.now) e.to)) c.place-from.ensures
-    (subst (λ (p : Membership). AreApart c.place-from.result p) c.place-to.ensures apart.0))
+    (subst (λ (p : Membership). SidesAreApart p (place_in (sides_of c.args.self.now) e.to)) c.place-from.ensures
+    (subst (λ (p : Membership). SidesAreApart c.place-from.result p) c.place-to.ensures apart.0))
     apart.1
 
 pub returns : goal.returns

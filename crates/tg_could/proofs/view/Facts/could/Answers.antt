@@ -1,6 +1,6 @@
 use Rattle.std.proofs.Common.{◌≡◌, ◌∙◌, sym, ap, subst, ℕ, false}
 use Rattle.tg_could.specs.Names.{number_in}
-use Rattle.tg_could.specs.View.{word_of, meets}
+use Rattle.tg_could.specs.View.{name_word, meets}
 use Rattle.tg_could.proofs.ViewLaws.{perhaps_not, gathered-at, viewed-same, viewed-alone, viewed-never}
 use Rattle.tg_could.proofs.view.Facts.could.Goals as goal
 
@@ -23,8 +23,8 @@ pub returns : goal.returns
 returns c silent shown g checked picture never =
     let f = c.args.self.now in
     let word = c.with_later-word.result in
-    let at : c.granted.result ≡ word_of f.islands.granted.items (number_in f.names c.args.question.x) =
-    c.granted.ensures ∙ ap (λ (n : ℕ). word_of f.islands.granted.items n) c.number-number.ensures in
+    let at : c.granted.result ≡ name_word f.islands.granted.items (number_in f.names c.args.question.x) =
+    c.granted.ensures ∙ ap (λ (n : ℕ). name_word f.islands.granted.items n) c.number-number.ensures in
     viewed-never silent shown g picture f checked c.args.question.x c.args.question.right c.args.question.y c.in-Some.gathered
     (gathered-at f c.args.question.right _ _ c.as_slice-words.result.now c.in-Some.gathered c.as_slice-words.ensures.value c.number-number.ensures c.number.ensures c.in-Some.ensures)
     word c.with_later-word.ensures

@@ -1,7 +1,7 @@
 use Rattle.std.proofs.Common.{◌≡◌, ℕ, true, false, ◌+◌, ◌-◌, [], length, ap, refl, subst, sym, arith, ◌∙◌, ⊎_elim}
 use Rattle.tg_word.specs.declared.Place.{Place}
 use Rattle.tg_word.specs.Word.{place_in}
-use Rattle.tg_space.specs.SpaceList.{Holds, cells_of}
+use Rattle.tg_space.specs.SpaceList.{HasCell, cells_of}
 use Rattle.tg_space.specs.Soundness.{IsPointer, NamesCell}
 use Rattle.tg_space.specs.Rows.{link_at}
 use Rattle.tg_space.specs.Targets.{from_space}
@@ -46,7 +46,7 @@ returns-then-moves g c =
 pub claim_targets-requires : goal.claim_targets-requires
 claim_targets-requires g c = record {
   walk = walk_still c.loop.invariant.added c.requires.walk;
-  held = subst (Holds c.args.self.spaces.now.spaces) (sym c.place_of-chunk.ensures) (⊎_elim (λ none. absurd (c.if-link-eq0.false none)) (λ (names : NamesCell c.args.self.spaces.now.spaces c.loop.link). names.held) c.loop.invariant.pointer);
+  held = subst (HasCell c.args.self.spaces.now.spaces) (sym c.place_of-chunk.ensures) (⊎_elim (λ none. absurd (c.if-link-eq0.false none)) (λ (names : NamesCell c.args.self.spaces.now.spaces c.loop.link). names.held) c.loop.invariant.pointer);
 }
 
 pub returns-in_err-claim_targets : goal.returns-in_err-claim_targets
@@ -62,7 +62,7 @@ pub loop-preserved : goal.loop-preserved
 loop-preserved g c =
     let m = g.C.Claimer in let h = c.args.self.spaces.now.spaces in let kind = (m.walked c.args.claimer.now).kind in let n = length (cells_of h) in
     let kept = moves_as c.place_of-chunk.result c.loop.link c.moves.result false c.requires.walk.table c.place_of-chunk.ensures c.moves.ensures c.if-moves.false in
-    let held : Holds h (place_in c.loop.link) = ⊎_elim (λ none. absurd (c.if-link-eq0.false none)) (λ (names : NamesCell h c.loop.link). names.held) c.loop.invariant.pointer in
+    let held : HasCell h (place_in c.loop.link) = ⊎_elim (λ none. absurd (c.if-link-eq0.false none)) (λ (names : NamesCell h c.loop.link). names.held) c.loop.invariant.pointer in
     let link : link_at h (place_in c.loop.link) ≡ c.read-link.result = ap (λ (p : Place). link_at h p) (sym c.place_of-chunk.ensures) ∙ sym c.read-link.ensures in
     let passed = met_chunk h c.args.straight n c.args.first c.loop.counter c.loop.link c.place_of-chunk.result c.place_of-chunk.ensures
     c.loop.invariant.added c.claim_targets.ensures.added c.loop.invariant.passed (omega (arith, c.cells-end.ensures.cells)) c.if-link-eq0.false kept c.in_ok-claim_targets.ensures.met in

@@ -1,6 +1,6 @@
 use Rattle.std.proofs.Common.{arith, ℕ, ◌≤◌, Ok, sym, ap, subst, ◌∙◌}
 use Rattle.tg_space.specs.Targets.{cell_numbered}
-use Rattle.tg_evac.specs.Inner.Reads.{HasRead}
+use Rattle.tg_evac.specs.Inner.Reads.{HasReadAhead}
 use Rattle.tg_evac.specs.Walks.{Scans}
 use Rattle.tg_evac.specs.declared.copies.Ahead.{Ahead}
 use Rattle.tg_evac.proofs.Reading.{has_read_none, has_read_still, read_ahead}
@@ -20,7 +20,7 @@ loop-next-init g c =
 pub loop-next-preserved : goal.loop-next-preserved
 loop-next-preserved g c =
     let m = g.C.Claimer in let h = c.args.self.spaces.now.spaces in let won = (m.walked c.loop-next.claimer).won in let n = c.loop-next.next in
-    let both = λ (a : Ahead). (a.first ≤ n) × HasRead h won a in
+    let both = λ (a : Ahead). (a.first ≤ n) × HasReadAhead h won a in
     let now : both c.match-self.ahead =
     elim c.match-self.branch [
       | in-Each w ↦ subst both (sym w.ahead-is) (c.loop-next.invariant.before, c.loop-next.invariant.read)

@@ -1,5 +1,5 @@
 use Rattle.std.proofs.Common.{◌≤◌, ◌-◌, Ok}
-use Rattle.tg_evac.specs.Inner.Reads.{HasRead}
+use Rattle.tg_evac.specs.Inner.Reads.{HasReadAhead}
 use Rattle.tg_evac.specs.Walks.{Scans}
 use Rattle.tg_evac.proofs.walk.Walk.scan.Given as goal
 
@@ -9,7 +9,7 @@ invariant-loop-next g l =
     record {
       scans : Scans m.walked m.knows m.is_full l.self.spaces.now.spaces l.initial.claimer l.claimer l.next l.copies.aged l.copies.old (Ok (tt {0}));
       before : l.ahead.first ≤ l.next;
-      read : HasRead l.self.spaces.now.spaces (m.walked l.claimer).won l.ahead;
+      read : HasReadAhead l.self.spaces.now.spaces (m.walked l.claimer).won l.ahead;
     }
 
 abbrev pub decreases-loop-next : goal.decreases-loop-next

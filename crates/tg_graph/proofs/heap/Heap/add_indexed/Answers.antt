@@ -1,7 +1,7 @@
 use Rattle.std.proofs.Common.{◌∙◌, ◌+◌, ◌<◌, ◌++◌, ◌∷◌, [], inr, ap, arith, get_or, length, subst, sym}
 use Rattle.std.proofs.lemmas.Option.{get_or_from_slice_get}
 use Rattle.tg_word.specs.declared.Place.{Place}
-use Rattle.tg_space.specs.SpaceList.{Holds, cell_at}
+use Rattle.tg_space.specs.SpaceList.{HasCell, cell_at}
 use Rattle.tg_space.specs.Soundness.{HasLayout}
 use Rattle.tg_space.specs.Targets.{targets_at, young_spaces}
 use Rattle.tg_space.specs.declared.root.Root.TheVariants.{Row}
@@ -21,7 +21,7 @@ add_named-requires g c =
     let low : c.in-Some.number < length row.cells.items = omega (arith, known, within) in
     let at = get_or_from_slice_get row.cells.items c.in-Some.number c.place.result c.place.result c.place.ensures in
     record {
-      held = subst (λ (heap : HeapState). Holds heap.table.spaces c.place.result) (sym c.self.view_is) (subst (Holds c.args.self.now.table.spaces) at (cell_held c.args.self.now x row is c.in-Some.number c.place.result low));
+      held = subst (λ (heap : HeapState). HasCell heap.table.spaces c.place.result) (sym c.self.view_is) (subst (HasCell c.args.self.now.table.spaces) at (cell_held c.args.self.now x row is c.in-Some.number c.place.result low));
       layout = subst (λ (heap : HeapState). HasLayout heap.table.spaces (cell_at heap.table.spaces c.place.result)) (sym c.self.view_is)
           (subst (λ (p : Place). HasLayout c.args.self.now.table.spaces (cell_at c.args.self.now.table.spaces p)) at (cell_layout c.args.self.now x row is c.in-Some.number c.place.result low));
     }

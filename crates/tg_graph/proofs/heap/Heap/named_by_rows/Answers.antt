@@ -3,7 +3,7 @@ use Rattle.std.proofs.lemmas.List.{get_or-map, length-map, take_all}
 use Rattle.std.proofs.lemmas.List.Elements.{Contains-get_or}
 use Rattle.std.specs.List.{Contains}
 use Rattle.tg_word.specs.declared.Place.{Place}
-use Rattle.tg_subjects.specs.Subjects.{places_of}
+use Rattle.tg_subjects.specs.Subjects.{subject_places}
 use Rattle.tg_subjects.specs.declared.subject.Subject.{Subject}
 use Rattle.tg_space.specs.Targets.{all_root_targets, root_targets_of, young_spaces}
 use Rattle.tg_space.specs.declared.root.Root.TheVariants.{Row}
@@ -26,7 +26,7 @@ loop-subject-preserved g c =
     let s : HeapState = record { table = inside.cells.spaces; payloads = inside.cells.payloads; subjects = inside.subjects; remembered = inside.cells.remembered.places; indexed = names_indexed inside.cells.spaces.spaces inside.rows.entries } in
     let h = c.args.self.now.table.spaces in
     let subjects = c.as_slice-subjects.result.now in
-    let ps = places_of subjects in
+    let ps = subject_places subjects in
     let n = c.loop-subject.subject-index in
     let x = get_or subjects n nobody in
     let low : n < length ps = let same = length-map subjects (λ (x : Subject). x.place) in let inside = c.loop-subject-test.true in omega arith in
@@ -45,9 +45,9 @@ pub returns : goal.returns
 returns g c =
     let h = c.args.self.now.table.spaces in
     let subjects = c.as_slice-subjects.result.now in
-    let ps = places_of subjects in
+    let ps = subject_places subjects in
     let same = length-map subjects (λ (x : Subject). x.place) in
     let past = c.loop-subject-test.false in
     let all = take_all c.loop-subject.subject-index ps (omega (arith, same, past)) in
-    subst (λ (xs : List Subject). AddsRoots h (all_root_targets young_spaces h (map (λ p. Row p) (places_of xs))) [] c.loop-subject.roots.items) (c.as_slice-subjects.ensures.value ∙ ap (λ (heap : HeapState). heap.subjects) c.self.view_is)
+    subst (λ (xs : List Subject). AddsRoots h (all_root_targets young_spaces h (map (λ p. Row p) (subject_places xs))) [] c.loop-subject.roots.items) (c.as_slice-subjects.ensures.value ∙ ap (λ (heap : HeapState). heap.subjects) c.self.view_is)
     (subst (λ (qs : List Place). AddsRoots h (all_root_targets young_spaces h (map (λ p. Row p) qs)) [] c.loop-subject.roots.items) all c.loop-subject.invariant)

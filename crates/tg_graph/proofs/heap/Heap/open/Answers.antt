@@ -5,7 +5,7 @@ use Rattle.tg_model.specs.declared.edge.Edge.{Edge}
 use Rattle.tg_model.specs.declared.value.Value.{Value}
 use Rattle.tg_model.specs.Opened.{JoinsWorkers, Plan, label_in}
 use Rattle.tg_word.specs.declared.Place.{Place}
-use Rattle.tg_subjects.specs.Subjects.{names_of, nurseries_of, places_of}
+use Rattle.tg_subjects.specs.Subjects.{names_of, nurseries_of, subject_places}
 use Rattle.tg_subjects.specs.declared.subject.Subject.{Subject}
 use Rattle.tg_remember.specs.Notes.{Notes}
 use Rattle.tg_space.specs.Generations.{AreRemembered}
@@ -22,14 +22,14 @@ use Rattle.tg_graph.proofs.heap.Heap.open.Goals as goal
 
 -- what the steps have opened
 opened : {P : Type 0} (placed added : Cells P) (subjects : List Subject) (plan : Plan) (limits given : BlockLimits) (edges : List Edge) (values : List Value) →
-    IsOpened placed.spaces placed.payloads (places_of subjects) (length values) limits no_labels values → Relabels placed added (label_in edges) →
+    IsOpened placed.spaces placed.payloads (subject_places subjects) (length values) limits no_labels values → Relabels placed added (label_in edges) →
     values ≡ plan.values → length plan.values ≡ plan.workers → limits ≡ given → edges ≡ plan.edges →
-    IsOpened added.spaces added.payloads (places_of subjects) plan.workers given (label_in plan.edges) plan.values
+    IsOpened added.spaces added.payloads (subject_places subjects) plan.workers given (label_in plan.edges) plan.values
 opened placed added subjects plan limits given edges values was to same count kept read =
     let workers = ap (λ (vs : List Value). length vs) same ∙ count in
     let payloads = sym to.payloads in
-    subst (λ (opened : Type 0). opened) (λ i. IsOpened added.spaces (payloads i) (places_of subjects) (workers i) (kept i) (label_in (read i)) (same i))
-    (edges_opened placed.spaces added.spaces placed.payloads (places_of subjects) (length values) limits (label_in edges) values was to.changed to.blocks)
+    subst (λ (opened : Type 0). opened) (λ i. IsOpened added.spaces (payloads i) (subject_places subjects) (workers i) (kept i) (label_in (read i)) (same i))
+    (edges_opened placed.spaces added.spaces placed.payloads (subject_places subjects) (length values) limits (label_in edges) values was to.changed to.blocks)
 
 -- as many as there are workers
 ranged : (xs : List ℕ) (drafts values : List Value) (workers : ℕ) → xs ≡ range_with_len 0 (length drafts) → drafts ≡ values → length values ≡ workers → xs ≡ range_with_len 0 workers
@@ -50,7 +50,7 @@ add_edges-requires g c =
         few = omega (arith, count, drafts, plan.workers);
         graph = placed.opened.graph;
         spaces = placed.opened.spaces;
-        vertices = λ x p at. placed.opened.vertices x p (subst (λ (subjects : List Subject). slice_get (places_of subjects) x ≡ Some p) c.as_slice.ensures.value at);
+        vertices = λ x p at. placed.opened.vertices x p (subst (λ (subjects : List Subject). slice_get (subject_places subjects) x ≡ Some p) c.as_slice.ensures.value at);
         old = placed.opened.old;
       };
       row = let row = c.in-Ok.ensures.ready.room.row in omega (arith, count, drafts, row);
@@ -89,7 +89,7 @@ returns g c =
     let all = opened c.place_workers.new.cells c.add_edges.new.cells subjects c.args.opening.now c.in-Ok.room.cells.spaces.limits c.args.limits c.edges.result.now c.args.drafts.items c.place_workers.ensures.opened c.add_edges.ensures c.requires c.workers.ensures.plan.values.0 c.in-Ok.ensures.ready.nurseries.limits_kept c.edges.ensures in
     record {
       stands =
-          opened_stands c.args.opening.now c.workers.ensures.plan cells.spaces cells.payloads (places_of subjects) c.args.limits all
+          opened_stands c.args.opening.now c.workers.ensures.plan cells.spaces cells.payloads (subject_places subjects) c.args.limits all
           (length-map subjects (λ (x : Subject). x.place) ∙ subjects_counted subjects c.args.opening.now.workers names);
       subjects = names;
       numbers = named (nurseries_of subjects) c.place_workers.ensures.numbers c.requires c.workers.ensures.plan.values.0;

@@ -2,7 +2,7 @@
 use Rattle.std.proofs.Common.{◌≡◌, ◌∙◌, ◌++◌, List, Vec, Global, [], ◌∷◌, map, refl, ap, subst, sym}
 use Rattle.std.proofs.lemmas.Result.{IfOk-weaker}
 use Rattle.tg_word.specs.declared.Place.{Place}
-use Rattle.tg_subjects.specs.Subjects.{places_of}
+use Rattle.tg_subjects.specs.Subjects.{subject_places}
 use Rattle.tg_subjects.specs.declared.subject.Subject.{Subject}
 use Rattle.tg_space.specs.Soundness.{AreSound}
 use Rattle.tg_space.specs.Targets.{all_root_targets, from_space, young_spaces}
@@ -17,7 +17,7 @@ use Rattle.tg_graph.proofs.Starts.{all_same, starts_collect, starts_sound}
 use Rattle.tg_graph.proofs.heap.Heap.roots.Goals as goal
 
 -- the rows of subjects are those at their places
-at_places : (xs : List Subject) → map (λ (x : Subject). Row x.place) xs ≡ map (λ (p : Place). Row p) (places_of xs)
+at_places : (xs : List Subject) → map (λ (x : Subject). Row x.place) xs ≡ map (λ (p : Place). Row p) (subject_places xs)
 at_places [] = refl
 at_places (x ∷ xs) = ap (λ (roots : List Root). Row x.place ∷ roots) (at_places xs)
 
@@ -30,7 +30,7 @@ record StandFor (kind : Kind) (s : HeapState) (roots : List Root) : Type 0 where
 rows_stand : (s : HeapState) → IsWellFormed s → StandFor Full s (map (λ (x : Subject). Row x.place) s.subjects)
 rows_stand s formed = subst (StandFor Full s) (sym (at_places s.subjects)) (record { alike = λ made. (λ is. is, λ is. is); targets = refl; sound = roots_sound s formed Full })
 
-noted_stand : (s : HeapState) → IsWellFormed s → (roots : List Root) → AddsRoots s.table.spaces (all_root_targets young_spaces s.table.spaces (map (λ p. Row p) (places_of s.subjects))) [] roots → StandFor Nursery s (roots ++ map (λ p. Remembered p) s.remembered)
+noted_stand : (s : HeapState) → IsWellFormed s → (roots : List Root) → AddsRoots s.table.spaces (all_root_targets young_spaces s.table.spaces (map (λ p. Row p) (subject_places s.subjects))) [] roots → StandFor Nursery s (roots ++ map (λ p. Remembered p) s.remembered)
 noted_stand s formed roots are = record { alike = starts_collect s formed roots are; targets = all_same s formed roots are; sound = starts_sound s formed roots are }
 
 pub returns-in-Full : goal.returns-in-Full
@@ -56,7 +56,7 @@ returns-in_ok-add_remembered-in-Nursery g c =
     let s : HeapState = record { table = inside.cells.spaces; payloads = inside.cells.payloads; subjects = inside.subjects; remembered = inside.cells.remembered.places; indexed = names_indexed inside.cells.spaces.spaces inside.rows.entries } in
     let now = c.args.self.now in
     let rows = c.in_ok-roots-in-Nursery.roots.items in
-    let are = subst (λ (heap : HeapState). AddsRoots heap.table.spaces (all_root_targets young_spaces heap.table.spaces (map (λ p. Row p) (places_of heap.subjects))) [] rows) (sym c.self.view_is) c.in_ok-roots-in-Nursery.ensures in
+    let are = subst (λ (heap : HeapState). AddsRoots heap.table.spaces (all_root_targets young_spaces heap.table.spaces (map (λ p. Row p) (subject_places heap.subjects))) [] rows) (sym c.self.view_is) c.in_ok-roots-in-Nursery.ensures in
     let noted : StandFor Nursery now (rows ++ map (λ p. Remembered p) s.remembered) = subst (λ (heap : HeapState). StandFor Nursery heap (rows ++ map (λ p. Remembered p) s.remembered)) c.self.view_is (noted_stand s c.self.invariant.0 rows are) in
     let stand : StandFor c.args.kind now c.add_remembered.new.roots.items = subst (λ (k : Kind). StandFor k now c.add_remembered.new.roots.items) (sym c.in-Nursery.is) (subst (StandFor Nursery now) (sym c.in_ok-add_remembered-in-Nursery.ensures) noted) in
     record { roots = stand.alike; targets = stand.targets; sound = stand.sound }

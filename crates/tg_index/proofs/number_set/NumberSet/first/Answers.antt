@@ -1,5 +1,5 @@
 use Rattle.std.proofs.Common.{◌≡◌, ℕ, List, arith, subst}
-use Rattle.tg_index.specs.Bits.{IsFirstOf, bit_of}
+use Rattle.tg_index.specs.Bits.{IsFirstOf, bit_in}
 use Rattle.tg_index.proofs.BitLemmas.{first_marked, none_marked}
 use Rattle.tg_index.proofs.number_set.NumberSet.first.Goals as goal
 
@@ -16,7 +16,7 @@ pub first_in-requires-clause-few : goal.first_in-requires-clause-few
 first_in-requires-clause-few c = let few = c.self.invariant.few in omega arith
 
 pub returns-then-self-len-clause-none : goal.returns-then-self-len-clause-none
-returns-then-self-len-clause-none c = λ _ n. subst (λ (words : List ℕ). bit_of words n ≡ 0) c.self.view_is (none_marked _ _ _ c.self.invariant (omega (arith, c.if-self-len.true, c.len.ensures)) n)
+returns-then-self-len-clause-none c = λ _ n. subst (λ (words : List ℕ). bit_in words n ≡ 0) c.self.view_is (none_marked _ _ _ c.self.invariant (omega (arith, c.if-self-len.true, c.len.ensures)) n)
 
 pub returns-clause-some : goal.returns-clause-some
 returns-clause-some c =

@@ -1,6 +1,6 @@
 use Rattle.std.proofs.Common.{◌≡◌, ◌+◌, ◌/◌, ◌%◌, ◌<◌, ◌^◌, List, ℕ, length, arith, refl, subst}
 use Rattle.std.specs.Int.{trailing_zeros, w64}
-use Rattle.tg_index.specs.Bits.{IsNextFrom, bit_of}
+use Rattle.tg_index.specs.Bits.{IsNextFrom, bit_in}
 use Rattle.tg_index.proofs.NextLemmas.{next_here, next_later, next_none, unmarked_zero}
 use Rattle.tg_index.proofs.number_set.NumberSet.next.Goals as goal
 
@@ -32,5 +32,5 @@ pub returns-in-None-clause-none : goal.returns-in-None-clause-none
 returns-in-None-clause-none c = λ _ n above.
     let words = c.self.inside.places.words.items in
     let inside : c.args.from / 64 < length words = omega (arith, c.if-word-len.false, c.len.ensures) in
-    subst (λ (ws : List ℕ). bit_of ws n ≡ 0) c.self.view_is
+    subst (λ (ws : List ℕ). bit_in ws n ≡ 0) c.self.view_is
     (next_none words c.args.from c.index.result.now inside c.index.ensures c.if-left-ne0.false (length words) (λ w behind below. unmarked_zero words _ _ c.self.invariant w (c.next.ensures.none c.in-None.is w behind)) refl n above)

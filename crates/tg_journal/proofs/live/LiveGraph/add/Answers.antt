@@ -1,7 +1,7 @@
 use Rattle.std.proofs.Common.{refl, sym, subst, arith}
 use Rattle.tg_model.specs.Graph.{HasEdge, with_rights}
 use Rattle.tg_model.proofs.ReachLaws.{HasEdge-holds, targets-with_rights}
-use Rattle.tg_journal.specs.Live.{Kept, label_between}
+use Rattle.tg_journal.specs.Live.{KeptGraph, label_between}
 use Rattle.tg_journal.proofs.DeedLaws.{relabelled}
 use Rattle.tg_journal.proofs.live.LiveGraph.add.Goals as goal
 
@@ -19,5 +19,5 @@ invariant_of-self-2 c =
     targets-with_rights (label_between c.self.inside.vertices) (label_between c.add.new.self) c.args.from c.args.to c.self.inside.made c.self.inside.made c.args.label
     (λ a b i. c.in_ok-add.ensures.labels i a b) c.self.invariant (omega arith)
     (λ some. c.self.invariant c.requires.0 c.args.to
-    (subst (λ (k : Kept). HasEdge (label_between k.vertices) c.requires.0 c.args.to) (sym c.self.view_is)
+    (subst (λ (k : KeptGraph). HasEdge (label_between k.vertices) c.requires.0 c.args.to) (sym c.self.view_is)
     (HasEdge-holds (label_between c.args.self.now.vertices) c.requires.0 c.args.to c.args.label c.requires.1 some)))

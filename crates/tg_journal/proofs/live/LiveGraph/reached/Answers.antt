@@ -1,19 +1,19 @@
 use Rattle.std.proofs.Common.{◌∙◌, ◌<◌, ℕ, [], get_or, map, nat_eq, ap, subst, arith}
 use Rattle.indexmap.specs.IndexSet.{insert_all}
 use Rattle.tg_model.specs.Graph.{HasEdge}
-use Rattle.tg_journal.specs.Live.{Kept, graph_kept, label_between}
+use Rattle.tg_journal.specs.Live.{KeptGraph, graph_kept, label_between}
 use Rattle.tg_journal.proofs.ReachedLaws.{search_begins, search_goes_on, search_ends, few_names}
 use Rattle.tg_journal.proofs.live.LiveGraph.reached.Goals as goal
 
 -- targets were made
-abbrev Targets : Kept → Type 0
+abbrev Targets : KeptGraph → Type 0
 Targets k = (x y : ℕ) → HasEdge (label_between k.vertices) x y → y < k.made
 
 pub loop-next-init : goal.loop-next-init
 loop-next-init c =
     search_begins (graph_kept c.args.self.now) c.add_names.new.names.keys
     (c.in_ok-add_names.ensures ∙ ap (λ ks. insert_all nat_eq ks c.deref.result.now) c.new-names.ensures.empty
-    ∙ ap (insert_all nat_eq []) (c.deref.ensures.value ∙ ap (λ (k : Kept). k.subjects) c.self.view_is))
+    ∙ ap (insert_all nat_eq []) (c.deref.ensures.value ∙ ap (λ (k : KeptGraph). k.subjects) c.self.view_is))
 
 pub loop-next-smaller : goal.loop-next-smaller
 loop-next-smaller c =

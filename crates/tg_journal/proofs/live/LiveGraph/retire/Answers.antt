@@ -1,7 +1,7 @@
 use Rattle.std.proofs.Common.{◌≡◌, ◌∙◌, ap, rules}
 use Rattle.std.proofs.lemmas.Fn.{filter_same}
 use Rattle.tg_model.specs.Graph.{without_subject}
-use Rattle.tg_journal.specs.Live.{Kept, graph_kept, label_between, value_of}
+use Rattle.tg_journal.specs.Live.{KeptGraph, graph_kept, label_between, value_of}
 use Rattle.tg_journal.proofs.live.LiveGraph.retire.Goals as goal
 
 pub returns : goal.returns
@@ -14,4 +14,4 @@ returns c =
       label = label_between c.self.inside.vertices;
       value = value_of c.self.inside.vertices;
     })
-    ∙ ap (λ (k : Kept). record (graph_kept k) { subjects = without_subject k.subjects c.args.worker }) c.self.view_is
+    ∙ ap (λ (k : KeptGraph). record (graph_kept k) { subjects = without_subject k.subjects c.args.worker }) c.self.view_is

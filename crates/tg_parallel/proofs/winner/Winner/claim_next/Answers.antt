@@ -5,10 +5,10 @@ use Rattle.tg_word.specs.Word.{IsPlace, place_in}
 use Rattle.tg_race.specs.Conditions.{can_use}
 use Rattle.tg_race.specs.Race.{with_seen, with_won}
 use Rattle.tg_race.specs.Seats.{Seated}
-use Rattle.tg_race.specs.Words.{place_of, space_of_age, word_of}
+use Rattle.tg_race.specs.Words.{place_of, space_of_age, place_word}
 use mir.Val.{bool_byte}
 use Rattle.tg_parallel.specs.Parts.{note_of}
-use Rattle.tg_parallel.specs.Seats.{FindsNext, used_of}
+use Rattle.tg_parallel.specs.Seats.{FindsNext, cells_used}
 use Rattle.tg_parallel.proofs.Filled.{found_seen, found_won, may_use, next_inside, next_link, next_read}
 use Rattle.tg_parallel.proofs.winner.Winner.claim_next.Goals as goal
 
@@ -17,9 +17,9 @@ byte_of true = refl
 byte_of false = refl
 
 pub claim_word-found-requires-clause-forward : goal.claim_word-found-requires-clause-forward
-unfolding place_of word_of
+unfolding place_of place_word
 claim_word-found-requires-clause-forward c =
-    let b = c.args.blocks.now in let used = used_of b.aged c.args.self.now.done in
+    let b = c.args.blocks.now in let used = cells_used b.aged c.args.self.now.done in
     (subst IsPlace (sym (next_read used b c.requires.ready)) (next_inside used b c.requires.ready), sym (next_link used b c.requires.ready))
 
 pub claim_word-found-requires-clause-allowed : goal.claim_word-found-requires-clause-allowed
@@ -29,7 +29,7 @@ claim_word-found-requires-clause-allowed c =
     (may_use c.args.table.now c.args.at.cell c.args.blocks.now c.args.self.now c.requires.held c.requires.ready c.requires.some)
 
 pub returns-then-found-ne0 : goal.returns-then-found-ne0
-unfolding place_of word_of
+unfolding place_of place_word
 returns-then-found-ne0 c =
     let b = c.args.blocks.now in let word = c.claim_word-found.result in let taken = c.if-found-ne0.true in
     let forward = c.claim_word-found.ensures.forward taken in
@@ -44,7 +44,7 @@ invariant_of-self-2 c =
     let is = c.claim_word-found.ensures.won c.if-found-ne0.false in
     let capacity = c.push_reserved.ensures.capacity in
     let words = ap (λ (s : Seated). s.table.id.words) is in
-    let space = ap (λ (p : Place). p.space) (next_read (used_of b.aged c.args.self.now.done) b c.requires.ready) in
+    let space = ap (λ (p : Place). p.space) (next_read (cells_used b.aged c.args.self.now.done) b c.requires.ready) in
     let byte = c.from.ensures ∙ byte_of b.aged ∙ sym space in (
       c.push_reserved.ensures.items
           ∙ ap (λ (l : List ℕ). l ++ (2 * cell + c.from.result) ∷ []) c.self.invariant.0

@@ -3,7 +3,7 @@ use Rattle.std.proofs.lemmas.List.{map-append, take_more}
 use Rattle.tg_text.specs.declared.line.Line.{Line}
 use Rattle.tg_text.specs.declared.stock.StockItem.{StockItem}
 use Rattle.tg_plain.specs.declared.script.ScriptLine.{ScriptLine}
-use Rattle.tg_plain.specs.Lines.{Leads, Runs, stage_of, start_of_script}
+use Rattle.tg_plain.specs.Lines.{Leads, RunsLines, stage_of, start_of_script}
 use Rattle.tg_plain.proofs.LineLaws.{runs_more}
 use Rattle.tg_plain.proofs.run.PlainRun.«of».Goals as goal
 
@@ -24,4 +24,4 @@ loop-line-preserved c =
     ap (map line_of) more ∙ map-append line_of (take i xs) (x ∷ []) in
     let leads : Leads stock old x.line new =
     subst (λ (s : List StockItem). Leads s old x.line new) c.as_slice.ensures.value c.in_ok-take.ensures.ok in
-    subst (λ (ls : List Line). Runs stock start ls new) (sym lines) (runs_more stock front start old new x.line c.loop-line.invariant leads)
+    subst (λ (ls : List Line). RunsLines stock start ls new) (sym lines) (runs_more stock front start old new x.line c.loop-line.invariant leads)

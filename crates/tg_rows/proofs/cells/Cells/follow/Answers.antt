@@ -5,7 +5,7 @@ use Rattle.std.proofs.lemmas.Option.{slice_get_within}
 use Rattle.indexmap.proofs.CallerLemmas.{updates-with_value_at}
 use Rattle.indexmap.specs.Layout.{set_value_at}
 use Rattle.tg_word.specs.declared.Place.{Place}
-use Rattle.tg_rows.specs.Inner.Following.{HasRoomIn, IsReady, IsReadyNew, IsReadyShort}
+use Rattle.tg_rows.specs.Inner.Following.{HasRoomIn, IsReadyToFollow, IsReadyNew, IsReadyShort}
 use Rattle.tg_rows.specs.Index.{AreIndexed, Indexes, IsAged, IsMarked, MayIndex, SameIndexed, indexed_in}
 use Rattle.tg_rows.specs.Rows.{name_at}
 use Rattle.tg_rows.specs.declared.indexed_row.IndexedRow.{IndexedRow}
@@ -20,7 +20,7 @@ pub returns-in-Walk : goal.returns-in-Walk
 returns-in-Walk g c =
     let rows = c.args.rows.now in
     let b = c.requires in
-    let ready : IsReadyShort b.old.spaces rows c.args.from = subst (λ (w : Way). IsReady b.old.spaces rows c.args.from w) c.in-Walk.is b.looked in
+    let ready : IsReadyShort b.old.spaces rows c.args.from = subst (λ (w : Way). IsReadyToFollow b.old.spaces rows c.args.from w) c.in-Walk.is b.looked in
     record {
       indexed = indexes_kept b.old.spaces c.args.self.now.spaces.spaces (behind_vertices b) c.args.from b.object (behind_others b) b.places c.args.self.now.remembered.places (behind_marked b) rows.entries b.indexed (name_at b.old.spaces c.args.from) refl
           rows.entries refl ready.none;
@@ -84,7 +84,7 @@ returns-in-Some g c =
 pub follow-requires-in-New : goal.follow-requires-in-New
 follow-requires-in-New g c =
     let b = c.requires in
-    let ready = subst (λ (r : IndexedRow). IsReadyNew b.old.spaces c.args.rows.now c.args.from r) (sym c.into_inner-row.ensures) (subst (λ (w : Way). IsReady b.old.spaces c.args.rows.now c.args.from w) c.in-New.is b.looked) in
+    let ready = subst (λ (r : IndexedRow). IsReadyNew b.old.spaces c.args.rows.now c.args.from r) (sym c.into_inner-row.ensures) (subst (λ (w : Way). IsReadyToFollow b.old.spaces c.args.rows.now c.args.from w) c.in-New.is b.looked) in
     record { put = row_behind b c.into_inner-row.result ready.index; room = ready.room }
 
 pub name_of-requires : goal.name_of-requires
@@ -93,7 +93,7 @@ name_of-requires g c = behind_object c.requires
 pub add-requires : goal.add-requires
 add-requires g c =
     let b = c.requires in
-    let ready = subst (λ (r : IndexedRow). IsReadyNew b.old.spaces c.args.rows.now c.args.from r) (sym c.into_inner-row.ensures) (subst (λ (w : Way). IsReady b.old.spaces c.args.rows.now c.args.from w) c.in-New.is b.looked) in
+    let ready = subst (λ (r : IndexedRow). IsReadyNew b.old.spaces c.args.rows.now c.args.from r) (sym c.into_inner-row.ensures) (subst (λ (w : Way). IsReadyToFollow b.old.spaces c.args.rows.now c.args.from w) c.in-New.is b.looked) in
     record {
       absent = subst (λ n. lookup (nat_eq n) c.args.rows.now.entries ≡ None) (sym (c.name_of.ensures ∙ behind_own b)) ready.none;
       aged = c.follow-in-New.ensures.marks.aged ready.aged;
@@ -106,7 +106,7 @@ returns-in-New g c =
     let new = c.follow-in-New.new.self in
     let rows = c.args.rows.now.entries in
     let later = c.add.new.self.entries in
-    let ready = subst (λ (r : IndexedRow). IsReadyNew b.old.spaces c.args.rows.now c.args.from r) (sym c.into_inner-row.ensures) (subst (λ (w : Way). IsReady b.old.spaces c.args.rows.now c.args.from w) c.in-New.is b.looked) in
+    let ready = subst (λ (r : IndexedRow). IsReadyNew b.old.spaces c.args.rows.now c.args.from r) (sym c.into_inner-row.ensures) (subst (λ (w : Way). IsReadyToFollow b.old.spaces c.args.rows.now c.args.from w) c.in-New.is b.looked) in
     let marked = subst (λ (ps : List Place). IsMarked ps new) (sym b.put.remembered) (c.follow-in-New.ensures.marks.marked b.places (ready.marked b.places)) in
     record {
       indexed = indexes_written b.old.spaces c.args.self.now.spaces.spaces (behind_vertices b) c.args.from b.object (behind_others b) b.places c.args.self.now.remembered.places (behind_marked b) rows b.indexed

@@ -1,8 +1,8 @@
 use Rattle.std.proofs.Common.{◌≡◌, ◌∙◌, ◌<◌, ap, arith, length, subst, sym, ◌+◌, ◌*◌}
 use Rattle.tg_word.specs.declared.Place.{Place}
-use Rattle.tg_space.specs.SpaceList.{Holds, with_cell_at, space_of}
+use Rattle.tg_space.specs.SpaceList.{HasCell, with_cell_at, space_of}
 use Rattle.tg_space.specs.SpaceTable.{SpaceTable, IsHandedOut, place_in_space, used_of, with_spaces}
-use Rattle.tg_nursery.specs.Allocation.{HasLeft}
+use Rattle.tg_nursery.specs.Allocation.{HasRoomLeft}
 use Rattle.tg_rows.specs.Steps.{vertex_words}
 use Rattle.tg_rows.proofs.Growing.{VertexStep, vertex_step}
 use Rattle.tg_rows.proofs.cells.Cells.place_vertex.Given.{Over}
@@ -19,7 +19,7 @@ step g c =
     let space = c.nursery_space.result in
     let is = c.nursery_space.ensures in
     vertex_step t c.write_cell.new.self c.args.self.now.payloads c.insert.new.self space q c.args.name c.in-Ok.key c.args.draft
-    c.requires.table c.requires.graph (omega (arith, is), subst (λ s. s < length t.spaces) (sym is) c.requires.nursery) (subst (λ s. HasLeft t s 1) (sym is) c.requires.left) handed.held (ap (λ (r : Place). r.space) handed.place) handed.free
+    c.requires.table c.requires.graph (omega (arith, is), subst (λ s. s < length t.spaces) (sym is) c.requires.nursery) (subst (λ s. HasRoomLeft t s 1) (sym is) c.requires.left) handed.held (ap (λ (r : Place). r.space) handed.place) handed.free
     (subst (λ (x : SpaceTable). IsHandedOut x q) handed.counted handed.handed_out) c.requires.fresh c.in-Ok.ensures.fresh c.in-Ok.ensures.inserted
     (c.write_cell.ensures ∙ ap (λ (x : SpaceTable). with_spaces x (with_cell_at x.spaces q words)) handed.counted)
 
@@ -42,7 +42,7 @@ pub returns-clause-next : goal.returns-clause-next
 returns-clause-next g c = subst (λ s. c.hand_out-place.result ≡ place_in_space s (used_of c.args.self.now.spaces s)) c.nursery_space.ensures c.hand_out-place.ensures.place
 
 pub write_cell-requires-clause-held : goal.write_cell-requires-clause-held
-write_cell-requires-clause-held g c = subst (λ (x : SpaceTable). Holds x.spaces c.hand_out-place.result) (sym c.hand_out-place.ensures.counted) c.hand_out-place.ensures.held
+write_cell-requires-clause-held g c = subst (λ (x : SpaceTable). HasCell x.spaces c.hand_out-place.result) (sym c.hand_out-place.ensures.counted) c.hand_out-place.ensures.held
 
 pub hand_out-place-requires : goal.hand_out-place-requires
 hand_out-place-requires g c =

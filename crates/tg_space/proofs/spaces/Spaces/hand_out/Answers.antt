@@ -2,7 +2,7 @@ use Rattle.std.proofs.Common.{◌≡◌, ◌+◌, ◌/◌, ◌%◌, arith, get_o
 use Rattle.std.proofs.lemmas.List.{get_or-set_same}
 use Rattle.std.proofs.lemmas.List.Elements.{All-get_or}
 use Rattle.tg_word.specs.declared.Place.{Place}
-use Rattle.tg_space.specs.SpaceList.{Holds, IsSpace, space_of}
+use Rattle.tg_space.specs.SpaceList.{HasCell, IsSpace, space_of}
 use Rattle.tg_space.proofs.Tables.{next_cell}
 use Rattle.tg_space.proofs.spaces.Spaces.hand_out.Goals as goal
 
@@ -13,7 +13,7 @@ returns-clause-free c =
     let count = c.index-used.result.now in
     let next = next_cell _ now space count c.self.view_is c.self.invariant.0 c.requires.nursery.1 c.index-used.ensures in
     let place : Place = record { space = space; block = count / 64; cell = count % 64 } in
-    let held : Holds now.spaces place = record { space = c.requires.nursery.1; block = omega (arith, c.requires.room, next.counts); cell = omega arith } in
+    let held : HasCell now.spaces place = record { space = c.requires.nursery.1; block = omega (arith, c.requires.room, next.counts); cell = omega arith } in
     next.table.fresh place held c.requires.nursery.0 (omega (arith, next.counts))
 
 pub returns-clause-handed_out : goal.returns-clause-handed_out

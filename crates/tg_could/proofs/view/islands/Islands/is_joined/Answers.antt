@@ -1,6 +1,6 @@
 use Rattle.std.proofs.Common.{◌≡◌, ◌∙◌, ℕ, true, refl, sym, subst}
 use Rattle.std.proofs.lemmas.Bool.{false≢true}
-use Rattle.tg_could.specs.View.{is_within, word_of, IsBridged}
+use Rattle.tg_could.specs.View.{is_at_most, name_word, IsBridged}
 use Rattle.tg_could.proofs.view.islands.Islands.is_joined.Goals as goal
 
 pub returns-then-not-both_imply-2 : goal.returns-then-not-both_imply-2
@@ -8,15 +8,15 @@ returns-then-not-both_imply-2 c t = absurd (false≢true t)
 
 pub returns : goal.returns
 returns c t =
-    let from = word_of c.args.self.now.reached.items c.args.entry.now.from in
+    let from = name_word c.args.self.now.reached.items c.args.entry.now.from in
     record {
       take = λ h.
-          subst (λ (n : ℕ). is_within from n ≡ true) c.word-to.ensures
-          (subst (λ (n : ℕ). is_within n c.word-to.result ≡ true) c.word-from.ensures
+          subst (λ (n : ℕ). is_at_most from n ≡ true) c.word-to.ensures
+          (subst (λ (n : ℕ). is_at_most n c.word-to.result ≡ true) c.word-from.ensures
           (sym c.is_within.ensures ∙ c.both_imply.ensures c.if-not-both_imply.false (c.has-take.ensures ∙ h) refl));
       granted = λ h.
-          subst (λ (n : ℕ). is_within from n ≡ true) c.granted-granted.ensures
-          (subst (λ (n : ℕ). is_within n c.granted-granted.result ≡ true) c.word-from.ensures
+          subst (λ (n : ℕ). is_at_most from n ≡ true) c.granted-granted.ensures
+          (subst (λ (n : ℕ). is_at_most n c.granted-granted.result ≡ true) c.word-from.ensures
           (sym c.is_within-2.ensures ∙ c.both_imply-2.ensures c.if-not-both_imply-2.false (c.has-grant.ensures ∙ h) refl));
       grant = λ h.
           subst (IsBridged from) c.word-to.ensures
