@@ -215,7 +215,11 @@ fn entries_of<L: Round>(keeper: &Keeper<L>, closed: Option<Store<CellPayload>>) 
     Some((entries, counted))
 }
 
-fn seen_of_shared<L: Round, R: Wait>(rt: &R, alloc: Global, shared: Shared<L, CellPayload>) -> StorySeen
+fn seen_of_shared<L: Round, R: Wait>(
+    rt: &R,
+    alloc: Global,
+    shared: Shared<L, CellPayload>,
+) -> StorySeen
     requires in_parts { L.start.in_parts ≡ true }
     requires may_end { L.start.may_end ≡ true }
 {

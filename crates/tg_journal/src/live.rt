@@ -15,8 +15,8 @@ use tg_model::{Labelled, Opening};
 use tg_rights::Rights;
 
 /// A protection graph as the vertices that are kept of it, so that it takes memory by what it has and not by the names
-/// that were made. Contracts see it as `KeptGraph`, the record of its parts, and speak of the protection graph `graph_kept`
-/// that these stand for.
+/// that were made. Contracts see it as `KeptGraph`, the record of its parts, and speak of the protection graph
+/// `graph_kept` that these stand for.
 #[derive(Drop)]
 pub(crate) struct LiveGraph {
     alloc: Global,

@@ -27,7 +27,11 @@ enum StrayPlace {
 // What stands nowhere in a line of the grammar, whatever its words are, and what is said of it.
 const STRAYS: &[(StrayPlace, &str, &str)] = &[
     (StrayPlace::Front, "\u{feff}", "a byte order mark"),
-    (StrayPlace::End, "\r", "a carriage return before the line feed"),
+    (
+        StrayPlace::End,
+        "\r",
+        "a carriage return before the line feed",
+    ),
     (StrayPlace::Front, "#", "a comment"),
     (StrayPlace::Inside, "\t", "a tab, where one space stands"),
     (StrayPlace::Front, " ", "a space in front"),
@@ -43,7 +47,11 @@ enum ArgumentKind {
 }
 
 // What stands behind the word of an edge line.
-const EDGE: &[ArgumentKind] = &[ArgumentKind::Number, ArgumentKind::Number, ArgumentKind::Rights];
+const EDGE: &[ArgumentKind] = &[
+    ArgumentKind::Number,
+    ArgumentKind::Number,
+    ArgumentKind::Rights,
+];
 
 // What may stand behind the word of a command, and one text of it.
 const BEHIND: &[(&[ArgumentKind], &str)] = &[
@@ -52,7 +60,14 @@ const BEHIND: &[(&[ArgumentKind], &str)] = &[
     (&[ArgumentKind::Rights], " r"),
     (&[ArgumentKind::Number, ArgumentKind::Number], " 0 0"),
     (&[ArgumentKind::Number, ArgumentKind::Rights], " 0 r"),
-    (&[ArgumentKind::Number, ArgumentKind::Number, ArgumentKind::Rights], " 0 0 r"),
+    (
+        &[
+            ArgumentKind::Number,
+            ArgumentKind::Number,
+            ArgumentKind::Rights,
+        ],
+        " 0 0 r",
+    ),
 ];
 
 // The longest word of a command has fewer bytes, and so has each text of what stands behind one.

@@ -33,8 +33,8 @@ use tg_weave::{Told, in_script_order, sessions_of, share_out};
 /// is written, in the way T. [`Replies`](crate::Replies) writes the reply to each line in script order, and the line
 /// with the number of entries. [`Entries`](crate::Entries) writes the text of the history. In what order lines of
 /// different workers are run is open, and who waits for whom. A line is refused for room in the heap only if a store
-/// that may have been behind the lock lacked it, and that store had the first of the race's own entries. The number of a
-/// full collection is of such a store too.
+/// that may have been behind the lock lacked it, and that store had the first of the race's own entries. The number
+/// of a full collection is of such a store too.
 ///
 /// After a fault nothing was written but after `WriteFailed`, which leaves a front of the text. A thread that can't be
 /// started is `NoThread`; those that were started have ended. `ReceiptMismatch` is answered too where a session finds

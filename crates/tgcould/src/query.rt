@@ -19,11 +19,20 @@ pub enum VertexWord {
 #[derive(Clone, Copy)]
 pub enum Query {
     /// Could x come to hold the right over y? `3 r 7`
-    Hold { x: VertexWord, right: Right, y: VertexWord },
+    Hold {
+        x: VertexWord,
+        right: Right,
+        y: VertexWord,
+    },
     /// Who could come to hold the right over y? `* r 7`
-    Who { right: Right, y: VertexWord },
+    Who {
+        right: Right,
+        y: VertexWord,
+    },
     /// Which rights could x come to hold, and over whom? `3 * *`
-    What { x: VertexWord },
+    What {
+        x: VertexWord,
+    },
 }
 
 const NO_WORDS: &str = "a question is 'X RIGHT Y', '* RIGHT Y' or 'X * *'";

@@ -1,6 +1,6 @@
 //! The picture of a step, as a text for `dot`.
 
-use crate::frame::{Frame, Extent};
+use crate::frame::{Extent, Frame};
 use crate::shot::{EdgeView, Shot};
 use tg_plain::PlainText;
 

@@ -1,6 +1,6 @@
 //! What a step shows.
 
-use crate::look::{Colour, Style, Stroke};
+use crate::look::{Colour, Stroke, Style};
 use crate::marks::{Marks, NO_MARKS};
 use crate::run::ScriptRun;
 use std::alloc::Global;

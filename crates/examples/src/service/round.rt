@@ -2,7 +2,7 @@
 ghost use Rattle.std.specs.Prelude.{◌≡◌, true};
 ghost use Rattle.tg_shared.specs.Sessions.{MayShare};
 
-use super::client::{Leave, DocumentPlace, welcome, welcome_and_lose, work, work_and_leave, zero};
+use super::client::{DocumentPlace, Leave, welcome, welcome_and_lose, work, work_and_leave, zero};
 use crate::fault::StoryFault;
 use crate::opening::{label, limits};
 use crate::sessions::reply_to;

@@ -129,7 +129,12 @@ struct Met {
 }
 
 // A full collection of the heap by so many helpers who meet.
-fn met_on<R: Threads + Wait + Sync>(rt: &R, alloc: Global, heap: TriedHeap, helpers: u32) -> Option<Met>
+fn met_on<R: Threads + Wait + Sync>(
+    rt: &R,
+    alloc: Global,
+    heap: TriedHeap,
+    helpers: u32,
+) -> Option<Met>
     requires { (1 ≤ helpers) × (helpers ≤ 8) }
 {
     let gate = HelpersMeet::of(alloc, helpers)?;
