@@ -45,20 +45,20 @@ seen_spawned start before after label law state name told =
     ap (graph_seen start) told.seen ∙ graph_front start told.before (sign (Session before.worker) e ∷ []) ∙ ap (λ (g : ProtectionGraph). step g before.worker (Spawn label law state)) (sym graph) in
     subst (λ (g : ProtectionGraph). IsSubject g name) (sym all) (spawned_is (graph_of_store s) before.worker name label law state (sym told.legal.3.1.reply))
 
--- who was a subject after a front of what a session has seen is not gone after all of it
-not_gone : (start : SharedStart) (session : SessionState) (front : List Signed) → BeginsWith session.seen front → IsSubject (graph_seen start front) session.worker → IsOnItsOwn start session → retired_behind false session.made ≡ false
-    → ¬ AtSeen start session.seen (λ s. ¬ IsSubject (graph_of_store s) session.worker)
-not_gone start session front begins here alone none gone =
-    gone.3.1 (stays_made start gone.0 session.seen gone.1 gone.2 gone.3.0 session.worker session.made front begins.0 alone.own (none_of start gone.0 session.seen gone.3.0 session.worker alone.alone) none begins.1 here)
+-- who was a subject after a front of the entries that a session sees is not gone after all of them
+not_gone : (start : SharedStart) (all : List Signed) (session : SessionState) (front : List Signed) → BeginsWith all front → IsSubject (graph_seen start front) session.worker → IsOnItsOwn start all session → retired_behind false session.made ≡ false
+    → ¬ AtSeen start all (λ s. ¬ IsSubject (graph_of_store s) session.worker)
+not_gone start all session front begins here alone none gone =
+    gone.3.1 (stays_made start gone.0 all gone.1 gone.2 gone.3.0 session.worker session.made front begins.0 alone.sees.own (none_of start gone.0 all gone.3.0 session.worker alone.alone) none begins.1 here)
 
-pub from_the_start : (start : SharedStart) (session : SessionState) → IsSubject (graph_after (start_of start.opening) start.entries) session.worker → IsOnItsOwn start session → retired_behind false session.made ≡ false
-    → ¬ AtSeen start session.seen (λ s. ¬ IsSubject (graph_of_store s) session.worker)
-from_the_start start session here alone none =
-    not_gone start session [] (session.seen, refl) (subst (λ (l : List Entry). IsSubject (graph_after (start_of start.opening) l) session.worker) (sym (append-nil start.entries)) here) alone none
+pub from_the_start : (start : SharedStart) (all : List Signed) (session : SessionState) → IsSubject (graph_after (start_of start.opening) start.entries) session.worker → IsOnItsOwn start all session → retired_behind false session.made ≡ false
+    → ¬ AtSeen start all (λ s. ¬ IsSubject (graph_of_store s) session.worker)
+from_the_start start all session here alone none =
+    not_gone start all session [] (all, refl) (subst (λ (l : List Entry). IsSubject (graph_after (start_of start.opening) l) session.worker) (sym (append-nil start.entries)) here) alone none
 
-pub from_a_spawn : (start : SharedStart) (before after session : SessionState) (label : RightSet) (law : Law) (state : List ℕ) → IsAnswered start before after (Spawn label law state) (Name session.worker)
-    → BeginsWith session.seen after.seen → IsOnItsOwn start session → retired_behind false session.made ≡ false → ¬ AtSeen start session.seen (λ s. ¬ IsSubject (graph_of_store s) session.worker)
-from_a_spawn start before after session label law state told begins alone none = not_gone start session after.seen begins (seen_spawned start before after label law state session.worker told) alone none
+pub from_a_spawn : (start : SharedStart) (all : List Signed) (before after session : SessionState) (label : RightSet) (law : Law) (state : List ℕ) → IsAnswered start before after (Spawn label law state) (Name session.worker)
+    → BeginsWith all after.seen → IsOnItsOwn start all session → retired_behind false session.made ≡ false → ¬ AtSeen start all (λ s. ¬ IsSubject (graph_of_store s) session.worker)
+from_a_spawn start all before after session label law state told begins alone none = not_gone start all session after.seen begins (seen_spawned start before after label law state session.worker told) alone none
 
 -- what was seen before is in front of what was seen then
 pub seen_grows : (start : SharedStart) (old new : SessionState) (deed : Deed) (reply : Reply) → IsAnswered start old new deed reply → BeginsWith new.seen old.seen

@@ -198,10 +198,11 @@ graph_seen start seen = graph_after (start_of start.opening) (start.entries ++ e
 abbrev pub IsGone : SharedStart → List Signed → ℕ → Type 0
 IsGone start seen worker = AtSeen start seen (λ s. (worker < (graph_of_store s).made) × (¬ IsSubject (graph_of_store s) worker))
 
--- The session made exactly its own of the entries that it has seen. If the keeper may end workers, it made none of this worker.
-pub record IsOnItsOwn (start : SharedStart) (session : SessionState) : Type 0 where
-  pub own : entries_by (Session session.worker) session.seen ≡ session.made
-  pub alone : start.may_end ≡ true → own_entries session.worker (entries_by Keeper session.seen) ≡ []
+-- The session sees these entries: it made exactly its own of them, and they begin with those that it has seen. If the keeper may end
+-- workers, it made none of this worker among them.
+pub record IsOnItsOwn (start : SharedStart) (all : List Signed) (session : SessionState) : Type 0 where
+  pub sees : Sees all (knowledge session)
+  pub alone : start.may_end ≡ true → own_entries session.worker (entries_by Keeper all) ≡ []
 
 -- A session whose worker was gone when it looked last has no subject in the store either, if it sees all entries.
 abbrev pub StaysOut : SharedStart → StoreState → List Signed → SessionState → Type 0

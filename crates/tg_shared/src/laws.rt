@@ -9,7 +9,7 @@ ghost use Rattle.tg_model.specs.declared.reply.Reply.{Reply};
 ghost use Rattle.tg_model.specs.declared.reply.Reply.TheVariants.{Name};
 ghost use Rattle.tg_model.specs.Opened.{start_of};
 ghost use Rattle.tg_passes.specs.declared.signed.Signed.{Signed};
-ghost use Rattle.tg_passes.specs.Passes.{BeginsWith, own_entries};
+ghost use Rattle.tg_passes.specs.Passes.{BeginsWith, Sees, entries_of, own_entries};
 ghost use Rattle.tg_model.specs.Graph.{IsReachable, IsSubject, ProtectionGraph};
 ghost use Rattle.tg_graph.specs.Heap.{content_of};
 ghost use Rattle.tg_space.specs.declared.kind.Kind.{Kind};
@@ -18,7 +18,7 @@ ghost use Rattle.tg_journal.specs.History.{IsLegal, IsLegalEntry, graph_after};
 ghost use Rattle.tg_shared.specs.declared.receipt.Receipt.{Receipt};
 ghost use Rattle.tg_journal.specs.Journal.{Entries};
 ghost use Rattle.tg_shared.specs.Receipts.{AreParts, MatchParts, ReceiptsMatch, all_receipts};
-ghost use Rattle.tg_shared.specs.Sessions.{AreSharedOut, AtSeen, GoesOn, HasEnded, HasGrownBy, IsAnswered, IsOnItsOwn, KeeperState, KeptInParts, LeavesAtSeen, MayClose, SessionState, SharedStart, count_of, graph_seen, held_from, parts_of, retired_behind, since, subjects_at};
+ghost use Rattle.tg_shared.specs.Sessions.{AreSharedOut, AtSeen, GoesOn, HasEnded, HasGrownBy, HasLooked, IsAnswered, IsOnItsOwn, KeeperState, KeptInParts, LeavesAtSeen, MayClose, SessionState, SharedStart, count_of, graph_seen, held_from, knowledge, parts_of, retired_behind, since, subjects_at};
 ghost use Rattle.tg_space.specs.declared.kind.Kind.TheVariants.{Full};
 ghost use Rattle.tg_store.specs.Held.{IsHeldOver};
 ghost use Rattle.tg_store.specs.Leaving.{HasLeft, left_by};
@@ -89,22 +89,27 @@ pub fn who_left_stays_away()
 
 /// What a session knows bounds what its calls are refused for. Its worker was a subject when the store was shared, or
 /// was made by a spawn whose entry the session has seen. While no retire is among the entries that the session made,
-/// and the keeper made none of its worker, the worker is a subject of each store with exactly the entries that the
-/// session has seen. So none of its calls is answered that there is no such worker. A round whose keeper may end nobody
-/// needs no premise on the keeper.
+/// and the keeper made none of its worker, the worker is a subject of each store whose entries the session sees. A
+/// session that has looked sees those that it has seen, so none of its calls is answered that there is no such worker.
+/// A round whose keeper may end nobody needs no premise on the keeper.
 pub fn a_session_without_a_retire_is_a_subject()
-    ensures from_the_start { (start : SharedStart) (session : SessionState) → Contains (subjects_at start) session.worker → IsOnItsOwn start session → retired_behind false session.made ≡ false →
-        ¬ AtSeen start session.seen (λ s. ¬ IsSubject (graph_of_store s) session.worker) }
-    ensures spawned { (start : SharedStart) (before after session : SessionState) (label : RightSet) (law : Law) (state : List ℕ) →
-        IsAnswered start before after (Spawn label law state) (Name session.worker) → BeginsWith session.seen after.seen → IsOnItsOwn start session → retired_behind false session.made ≡ false →
-        ¬ AtSeen start session.seen (λ s. ¬ IsSubject (graph_of_store s) session.worker) }
+    ensures from_the_start { (start : SharedStart) (all : List Signed) (session : SessionState) → Contains (subjects_at start) session.worker → IsOnItsOwn start all session → retired_behind false session.made ≡ false →
+        ¬ AtSeen start all (λ s. ¬ IsSubject (graph_of_store s) session.worker) }
+    ensures spawned { (start : SharedStart) (all : List Signed) (before after session : SessionState) (label : RightSet) (law : Law) (state : List ℕ) →
+        IsAnswered start before after (Spawn label law state) (Name session.worker) → BeginsWith all after.seen → IsOnItsOwn start all session → retired_behind false session.made ≡ false →
+        ¬ AtSeen start all (λ s. ¬ IsSubject (graph_of_store s) session.worker) }
 {}
 
-/// Where a retire is among the entries that a session made, its worker is a subject of no store with exactly the
-/// entries that the session has seen.
+/// Where a retire is among the entries that a session made, its worker is a subject of no store whose entries the
+/// session sees.
 pub fn a_session_with_a_retire_has_no_subject()
-    ensures { (start : SharedStart) (session : SessionState) (s : StoreState) → GoesOn start s → IsFaithful s → HasGrownBy start s session.seen → IsOnItsOwn start session →
+    ensures { (start : SharedStart) (all : List Signed) (session : SessionState) (s : StoreState) → GoesOn start s → IsFaithful s → HasGrownBy start s all → IsOnItsOwn start all session →
         retired_behind false session.made ≡ true → ¬ IsSubject (graph_of_store s) session.worker }
+{}
+
+/// A session that has looked sees the entries that it has seen, which are all up to its look.
+pub fn who_looked_sees()
+    ensures { (old new : SessionState) → HasLooked old new → Sees new.seen (knowledge new) }
 {}
 
 /// A session whose call made an entry has then seen all that it had seen before.
@@ -112,10 +117,11 @@ pub fn what_a_session_has_seen_grows()
     ensures { (start : SharedStart) (old new : SessionState) (deed : Deed) (reply : Reply) → IsAnswered start old new deed reply → BeginsWith new.seen old.seen }
 {}
 
-/// What a session knows of a store with exactly the entries that it has seen, if the keeper made none of its worker:
-/// the entries of its worker since the start are exactly those that its own calls made.
+/// What a session knows of a store whose entries it sees, if the keeper made none of its worker: the entries of its
+/// worker since the start are exactly those that its own calls made, and all begin with those that it has seen.
 pub fn a_session_knows_its_own_entries()
-    ensures { (start : SharedStart) (session : SessionState) (s : StoreState) → HasGrownBy start s session.seen → IsOnItsOwn start session → own_entries session.worker (since start s) ≡ session.made }
+    ensures { (start : SharedStart) (all : List Signed) (session : SessionState) (s : StoreState) → HasGrownBy start s all → IsOnItsOwn start all session →
+        (own_entries session.worker (since start s) ≡ session.made) × BeginsWith (since start s) (entries_of session.seen) }
 {}
 
 /// An answer without an entry is an answer on the closed journal. Of a store with exactly the entries that a session,
