@@ -3,7 +3,7 @@ use Rattle.std.proofs.Common.{◌≡◌, ◌≢◌, ◌⊎◌, inl, inr, ⊎_eli
 use Rattle.std.proofs.lemmas.Bool.{and_parts, cases_Bool, eqb-true}
 use Rattle.std.proofs.lemmas.List.Elements.{All-head, All-tail}
 use Rattle.tg_rights.specs.RightSet.{RightSet, has, holds_all, no_rights, union, is_none_held}
-use Rattle.tg_rights.specs.RightLaws.{has-union, holds_all-union, none_held-same, none_union, some_holds_all, some_union, union_assoc, union_comm}
+use Rattle.tg_rights.proofs.RightLaws.{has-union, holds_all-union, none_held-same, none_union, some_holds_all, some_union, union_assoc, union_comm}
 use Rattle.tg_rights.specs.declared.Right.{Right}
 use Rattle.tg_model.specs.declared.edge.Edge.{Edge}
 use Rattle.tg_model.specs.Graph.{ProtectionGraph, HasEdge, IsReachable, IsSound}
