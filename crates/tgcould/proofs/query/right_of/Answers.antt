@@ -2,7 +2,7 @@ use Rattle.std.proofs.Common.{◌≡◌, ◌∙◌, ◌<◌, ◌≤◌, List, []
 use Rattle.tg_rights.specs.RightSet.{letter_of, right_of_letter}
 use Rattle.tg_rights.specs.declared.Right.{Right}
 use Rattle.tg_rights.proofs.RightNames.{letter_of-right_of_letter}
-use Rattle.tgcould.proofs.question.right_of.Goals as goal
+use Rattle.tgcould.proofs.query.right_of.Goals as goal
 
 -- a text of one byte
 one_byte : (bytes : List ℕ) → 1 ≤ length bytes → length bytes < 2 → bytes ≡ slice_index_or bytes 0 0 ∷ []
