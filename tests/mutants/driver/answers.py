@@ -48,21 +48,35 @@ def answered_clauses(text: str) -> set[str]:
 
 
 def with_answers(text: str, is_kept: Callable[[str], bool]) -> str:
-    """The answers of the text to goals that are kept. What is imported from the goals of the function, and not used
-    any more, goes too: without a clause its paths are gone."""
-    parts = re.split(r"^(?=pub |[^\s]+ : )", text, flags=re.M)
-    kept = "".join(part for part in parts if not part.startswith("pub ") or is_kept(part.split()[1]))
+    """The answers of the text to goals that are kept. A lemma that isn't kept goes with all that uses it. What is
+    imported from the goals of the function, and not used any more, goes too: without a clause its paths are gone."""
+    head, *parts = re.split(r"^(?=pub |[^\s]+ : )", text, flags=re.M)
+    gone = [part for part in parts if not is_kept(name_of(part))]
+    # what is gone grows as it is gone over
+    for lost in gone:
+        gone += [part for part in parts if part not in gone and not lost.startswith("pub ") and has(part, name_of(lost))]
+    kept = head + "".join(part for part in parts if part not in gone)
     lines = []
     for line in kept.split("\n"):
         taken = re.fullmatch(r"(use \S+\.Goals\.)\{(.*)\}", line)
         rest = kept.replace(line, "")
         names = taken[2].split(", ") if taken else ()
-        used = [name for name in names if re.search(rf"(?<![\w+.-]){re.escape(name)}(?![\w+-])", rest)]
+        used = [name for name in names if has(rest, name)]
         if used:
             lines.append(f"{taken[1]}{{{', '.join(used)}}}")
         elif not taken:
             lines.append(line)
     return "\n".join(lines)
+
+
+def name_of(part: str) -> str:
+    """The name of an answer or a lemma, by its text."""
+    return part.removeprefix("pub ").split()[0]
+
+
+def has(text: str, name: str) -> bool:
+    """Whether a text has this name."""
+    return bool(re.search(rf"(?<![\w+.-]){re.escape(name)}(?![\w+-])", text))
 
 
 def for_function(text: str, crate: str, path: str, to: str) -> str:
