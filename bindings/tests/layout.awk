@@ -198,7 +198,7 @@ sum {
 }
 
 # of an answer's kind and of what a view tells, each by its own name in capitals
-/^kind_(of|in|seen) \(?[A-Z]/ {
+/^(outlook_kind|kind_in|kind_seen) \(?[A-Z]/ {
     name = $2
     sub(/^\(/, "", name)
     if (name == "Could") {

@@ -50,11 +50,12 @@ def answered_clauses(text: str) -> set[str]:
 def with_answers(text: str, is_kept: Callable[[str], bool]) -> str:
     """The answers of the text to goals that are kept. A lemma that isn't kept goes with all that uses it. What is
     imported from the goals of the function, and not used any more, goes too: without a clause its paths are gone."""
-    head, *parts = re.split(r"^(?=pub |[^\s]+ : )", text, flags=re.M)
-    gone = [part for part in parts if not is_kept(name_of(part))]
+    head, *parts = re.split(r"^(?=pub |module |[^\s]+ : )", text, flags=re.M)
+    gone = [part for part in parts if not all(map(is_kept, names_of(part)))]
     # what is gone grows as it is gone over
     for lost in gone:
-        gone += [part for part in parts if part not in gone and not lost.startswith("pub ") and has(part, name_of(lost))]
+        lemmas = [] if lost.startswith("pub ") else names_of(lost)
+        gone += [part for part in parts if part not in gone and any(has(part, lemma) for lemma in lemmas)]
     kept = head + "".join(part for part in parts if part not in gone)
     lines = []
     for line in kept.split("\n"):
@@ -69,9 +70,11 @@ def with_answers(text: str, is_kept: Callable[[str], bool]) -> str:
     return "\n".join(lines)
 
 
-def name_of(part: str) -> str:
-    """The name of an answer or a lemma, by its text."""
-    return part.removeprefix("pub ").split()[0]
+def names_of(part: str) -> list[str]:
+    """The names of an answer, of a lemma, or of the lemmas of a module, by its text."""
+    if part.startswith("module "):
+        return re.findall(r"^ +(?:pub )?([^\s]+) : ", part, re.M)
+    return [part.removeprefix("pub ").split()[0]]
 
 
 def has(text: str, name: str) -> bool:
