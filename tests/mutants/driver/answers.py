@@ -50,7 +50,7 @@ def answered_clauses(text: str) -> set[str]:
 def with_answers(text: str, is_kept: Callable[[str], bool]) -> str:
     """The answers of the text to goals that are kept. A lemma that isn't kept goes with all that uses it. What is
     imported from the goals of the function, and not used any more, goes too: without a clause its paths are gone."""
-    head, *parts = re.split(r"^(?=pub |module |[^\s]+ : )", text, flags=re.M)
+    head, *parts = re.split(r"^(?=pub |abbrev |module |[^\s]+ : )", text, flags=re.M)
     gone = [part for part in parts if not all(map(is_kept, names_of(part)))]
     # what is gone grows as it is gone over
     for lost in gone:
@@ -74,7 +74,7 @@ def names_of(part: str) -> list[str]:
     """The names of an answer, of a lemma, or of the lemmas of a module, by its text."""
     if part.startswith("module "):
         return re.findall(r"^ +(?:pub )?([^\s]+) : ", part, re.M)
-    return [part.removeprefix("pub ").split()[0]]
+    return [part.removeprefix("pub ").removeprefix("abbrev ").split()[0]]
 
 
 def has(text: str, name: str) -> bool:
