@@ -74,7 +74,7 @@ def names_of(part: str) -> list[str]:
     """The names of an answer, of a lemma, or of the lemmas of a module, by its text."""
     if part.startswith("module "):
         return re.findall(r"^ +(?:pub )?([^\s]+) : ", part, re.M)
-    return [part.removeprefix("pub ").removeprefix("abbrev ").split()[0]]
+    return [re.sub(r"^(?:abbrev |pub )+", "", part).split()[0]]
 
 
 def has(text: str, name: str) -> bool:
