@@ -43,6 +43,12 @@ const NOTHING: StoryTold = StoryTold {
     nobody: (None, false),
 };
 
+// A shared store with its keeper.
+struct SharedRound<L: Round> {
+    store: SharedStore<L, CellPayload>,
+    keeper: Keeper<L>,
+}
+
 // The bits of what the session's worker holds over a vertex, or 0 if it holds nothing.
 fn held_by<L: Round, R: Wait>(
     rt: &R,
@@ -57,15 +63,10 @@ fn held_by<L: Round, R: Wait>(
 }
 
 // Takes a part of the journal, and looks at it with these receipts.
-fn take_part<L: Round, R: Wait>(
-    rt: &R,
-    store: &SharedStore<L, CellPayload>,
-    keeper: &mut Keeper<L>,
-    receipts: &[Receipt],
-) -> Part
+fn take_part<L: Round, R: Wait>(rt: &R, kept: &mut SharedRound<L>, receipts: &[Receipt]) -> Part
     requires in_parts { L.start.in_parts ≡ true }
 {
-    let part = keeper.take_journal(rt, store);
+    let part = kept.keeper.take_journal(rt, &kept.store);
     (part.start(), part.len(), receipts_match(&part, 0, receipts))
 }
 
@@ -86,14 +87,14 @@ fn take_over_twice<L: Round>(session: &mut Session<L>, spawned: Session<L>) -> [
 fn spawn_and_take_over<L: Round, R: Wait>(
     rt: &R,
     alloc: Global,
-    store: &SharedStore<L, CellPayload>,
+    kept: &SharedRound<L>,
     session: &mut Session<L>,
 ) -> [bool; 2]
     requires in_parts { L.start.in_parts ≡ true }
 {
-    match spawned_by(rt, alloc, store, session) {
+    match spawned_by(rt, alloc, &kept.store, session) {
         Some(mut spawned) => {
-            let _retired = is_answered(rt, store, &mut spawned, Command::Retire);
+            let _retired = is_answered(rt, &kept.store, &mut spawned, Command::Retire);
             take_over_twice(session, spawned)
         }
         None => [false, false],
@@ -104,44 +105,41 @@ fn spawn_and_take_over<L: Round, R: Wait>(
 fn take_parts<L: Round, R: Wait>(
     rt: &R,
     alloc: Global,
-    store: &SharedStore<L, CellPayload>,
-    keeper: &mut Keeper<L>,
+    kept: &mut SharedRound<L>,
     session: &mut Session<L>,
 ) -> ([Part; 2], [bool; 2])
     requires in_parts { L.start.in_parts ≡ true }
 {
     let receipts = session.take_receipts();
-    let first = take_part(rt, store, keeper, &receipts);
-    let _read = is_answered(rt, store, session, Command::Read { target: 2 });
-    let taken_over = spawn_and_take_over(rt, alloc, store, session);
-    let second = take_part(rt, store, keeper, &receipts);
+    let first = take_part(rt, kept, &receipts);
+    let _read = is_answered(rt, &kept.store, session, Command::Read { target: 2 });
+    let taken_over = spawn_and_take_over(rt, alloc, kept, session);
+    let second = take_part(rt, kept, &receipts);
     ([first, second], taken_over)
 }
 
 // Ends the session's worker.
 fn end<L: Round, R: Wait>(
     rt: &R,
-    store: &SharedStore<L, CellPayload>,
-    keeper: &mut Keeper<L>,
+    kept: &mut SharedRound<L>,
     session: &mut Session<L>,
 ) -> (Option<u64>, Option<ApplyFault>)
     requires may_end { L.start.may_end ≡ true }
 {
-    let given_up = keeper.end(rt, store, session.worker()).ok();
-    (given_up, session.call(rt, store, Command::List).err())
+    let given_up = kept.keeper.end(rt, &kept.store, session.worker()).ok();
+    (given_up, session.call(rt, &kept.store, Command::List).err())
 }
 
 // Ends a name that is no worker's, and asks the session for a line.
 fn end_nobody<L: Round, R: Wait>(
     rt: &R,
-    store: &SharedStore<L, CellPayload>,
-    keeper: &mut Keeper<L>,
+    kept: &mut SharedRound<L>,
     session: &mut Session<L>,
 ) -> (Option<ApplyFault>, bool)
     requires may_end { L.start.may_end ≡ true }
 {
-    let why = keeper.end(rt, store, 4).err();
-    (why, is_answered(rt, store, session, Command::List))
+    let why = kept.keeper.end(rt, &kept.store, 4).err();
+    (why, is_answered(rt, &kept.store, session, Command::List))
 }
 
 // Lets the first session make a vertex, and asks both what they hold over it. Takes two parts of the journal. Then the
@@ -149,22 +147,24 @@ fn end_nobody<L: Round, R: Wait>(
 fn tell_of_two<L: Round, R: Wait>(
     rt: &R,
     alloc: Global,
-    store: &SharedStore<L, CellPayload>,
-    keeper: &mut Keeper<L>,
+    kept: &mut SharedRound<L>,
     first: &mut Session<L>,
     second: &mut Session<L>,
 ) -> StoryTold
     requires in_parts { L.start.in_parts ≡ true }
     requires may_end { L.start.may_end ≡ true }
 {
-    let _made = makes(rt, alloc, store, first);
-    let labels = [held_by(rt, store, first, 2), held_by(rt, store, second, 2)];
-    let (parts, taken_over) = take_parts(rt, alloc, store, keeper, first);
-    let _made = makes(rt, alloc, store, second);
-    let held = held_by(rt, store, second, 4);
-    let ended = end(rt, store, keeper, second);
-    let held_by_ended = [held, held_by(rt, store, second, 4)];
-    let nobody = end_nobody(rt, store, keeper, first);
+    let _made = makes(rt, alloc, &kept.store, first);
+    let labels = [
+        held_by(rt, &kept.store, first, 2),
+        held_by(rt, &kept.store, second, 2),
+    ];
+    let (parts, taken_over) = take_parts(rt, alloc, kept, first);
+    let _made = makes(rt, alloc, &kept.store, second);
+    let held = held_by(rt, &kept.store, second, 4);
+    let ended = end(rt, kept, second);
+    let held_by_ended = [held, held_by(rt, &kept.store, second, 4)];
+    let nobody = end_nobody(rt, kept, first);
     drop(first.take_receipts());
     StoryTold {
         labels,
@@ -180,15 +180,14 @@ fn tell_of_two<L: Round, R: Wait>(
 fn tell<L: Round, R: Wait>(
     rt: &R,
     alloc: Global,
-    store: &SharedStore<L, CellPayload>,
-    keeper: &mut Keeper<L>,
+    kept: &mut SharedRound<L>,
     sessions: &mut [Session<L>],
 ) -> StoryTold
     requires in_parts { L.start.in_parts ≡ true }
     requires may_end { L.start.may_end ≡ true }
 {
     match sessions {
-        [first, second] => tell_of_two(rt, alloc, store, keeper, first, second),
+        [first, second] => tell_of_two(rt, alloc, kept, first, second),
         _ => NOTHING,
     }
 }
@@ -218,17 +217,14 @@ fn entries_of<L: Round>(keeper: &Keeper<L>, closed: Option<Store<CellPayload>>) 
 fn seen_of_shared<L: Round, R: Wait>(
     rt: &R,
     alloc: Global,
-    shared: Shared<L, CellPayload>,
+    mut kept: SharedRound<L>,
+    mut sessions: Vec<Session<L>>,
 ) -> StorySeen
     requires in_parts { L.start.in_parts ≡ true }
     requires may_end { L.start.may_end ≡ true }
 {
-    let Shared {
-        store,
-        mut sessions,
-        mut keeper,
-    } = shared;
-    let told = tell(rt, alloc, &store, &mut keeper, &mut sessions);
+    let told = tell(rt, alloc, &mut kept, &mut sessions);
+    let SharedRound { store, mut keeper } = kept;
     let closed = close_with(store, sessions, &mut keeper).ok();
     (told, entries_of(&keeper, closed))
 }
@@ -244,7 +240,13 @@ fn seen_of_store<L: Round, R: Wait>(
     requires may_end { L.start.may_end ≡ true }
 {
     match SharedStore::<L, CellPayload>::new(alloc, blanks, store) {
-        Ok(shared) => seen_of_shared(rt, alloc, shared),
+        Ok(
+            Shared {
+                store,
+                sessions,
+                keeper,
+            },
+        ) => seen_of_shared(rt, alloc, SharedRound { store, keeper }, sessions),
         Err(refused) => {
             refused.store.let_go();
             (NOTHING, None)

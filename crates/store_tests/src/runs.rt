@@ -10,9 +10,10 @@ use std::sync::ledger::{Blank, Ledger};
 use std::test::Fail;
 use std::thread::Threads;
 use tg_script::{
-    Bytes, Count, Helpers, Limits, OneThread, ScriptFault, Settings, Written, run_in_memory,
+    Bytes, Count, Helpers, Limits, OneThread, RunSetup, ScriptFault, Settings, Written,
+    run_in_memory,
 };
-use tg_threads::{RaceFault, Replies, Turnstile, run_race};
+use tg_threads::{RaceFault, RaceHost, Replies, Turnstile, run_race};
 
 // The settings of a run of two workers, who make no vertex.
 fn settings() -> Option<Settings> {
@@ -41,7 +42,12 @@ fn length_written(alloc: Global, script: &[u8]) -> Option<(usize, Result<(), Scr
     if settings.workers != 2 || cells.len() != 2 {
         return None;
     }
-    let ran = run_in_memory(alloc, &OneThread, script, settings, cells, Vec::new(alloc));
+    let setup = RunSetup {
+        settings,
+        workers: cells,
+        stock: Vec::new(alloc),
+    };
+    let ran = run_in_memory(alloc, &OneThread, script, setup);
     Some((ran.written.len(), ran.outcome))
 }
 
@@ -56,15 +62,18 @@ fn long_replies(rt: HostRuntime) -> Result<(), Fail> {
 // Runs the script as a race of the two, and answers how it ends. The counts of the source and of the sink are those of
 // the ledgers A and F.
 fn race_counted<A: Ledger, F: Ledger, G: Turnstile + Sync, R: Threads + Wait + Sync>(
-    rt: &R,
-    alloc: Global,
-    turnstile: &G,
+    host: &RaceHost<G, R>,
     script: &[u8],
     asked: Blank,
     failures: Blank,
 ) -> Option<Result<(), RaceFault>>
     requires countable { MayCountInMemory A.name A.parts F.name F.parts asked failures }
 {
+    let RaceHost {
+        rt,
+        alloc,
+        turnstile,
+    } = *host;
     let settings = settings()?;
     let cells = cells(alloc, 2)?;
     if settings.workers != 2 || cells.len() != 2 {
@@ -93,7 +102,12 @@ fn race<G: Turnstile + Sync, R: Threads + Wait + Sync>(
     script: &[u8],
 ) -> Option<Result<(), RaceFault>> {
     let (asked, failures) = (Blank::new(1), Blank::new(1));
-    race_counted::<Brand, Brand, G, R>(rt, alloc, turnstile, script, asked, failures)
+    let host = RaceHost {
+        rt,
+        alloc,
+        turnstile,
+    };
+    race_counted::<Brand, Brand, G, R>(&host, script, asked, failures)
 }
 
 // How a race of the script ends whose workers meet at a turnstile, and whether one missed the other within so many

@@ -1,5 +1,6 @@
 -- Questions of C: what was looked at first, and what the store's graph said then.
 use Rattle.std.proofs.Common.{◌≡◌, ◌∙◌, ℕ, Bool, true, false, List, Some, Result, Err, map, inr, sym, subst, ap, is_some}
+use Rattle.tg_rights.specs.RightSet.{right_of_bit}
 use Rattle.tg_rights.specs.declared.Right.{Right}
 use Rattle.tg_model.specs.declared.edge.Edge.{Edge}
 use Rattle.tg_model.specs.Graph.{ProtectionGraph}
@@ -10,11 +11,11 @@ use Rattle.tg_c.specs.declared.refusal.CallRefusal.{CallRefusal}
 use Rattle.tg_c.specs.declared.refusal.CallRefusal.TheVariants as refusal
 use Rattle.tg_c.specs.Calls.{AreMet, IsMemoryOr, state_in}
 use Rattle.tg_could.specs.Reached.{JoinReached}
-use Rattle.tg_c.specs.Could.{AreActive, IsRefusedOn, IsRefusedQuestion, asked_first, right_at}
+use Rattle.tg_c.specs.Could.{AreActive, IsRefusedOn, IsRefusedQuestion, asked_first}
 use Rattle.tg_c.specs.Forms.{HaveLabels, edge_in}
 use Rattle.tg_c.specs.Inner.Stores.{IsAnsweredOn}
 
-module _ (place : StorePlace) (is_open : Bool) (silent : List ℕ) (as_if : List EdgeIn) (right : ℕ) (r : Right) (is : right_at right ≡ Some r) (labels : HaveLabels as_if)
+module _ (place : StorePlace) (is_open : Bool) (silent : List ℕ) (as_if : List EdgeIn) (right : ℕ) (r : Right) (is : right_of_bit right ≡ Some r) (labels : HaveLabels as_if)
     (closed : is_open ≡ false) (opened : place.is_open ≡ true) (s : StoreState) (same : s ≡ state_in place) where
   met_first : AreMet (asked_first place is_open as_if right)
   met_first = (ap is_some is, (labels, (closed, (opened, tt))))

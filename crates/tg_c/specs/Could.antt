@@ -1,11 +1,12 @@
 -- What C asks of what could ever come about, and how it is told: the question of a store in its place, and the answer in another.
-use Rattle.std.specs.Prelude.{◌≡◌, ◌≢◌, ◌⊎◌, ℕ, ◌==◌, Bool, true, false, List, [], ◌∷◌, Option, Some, None, Result, Ok, Err, if◌then◌else◌, length, map, slice_get, ok_or}
+use Rattle.std.specs.Prelude.{◌≡◌, ◌≢◌, ◌⊎◌, ℕ, ◌==◌, Bool, true, false, List, [], ◌∷◌, Some, Result, Ok, Err, if◌then◌else◌, length, map, slice_get, ok_or}
 use Rattle.std.specs.Option.{IsSome}
 use Rattle.std.specs.List.{All}
 use Rattle.tg_rights.specs.declared.Right.{Right}
-use Rattle.tg_rights.specs.declared.Right.TheVariants.{R, W, T, G, A, L, U, V}
+use Rattle.tg_rights.specs.RightSet.{right_of_bit}
 use Rattle.tg_model.specs.declared.reply.Reply.TheVariants.{Done}
 use Rattle.tg_model.specs.Graph.{ProtectionGraph, IsSubject, IsSound}
+use Rattle.tg_could.specs.Answered.{turns_of}
 use Rattle.tg_could.specs.Turns.{Turn}
 use Rattle.tg_could.specs.Reached.{IsReachedPicture, IsToldOf, JoinReached, with_edges}
 use Rattle.tg_could.specs.declared.answer.Answer.{Answer}
@@ -27,19 +28,6 @@ use Rattle.tg_c.specs.Records.{answered, deed_out, numbers_replied, record_with}
 use Rattle.tg_c.specs.Statuses.{status_of}
 
 -- ---- the question
-
--- the right of this bit, where it is that of one
-abbrev pub right_at : ℕ → Option Right
-right_at bits =
-    if bits == 1 then Some R
-    else if bits == 2 then Some W
-    else if bits == 4 then Some T
-    else if bits == 8 then Some G
-    else if bits == 16 then Some A
-    else if bits == 32 then Some L
-    else if bits == 64 then Some U
-    else if bits == 128 then Some V
-    else None
 
 -- each of these is an active subject
 abbrev pub AreActive : ProtectionGraph → List ℕ → Type 0
@@ -76,12 +64,12 @@ asked_of_places place is_open as_if =
 
 -- what a question asks for: one right, and then the same
 abbrev pub asked_first : StorePlace → Bool → List EdgeIn → ℕ → List Demand
-asked_first place is_open as_if right = demand (IsSome (right_at right)) refusal.BadRights ∷ asked_of_places place is_open as_if
+asked_first place is_open as_if right = demand (IsSome (right_of_bit right)) refusal.BadRights ∷ asked_of_places place is_open as_if
 
 -- the answer to a question to a store in its place, where the answer's place was open or not
 pub record IsForeseen (place : StorePlace) (is_open : Bool) (silent : List ℕ) (as_if : List EdgeIn) (x right y : ℕ) (told : ReachedAnswer) : Type 0 where
   pub met : AreMet (asked_first place is_open as_if right)
-  pub told_of : (g : ProtectionGraph) → StandsFor (state_in place) g → (r : Right) → right_at right ≡ Some r → IsForeseenOn g silent as_if x r y told
+  pub told_of : (g : ProtectionGraph) → StandsFor (state_in place) g → (r : Right) → right_of_bit right ≡ Some r → IsForeseenOn g silent as_if x r y told
 
 -- why a question is refused: by the first demand that isn't met; or all are met, and the store's graph is why, or memory
 abbrev pub IsRefusedQuestion : StorePlace → Bool → List ℕ → List EdgeIn → ℕ → CallRefusal → Type 0
@@ -123,12 +111,6 @@ names_told Unreached = 0
 names_told (Of answer) = names_answered answer
 
 -- the turns that lead there
-abbrev pub turns_of : Answer → List Turn
-turns_of (Never separation) = []
-turns_of (Could turns) = turns.items
-turns_of (WantsNames turns names) = turns.items
-turns_of Open = []
-
 abbrev pub turns_in : ReachedAnswer → List Turn
 turns_in Unreached = []
 turns_in (Of answer) = turns_of answer
@@ -152,6 +134,9 @@ turn_out turn = record_with turn.0 (deed_out turn.1) (answered 0 0) (length (num
 pub record TurnOut : Type 0 where
   pub record_out : RecordOut
   pub numbers : List ℕ
+
+abbrev pub turn_told : RecordOut → List ℕ → TurnOut
+turn_told record_out numbers = record { record_out = record_out; numbers = numbers }
 
 abbrev pub TellsTurn : ℕ → TurnOut → TurnOut → Result Turn CallRefusal → Type 0
 TellsTurn status old new (Ok turn) = (status ≡ 0)

@@ -1,6 +1,7 @@
 -- What C is told of a worker that leaves, and of who holds a right.
 use Rattle.std.specs.Prelude.{◌≡◌, ◌≢◌, ◌↔◌, ℕ, List, Some, None, Result, Err, IfOk, IfErr, OnErr, OnOk, length}
 use Rattle.tg_rights.specs.declared.Right.{Right}
+use Rattle.tg_rights.specs.RightSet.{right_of_bit}
 use Rattle.tg_model.specs.Graph.{ProtectionGraph, IsSubject, listing_of}
 use Rattle.tg_store.specs.Holding.{AreHolders}
 use Rattle.tg_store.specs.Leaving.{HasLeft}
@@ -11,7 +12,6 @@ use Rattle.tg_c.specs.declared.place.StorePlace.{StorePlace}
 use Rattle.tg_c.specs.declared.refusal.CallRefusal.{CallRefusal}
 use Rattle.tg_c.specs.declared.refusal.CallRefusal.TheVariants as refusal
 use Rattle.tg_c.specs.Calls.{IsCall, Refuses}
-use Rattle.tg_c.specs.Could.{right_at}
 use Rattle.tg_c.specs.Statuses.{of_apply}
 
 -- the answer to a worker that leaves: the clauses of the store's `leave`
@@ -33,5 +33,5 @@ pub record AreToldHolders (right : Right) (name : ℕ) (old new : StoreState) (a
 
 -- where the bits aren't those of one right it is refused, and else the store is asked
 pub record AsksHolders (old new : StorePlace) (bits name : ℕ) (tells : Result (List ℕ) CallRefusal → Type 0) : Type 0 where
-  pub asked : (right : Right) → right_at bits ≡ Some right → IsCall (λ why. why) (AreToldHolders right name) old new tells
-  pub bad_rights : right_at bits ≡ None → Refuses old new tells refusal.BadRights
+  pub asked : (right : Right) → right_of_bit bits ≡ Some right → IsCall (λ why. why) (AreToldHolders right name) old new tells
+  pub bad_rights : right_of_bit bits ≡ None → Refuses old new tells refusal.BadRights

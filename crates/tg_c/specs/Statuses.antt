@@ -125,6 +125,9 @@ pub record ReadOut : Type 0 where
   pub numbers : List ℕ
   pub denial : DenialOut
 
+abbrev pub read_out : ℕ → List ℕ → DenialOut → ReadOut
+read_out count numbers denial = record { count = count; numbers = numbers; denial = denial }
+
 abbrev pub TellsRead : ℕ → ReadOut → ReadOut → Result Reply CallRefusal → Type 0
 TellsRead status old new (Ok (Values values)) = (status ≡ 0)
     × (new ≡ record { count = length values; numbers = shown_in values old.numbers; denial = old.denial })
@@ -142,6 +145,9 @@ pub record ListOut : Type 0 where
   pub count : ℕ
   pub edges : List EdgeOut
 
+abbrev pub list_out : ℕ → List EdgeOut → ListOut
+list_out count edges = record { count = count; edges = edges }
+
 abbrev pub TellsList : ℕ → ListOut → ListOut → Result Reply CallRefusal → Type 0
 TellsList status old new (Ok (Edges edges)) = (status ≡ 0) × (new ≡ record { count = length edges; edges = edges_shown_in edges old.edges })
 TellsList status old new (Ok Done) = ⊥
@@ -157,6 +163,9 @@ pub record InspectOut : Type 0 where
   pub count : ℕ
   pub edges : List EdgeOut
   pub denial : DenialOut
+
+abbrev pub inspect_out : ℕ → List EdgeOut → DenialOut → InspectOut
+inspect_out count edges denial = record { count = count; edges = edges; denial = denial }
 
 abbrev pub TellsInspect : ℕ → InspectOut → InspectOut → Result Reply CallRefusal → Type 0
 TellsInspect status old new (Ok (Edges edges)) = (status ≡ 0)
@@ -185,6 +194,9 @@ pub record NamesOut : Type 0 where
   pub count : ℕ
   pub names : List ℕ
 
+abbrev pub names_out : ℕ → List ℕ → NamesOut
+names_out count names = record { count = count; names = names }
+
 abbrev pub TellsNames : ℕ → NamesOut → NamesOut → Result (List ℕ) CallRefusal → Type 0
 TellsNames status old new (Ok names) = (status ≡ 0) × (new ≡ record { count = length names; names = shown_in names old.names })
 TellsNames status old new (Err why) = (status ≡ status_of why) × (new ≡ old)
@@ -194,6 +206,9 @@ pub record EntryOut : Type 0 where
   pub record_out : RecordOut
   pub numbers : List ℕ
   pub edges : List EdgeOut
+
+abbrev pub entry_out : RecordOut → List ℕ → List EdgeOut → EntryOut
+entry_out record_out numbers edges = record { record_out = record_out; numbers = numbers; edges = edges }
 
 abbrev pub TellsEntry : ℕ → EntryOut → EntryOut → Result Entry CallRefusal → Type 0
 TellsEntry status old new (Ok entry) = (status ≡ 0)

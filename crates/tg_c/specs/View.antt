@@ -3,6 +3,7 @@ use Rattle.std.specs.Prelude.{◌≡◌, ◌≢◌, ◌↔◌, ◌⊎◌, ℕ, �
 use Rattle.std.specs.List.{Contains, list_any}
 use Rattle.indexmap.specs.IndexSet.{contains}
 use Rattle.tg_rights.specs.declared.Right.{Right}
+use Rattle.tg_rights.specs.RightSet.{right_of_bit}
 use Rattle.tg_model.specs.Graph.{ProtectionGraph, IsReachable, IsSound}
 use Rattle.tg_model.specs.Picture.{Shown, IsPictureOf}
 use Rattle.tg_could.specs.Turns.{NeverHolds}
@@ -19,7 +20,7 @@ use Rattle.tg_c.specs.declared.view.sight.Glimpse.TheVariants.{Never, Unreached,
 use Rattle.tg_c.specs.declared.view.sight.Seen.{Seen}
 use Rattle.tg_c.specs.declared.view.sight.Sight.{Sight}
 use Rattle.tg_c.specs.Calls.{AreMet, IsFirstUnmet, IsStatusWhere, state_in}
-use Rattle.tg_c.specs.Could.{AreActive, IsRefusedOn, asked_of_places, right_at}
+use Rattle.tg_c.specs.Could.{AreActive, IsRefusedOn, asked_of_places}
 use Rattle.tg_c.specs.Forms.{edge_in}
 
 -- ---- what a view tells
@@ -103,7 +104,7 @@ pub record TellsGlimpse (sight : Sight) (x : ℕ) (right : Right) (y : ℕ) (tel
 -- A question to a view in its place, about the right of these bits. Where these aren't those of one right it is refused, or else where
 -- the place is closed. An open view is as it was.
 pub record Glances (old new : ViewPlace) (x bits y : ℕ) (tells : Result ℕ CallRefusal → Type 0) : Type 0 where
-  pub bad_rights : right_at bits ≡ None → tells (Err refusal.BadRights) × (new ≡ old)
-  pub not_open : (right : Right) → right_at bits ≡ Some right → old.is_open ≡ false → tells (Err refusal.NotOpen) × (new.is_open ≡ false)
-  pub told : (right : Right) → right_at bits ≡ Some right → old.is_open ≡ true →
+  pub bad_rights : right_of_bit bits ≡ None → tells (Err refusal.BadRights) × (new ≡ old)
+  pub not_open : (right : Right) → right_of_bit bits ≡ Some right → old.is_open ≡ false → tells (Err refusal.NotOpen) × (new.is_open ≡ false)
+  pub told : (right : Right) → right_of_bit bits ≡ Some right → old.is_open ≡ true →
       TellsGlimpse old.handle.opened x right y tells × (new.is_open ≡ true) × (new.handle.opened ≡ old.handle.opened)

@@ -1,10 +1,10 @@
 //! The functions by which C asks what could ever come about, and reads the answer.
 ghost use Rattle.std.specs.Prelude.{◌≡◌, true, false, Ok, length};
-ghost use Rattle.tg_c.specs.Could.{Consults, Foresees, TellsTurn, kind_in, names_told, turn_at, turns_in};
+ghost use Rattle.tg_c.specs.Could.{Consults, Foresees, TellsTurn, kind_in, names_told, turn_at, turns_in, turn_told};
 ghost use Rattle.tg_c.specs.Statuses.{TellsNumber, status_of};
 
 use crate::answer::AnswerPlace;
-use crate::foresee::foresee;
+use crate::foresee::{BitQuestion, foresee};
 use crate::forms::EdgeIn;
 use crate::held::Holder;
 use crate::outlook::Outlook;
@@ -30,7 +30,8 @@ pub extern "C" fn tg_could(
 ) -> u32
     ensures { Foresees store.old store.new silent.now as_if.now x right y answer.old answer.new result }
 {
-    match foresee(alloc, store, silent, as_if, x, right, y, answer.is_open) {
+    let asked = BitQuestion { x, right, y };
+    match foresee(alloc, store, silent, as_if, asked, answer.is_open) {
         Ok(opened) => {
             answer.put(opened);
             DONE
@@ -77,8 +78,8 @@ pub extern "C" fn tg_answer_turn(
     numbers: &mut [u64],
 ) -> u32
     ensures { Consults (turn_at at) answer.old answer.new (TellsTurn result
-        (record { record_out = out.old; numbers = numbers.old })
-        (record { record_out = out.new; numbers = numbers.new })) }
+        (turn_told out.old numbers.old)
+        (turn_told out.new numbers.new)) }
 {
     let Some(opened) = answer.take(alloc) else {
         return CallRefusal::NotOpen.status();
@@ -91,8 +92,8 @@ pub extern "C" fn tg_answer_turn(
 // The same of an open answer.
 fn tell_turn(outlook: &Outlook, at: u64, out: &mut RecordOut, numbers: &mut [u64]) -> u32
     ensures { TellsTurn result
-        (record { record_out = out.old; numbers = numbers.old })
-        (record { record_out = out.new; numbers = numbers.new }) (turn_at at outlook.now.told) }
+        (turn_told out.old numbers.old)
+        (turn_told out.new numbers.new) (turn_at at outlook.now.told) }
 {
     let turns = outlook.turns();
     if turns.len() as u64 <= at {

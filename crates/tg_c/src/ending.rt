@@ -2,14 +2,14 @@
 ghost use Rattle.std.specs.Prelude.{◌≡◌};
 ghost use Rattle.tg_c.specs.Calls.{IsShown};
 ghost use Rattle.tg_c.specs.Ending.{AsksHolders, Leaves};
-ghost use Rattle.tg_c.specs.Statuses.{TellsNames, TellsNumber};
+ghost use Rattle.tg_c.specs.Statuses.{TellsNames, TellsNumber, names_out};
 
-use crate::foresee::right_of;
 use crate::held::Holder;
 use crate::place::StorePlace;
 use crate::refusal::CallRefusal;
 use crate::tell::{put_numbers, tell_number};
 use std::alloc::Global;
+use tg_rights::Right;
 
 /// The worker gives up each of its edges, by rising name, and retires; the journal has an entry for each. How many
 /// edges these were goes to `count`.
@@ -37,8 +37,8 @@ pub extern "C" fn tg_who_holds(
     count: &mut u64,
 ) -> u32
     ensures { AsksHolders store.old store.new right name (TellsNames result
-        (record { count = count.old; names = names.old })
-        (record { count = count.new; names = names.new })) }
+        (names_out count.old names.old)
+        (names_out count.new names.new)) }
 {
     tell_number(who_holds(alloc, store, right, name, names), count)
 }
@@ -65,7 +65,7 @@ fn who_holds(
 ) -> Result<u64, CallRefusal>
     ensures { AsksHolders place.old place.new right name (IsShown into.old into.new result) }
 {
-    let Some(right) = right_of(right) else {
+    let Some(right) = Right::of_bit(right) else {
         return Err(CallRefusal::BadRights);
     };
     let Some(opened) = place.take(alloc) else {

@@ -1,9 +1,9 @@
 //! The question whether x could ever come to hold a right over y, asked of a store in its place.
-ghost use Rattle.std.specs.Prelude.{◌≡◌, ◌↔◌, IfOk, IfErr, IsTrue};
+ghost use Rattle.std.specs.Prelude.{◌↔◌, IfOk, IfErr, IsTrue};
 ghost use Rattle.tg_model.specs.Graph.{ProtectionGraph, IsSound};
 ghost use Rattle.tg_could.specs.Reached.{IsReachedPicture, IsToldOf, JoinReached, with_edges};
 ghost use Rattle.tg_c.specs.Calls.{IsMemoryOr};
-ghost use Rattle.tg_c.specs.Could.{IsForeseen, IsRefusedQuestion, right_at};
+ghost use Rattle.tg_c.specs.Could.{IsForeseen, IsRefusedQuestion};
 ghost use Rattle.tg_c.specs.Inner.Stores.{KeepsStore};
 
 use crate::forms::EdgeIn;
@@ -18,6 +18,17 @@ use tg_could::{Question, ReachedAnswer, could_hold_reached, join_reached};
 use tg_model::{Edge, Picture};
 use tg_rights::Right;
 
+/// A question as C asks it: whether x could ever come to hold the right of this bit over y.
+#[derive(Clone, Copy)]
+pub struct BitQuestion {
+    /// Who could come to hold the right.
+    pub x: u64,
+    /// The bit of the right, as [`Right::bit`] has it.
+    pub right: u64,
+    /// Over what.
+    pub y: u64,
+}
+
 /// What comes of the question whether x could ever come to hold the right of this bit over y, where the silent ones
 /// take no turns, as if these edges were there too. What is asked for is looked at first: the right, the edges' rights,
 /// and whether the answer's place is open; then whether the store's is, whether the silent ones are workers, and with
@@ -27,16 +38,14 @@ pub fn foresee(
     place: &mut StorePlace,
     silent: &[u64],
     as_if: &[EdgeIn],
-    x: u64,
-    right: u64,
-    y: u64,
+    asked: BitQuestion,
     is_open: bool,
 ) -> Result<Box<Outlook>, CallRefusal>
     ensures kept { KeepsStore place.old place.new }
-    ensures told { IfOk result (λ opened. IsForeseen place.old is_open silent.now as_if.now x right y opened.value.told) }
-    ensures refused { IfErr result (IsRefusedQuestion place.old is_open silent.now as_if.now right) }
+    ensures told { IfOk result (λ opened. IsForeseen place.old is_open silent.now as_if.now asked.x asked.right asked.y opened.value.told) }
+    ensures refused { IfErr result (IsRefusedQuestion place.old is_open silent.now as_if.now asked.right) }
 {
-    let Some(right) = right_of(right) else {
+    let Some(right) = Right::of_bit(asked.right) else {
         return Err(CallRefusal::BadRights);
     };
     check_rights(as_if)?;
@@ -46,26 +55,14 @@ pub fn foresee(
     let Some(opened) = place.take(alloc) else {
         return Err(CallRefusal::NotOpen);
     };
-    let foreseen = opened.foresee(alloc, silent, as_if, x, right, y);
+    let question = Question {
+        x: asked.x,
+        right,
+        y: asked.y,
+    };
+    let foreseen = opened.foresee(alloc, silent, as_if, question);
     place.put(opened);
     foreseen
-}
-
-/// The right of this bit, where it is that of one: 1 r, 2 w, 4 t, 8 g, 16 a, 32 l, 64 u, 128 v.
-pub fn right_of(bits: u64) -> Option<Right>
-    ensures { result ≡ right_at bits }
-{
-    match bits {
-        1 => Some(Right::R),
-        2 => Some(Right::W),
-        4 => Some(Right::T),
-        8 => Some(Right::G),
-        16 => Some(Right::A),
-        32 => Some(Right::L),
-        64 => Some(Right::U),
-        128 => Some(Right::V),
-        _ => None,
-    }
 }
 
 /// What is asked about of an open store: the picture of what its workers reach, and the edges that are supposed to be
@@ -91,16 +88,13 @@ impl LawStore {
         alloc: Global,
         silent: &[u64],
         as_if: &[EdgeIn],
-        x: u64,
-        right: Right,
-        y: u64,
+        question: Question,
     ) -> Result<Box<Outlook>, CallRefusal>
         requires { HaveLabels as_if.now }
         ensures { IsAnsweredOn (graph_of_store self.now.store) silent.now as_if.now
-            (λ opened. IsForeseenOn (graph_of_store self.now.store) silent.now as_if.now x right y opened.value.told) result }
+            (λ opened. IsForeseenOn (graph_of_store self.now.store) silent.now as_if.now question.x question.right question.y opened.value.told) result }
     {
         let scene = self.scene(alloc, silent, as_if)?;
-        let question = Question { x, right, y };
         let asked = tg_could::Scene {
             picture: &scene.picture,
             silent,

@@ -69,7 +69,7 @@ fn check_opening(
         return Err(CallRefusal::BadLimits);
     }
     check_ends(count, edges)?;
-    let blocks = Limits::new(limits.max_blocks, limits.max_space_blocks)?;
+    let blocks = Limits::large(limits.max_blocks, limits.max_space_blocks)?;
     if limits.max_blocks < count {
         return Err(CallRefusal::HeapFull);
     }

@@ -1,6 +1,6 @@
 //! What was answered to a question, in numbers.
 ghost use Rattle.std.specs.Prelude.{◌≡◌};
-ghost use Rattle.tg_c.specs.Could.{outlook_kind, names_answered, turns_of};
+ghost use Rattle.tg_c.specs.Could.{outlook_kind, names_answered};
 
 use tg_could::{Answer, ReachedAnswer};
 use tg_model::Deed;
@@ -43,7 +43,7 @@ impl Outlook {
     {
         match &self.told {
             ReachedAnswer::Unreached => &[],
-            ReachedAnswer::Of(answer) => turns_of_answer(answer),
+            ReachedAnswer::Of(answer) => answer.turns(),
         }
     }
 }
@@ -67,15 +67,5 @@ fn names_of_answer(answer: &Answer) -> u64
     match answer {
         Answer::WantsNames { names, .. } => *names,
         _ => 0,
-    }
-}
-
-// The turns of an answer.
-fn turns_of_answer(answer: &Answer) -> &[(u64, Deed)]
-    ensures { result.now ≡ turns_of answer.now }
-{
-    match answer {
-        Answer::Could(turns) | Answer::WantsNames { turns, .. } => turns.as_slice(),
-        _ => &[],
     }
 }

@@ -3,7 +3,7 @@ ghost use Rattle.std.specs.Prelude.{◌≡◌, IfOk};
 ghost use Rattle.tg_c.specs.Calls.{IsDoneReply, IsDoneOrDenied, IsListReply, IsListedOrDenied, IsReadOrDenied};
 ghost use Rattle.tg_graph.specs.Shown.{shown_in};
 ghost use Rattle.tg_c.specs.Forms.{edges_shown_in};
-ghost use Rattle.tg_c.specs.Statuses.{TellsCensus, TellsDone, TellsEntry, TellsInspect, TellsList, TellsNumber, TellsOnly, TellsRead, TellsRetired};
+ghost use Rattle.tg_c.specs.Statuses.{TellsCensus, TellsDone, TellsEntry, TellsInspect, TellsList, TellsNumber, TellsOnly, TellsRead, TellsRetired, entry_out, inspect_out, list_out, read_out};
 ghost use Rattle.tg_c.specs.Records.{entry_at};
 ghost use Rattle.tg_subjects.specs.Subjects.{names_of};
 
@@ -46,8 +46,8 @@ pub fn tell_read(
     denial: &mut DenialOut,
 ) -> u32
     requires { IfOk answer IsReadOrDenied }
-    ensures { TellsRead result (record { count = count.old; numbers = numbers.old; denial = denial.old })
-        (record { count = count.new; numbers = numbers.new; denial = denial.new }) answer }
+    ensures { TellsRead result (read_out count.old numbers.old denial.old)
+        (read_out count.new numbers.new denial.new) answer }
 {
     match &answer {
         Ok(Reply::Values(values)) => {
@@ -67,7 +67,7 @@ pub fn tell_read(
 /// Tells the edges that were listed, as many as there is room for, and how many there are.
 pub fn tell_list(answer: Result<Reply, CallRefusal>, edges: &mut [EdgeOut], count: &mut u64) -> u32
     requires { IfOk answer IsListReply }
-    ensures { TellsList result (record { count = count.old; edges = edges.old }) (record { count = count.new; edges = edges.new }) answer }
+    ensures { TellsList result (list_out count.old edges.old) (list_out count.new edges.new) answer }
 {
     match &answer {
         Ok(Reply::Edges(list)) => {
@@ -89,8 +89,8 @@ pub fn tell_inspect(
     denial: &mut DenialOut,
 ) -> u32
     requires { IfOk answer IsListedOrDenied }
-    ensures { TellsInspect result (record { count = count.old; edges = edges.old; denial = denial.old })
-        (record { count = count.new; edges = edges.new; denial = denial.new }) answer }
+    ensures { TellsInspect result (inspect_out count.old edges.old denial.old)
+        (inspect_out count.new edges.new denial.new) answer }
 {
     match &answer {
         Ok(Reply::Edges(list)) => {
@@ -164,8 +164,8 @@ pub fn tell_entry(
     numbers: &mut [u64],
     edges: &mut [EdgeOut],
 ) -> u32
-    ensures { TellsEntry result (record { record_out = out.old; numbers = numbers.old; edges = edges.old })
-        (record { record_out = out.new; numbers = numbers.new; edges = edges.new }) (entry_at journal.now.start journal.now.entries at) }
+    ensures { TellsEntry result (entry_out out.old numbers.old edges.old)
+        (entry_out out.new numbers.new edges.new) (entry_at journal.now.start journal.now.entries at) }
 {
     if at < journal.start() || journal.len() <= at {
         return CallRefusal::BadPlace.status();

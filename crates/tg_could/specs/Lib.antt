@@ -10,4 +10,5 @@ pub mod Listed
 pub mod View
 pub mod Led
 pub mod LedNames
+pub mod Laws
 pub mod Inner

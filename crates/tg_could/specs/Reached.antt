@@ -7,7 +7,7 @@ use Rattle.tg_model.specs.declared.edge.Edge.{Edge}
 use Rattle.tg_model.specs.Graph.{ProtectionGraph, HasEdge, IsReachable, IsSound}
 use Rattle.tg_model.specs.Opened.{label_in}
 use Rattle.tg_model.specs.Picture.{Shown}
-use Rattle.tg_could.specs.Turns.{Turn, AreTurns, after}
+use Rattle.tg_could.specs.Turns.{Turn, AreTurns, LeadThere, NeverHolds, after}
 use Rattle.tg_could.specs.Answered.{IsAnswer}
 use Rattle.tg_could.specs.declared.question.Question.{Question}
 use Rattle.tg_could.specs.declared.question.Scene.{Scene}
@@ -51,6 +51,20 @@ IsKnown g x = IsReachable g x ⊎ (g.made ≤ x)
 -- the graph with the labels that a picture shows
 abbrev pub as_shown : Shown → ProtectionGraph → ProtectionGraph
 as_shown p g = record g { label = label_in p.edges }
+
+-- the graph is sound, the picture is of its reached part, and x is one of whom the picture shows all
+pub record ShowsAllOf (p : Shown) (g : ProtectionGraph) (x : ℕ) : Type 0 where
+  pub sound : IsSound g
+  pub picture : IsReachedPicture p g
+  pub known : IsKnown g x
+
+-- what x never holds on one graph, it never holds on the other
+abbrev pub NeverHoldsAlso : List ℕ → ProtectionGraph → ProtectionGraph → ℕ → Right → ℕ → Type 0
+NeverHoldsAlso silent g h x right y = NeverHolds silent g x right y → NeverHolds silent h x right y
+
+-- the turns that lead there on one graph lead there on the other
+abbrev pub LeadThereAlso : List ℕ → ProtectionGraph → ProtectionGraph → ℕ → Right → ℕ → Type 0
+LeadThereAlso silent g h x right y = (turns : List Turn) → LeadThere silent g turns x right y → LeadThere silent h turns x right y
 
 -- What is told of a graph. `Unreached`: x was made, no active subject reaches it, and it holds what it holds. Else the answer.
 abbrev pub IsToldOf : List ℕ → ProtectionGraph → ℕ → Right → ℕ → ReachedAnswer → Type 0

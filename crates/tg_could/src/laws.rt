@@ -1,51 +1,44 @@
 //! Laws of the definitions alone. A function here does nothing: what it ensures is the law.
-ghost use Rattle.std.specs.Prelude.{◌≡◌, ◌≢◌, ◌⊎◌, ◌<◌, ℕ, List, Bool, true};
-ghost use Rattle.std.specs.List.{Contains};
+ghost use Rattle.std.specs.Prelude.{◌⊎◌, ℕ, List, Bool};
 ghost use Rattle.tg_rights.specs.RightSet.{RightSet};
 ghost use Rattle.tg_rights.specs.declared.Right.{Right};
 ghost use Rattle.tg_model.specs.Graph.{ProtectionGraph, IsSound};
-ghost use Rattle.tg_model.specs.Picture.{IsMade, with_edge};
-ghost use Rattle.tg_could.specs.Turns.{IsSilent, NeverHolds, CouldHold, StaysNever, MayGrant, granted};
+ghost use Rattle.tg_model.specs.Picture.{IsMade};
+ghost use Rattle.tg_could.specs.Turns.{NeverHolds, CouldHold};
 ghost use Rattle.tg_could.specs.Answered.{IsShort};
-ghost use Rattle.tg_could.specs.Separation.{Sides, Separates, IsConfined, NoneHolds};
-ghost use Rattle.tg_could.specs.Led.{IsBrought, HasHelp};
+ghost use Rattle.tg_could.specs.Laws.{HasMeans, IsBroughtTo, IsConfinedWithout, IsForeseenByEdge, IsSeparated, NoneEverHolds};
 
 /// Where two sets part x from a right over y, x never holds it, whatever any who act do.
 pub fn the_separated_never_hold()
-    ensures { (silent : List ℕ) (g : ProtectionGraph) (s : Sides) (x : ℕ) (right : Right) (y : ℕ) →
-        IsMade g → Separates (IsSilent silent g) s x right y g → NeverHolds silent g x right y }
+    ensures { (silent : List ℕ) (g : ProtectionGraph) (x : ℕ) (right : Right) (y : ℕ) →
+        IsMade g → IsSeparated silent g x right y → NeverHolds silent g x right y }
 {}
 
 /// No take or grant edge leaves or enters a set of vertices: then none of the set ever holds a right over a vertex made
 /// before that none of the set held at first.
 pub fn the_confined_never_hold()
     ensures { (silent : List ℕ) (g : ProtectionGraph) (inside : ℕ → Bool) (right : Right) (y : ℕ) →
-        IsMade g → IsConfined inside g → y < g.made →
-        NoneHolds inside g right y →
-        (x : ℕ) → x < g.made → inside x ≡ true → NeverHolds silent g x right y }
+        IsConfinedWithout inside g right y → NoneEverHolds inside silent g right y }
 {}
 
 /// A question is asked of a grant before it is made: where x never holds the right on the graph with the new edge, it
 /// never does after the host's grant either, whatever the others do while the host is silent.
 pub fn a_grant_is_asked_about_before_it_is_made()
     ensures { (silent : List ℕ) (g : ProtectionGraph) (host via target : ℕ) (rights : RightSet) →
-        Contains silent host → MayGrant g host via target rights →
-        StaysNever silent (with_edge g via target rights) (granted g host via target rights) }
+        IsForeseenByEdge silent g host via target rights }
 {}
 
 /// Where walks lead the right over y to x, x could come to hold it: there are turns of those who act behind which it
 /// does, where names aren't short, and y isn't the only one who acts among 64 subjects.
 pub fn what_is_brought_could_come_about()
     ensures { (silent : List ℕ) (g : ProtectionGraph) (x : ℕ) (right : Right) (y : ℕ) →
-        IsSound g → ¬ IsShort g x y → x ≢ y → HasHelp (IsSilent silent g) g y →
-        IsBrought (IsSilent silent g) right y g x → CouldHold silent g x right y }
+        HasMeans silent g x y → IsBroughtTo silent g x right y → CouldHold silent g x right y }
 {}
 
 /// One of two is so: two sets part x from the right over y, or walks lead it to x.
 pub fn what_is_not_brought_is_parted()
     ensures { (silent : List ℕ) (g : ProtectionGraph) (x : ℕ) (right : Right) (y : ℕ) →
-        IsMade g →
-        ((s : Sides) × Separates (IsSilent silent g) s x right y g) ⊎ IsBrought (IsSilent silent g) right y g x }
+        IsMade g → IsSeparated silent g x right y ⊎ IsBroughtTo silent g x right y }
 {}
 
 /// So each question has an answer where names aren't short: x never holds the right over y, or could come to hold it.

@@ -5,9 +5,8 @@ ghost use Rattle.std.specs.List.{Contains};
 ghost use Rattle.tg_rights.specs.declared.Right.{Right};
 ghost use Rattle.tg_model.specs.Graph.{ProtectionGraph, IsReachable, IsSound};
 ghost use Rattle.tg_model.specs.Picture.{Shown};
-ghost use Rattle.tg_could.specs.Turns.{NeverHolds, Turn, LeadThere};
 ghost use Rattle.tg_could.specs.Reached.{HaveSameReach, HoldsWhatItHolds, IsLedTo, IsReachedPicture, JoinReached, JoinsReached, with_edges};
-ghost use Rattle.tg_could.specs.Reached.{IsKnown, OnReached, ReachedAnswerOf, as_shown};
+ghost use Rattle.tg_could.specs.Reached.{LeadThereAlso, NeverHoldsAlso, OnReached, ReachedAnswerOf, ShowsAllOf, as_shown};
 
 use crate::answer::{Answer, could_hold};
 use crate::question::{Question, Scene};
@@ -111,11 +110,9 @@ pub fn supposing(alloc: Global, picture: &Picture, edges: &[Edge]) -> Result<Pic
 /// hold exactly what it could on the whole graph: the same turns lead there, and where none do there, none do here.
 pub fn what_is_reached_says_it_all()
     ensures never { (silent : List ℕ) (p : Shown) (g : ProtectionGraph) (x : ℕ) (right : Right) (y : ℕ) →
-        IsSound g → IsReachedPicture p g → IsKnown g x →
-        NeverHolds silent (as_shown p g) x right y → NeverHolds silent g x right y }
-    ensures could { (silent : List ℕ) (p : Shown) (g : ProtectionGraph) (x : ℕ) (right : Right) (y : ℕ) (turns : List Turn) →
-        IsSound g → IsReachedPicture p g → IsKnown g x →
-        LeadThere silent (as_shown p g) turns x right y → LeadThere silent g turns x right y }
+        ShowsAllOf p g x → NeverHoldsAlso silent (as_shown p g) g x right y }
+    ensures could { (silent : List ℕ) (p : Shown) (g : ProtectionGraph) (x : ℕ) (right : Right) (y : ℕ) →
+        ShowsAllOf p g x → LeadThereAlso silent (as_shown p g) g x right y }
 {}
 
 /// Whoever was made and no active subject reaches holds what it holds: no turns of anybody change a label at it.

@@ -58,6 +58,10 @@ image_at kind h to c = image_of (from_space kind) h to (cell_numbered h c)
 abbrev pub copies_to : ℕ → Kind → SpaceList → (ℕ → Place) → List Win → List (List ℕ)
 copies_to space kind h to won = map (λ w. image_at kind h to w.cell) (won_in space won)
 
+-- these are the copies in a space, under whatever map has the places of the pairs
+abbrev pub AreCopiesIn : ℕ → Kind → SpaceList → List Win → List (List ℕ) → Type 0
+AreCopiesIn space kind h won copies = (to : ℕ → Place) → HasPlacesOf won to → copies ≡ copies_to space kind h to won
+
 -- One more copy stands behind those there were: that of a cell with these words, under whatever map agrees with all that is
 -- known.
 pub record AddsCopy (kind : Kind) (h : SpaceList) (knows : (ℕ → Place) → Type 0) (words : List ℕ) (before after : List (List ℕ)) : Type 0 where

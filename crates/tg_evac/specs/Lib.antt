@@ -2,8 +2,10 @@ pub mod Win
 pub mod Claims
 pub mod Claimers
 pub mod Copies
+pub mod Notes
 pub mod Lending
 pub mod Room
 pub mod Walks
+pub mod Along
 pub mod Collects
 pub mod Inner

@@ -7,6 +7,7 @@ use Rattle.tg_space.specs.SpaceList.{SpaceList}
 use Rattle.tg_space.specs.Targets.{from_space, targets_of, all_root_targets}
 use Rattle.tg_space.specs.declared.kind.Kind.{Kind}
 use Rattle.tg_space.specs.declared.root.Root.{Root}
+use Rattle.tg_evac.specs.Claims.{Claimed, HasFilledRoom, cells_won}
 
 -- the cells that a collection has to copy: those of from-space that the roots reach
 abbrev pub IsReachedFrom : Kind → SpaceList → List Root → ℕ → Type 0
@@ -19,3 +20,7 @@ pub record LacksRoomFor (space_blocks helpers kept : ℕ) (reached : ℕ → Typ
   pub once : IsDistinct eqb cells
   pub from : All reached cells
   pub many : MayLackRoom space_blocks helpers kept (length cells)
+
+-- as many cells were won as there is room for, and the roots reach all of them
+abbrev pub IsFullOfReached : Kind → SpaceList → List Root → Claimed → Type 0
+IsFullOfReached kind h roots claimed = HasFilledRoom claimed × All (IsReachedFrom kind h roots) (cells_won claimed.won)

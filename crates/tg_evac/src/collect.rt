@@ -1,12 +1,11 @@
 //! The collection.
-ghost use Rattle.std.specs.Prelude.{◌≡◌, ℕ, [], IfErr, IfOk, OnOk};
+ghost use Rattle.std.specs.Prelude.{◌≡◌, [], IfErr, IfOk, OnOk};
 ghost use Rattle.std.specs.List.{All};
-ghost use Rattle.tg_word.specs.declared.Place.{Place as PlaceOf};
 ghost use Rattle.tg_space.specs.Soundness.{AreSound, IsRootIn};
-ghost use Rattle.tg_evac.specs.Claims.{HasFilledRoom, IsTracedFrom, cells_won};
-ghost use Rattle.tg_evac.specs.Claimers.{HasPlacesOf, copies_to, walked_of};
+ghost use Rattle.tg_evac.specs.Claims.{IsTracedFrom};
+ghost use Rattle.tg_evac.specs.Claimers.{AreCopiesIn, walked_of};
 ghost use Rattle.tg_evac.specs.Collects.{CollectsRoots};
-ghost use Rattle.tg_evac.specs.Room.{IsReachedFrom};
+ghost use Rattle.tg_evac.specs.Room.{IsFullOfReached};
 ghost use Rattle.tg_evac.specs.Walks.{MayWalk};
 
 use crate::claims::Claims;
@@ -140,9 +139,9 @@ impl Walk<'_> {
         requires none_yet { claims.old.won ≡ [] }
         ensures traced { OnOk result (IsTracedFrom claims.old.plan.kind self.entry.spaces.now.spaces roots.now claims.new) }
         ensures plan { claims.new.plan ≡ claims.old.plan }
-        ensures aged { IfOk result (λ copies. (to : ℕ → PlaceOf) → HasPlacesOf claims.new.won to → copies.aged ≡ copies_to 1 claims.old.plan.kind self.entry.spaces.now.spaces to claims.new.won) }
-        ensures old { IfOk result (λ copies. (to : ℕ → PlaceOf) → HasPlacesOf claims.new.won to → copies.old ≡ copies_to 0 claims.old.plan.kind self.entry.spaces.now.spaces to claims.new.won) }
-        ensures full { IfErr result (λ fault. fault ≡ RoomFault.HeapFull → HasFilledRoom claims.new × All (IsReachedFrom claims.old.plan.kind self.entry.spaces.now.spaces roots.now) (cells_won claims.new.won)) }
+        ensures aged { IfOk result (λ copies. AreCopiesIn 1 claims.old.plan.kind self.entry.spaces.now.spaces claims.new.won copies.aged) }
+        ensures old { IfOk result (λ copies. AreCopiesIn 0 claims.old.plan.kind self.entry.spaces.now.spaces claims.new.won copies.old) }
+        ensures full { IfErr result (λ fault. fault ≡ RoomFault.HeapFull → IsFullOfReached claims.old.plan.kind self.entry.spaces.now.spaces roots.now claims.new) }
     {
         let mut copies = Copies::new(alloc, spare)?;
         self.along(claims, roots, &mut copies)?;

@@ -1,7 +1,7 @@
 //! The scan of won cells: each is copied, and what it names is claimed, until none is left.
-ghost use Rattle.std.specs.Prelude.{◌≡◌, ◌↔◌, ℕ, ◌+◌, ◌<◌, ◌≤◌, ◌-◌, ◌==◌, ◌^◌, true, false, [], IfOk, OnOk, length, slice_index_or};
+ghost use Rattle.std.specs.Prelude.{◌≡◌, ◌↔◌, ℕ, ◌+◌, ◌<◌, ◌≤◌, ◌-◌, ◌==◌, true, false, [], IfOk, OnOk, length, slice_index_or};
 ghost use Rattle.tg_space.specs.SpaceList.{IsSpace, cells_of};
-ghost use Rattle.tg_space.specs.Targets.{cell_numbered, from_space, named_by, pointers_of};
+ghost use Rattle.tg_space.specs.Targets.{cell_numbered, pointers_of};
 ghost use Rattle.std.specs.List.{All};
 ghost use Rattle.tg_word.specs.declared.TheConstants.{MOST_SPACE_CELLS};
 ghost use Rattle.tg_word.specs.Word.{place_in};
@@ -10,7 +10,7 @@ ghost use Rattle.tg_evac.specs.Claims.{win_at, won_in};
 ghost use Rattle.tg_evac.specs.Copies.{HoldCells};
 ghost use Rattle.tg_evac.specs.Claimers.{AddsCopy};
 ghost use Rattle.tg_evac.specs.Inner.Reads.{HasReadAhead, MayAskFor};
-ghost use Rattle.tg_evac.specs.Walks.{ClaimsAll, IsUnderWay, MayMove, Scans};
+ghost use Rattle.tg_evac.specs.Walks.{ClaimsNamedBy, IsUnderWay, MayMove, Scans, ScansAll};
 
 use crate::both::Both;
 use crate::claimer::Claimer;
@@ -109,7 +109,7 @@ impl Copies {
         requires old_room { original.is_in_old ≡ true → length self.now.old < MOST_SPACE_CELLS }
         requires aged_room { original.is_in_old ≡ false → length self.now.aged < MOST_SPACE_CELLS }
         requires may { MayMove walk.kind walk.spaces.now.spaces (pointers_of original.words.now) (C.walked claimer.old) }
-        ensures claims { ClaimsAll C.walked C.knows C.is_full walk.entry.spaces.now.spaces original.entry.is_in_old (named_by (from_space (C.walked claimer.old).kind) walk.entry.spaces.now.spaces (pointers_of original.entry.words.now)) claimer.old claimer.new result }
+        ensures claims { ClaimsNamedBy C.walked C.knows C.is_full walk.entry.spaces.now.spaces original.entry.is_in_old original.entry.words.now claimer.old claimer.new result }
         ensures old { OnOk result (original.entry.is_in_old ≡ true → AddsCopy (C.walked claimer.old).kind walk.entry.spaces.now.spaces (C.knows claimer.new) original.entry.words.now self.entry.now.old self.exit.now.old) }
         ensures old_kept { original.entry.is_in_old ≡ false → self.exit.now.old ≡ self.entry.now.old }
         ensures aged { OnOk result (original.entry.is_in_old ≡ false → AddsCopy (C.walked claimer.old).kind walk.entry.spaces.now.spaces (C.knows claimer.new) original.entry.words.now self.entry.now.aged self.exit.now.aged) }
@@ -192,7 +192,7 @@ impl Walk<'_> {
     #[inline(always)]
     pub fn scan<C: Claimer>(self, claimer: &mut C, copies: &mut Copies) -> Result<(), RoomFault>
         requires { IsUnderWay C.walked C.knows self.kind self.spaces.now.spaces claimer.old copies.now.scanned copies.now.aged copies.now.old }
-        ensures scans { Scans C.walked C.knows C.is_full self.entry.spaces.now.spaces claimer.old claimer.new (length (C.walked claimer.new).won) copies.exit.now.aged copies.exit.now.old result }
+        ensures scans { ScansAll C.walked C.knows C.is_full self.entry.spaces.now.spaces claimer.old claimer.new copies.exit.now.aged copies.exit.now.old result }
         ensures ended { OnOk result (copies.exit.now.scanned ≡ length (C.walked claimer.new).won) }
     {
         let mut next = copies.scanned;

@@ -1,11 +1,10 @@
 //! The copy of a cell, whose words are moved where they stand. What they name is claimed.
-ghost use Rattle.std.specs.Prelude.{◌≡◌, ℕ, ◌≤◌, ◌<◌, drop, get_or, slice_index, OnOk, IsTrue};
-ghost use Rattle.tg_word.specs.declared.Place.{Place as PlaceOf};
+ghost use Rattle.std.specs.Prelude.{◌≡◌, ℕ, ◌≤◌, ◌<◌, drop, get_or, OnOk, IsTrue};
 ghost use Rattle.tg_word.specs.Word.{place_in, rights_in, word_at};
 ghost use Rattle.tg_space.specs.Soundness.{IsPointer};
-ghost use Rattle.tg_space.specs.Targets.{first_pointer, from_space, moved_word, pointers_of, target_in};
+ghost use Rattle.tg_space.specs.Targets.{pointers_of};
 ghost use Rattle.tg_evac.specs.Claimers.{IsClaimLink};
-ghost use Rattle.tg_evac.specs.Walks.{ClaimsAll, IsTableFor, MayMove, MovesFrom};
+ghost use Rattle.tg_evac.specs.Walks.{ClaimsTargetOf, IsMovedWord, IsTableFor, MayMove, MovesCell, MovesFrom};
 
 use crate::claimer::Claimer;
 use crate::plan::space_for;
@@ -24,7 +23,7 @@ impl Walk<'_> {
         cell: &mut [u64; WORDS],
     ) -> Result<(), RoomFault>
         requires { MayMove self.kind self.spaces.now.spaces (pointers_of cell.old) (C.walked claimer.old) }
-        ensures { MovesFrom C.walked C.knows C.is_full self.entry.spaces.now.spaces straight (first_pointer (slice_index cell.old 0)) cell.old cell.new claimer.old claimer.new result }
+        ensures { MovesCell C.walked C.knows C.is_full self.entry.spaces.now.spaces straight cell.old cell.new claimer.old claimer.new result }
     {
         // A loop from a known word on is laid out word by word.
         match cell[0] {
@@ -81,8 +80,8 @@ impl Walk<'_> {
     ) -> Result<(), RoomFault>
         requires pointer { IsPointer self.spaces.now.spaces word.old }
         requires table { IsTableFor self.kind self.spaces.now.spaces (C.walked claimer.old) }
-        ensures claims { ClaimsAll C.walked C.knows C.is_full self.entry.spaces.now.spaces straight (target_in (from_space (C.walked claimer.old).kind) self.entry.spaces.now.spaces word.old) claimer.old claimer.new result }
-        ensures word { OnOk result ((to : ℕ → PlaceOf) → C.knows claimer.new to → word.new ≡ moved_word (from_space (C.walked claimer.old).kind) self.entry.spaces.now.spaces to word.old) }
+        ensures claims { ClaimsTargetOf C.walked C.knows C.is_full self.entry.spaces.now.spaces straight word.old claimer.old claimer.new result }
+        ensures word { OnOk result (IsMovedWord C.walked C.knows self.entry.spaces.now.spaces word.old word.new claimer.old claimer.new) }
     {
         let old = *word;
         if old == 0 {

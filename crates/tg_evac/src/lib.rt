@@ -7,7 +7,7 @@
 //! *Claim.* Each cell that is reached, and that is moved, is won once: it gets the next place of Old or of Aged, its
 //! forwarding word becomes the link to that place, and the pair is put behind those won before. A cell goes straight to
 //! Old in a full collection, where it is one of Aged, and where it is first met from a remembered cell or from a cell
-//! whose copy is in Old; any other goes to Aged: see 'Where a copy goes' in docs/ARCHITECTURE.md. What was met once
+//! whose copy is in Old; any other goes to Aged: 'Where a copy goes' in docs/inside/ARCHITECTURE.md. What was met once
 //! keeps its place.
 //!
 //! *Scan.* First the targets of the roots are claimed, the rows before the remembered cells. Then the won cells are
@@ -53,7 +53,7 @@
 //! are a collection is proved of any list of pairs, in whatever order and by whomever they were won
 //! (`proofs/Collecting.antt`), where each was claimed for a reason: that the reasons put copies in the space of their
 //! generation stands in `proofs/Reasons.antt`, and that no more cells are won than aren't free in
-//! `proofs/Counting.antt`. The other lemmas are told by 'Maps of the proofs' in docs/ARCHITECTURE.md.
+//! `proofs/Counting.antt`. The other lemmas are told by 'Maps of the proofs' in docs/inside/ARCHITECTURE.md.
 #![tactic(auto)]
 
 pub use both::Both;

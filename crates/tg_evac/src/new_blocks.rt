@@ -4,11 +4,11 @@ ghost use Rattle.std.specs.List.{flat_map};
 ghost use Rattle.tg_word.specs.declared.TheConstants.{CELLS, MOST_SPACE_CELLS};
 ghost use Rattle.tg_block.specs.Cells.{IsBlock, free_cell};
 ghost use Rattle.tg_space.specs.SpaceList.{IsSpace};
-ghost use Rattle.tg_space.specs.Targets.{from_space, named_by, pointers_of};
+ghost use Rattle.tg_space.specs.Targets.{pointers_of};
 ghost use Rattle.tg_evac.specs.Claimers.{AddsCopy};
 ghost use Rattle.tg_evac.specs.Copies.{HaveOpenBlock, HoldCells, IsOpenBlock};
 ghost use Rattle.tg_evac.specs.Inner.Blocks.{HasClosed, MayCloseBlock};
-ghost use Rattle.tg_evac.specs.Walks.{ClaimsAll, MayMove};
+ghost use Rattle.tg_evac.specs.Walks.{ClaimsNamedBy, MayMove};
 
 use crate::claimer::Claimer;
 use crate::walk::Walk;
@@ -78,7 +78,7 @@ impl NewBlocks {
     ) -> Result<(), RoomFault>
         requires room { length self.old < MOST_SPACE_CELLS }
         requires may { MayMove walk.kind walk.spaces.now.spaces (pointers_of original.words.now) (C.walked claimer.old) }
-        ensures claims { ClaimsAll C.walked C.knows C.is_full walk.entry.spaces.now.spaces original.entry.is_in_old (named_by (from_space (C.walked claimer.old).kind) walk.entry.spaces.now.spaces (pointers_of original.entry.words.now)) claimer.old claimer.new result }
+        ensures claims { ClaimsNamedBy C.walked C.knows C.is_full walk.entry.spaces.now.spaces original.entry.is_in_old original.entry.words.now claimer.old claimer.new result }
         ensures copied { OnOk result (AddsCopy (C.walked claimer.old).kind walk.entry.spaces.now.spaces (C.knows claimer.new) original.entry.words.now self.old self.new) }
     {
         make_room(self.alloc, spare, &mut self.full, &mut self.last)?;

@@ -6,7 +6,8 @@ ghost use Rattle.tg_word.specs.declared.Place.{Place as PlaceOf};
 ghost use Rattle.tg_space.specs.Generations.{NamesYoung};
 ghost use Rattle.tg_space.specs.Soundness.{IsRootIn};
 ghost use Rattle.tg_space.specs.declared.root.Root.TheVariants.{Remembered as RememberedAt};
-ghost use Rattle.tg_evac.specs.Copies.{AreForwarded, IsPlaceIn, moved_cell, new_cell};
+ghost use Rattle.tg_evac.specs.Copies.{AreForwarded, IsPlaceIn, new_cell};
+ghost use Rattle.tg_evac.specs.Notes.{AddsNotes, IsYoungIn, IsYoungInBlock, IsYoungRoot, made_cell};
 ghost use Rattle.tg_evac.specs.Inner.Steps.{MayNoteBlock, MayNoteRoot, MayNoteRoots};
 
 use std::alloc::{AllocError, Global};
@@ -40,7 +41,7 @@ impl Made<'_, '_> {
         requires roots { All (IsRootIn self.spaces.now.spaces) roots.now }
         requires few { kept + length old.now ≤ MOST_SPACE_BLOCKS }
         requires full { self.moves.kind ≡ Kind.Full → (p : PlaceOf) → IsPlaceIn 0 kept old.now p → NamesYoung (new_cell kept old.now p) → ⊥ }
-        ensures { IfOk result (λ noted. (p : PlaceOf) → Contains noted.places p ↔ ((Contains roots.now (RememberedAt p) × NamesYoung (moved_cell self.entry.moves.kind self.entry.spaces.now.spaces self.entry.moves.forward.now.words p)) ⊎ (IsPlaceIn 0 kept old.now p × NamesYoung (new_cell kept old.now p)))) }
+        ensures { IfOk result (λ noted. (p : PlaceOf) → Contains noted.places p ↔ (IsYoungRoot self.entry roots.now p ⊎ IsYoungIn kept old.now p)) }
     {
         let mut remembered = Remembered::new(alloc);
         self.note_roots(&mut remembered, roots)?;
@@ -56,7 +57,7 @@ impl Made<'_, '_> {
     // Notes the remembered cells that will name young ones.
     fn note_roots(self, remembered: &mut Remembered, roots: &[Root]) -> Result<(), AllocError>
         requires { MayNoteRoots self.spaces.now.spaces self.moves.numbering.now.starts self.moves.forward.now.words roots.now }
-        ensures { OnOk result ((p : PlaceOf) → Contains remembered.new.places p ↔ (Contains remembered.old.places p ⊎ (Contains roots.now (RememberedAt p) × NamesYoung (moved_cell self.entry.moves.kind self.entry.spaces.now.spaces self.entry.moves.forward.now.words p)))) }
+        ensures { OnOk result (AddsNotes (IsYoungRoot self.entry roots.now) remembered.old.places remembered.new.places) }
     {
         for root in roots {
             self.note_root(remembered, *root)?;
@@ -67,7 +68,7 @@ impl Made<'_, '_> {
     // Notes the cell of a root, where it is remembered and will name a young one.
     fn note_root(self, remembered: &mut Remembered, root: Root) -> Result<(), AllocError>
         requires { MayNoteRoot self.spaces.now.spaces self.moves.numbering.now.starts self.moves.forward.now.words root }
-        ensures { OnOk result ((p : PlaceOf) → Contains remembered.new.places p ↔ (Contains remembered.old.places p ⊎ ((root ≡ RememberedAt p) × NamesYoung (moved_cell self.entry.moves.kind self.entry.spaces.now.spaces self.entry.moves.forward.now.words p)))) }
+        ensures { OnOk result (AddsNotes (λ p. (root ≡ RememberedAt p) × NamesYoung (made_cell self.entry p)) remembered.old.places remembered.new.places) }
     {
         match root {
             Root::Row(_) => Ok(()),
@@ -82,7 +83,7 @@ impl Made<'_, '_> {
 // Notes the cells of these blocks of Old, behind as many other ones, that name young cells.
 fn note_blocks(remembered: &mut Remembered, blocks: &Space, kept: u64) -> Result<(), AllocError>
     requires { kept + length blocks.now ≤ MOST_SPACE_BLOCKS }
-    ensures { OnOk result ((p : PlaceOf) → Contains remembered.new.places p ↔ (Contains remembered.old.places p ⊎ (IsPlaceIn 0 kept blocks.now p × NamesYoung (new_cell kept blocks.now p)))) }
+    ensures { OnOk result (AddsNotes (IsYoungIn kept blocks.now) remembered.old.places remembered.new.places) }
 {
     for block in 0..blocks.len() {
         note_block(remembered, blocks, block, kept)?;
@@ -98,7 +99,7 @@ fn note_block(
     kept: u64,
 ) -> Result<(), AllocError>
     requires { MayNoteBlock kept blocks.now block }
-    ensures { OnOk result ((p : PlaceOf) → Contains remembered.new.places p ↔ (Contains remembered.old.places p ⊎ (IsPlaceIn 0 kept blocks.now p × (p.block ≡ kept + block) × NamesYoung (new_cell kept blocks.now p)))) }
+    ensures { OnOk result (AddsNotes (IsYoungInBlock kept blocks.now block) remembered.old.places remembered.new.places) }
 {
     for cell in 0..CELLS {
         let place = Place {
@@ -117,7 +118,7 @@ fn note_young(
     place: Place,
     words: &[u64; WORDS],
 ) -> Result<(), AllocError>
-    ensures { OnOk result ((p : PlaceOf) → Contains remembered.new.places p ↔ (Contains remembered.old.places p ⊎ ((p ≡ place) × (place.space ≡ 0) × NamesYoung words.now))) }
+    ensures { OnOk result (AddsNotes (λ p. (p ≡ place) × (place.space ≡ 0) × NamesYoung words.now) remembered.old.places remembered.new.places) }
 {
     if place.space == OLD && names_young(words) {
         remembered.reserve()?;

@@ -1,11 +1,8 @@
 //! The targets of roots.
-ghost use Rattle.std.specs.Prelude.{length};
-ghost use Rattle.tg_space.specs.SpaceList.{cells_of};
-ghost use Rattle.tg_space.specs.Targets.{from_space, root_targets_of, targets_at};
 ghost use Rattle.tg_space.specs.declared.root.Root.TheVariants.{Row};
-ghost use Rattle.tg_evac.specs.Claims.{chunk_targets, is_straight as straight_from};
+ghost use Rattle.tg_evac.specs.Claims.{is_straight as straight_from};
 ghost use Rattle.tg_evac.specs.Inner.Steps.{MayClaimAt, MayClaimChunks, MayClaimKept, MayClaimRoot};
-ghost use Rattle.tg_evac.specs.Walks.{ClaimsAll};
+ghost use Rattle.tg_evac.specs.Walks.{ClaimsChunks, ClaimsRoot, ClaimsTargetsAt};
 
 use crate::claimer::Claimer;
 use crate::plan::{is_straight, space_for};
@@ -21,7 +18,7 @@ impl Walk<'_> {
     #[inline(always)]
     pub(crate) fn claim_root<C: Claimer>(self, claimer: &mut C, root: Root) -> Result<(), RoomFault>
         requires { MayClaimRoot self.kind self.spaces.now.spaces root (C.walked claimer.old) }
-        ensures { ClaimsAll C.walked C.knows C.is_full self.entry.spaces.now.spaces (straight_from (C.walked claimer.old).kind root) (root_targets_of (from_space (C.walked claimer.old).kind) self.entry.spaces.now.spaces root) claimer.old claimer.new result }
+        ensures { ClaimsRoot C.walked C.knows C.is_full self.entry.spaces.now.spaces (straight_from (C.walked claimer.old).kind root) root claimer.old claimer.new result }
     {
         let straight = is_straight(self.kind, root);
         match root {
@@ -40,7 +37,7 @@ impl Walk<'_> {
         straight: bool,
     ) -> Result<(), RoomFault>
         requires { MayClaimAt self.kind self.spaces.now.spaces object (C.walked claimer.old) }
-        ensures { ClaimsAll C.walked C.knows C.is_full self.entry.spaces.now.spaces straight (root_targets_of (from_space (C.walked claimer.old).kind) self.entry.spaces.now.spaces (Row object)) claimer.old claimer.new result }
+        ensures { ClaimsRoot C.walked C.knows C.is_full self.entry.spaces.now.spaces straight (Row object) claimer.old claimer.new result }
     {
         if self.kind.moves(object.space) {
             claimer.claim(self.spaces.flat(object), space_for(straight, object.space))?;
@@ -58,7 +55,7 @@ impl Walk<'_> {
         straight: bool,
     ) -> Result<(), RoomFault>
         requires { MayClaimKept self.kind self.spaces.now.spaces object (C.walked claimer.old) }
-        ensures { ClaimsAll C.walked C.knows C.is_full self.entry.spaces.now.spaces straight (root_targets_of (from_space (C.walked claimer.old).kind) self.entry.spaces.now.spaces (Row object)) claimer.old claimer.new result }
+        ensures { ClaimsRoot C.walked C.knows C.is_full self.entry.spaces.now.spaces straight (Row object) claimer.old claimer.new result }
     {
         self.claim_targets(claimer, object, straight)?;
         self.claim_chunks(claimer, self.spaces.read(object, LINK), straight)
@@ -72,7 +69,7 @@ impl Walk<'_> {
         straight: bool,
     ) -> Result<(), RoomFault>
         requires { MayClaimChunks self.kind self.spaces.now.spaces first (C.walked claimer.old) }
-        ensures { ClaimsAll C.walked C.knows C.is_full self.entry.spaces.now.spaces straight (chunk_targets (from_space (C.walked claimer.old).kind) self.entry.spaces.now.spaces (length (cells_of self.entry.spaces.now.spaces)) first) claimer.old claimer.new result }
+        ensures { ClaimsChunks C.walked C.knows C.is_full self.entry.spaces.now.spaces straight first claimer.old claimer.new result }
     {
         let mut link = first;
         for _ in 0..self.spaces.cells() {
@@ -98,7 +95,7 @@ impl Walk<'_> {
         straight: bool,
     ) -> Result<(), RoomFault>
         requires { MayClaimAt self.kind self.spaces.now.spaces place (C.walked claimer.old) }
-        ensures { ClaimsAll C.walked C.knows C.is_full self.entry.spaces.now.spaces straight (targets_at (from_space (C.walked claimer.old).kind) self.entry.spaces.now.spaces place) claimer.old claimer.new result }
+        ensures { ClaimsTargetsAt C.walked C.knows C.is_full self.entry.spaces.now.spaces straight place claimer.old claimer.new result }
     {
         let mut words = *self.spaces.words(place);
         let first = first_pointer(words[0]);

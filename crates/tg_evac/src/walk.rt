@@ -1,12 +1,11 @@
 //! The walk from roots: what they name is claimed, and all that this leads to is copied.
-ghost use Rattle.std.specs.Prelude.{◌≡◌, List, OnOk, length};
+ghost use Rattle.std.specs.Prelude.{◌≡◌, OnOk, length};
 ghost use Rattle.std.specs.List.{All, Contains};
 ghost use Rattle.tg_space.specs.Soundness.{IsRootIn};
 ghost use Rattle.tg_space.specs.Targets.{all_root_targets, from_space};
-ghost use Rattle.tg_space.specs.declared.root.Root.{Root as RootOf};
-ghost use Rattle.tg_evac.specs.Claims.{AreTraced};
 ghost use Rattle.tg_evac.specs.Claimers.{AreScanned};
-ghost use Rattle.tg_evac.specs.Walks.{WalkGoesOn, MayWalk, MayWalkAlong, WalksAlong};
+ghost use Rattle.tg_evac.specs.Along.{AreAllScanned, AreTracedFromMore, StaysTraced};
+ghost use Rattle.tg_evac.specs.Walks.{MayWalk, MayWalkRoots, WalkGoesOn, WalksRoots};
 
 use crate::claimer::Claimer;
 use crate::copies::{Copies, Reads};
@@ -41,12 +40,12 @@ impl Walk<'_> {
     ) -> Result<(), RoomFault>
         requires walk { MayWalk self.kind self.spaces.now.spaces (C.walked claimer.old) }
         requires roots { All (IsRootIn self.spaces.now.spaces) roots.now }
-        requires traced { (all : List RootOf) × ((root : RootOf) → Contains roots.now root → Contains all root) × AreTraced (C.walked claimer.old).kind self.spaces.now.spaces all (C.walked claimer.old).won }
+        requires traced { AreTracedFromMore (C.walked claimer.old).kind self.spaces.now.spaces roots.now (C.walked claimer.old).won }
         requires scanned { AreScanned self.spaces.now.spaces (C.walked claimer.old) (C.knows claimer.old) copies.now.scanned copies.now.aged copies.now.old }
-        ensures traced { (all : List RootOf) → ((root : RootOf) → Contains roots.now root → Contains all root) → AreTraced (C.walked claimer.old).kind self.entry.spaces.now.spaces all (C.walked claimer.old).won → AreTraced (C.walked claimer.old).kind self.entry.spaces.now.spaces all (C.walked claimer.new).won }
+        ensures traced { StaysTraced self.entry.spaces.now.spaces roots.now (C.walked claimer.old) (C.walked claimer.new) }
         ensures goes { WalkGoesOn C.walked C.knows C.is_full claimer.old claimer.new result }
         ensures met { OnOk result (All (Contains (C.walked claimer.new).met) (all_root_targets (from_space (C.walked claimer.old).kind) self.entry.spaces.now.spaces roots.now)) }
-        ensures scanned { OnOk result (AreScanned self.entry.spaces.now.spaces (C.walked claimer.new) (C.knows claimer.new) (length (C.walked claimer.new).won) copies.exit.now.aged copies.exit.now.old) }
+        ensures scanned { OnOk result (AreAllScanned self.entry.spaces.now.spaces (C.walked claimer.new) (C.knows claimer.new) copies.exit.now.aged copies.exit.now.old) }
         ensures ended { OnOk result (copies.exit.now.scanned ≡ length (C.walked claimer.new).won) }
     {
         match self.kind {
@@ -65,8 +64,8 @@ impl Walk<'_> {
         roots: &[Root],
         copies: &mut Copies,
     ) -> Result<(), RoomFault>
-        requires { MayWalkAlong C.walked C.knows self.kind self.spaces.now.spaces roots.now claimer.old copies.now.scanned copies.now.aged copies.now.old }
-        ensures { WalksAlong C.walked C.knows C.is_full self.entry.spaces.now.spaces roots.now claimer.old claimer.new copies.exit.now.scanned copies.exit.now.aged copies.exit.now.old result }
+        requires { MayWalkRoots C.walked C.knows self.kind self.spaces.now.spaces roots.now claimer.old copies.now }
+        ensures { WalksRoots C.walked C.knows C.is_full self.entry.spaces.now.spaces roots.now claimer.old claimer.new copies.exit.now result }
     {
         let mut claimed = 0;
         loop {
@@ -89,8 +88,8 @@ impl Walk<'_> {
         roots: &[Root],
         copies: &mut Copies,
     ) -> Result<(), RoomFault>
-        requires { MayWalkAlong C.walked C.knows self.kind self.spaces.now.spaces roots.now claimer.old copies.now.scanned copies.now.aged copies.now.old }
-        ensures { WalksAlong C.walked C.knows C.is_full self.entry.spaces.now.spaces roots.now claimer.old claimer.new copies.exit.now.scanned copies.exit.now.aged copies.exit.now.old result }
+        requires { MayWalkRoots C.walked C.knows self.kind self.spaces.now.spaces roots.now claimer.old copies.now }
+        ensures { WalksRoots C.walked C.knows C.is_full self.entry.spaces.now.spaces roots.now claimer.old claimer.new copies.exit.now result }
     {
         for root in roots {
             self.claim_root(claimer, *root)?;

@@ -1,18 +1,20 @@
 -- The payloads that a collection drops.
-use Rattle.std.proofs.Common.{◌≡◌, ◌≢◌, ◌↔◌, ℕ, ◌<◌, ◌≤◌, ◌+◌, ◌*◌, ◌⊎◌, ◌++◌, true, List, [], ◌∷◌, length, get_or, slice_index, Option, None, IsSome, refl, sym, ap, subst, arith, ◌∙◌, inl, inr, ⊎_elim}
+use Rattle.std.proofs.Common.{◌≡◌, ◌≢◌, ◌↔◌, ℕ, ◌<◌, ◌≤◌, ◌+◌, ◌-◌, ◌*◌, ◌/◌, ◌%◌, ◌⊎◌, ◌++◌, true, List, [], ◌∷◌, length, get_or, slice_index, Option, None, IsSome, refl, sym, ap, subst, arith, ◌∙◌, inl, inr, ⊎_elim}
 use Rattle.std.specs.List.{All, AllPairs, Contains}
 use Rattle.std.proofs.lemmas.Bool.{cases_eq, cases_lt}
 use Rattle.std.proofs.lemmas.List.Elements.{Contains-append_left, Contains-get_or, Contains-push, Contains-push_cases}
 use Rattle.std.proofs.lemmas.List.Quantifiers.{all_pairs_push}
 use Rattle.tg_model.specs.declared.value.Value.{Value}
 use Rattle.tg_word.specs.declared.Place.{Place}
+use Rattle.tg_block.specs.Cells.{free_cell}
 use Rattle.tg_block.specs.declared.CellKind.TheVariants.{Object}
 use Rattle.tg_space.specs.SpaceList.{SpaceList, IsSpaceList, HasCell, blocks_before, cell_at, cells_of, flat_of, space_of}
+use Rattle.tg_space.specs.SpaceTable.{SpaceTable, IsSpaceTable, used_of}
 use Rattle.tg_space.specs.Soundness.{IsKindAt}
 use Rattle.tg_space.specs.Targets.{from_space, cell_numbered}
 use Rattle.tg_space.specs.declared.kind.Kind.{Kind}
 use Rattle.tg_space.specs.declared.kind.Kind.TheVariants.{Full, Nursery}
-use Rattle.tg_space.proofs.Flat.{before_more, before_mono, flat_inside, get_or-flat_of, same_place}
+use Rattle.tg_space.proofs.Flat.{before_le, before_more, before_mono, flat_inside, get_or-flat_of, length-cells_of, same_place}
 use Rattle.tg_payload.specs.Table.{Payloads, Updates, entry}
 use Rattle.tg_rows.specs.Rows.{key_at}
 use Rattle.tg_rows.specs.Graph.{IsGraph}
@@ -54,6 +56,36 @@ drops_there payloads now dead key drops alive some =
     (λ gone. absurd (alive gone.0))
     (λ stays. subst (λ (o : Option Value). IsSome o) (sym stays.1) some)
     (drops key)
+
+-- ---- cells of a nursery that were never handed out
+
+-- the cells of Old are some of the cells
+pub old_inside : (t : SpaceTable) → IsSpaceTable t → (blocks : ℕ) → blocks ≡ length (space_of t.spaces 0) → 64 * blocks ≤ length (cells_of t.spaces)
+old_inside t table blocks is =
+    let enough = table.enough in
+    let more = before_more t.spaces 0 (omega arith) in
+    let none : blocks_before t.spaces 0 ≡ 0 = refl in
+    let le = before_le t.spaces 1 in
+    let long = length-cells_of t.spaces table.blocks in
+    omega arith
+
+module _ (t : SpaceTable) (table : IsSpaceTable t) (near first blocks : ℕ) (low : near < length t.spaces) (first_is : first ≡ 64 * (blocks_before t.spaces near + 0) + 0) (blocks_is : blocks ≡ length (space_of t.spaces near)) where
+  pub nursery_inside : first + 64 * blocks ≤ length (cells_of t.spaces)
+  nursery_inside =
+      let more = before_more t.spaces near low in
+      let le = before_le t.spaces (near + 1) in
+      let long = length-cells_of t.spaces table.blocks in
+      omega arith
+
+  pub unused_free : 2 ≤ near → (used : ℕ) → used ≡ used_of t near → (n : ℕ) → first + used ≤ n → n < first + 64 * blocks → cell_numbered t.spaces n ≡ free_cell
+  unused_free young used used_is n from below =
+      let h = t.spaces in
+      let k : ℕ = n - first in
+      let split : n ≡ first + k = omega arith in
+      let p : Place = record { space = near; block = k / 64; cell = k % 64 } in
+      let held : HasCell h p = record { space = low; block = omega arith; cell = omega arith } in
+      let at : flat_of h p ≡ n = omega arith in
+      ap (cell_numbered h) (sym at) ∙ get_or-flat_of h table.blocks p held ∙ table.fresh p held young (omega arith)
 
 -- ---- dead cells, by their numbers
 
@@ -97,6 +129,23 @@ module _ (h : SpaceList) (whole : IsSpaceList h) (forward : List ℕ) where
       by_number is (inl low) = record { number = is.number; from_first = is.from_first; below = low; dead = is.dead }
       by_number is (inr high) = absurd (moved is.number high is.below is.dead.uncopied)
 
+  pub dead_tagged : (n key : ℕ) → IsDeadAt h forward n key → get_or (cell_numbered h n) 0 0 ≡ 1
+  dead_tagged n key is =
+      ap (λ (m : ℕ). get_or (cell_numbered h m) 0 0) (sym is.at)
+      ∙ ap (λ (ws : List ℕ). get_or ws 0 0) (get_or-flat_of h whole.spaces is.place is.object.held)
+      ∙ (object_tagged (cell_at h is.place)).0 is.object.is
+
+  -- nor where each cell is free
+  pub below_unused : (first n m key : ℕ) → n ≤ m → ((cell : ℕ) → n ≤ cell → cell < m → cell_numbered h cell ≡ free_cell) → IsDeadBelow h forward first m key → IsDeadBelow h forward first n key
+  below_unused first n m key up free is = by_number (cases_lt is.number n)
+    where
+      by_number : (is.number < n) ⊎ (n ≤ is.number) → IsDeadBelow h forward first n key
+      by_number (inl low) = record { number = is.number; from_first = is.from_first; below = low; dead = is.dead }
+      by_number (inr high) =
+          let tag = sym (ap (λ (ws : List ℕ). get_or ws 0 0) (free is.number high is.below)) ∙ dead_tagged is.number key is.dead in
+          let no : 0 ≡ 1 = tag in
+          absurd (omega (arith, no))
+
   -- each key is that of one number
   pub dead_once : HaveKeysApart h → (a b key : ℕ) → IsDeadAt h forward a key → IsDeadAt h forward b key → a ≡ b
   dead_once apart a b key one two =
@@ -114,12 +163,6 @@ module _ (h : SpaceList) (whole : IsSpaceList h) (forward : List ℕ) where
         uncopied = none;
         key_is = ap (λ (ws : List ℕ). get_or ws 2 0) (sym words);
       }
-
-  pub dead_tagged : (n key : ℕ) → IsDeadAt h forward n key → get_or (cell_numbered h n) 0 0 ≡ 1
-  dead_tagged n key is =
-      ap (λ (m : ℕ). get_or (cell_numbered h m) 0 0) (sym is.at)
-      ∙ ap (λ (ws : List ℕ). get_or ws 0 0) (get_or-flat_of h whole.spaces is.place is.object.held)
-      ∙ (object_tagged (cell_at h is.place)).0 is.object.is
 
   -- the cells with numbers from first on are those of from-space
   abbrev pub BeginsAt : Kind → ℕ → Type 0
@@ -191,6 +234,16 @@ module _ (h : SpaceList) (whole : IsSpaceList h) (forward : List ℕ) where
       dead = λ key. (
         λ has. below_next first n key ((before.dead key).0 has),
         λ is. (before.dead key).1 (below_back first n key is (alive key)),
+      );
+      once = before.once;
+    }
+
+    -- up to a number where no cell is dead
+    pub keys_skip : (m : ℕ) → n ≤ m → ((key : ℕ) → IsDeadBelow h forward first m key → IsDeadBelow h forward first n key) → AreKeysBelow h forward first m keys
+    keys_skip m up back = record {
+      dead = λ key. (
+        λ has. let is = (before.dead key).0 has in record { number = is.number; from_first = is.from_first; below = let low = is.below in omega arith; dead = is.dead },
+        λ is. (before.dead key).1 (back key is),
       );
       once = before.once;
     }

@@ -2,8 +2,8 @@
 use Rattle.std.specs.Prelude.{◌≡◌, ◌≢◌, ◌↔◌, ℕ, ◌≤◌, ◌++◌, ◌⊎◌, List, [], ◌∷◌, length, map, Result, Err, OnOk, OnErr, IfOk, IfErr}
 use Rattle.std.specs.List.{All, Contains}
 use Rattle.tg_rights.specs.RightSet.{RightSet}
-use Rattle.tg_model.specs.Graph.{with_rights}
-use Rattle.tg_model.specs.Rules.{with_value}
+use Rattle.tg_model.specs.Graph.{with_rights, without_rights}
+use Rattle.tg_model.specs.Rules.{with_value, written_at}
 use Rattle.tg_model.specs.declared.value.Value.{Value}
 use Rattle.tg_word.specs.Word.{nursery_space, place_in}
 use Rattle.tg_word.specs.declared.Place.{Place}
@@ -15,7 +15,7 @@ use Rattle.tg_space.specs.SpaceList.{SpaceList}
 use Rattle.tg_space.specs.SpaceTable.{SpaceTable}
 use Rattle.tg_space.specs.Soundness.{IsKindAt, IsRootIn}
 use Rattle.tg_space.specs.Collection.{Collected, IsCollection}
-use Rattle.tg_space.specs.Targets.{all_root_targets, young_spaces}
+use Rattle.tg_space.specs.Targets.{all_root_targets, from_space, young_spaces}
 use Rattle.tg_space.specs.declared.root.Root.{Root}
 use Rattle.tg_space.specs.declared.root.Root.TheVariants.{Row, Remembered}
 use Rattle.tg_space.specs.declared.kind.Kind.{Kind}
@@ -65,6 +65,26 @@ nursery_of s x = nursery_held s.subjects x
 abbrev pub content_of : HeapState → Content
 content_of s = content_in s.table.spaces s.payloads
 
+-- there is a vertex with this name, which stores this value, and the worker has rights over it
+abbrev pub AddsVertex : HeapState → HeapState → ℕ → ℕ → RightSet → Value → Type 0
+AddsVertex old new worker name label value = let content = content_of old in
+    IsContent (content_of new) (λ x. IsNamed content x ⊎ (x ≡ name)) (with_rights content.label worker name label) (with_value content.value name value)
+
+-- the vertex at one place has more rights over the vertex at another
+abbrev pub AddsRights : HeapState → HeapState → Place → Place → RightSet → Type 0
+AddsRights old new from to label = let content = content_of old in
+    IsContent (content_of new) (IsNamed content) (with_rights content.label (name_at old.table.spaces from) (name_at old.table.spaces to) label) content.value
+
+-- the vertex at a place has fewer rights over the vertex with a name
+abbrev pub DropsRights : HeapState → HeapState → Place → ℕ → RightSet → Type 0
+DropsRights old new from name label = let content = content_of old in
+    IsContent (content_of new) (IsNamed content) (without_rights content.label (name_at old.table.spaces from) name label) content.value
+
+-- a number was written to the vertex at a place
+abbrev pub WritesTo : HeapState → HeapState → Place → ℕ → Type 0
+WritesTo old new at number = let content = content_of old in
+    IsContent (content_of new) (IsNamed content) content.label (written_at content.value (name_at old.table.spaces at) number)
+
 -- ---- well-formed heaps
 
 -- What a collection starts from: the rows of the active subjects, by rising name; for a nursery collection the remembered
@@ -77,6 +97,14 @@ roots_of Nursery s = map (λ p. Row p) (subject_places s.subjects) ++ map (λ p.
 abbrev pub CollectAlike : Kind → SpaceList → List Root → List Root → Type 0
 CollectAlike kind h roots others =
     (made : Collected) → IsCollection kind h roots made ↔ IsCollection kind h others made
+
+-- these roots reach the same cells as the others
+abbrev pub ReachAlike : Kind → SpaceList → List Root → List Root → Type 0
+ReachAlike kind h roots others = all_root_targets (from_space kind) h others ≡ all_root_targets (from_space kind) h roots
+
+-- the young cells that the rows of the active subjects name
+abbrev pub reached_by_rows : HeapState → List ℕ
+reached_by_rows s = all_root_targets young_spaces s.table.spaces (map (λ p. Row p) (subject_places s.subjects))
 
 -- the root stands for a row from a cell on
 pub record IsRowRoot (h : SpaceList) (root : Root) : Type 0 where
@@ -164,8 +192,7 @@ pub record MayAddEdge (s : HeapState) (x : ℕ) (p q : Place) : Type 0 where
 -- may have taken a cell from the nursery with a number. Where it is refused nothing is changed, and it is told as a full heap only
 -- where more cells are needed than that nursery has left and gets.
 pub record AddsEdgeFor {A : Type 0} (old new : HeapState) (nursery : ℕ) (from to : Place) (label : RightSet) (result : Result A RoomFault) : Type 0 where
-  pub added : OnOk result (IsContent (content_of new) (IsNamed (content_of old))
-      (with_rights (content_of old).label (name_of old from) (name_of old to) label) (content_of old).value)
+  pub added : OnOk result (AddsRights old new from to label)
   pub placed : OnOk result (IsPutInRow old.table new.table old.remembered new.remembered (nursery_space nursery) from to label)
   pub kept : OnOk result (KeepsPlaces old new)
   pub indexed : OnOk result (KeepsIndexes old new from)
@@ -186,8 +213,7 @@ pub record TellsPlace {E : Type 0} (old new : HeapState) (name : ℕ) (result : 
 -- that the worker holds, and the worker's row has an index if it is long. Where it is refused the draft comes back and the heap is as
 -- it was, but for room; it is told as a full heap only where more cells are needed than the nursery has left and gets.
 pub record MakesVertexFor {P A : Type 0} (old new : HeapState) (worker name : ℕ) (label : RightSet) (draft : Value) (result : Result A (VertexRefused P)) : Type 0 where
-  pub made : OnOk result (IsContent (content_of new) (λ x. IsNamed (content_of old) x ⊎ (x ≡ name))
-      (with_rights (content_of old).label worker name label) (with_value (content_of old).value name draft))
+  pub made : OnOk result (AddsVertex old new worker name label draft)
   pub placed : OnOk result (IsMadeInRow old.table new.table old.remembered new.remembered (nursery_space (nursery_of old worker)) worker name label)
   pub indexed : OnOk result ((row : Place) × IsVertexAt old.table.spaces worker row × KeepsIndexes old new row)
   pub handed_back : IfErr result (λ refused. refused.draft ≡ draft)

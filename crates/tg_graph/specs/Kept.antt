@@ -6,10 +6,11 @@ use Rattle.tg_word.specs.declared.TheConstants.{MOST_SPACE_BLOCKS}
 use Rattle.tg_block.specs.declared.CellKind.TheVariants.{Object}
 use Rattle.tg_space.specs.SpaceList.{SpaceList, BlockList, HasCell, cell_at, flat_of, space_of, cells_of}
 use Rattle.tg_space.specs.SpaceTable.{SpaceTable, IsSpaceTable, kept_blocks, with_adopted}
-use Rattle.tg_space.specs.Numbering.{AreNumbersOf}
+use Rattle.tg_space.specs.Numbering.{AreNumbersOf, followed_place}
 use Rattle.tg_space.specs.Soundness.{IsKindAt, IsOldCell, IsPointer}
 use Rattle.tg_space.specs.Targets.{from_space, image_of, pointers_of, young_spaces}
 use Rattle.tg_space.specs.Collection.{new_place}
+use Rattle.tg_space.specs.declared.copied.Copied.{Copied}
 use Rattle.tg_space.specs.declared.kind.Kind.{Kind}
 use Rattle.tg_space.specs.declared.kind.Kind.TheVariants.{Full, Nursery}
 use Rattle.tg_payload.specs.Table.{Payloads, entry}
@@ -66,6 +67,11 @@ pub record AreWritten (old new : SpaceTable) (cells : List Rewritten) : Type 0 w
   pub others : (space : ℕ) → space ≢ 0 → space_of new.spaces space ≡ space_of old.spaces space
   pub held : (p : Place) → HasCell new.spaces p ↔ HasCell old.spaces p
   pub written : (p : Place) → HasWritten new.spaces cells p ⊎ HasStayed old.spaces new.spaces cells p
+
+-- a nursery collection put its new blocks beside the old ones, and wrote to the cells of Old that were remembered
+abbrev pub WritesRemembered : HeapState → HeapState → Copied → Type 0
+WritesRemembered old new copied =
+    AreWritten (with_adopted old.table Nursery copied.adoption.aged copied.adoption.old) new.table (map (rewritten_at old.table.spaces copied.forward.words) old.remembered)
 
 -- these were written, and what holds of all spaces holds of these
 pub record LeavesWritten (old new : SpaceTable) (cells : List Rewritten) : Type 0 where
@@ -169,3 +175,7 @@ pub record ArePlaced (old new : List Subject) (places : List Place) : Type 0 whe
   pub nurseries : nurseries_of new ≡ nurseries_of old
   pub places_are : subject_places new ≡ places
   pub subjects : AreSubjects new
+
+-- the same subjects, each of which is now where the collection has its object
+abbrev pub FollowsSubjects : Kind → List ℕ → List ℕ → List Subject → List Subject → Type 0
+FollowsSubjects kind starts forward old new = ArePlaced old new (map (followed_place (from_space kind) starts (new_place forward)) (subject_places old))

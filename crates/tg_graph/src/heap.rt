@@ -1,8 +1,8 @@
 //! The heap of one store.
-ghost use Rattle.std.specs.Prelude.{◌==◌, ◌≡◌, ◌↔◌, ◌<◌, ◌⊎◌, ℕ, Err, IfOk, IfErr, IfSome, IsSome, OnOk, OnErr, length, option_map, Some};
+ghost use Rattle.std.specs.Prelude.{◌==◌, ◌≡◌, ◌↔◌, ◌<◌, ℕ, Err, IfOk, IfErr, IfSome, IsSome, OnOk, OnErr, length, option_map, Some};
 ghost use Rattle.std.specs.List.{All, Contains, IsDistinct};
-ghost use Rattle.tg_model.specs.Graph.{HasEdge, listing_of, with_rights, without_rights};
-ghost use Rattle.tg_model.specs.Rules.{state_of, with_value, written_at};
+ghost use Rattle.tg_model.specs.Graph.{HasEdge, listing_of};
+ghost use Rattle.tg_model.specs.Rules.{state_of};
 ghost use Rattle.tg_word.specs.Word.{nursery_space};
 ghost use Rattle.tg_word.specs.declared.TheConstants.{MAX_NURSERIES};
 ghost use Rattle.tg_word.specs.declared.Place.{Place as PlaceOf};
@@ -10,8 +10,8 @@ ghost use Rattle.tg_subjects.specs.Subjects.{IsSubjectNamed, without};
 ghost use Rattle.tg_subjects.specs.declared.subject.Subject.{Subject as SubjectOf};
 ghost use Rattle.tg_space.specs.SpaceList.{space_of};
 ghost use Rattle.tg_space.specs.SpaceTable.{IsSpaceTable};
-ghost use Rattle.tg_rows.specs.Content.{IsContent, IsNamed};
-ghost use Rattle.tg_graph.specs.Heap.{AddsEdgeFor, AddsSubject, IsActive, IsObject, IsUnchangedHeap, IsWellFormed, KeepsIndexes, KeepsPlaces, MakesVertexFor, MayAddEdge, MayMake, TellsPlace, content_of, name_of, nursery_of, subject_names};
+ghost use Rattle.tg_rows.specs.Content.{IsNamed};
+ghost use Rattle.tg_graph.specs.Heap.{AddsEdgeFor, AddsRights, AddsSubject, AddsVertex, DropsRights, IsActive, IsObject, IsUnchangedHeap, IsWellFormed, KeepsIndexes, KeepsPlaces, MakesVertexFor, MayAddEdge, MayMake, TellsPlace, content_of, name_of, nursery_of, subject_names, WritesTo};
 ghost use Rattle.tg_rows.specs.Graph.{rights_found};
 ghost use Rattle.tg_rows.specs.Rows.{IsVertexAt};
 ghost use Rattle.tg_rows.specs.Spots.{IsMadeInRow, IsPutInRow, IsTakenFromRow, LacksCellsFor};
@@ -22,7 +22,7 @@ use tg_model::{EdgeList, Law, Numbers};
 use tg_payload::{Draft, Payload, PayloadTable};
 use tg_remember::Remembered;
 use tg_rights::{Label, Rights};
-use tg_rows::{Cells, Found, LongRows, VertexRefused};
+use tg_rows::{Cells, Found, Gift, LongRows, NewVertex, VertexRefused};
 use tg_space::{RoomFault, Spaces};
 use tg_subjects::{Subject, Subjects};
 use tg_word::Place;
@@ -186,8 +186,7 @@ impl<P: Payload> Heap<P> {
     #[inline(always)]
     pub fn write(&mut self, at: Place, number: u64) -> Result<(), AllocError>
         requires { IsObject self.old at }
-        ensures written { OnOk result (IsContent (content_of self.new) (IsNamed (content_of self.old)) (content_of self.old).label
-            (written_at (content_of self.old).value (name_of self.old at) number)) }
+        ensures written { OnOk result (WritesTo self.old self.new at number) }
         ensures kept { OnOk result (KeepsPlaces self.old self.new) }
         ensures table { self.new.table ≡ self.old.table }
         ensures remembered { self.new.remembered ≡ self.old.remembered }
@@ -232,8 +231,7 @@ impl<P: Payload> Heap<P> {
         requires worker { Contains self.old.subjects worker }
         requires from { IsObject self.old from }
         requires to { IsObject self.old to }
-        ensures added { OnOk result (IsContent (content_of self.new) (IsNamed (content_of self.old))
-            (with_rights (content_of self.old).label (name_of self.old from) (name_of self.old to) label) (content_of self.old).value) }
+        ensures added { OnOk result (AddsRights self.old self.new from to label) }
         ensures placed { OnOk result (IsPutInRow self.old.table self.new.table self.old.remembered self.new.remembered (nursery_space worker.nursery) from to label) }
         ensures kept { OnOk result (KeepsPlaces self.old self.new) }
         ensures indexed { OnOk result (KeepsIndexes self.old self.new from) }
@@ -242,16 +240,22 @@ impl<P: Payload> Heap<P> {
     {
         // It tells what holds of all spaces (`IsSpaceTable`).
         let _ = self.cells.spaces.blocks();
-        self.cells
-            .add_edge(&mut self.rows, worker.nursery, from, to, label.rights())
+        self.cells.add_edge(
+            &mut self.rows,
+            worker.nursery,
+            from,
+            Gift {
+                to,
+                rights: label.rights(),
+            },
+        )
     }
 
     /// Takes rights over the vertex with a name from the vertex at a place. A reference that has none left leaves an
     /// empty place, and chunks stay. It takes no cell and no block, and no other memory.
     pub fn drop_rights(&mut self, from: Place, name: u64, label: Label)
         requires { IsObject self.old from }
-        ensures dropped { IsContent (content_of self.new) (IsNamed (content_of self.old))
-            (without_rights (content_of self.old).label (name_of self.old from) name label) (content_of self.old).value }
+        ensures dropped { DropsRights self.old self.new from name label }
         ensures placed { IsTakenFromRow self.old.table self.new.table from name label }
         ensures kept { KeepsPlaces self.old self.new }
         ensures used { self.new.table.used ≡ self.old.table.used }
@@ -273,6 +277,7 @@ impl<P: Payload> Heap<P> {
     /// is changed but that there may be room for one more payload and one more note.
     ///
     /// The row of the worker has an index then, if it has more than four cells.
+    #[inline(always)]
     pub fn new_vertex(
         &mut self,
         worker: u64,
@@ -282,8 +287,7 @@ impl<P: Payload> Heap<P> {
     ) -> Result<(), VertexRefused<P>>
         requires worker { IsActive self.old worker }
         requires fresh { ¬ IsNamed (content_of self.old) name }
-        ensures made { OnOk result (IsContent (content_of self.new) (λ x. IsNamed (content_of self.old) x ⊎ (x ≡ name))
-            (with_rights (content_of self.old).label worker name label) (with_value (content_of self.old).value name draft)) }
+        ensures made { OnOk result (AddsVertex self.old self.new worker name label draft) }
         ensures placed { OnOk result (IsMadeInRow self.old.table self.new.table self.old.remembered self.new.remembered (nursery_space (nursery_of self.old worker)) worker name label) }
         ensures kept { OnOk result (KeepsPlaces self.old self.new) }
         ensures indexed { OnOk result ((row : PlaceOf) × IsVertexAt self.old.table.spaces worker row × KeepsIndexes self.old self.new row) }
@@ -311,14 +315,13 @@ impl<P: Payload> Heap<P> {
         let subject = self.active(worker);
         // It tells what holds of all spaces (`IsSpaceTable`).
         let _ = self.cells.spaces.blocks();
-        self.cells.new_vertex(
-            &mut self.rows,
-            subject.nursery,
-            subject.place,
+        let vertex = NewVertex {
             name,
-            label.rights(),
+            rights: label.rights(),
             draft,
-        )
+        };
+        self.cells
+            .new_vertex(&mut self.rows, subject.nursery, subject.place, vertex)
     }
 
     /// Makes a vertex as `new_vertex` does, which is an active subject then. It holds the nursery with the least number
@@ -338,8 +341,7 @@ impl<P: Payload> Heap<P> {
         requires fresh { ¬ IsNamed (content_of self.old) name }
         requires few { length self.old.subjects < MAX_NURSERIES }
         requires above { All (λ x. x < name) (subject_names self.old) }
-        ensures made { OnOk result (IsContent (content_of self.new) (λ x. IsNamed (content_of self.old) x ⊎ (x ≡ name))
-            (with_rights (content_of self.old).label worker name label) (with_value (content_of self.old).value name draft)) }
+        ensures made { OnOk result (AddsVertex self.old self.new worker name label draft) }
         ensures placed { OnOk result (IsMadeInRow self.old.table self.new.table self.old.remembered self.new.remembered (nursery_space (nursery_of self.old worker)) worker name label) }
         ensures added { OnOk result (AddsSubject self.old self.new name) }
         ensures indexed { OnOk result ((row : PlaceOf) × IsVertexAt self.old.table.spaces worker row × KeepsIndexes self.old self.new row) }

@@ -26,7 +26,7 @@ use tg_model::{Edge, Opening};
 use tg_payload::{Draft, Payload, PayloadTable};
 use tg_remember::Remembered;
 use tg_rights::Rights;
-use tg_rows::{Cells, LongRows, find_spot};
+use tg_rows::{Cells, Gift, LongRows, find_spot};
 use tg_space::{Limits, RoomFault, Spaces};
 use tg_subjects::{Subject, Subjects};
 use tg_word::{MAX_NURSERIES, Place, nursery_space};
@@ -47,7 +47,7 @@ impl<P: Payload> Heap<P> {
     ///
     /// It is refused where there may be fewer blocks than there are workers (`HeapFull`, exactly then), and where
     /// memory is (`OutOfMemory`). Then the drafts come back as they were. See 'Growth comes first' in
-    /// docs/ARCHITECTURE.md.
+    /// docs/inside/ARCHITECTURE.md.
     pub fn open(
         alloc: Global,
         opening: &Opening,
@@ -233,5 +233,7 @@ fn add_some<P: Payload>(cells: &mut Cells<P>, nursery: u64, from: Place, to: Pla
         return;
     }
     let spot = find_spot(&cells.spaces, from, cells.name_of(to));
-    cells.put_edge(nursery, from, to, spot, rights).unwrap();
+    cells
+        .put_edge(nursery, from, spot, Gift { to, rights })
+        .unwrap();
 }

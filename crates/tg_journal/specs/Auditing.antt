@@ -1,5 +1,5 @@
 -- What an audit says of the entries that it was fed.
-use Rattle.std.specs.Prelude.{◌≡◌, ◌↔◌, ◌<◌, ◌≤◌, ◌+◌, ◌-◌, ◌⊎◌, ℕ, true, false, List, [], ◌∷◌, take, drop, length, Option, Some, None, Result, Err, IfErr, OnOk}
+use Rattle.std.specs.Prelude.{◌≡◌, ◌↔◌, ◌<◌, ◌≤◌, ◌+◌, ◌-◌, ◌⊎◌, ℕ, true, false, List, [], ◌∷◌, take, drop, length, Option, Some, None, Result, Ok, Err, IfErr, OnOk}
 use Rattle.tg_model.specs.declared.command.Deed.{Deed}
 use Rattle.tg_model.specs.declared.reply.Reply.{Reply}
 use Rattle.tg_model.specs.Graph.{ProtectionGraph, IsReachable, IsSound, IsSubject}
@@ -39,6 +39,10 @@ pub record StandsAt (g : ProtectionGraph) (a : AuditState) : Type 0 where
 pub record Passes (g : ProtectionGraph) (es : List Entry) (a : AuditState) : Type 0 where
   pub legal : IsLegal g es
   pub next : StandsAt (graph_after g es) a
+
+-- those before the auditor's place are, and it has come to the graph after them
+abbrev pub PassesBefore : ProtectionGraph → List Entry → AuditState → Type 0
+PassesBefore g es a = Passes g (take a.at es) a
 
 -- the reply with which a deed is a legal entry of the first graph, and the auditor has come to the graph and the place after it; or
 -- there is none, and the auditor stays at the first one
@@ -81,3 +85,7 @@ pub record FeedsPart (old new : AuditState) (first : ℕ) (entries : List Entry)
   pub refused : IfErr answer (IsRefusedPart old new first entries)
   -- it found a bad entry before, and returns that again
   pub ended : old.found_bad ≡ true → (answer ≡ Err (part.BadEntry old.at)) × (new ≡ old)
+
+-- where the part passes, all of its entries do
+abbrev pub PartGoesOn : ProtectionGraph → AuditState → AuditState → ℕ → List Entry → Type 0
+PartGoesOn g old new first es = FeedsPart old new first es (Ok tt) → Passes g es new

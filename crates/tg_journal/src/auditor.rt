@@ -6,6 +6,8 @@ ghost use Rattle.tg_journal.specs.Auditing.{FeedsEntries, FeedsPart, AuditAnswer
 ghost use Rattle.tg_journal.specs.Inner.Steps.{StopsBefore};
 ghost use Rattle.tg_journal.specs.Live.{IsSweptGraph, graph_kept};
 
+mod saved;
+
 use crate::entry::Entry;
 use crate::journal::Journal;
 use crate::live::LiveGraph;

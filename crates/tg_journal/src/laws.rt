@@ -11,11 +11,10 @@ ghost use Rattle.tg_model.specs.Rules.{step, answer_of};
 ghost use Rattle.tg_model.specs.declared.command.Deed.{Deed};
 ghost use Rattle.tg_model.specs.Edition1.{Plan1, Entry1, IsLegal1, start_of1, plan_now};
 ghost use Rattle.tg_journal.specs.Edition1.{entry_today, IsFirstBad1};
-ghost use Rattle.tg_journal.specs.Auditing.{FeedsPart, HasComeTo, Passes};
+ghost use Rattle.tg_journal.specs.Auditing.{HasComeTo, PartGoesOn, PassesBefore};
 ghost use Rattle.tg_journal.specs.Live.{AuditState, IsSweptGraph};
-ghost use Rattle.tg_journal.specs.History.{IsLegalEntry, IsLegal, graph_after, IsFirstBad};
+ghost use Rattle.tg_journal.specs.History.{AnswersName, IsLegalEntry, IsLegal, IsMadeIn, graph_after, IsFirstBad};
 ghost use Rattle.tg_journal.specs.declared.entry.Entry.{Entry};
-ghost use Rattle.tg_model.specs.declared.reply.Reply.TheVariants.{Name};
 
 /// A history is legal exactly where each of its entries is legal on the graph after those before it.
 pub fn legal_where_each_entry_is()
@@ -75,16 +74,15 @@ pub fn who_retired_stays_so_and_made_never_falls()
 
 /// In a legal history no name is answered twice, that of one who retired included.
 pub fn no_name_is_given_twice()
-    ensures { (g : ProtectionGraph) (es : List Entry) (at other : ℕ) (e f : Entry) (name : ℕ) →
-        IsLegal g es → slice_get es at ≡ Some e → slice_get es other ≡ Some f →
-        e.reply ≡ Name name → f.reply ≡ Name name → at ≡ other }
+    ensures { (g : ProtectionGraph) (es : List Entry) (at other name : ℕ) →
+        IsLegal g es → AnswersName es at name → AnswersName es other name → at ≡ other }
 {}
 
 /// What can be reached after a legal history could be reached before it, or was made in it.
 pub fn reach_only_shrinks()
     ensures { (g : ProtectionGraph) (es : List Entry) (y : ℕ) →
         IsSound g → IsLegal g es → IsReachable (graph_after g es) y →
-        IsReachable g y ⊎ ((g.made ≤ y) × (y < (graph_after g es).made)) }
+        IsReachable g y ⊎ IsMadeIn g es y }
 {}
 
 /// A vertex that can't be reached never can be again, and a legal history leaves its row and its value.
@@ -121,7 +119,7 @@ pub fn the_unreached_may_be_forgotten()
 /// them, and they are a legal history.
 pub fn a_part_goes_on()
     ensures { (g : ProtectionGraph) (old new : AuditState) (first : ℕ) (entries : List Entry) →
-        Passes g (take old.at entries) old → FeedsPart old new first entries (Ok tt) → Passes g entries new }
+        PassesBefore g entries old → PartGoesOn g old new first entries }
 {}
 
 /// A history is legal or has a first bad place. One with a first bad place isn't legal, and has no other.

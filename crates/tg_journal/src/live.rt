@@ -2,16 +2,17 @@
 ghost use Rattle.std.specs.Prelude.{◌≡◌, ◌↔◌, ℕ, IfOk, IsTrue};
 ghost use Rattle.std.specs.List.{range_with_len};
 ghost use Rattle.tg_rights.specs.RightSet.{no_rights};
-ghost use Rattle.tg_model.specs.Opened.{IsPlan, start_of};
+ghost use Rattle.tg_model.specs.Opened.{IsPlan, label_in, start_of};
 ghost use Rattle.tg_journal.specs.Live.{label_between, value_of, graph_kept};
 
 mod service;
+mod shown;
 mod sweep;
 
 use crate::vertices::Vertices;
 use std::alloc::{AllocError, Global};
 use std::marker::Model;
-use tg_model::{Labelled, Opening};
+use tg_model::{Edge, Labelled, Opening};
 use tg_rights::Rights;
 
 /// A protection graph as the vertices that are kept of it, so that it takes memory by what it has and not by the names
@@ -110,8 +111,18 @@ fn opened_vertices(alloc: Global, opening: &Opening) -> Result<Vertices, AllocEr
     ensures labels { IfOk result (λ vertices. label_between vertices ≡ (start_of opening.now).label) }
     ensures values { IfOk result (λ vertices. value_of vertices ≡ (start_of opening.now).value) }
 {
-    let mut vertices = opened_values(alloc, opening)?;
-    for edge in opening.edges() {
+    let bare = opened_values(alloc, opening)?;
+    with_edges(alloc, bare, opening.edges())
+}
+
+// These vertices with these edges. Fails only when out of memory, and the vertices are then dropped.
+fn with_edges(alloc: Global, bare: Vertices, edges: &[Edge]) -> Result<Vertices, AllocError>
+    requires { (x y : ℕ) → label_between bare x y ≡ no_rights }
+    ensures labels { IfOk result (λ vertices. label_between vertices ≡ label_in edges.now) }
+    ensures values { IfOk result (λ vertices. value_of vertices ≡ value_of bare) }
+{
+    let mut vertices = bare;
+    for edge in edges {
         vertices.add(alloc, edge.from, edge.to, edge.label)?;
     }
     Ok(vertices)

@@ -1,12 +1,13 @@
 //! The vertices that an audit keeps.
-ghost use Rattle.std.specs.Prelude.{◌≡◌, ◌<◌, ℕ, nat_eq, IsTrue, IfOk, IfSome, map, option_copied, ◌↔◌, [], None, if◌then◌else◌};
-ghost use Rattle.std.specs.Set.{is_member};
+ghost use Rattle.std.specs.Prelude.{◌≡◌, ◌<◌, ℕ, nat_eq, IsTrue, IfOk, IfSome, option_copied, [], None, if◌then◌else◌};
 ghost use Rattle.indexmap.specs.IndexSet.{contains};
 ghost use Rattle.tg_rights.specs.RightSet.{no_rights};
-ghost use Rattle.tg_model.specs.Graph.{HasEdge, with_rights, without_rights, listing_of};
+ghost use Rattle.tg_model.specs.Graph.{with_rights, without_rights, listing_of};
 ghost use Rattle.tg_model.specs.Rules.{with_value, written_at};
-ghost use Rattle.tg_journal.specs.Inner.Steps.{Changes, FindsPlace};
+ghost use Rattle.tg_journal.specs.Inner.Steps.{AreTargetsOf, Changes, FindsPlace, HasTargetsBelow};
 ghost use Rattle.tg_journal.specs.Live.{HasVertexAt, label_between, value_of};
+
+mod shown;
 
 use indexmap::IndexSet;
 use std::alloc::{AllocError, Global};
@@ -81,9 +82,8 @@ impl Vertices {
 
     /// The edges of a vertex, by rising name of the target. Fails only when out of memory.
     pub(crate) fn row(&self, alloc: Global, from: u64) -> Result<EdgeList, AllocError>
-        ensures targets { IfOk result (λ row. (n : ℕ) → ((y : ℕ) → HasEdge (label_between self.now) from y → y < n) →
-            (y : ℕ) → IsTrue (is_member nat_eq (map (λ e. e.0) row) y) ↔ HasEdge (label_between self.now) from y) }
-        ensures listing { IfOk result (λ row. (n : ℕ) → ((y : ℕ) → HasEdge (label_between self.now) from y → y < n) →
+        ensures targets { IfOk result (λ row. (n : ℕ) → HasTargetsBelow self.now from n → AreTargetsOf self.now from row) }
+        ensures listing { IfOk result (λ row. (n : ℕ) → HasTargetsBelow self.now from n →
             row ≡ listing_of (label_between self.now) n from) }
     {
         match self.place(from) {

@@ -1,5 +1,6 @@
 -- Pictures: a graph without what its vertices store, as a list of edges.
 use Rattle.std.specs.Prelude.{◌≡◌, ℕ, ◌<◌, true, List}
+use Rattle.std.specs.List.{All}
 use Rattle.tg_rights.specs.RightSet.{RightSet, has}
 use Rattle.tg_rights.specs.declared.Right.{Right}
 use Rattle.tg_model.specs.declared.edge.Edge.{Edge}
@@ -37,6 +38,10 @@ with_edge g a b rights = record g { label = with_rights g.label a b rights }
 -- each right of an edge of a row stands in the list, on the edge of this vertex
 abbrev pub StandsIn : List Edge → ℕ → ℕ × RightSet → Type 0
 StandsIn edges from edge = (right : Right) → has edge.1 right ≡ true → Holds (label_in edges) from right edge.0
+
+-- a listing has the labels of the edges of this vertex
+abbrev pub IsLabelledBy : (ℕ → ℕ → RightSet) → ℕ → List (ℕ × RightSet) → Type 0
+IsLabelledBy label from listing = All (λ edge. edge.1 ≡ label from edge.0) listing
 
 -- the rights in the list are among these
 abbrev pub AreAmong : List Edge → (ℕ → ℕ → RightSet) → Type 0

@@ -9,7 +9,7 @@
 //!   then     [xxxx][xxxx][x---]      `hand_out`
 //! ```
 //!
-//! A block is the last that a call asks for: see 'Growth comes first' in docs/ARCHITECTURE.md.
+//! A block is the last that a call asks for: see 'Growth comes first' in docs/inside/ARCHITECTURE.md.
 //!
 //! So the cell is free and was never handed out since the nursery was last emptied, and no other cell changes. The
 //! heap's graph is the caller. It may use the two views of a success that the contract gives: the exact table that is

@@ -1,5 +1,5 @@
 -- What a helper says at the end, or several that became one.
-use Rattle.std.specs.Prelude.{◌≡◌, ◌≢◌, ◌⊎◌, ℕ, ◌<◌, ◌++◌, List, [], ◌∷◌, IfOk, IfErr, Result, Ok, Err, All, length, map}
+use Rattle.std.specs.Prelude.{◌≡◌, ◌≢◌, ◌⊎◌, ℕ, ◌+◌, ◌<◌, ◌++◌, List, [], ◌∷◌, IfOk, IfErr, Result, Ok, Err, All, length, map}
 use Rattle.tg_space.specs.SpaceTable.{SpaceTable}
 use Rattle.tg_space.specs.declared.kind.Kind.{Kind}
 use Rattle.tg_space.specs.declared.root.Root.{Root}
@@ -46,6 +46,16 @@ IsFaultOfLeast (Err why ∷ parts) fault = (fault ≡ why) ⊎ (fault ≢ HeapFu
 -- what the helper on the calling thread and the others have made, in the order of the helpers' numbers
 abbrev pub parts_helped : Helped → List Helped → List (Result Part RoomFault)
 parts_helped mine theirs = mine.part ∷ map (λ r. r.part) theirs
+
+-- what two helpers say is said of both together
+abbrev pub AreHelpedTogether : Board → Helped → Helped → Helped → Type 0
+AreHelpedTogether board mine theirs together =
+    (kind : Kind) (t : SpaceTable) (roots : List Root) (a b : ℕ) → IsHelped kind t roots board a mine → IsHelped kind t roots board b theirs → IsHelped kind t roots board (a + b) together
+
+-- and what one and others of share 1 say
+abbrev pub AllAreHelpedTogether : Board → Helped → List Helped → Helped → Type 0
+AllAreHelpedTogether board mine theirs together =
+    (kind : Kind) (t : SpaceTable) (roots : List Root) (a : ℕ) → IsHelped kind t roots board a mine → All (IsHelped kind t roots board 1) theirs → IsHelped kind t roots board (a + length theirs) together
 
 -- a helper at the table that has done nothing yet
 pub record IsNew (board : Board) (s : Seated) : Type 0 where

@@ -4,6 +4,7 @@ pub mod Helping
 pub mod Jobs
 pub mod Merged
 pub mod Whole
+pub mod Laws
 pub mod Faults
 pub mod Shares
 pub mod Inner

@@ -1,21 +1,18 @@
 //! Collections by a helper at a table, and by several on threads.
-ghost use Rattle.std.specs.Prelude.{◌≡◌, ◌≢◌, ℕ, ◌+◌, ◌-◌, ◌≤◌, ◌^◌, All, Err, IfErr, IfOk, List, OnOk, length};
-ghost use Rattle.tg_word.specs.declared.TheConstants.{MOST_SPACE_BLOCKS};
+ghost use Rattle.std.specs.Prelude.{◌≡◌, ◌≢◌, ◌+◌, ◌-◌, ◌≤◌, All, Err, IfErr, IfOk, OnOk, length};
 ghost use Rattle.tg_space.specs.Soundness.{AreSound};
-ghost use Rattle.tg_space.specs.SpaceTable.{SpaceTable, kept_blocks};
-ghost use Rattle.tg_space.specs.declared.kind.Kind.{Kind as KindOf};
-ghost use Rattle.tg_space.specs.declared.root.Root.{Root as RootOf};
+ghost use Rattle.tg_space.specs.SpaceTable.{kept_blocks};
 ghost use Rattle.tg_race.specs.declared.record.Counts.{Counts};
 ghost use Rattle.tg_race.specs.declared.record.Record.{Record};
 ghost use Rattle.tg_race.specs.Race.{empty};
 ghost use Rattle.tg_evac.specs.Collects.{CollectsRoots};
 ghost use Rattle.tg_parallel.specs.declared.many.TheConstants.{MOST_HELPERS};
 ghost use Rattle.tg_parallel.specs.Faults.{IsNotStarted};
-ghost use Rattle.tg_parallel.specs.Inner.Tasks.{MayCollectBy, MayStartAll, IsNewSeat};
-ghost use Rattle.tg_parallel.specs.Helping.{AllHelped, IsFaultOfLeast, IsHelped, IsNew, parts_helped};
+ghost use Rattle.tg_parallel.specs.Inner.Tasks.{MayCollectBy, MayFinishAt, MayStartAll, IsNewSeat};
+ghost use Rattle.tg_parallel.specs.Helping.{AllAreHelpedTogether, AllHelped, IsFaultOfLeast, IsHelped, IsNew, parts_helped};
 ghost use Rattle.tg_parallel.specs.Jobs.{AllDone, IsCollected, IsDone, IsOpen, MayCollect, MayHelp};
-ghost use Rattle.tg_parallel.specs.Merged.{AreMerged};
-ghost use Rattle.tg_parallel.specs.Parts.{AreCountsOf, IsOpenedFor};
+ghost use Rattle.tg_parallel.specs.Merged.{IsMergedOf};
+ghost use Rattle.tg_parallel.specs.Parts.{IsOpenedFor};
 ghost use Rattle.tg_parallel.specs.Shares.{IsMostFilled, MayFill};
 ghost use Rattle.tg_parallel.specs.Whole.{AreNoted, IsWholePart, MayFinish};
 
@@ -382,7 +379,7 @@ fn all_joined(table: &RaceTable, mine: Helped, theirs: Vec<Helped>) -> Helped
     ensures own { IfErr mine.part (λ fault. result.part ≡ Err fault) }
     ensures least { IfErr result.part (IsFaultOfLeast (parts_helped mine theirs.items)) }
     ensures room { result.room ≡ mine.room }
-    ensures helped { (kind : KindOf) (t : SpaceTable) (roots : List RootOf) (a : ℕ) → IsHelped kind t roots table.now a mine → All (IsHelped kind t roots table.now 1) theirs.items → IsHelped kind t roots table.now (a + length theirs.items) result }
+    ensures helped { AllAreHelpedTogether table.now mine theirs.items result }
 {
     let mut all = mine;
     for other in theirs {
@@ -399,10 +396,7 @@ fn finish<G: Gate>(
     plan: Plan,
     helped: Helped,
 ) -> Result<Copied, RoomFault>
-    requires plan { MayFinish task.now.spaces.now task.now.roots.now plan }
-    requires few { plan.kept ≤ MOST_SPACE_BLOCKS }
-    requires counts { AreCountsOf plan.kind task.now.spaces.now.spaces task.now.roots.now table.counts }
-    requires helped { IsHelped plan.kind task.now.spaces.now task.now.roots.now table table.counts.helpers helped }
+    requires { MayFinishAt task.now.spaces.now task.now.roots.now plan table helped }
     ensures { CollectsRoots RoomFault.HeapFull plan.kind task.now.spaces.now task.now.roots.now table.counts.helpers table.counts.helpers result }
 {
     let Helped { helper, part, room } = helped;
@@ -424,7 +418,7 @@ fn put_together<G: Gate>(
     requires plan { MayFinish task.now.spaces.now task.now.roots.now plan }
     requires made { (k : Counts) × (done : Record) × IsWholePart plan.kind task.now.spaces.now task.now.roots.now k forward.words done part.aged.items part.old.items }
     ensures words { IfOk result (λ copied. copied.forward.words ≡ forward.words) }
-    ensures merged { IfOk result (λ copied. AreMerged plan.kind (kept_blocks plan.kind task.now.spaces.now.spaces) part.aged.items part.old.items copied.adoption.aged copied.adoption.old) }
+    ensures merged { IfOk result (λ copied. IsMergedOf plan.kind (kept_blocks plan.kind task.now.spaces.now.spaces) part copied.adoption) }
     ensures noted { IfOk result (λ copied. AreNoted plan.kind task.now.spaces.now.spaces task.now.roots.now forward.words copied.adoption.old copied.remembered.places) }
 {
     let adoption = merged(alloc, plan.kind, part)?;

@@ -2,7 +2,7 @@
 ghost use Rattle.std.specs.Prelude.{◌≡◌, ◌≢◌, ◌+◌, ◌<◌, ◌≤◌, ◌==◌, false, [], length, vec_capacity};
 ghost use Rattle.tg_word.specs.Word.{IsPlace, place_in};
 ghost use Rattle.tg_race.specs.Course.{has_met};
-ghost use Rattle.tg_race.specs.Seats.{IsWordIn};
+ghost use Rattle.tg_race.specs.Conditions.{MayLookAtWord};
 ghost use Rattle.tg_race.specs.Race.{with_seen};
 ghost use Rattle.tg_evac.specs.Claims.{win_at};
 ghost use Rattle.tg_evac.specs.Claimers.{IsClaimLink};
@@ -95,8 +95,7 @@ impl Winner {
     /// The word of the place that a cell has got, as the helper sees it, or 0 where it has none.
     #[inline(always)]
     pub fn look_word(&mut self, table: &RaceTable, at: CellWord) -> u64
-        requires own { self.old.table ≡ table.now.table }
-        requires word { IsWordIn table.now at }
+        requires { MayLookAtWord self.old table.now at }
         ensures none { result ≡ 0 → self.new ≡ self.old }
         ensures some { result ≢ 0 → self.new ≡ record self.old { done = with_seen self.old.done (at.cell, place_in result) } }
         ensures place { result ≢ 0 → IsPlace (place_in result) }

@@ -9,7 +9,7 @@ use Rattle.tg_journal.specs.declared.entry.Entry.{Entry}
 use Rattle.tg_passes.specs.declared.signed.Maker.{Maker}
 use Rattle.tg_passes.specs.declared.signed.Maker.TheVariants.{Session, Keeper}
 use Rattle.tg_passes.specs.declared.signed.Signed.{Signed}
-use Rattle.tg_passes.specs.Passes.{AreOwn, BeginsWith, MayMake, PassState, Sees, entries_by, entries_of, is_same, looked, noted, own_entries, sign, sign_all}
+use Rattle.tg_passes.specs.Passes.{AreOwn, BeginsWith, MayMake, entries_by, entries_of, is_same, own_entries, sign, sign_all}
 
 -- ---- lists that begin with others
 
@@ -125,31 +125,9 @@ own_by_session worker (s ∷ ss) own none =
     let rest = own_by_session worker ss (All-tail Own s ss own) (none_second (own_entries worker (entries_by Keeper (s ∷ []))) (own_entries worker (entries_by Keeper ss)) parts) in
     own_append worker (s.entry ∷ []) (entries_of ss) ∙ (λ i. first i ++ rest i) ∙ sym (by_append (Session worker) (s ∷ []) ss)
 
--- So it is of each worker if the keeper made no entry at all.
-pub own_without_keeper : (worker : ℕ) (all : List Signed) → AreOwn all → entries_by Keeper all ≡ [] → own_entries worker (entries_of all) ≡ entries_by (Session worker) all
-own_without_keeper worker all own none = own_by_session worker all own (ap (own_entries worker) none)
-
 -- what is of the whole is of a front
 pub owned_front : (front rest : List Signed) → AreOwn (front ++ rest) → AreOwn front
 owned_front [] rest own = All-nil (λ (s : Signed). MayMake s.by s.entry)
 owned_front (s ∷ front) rest own =
     let Own : Signed → Type 0 = λ x. MayMake x.by x.entry in
     All-cons Own s front (All-head Own s (front ++ rest) own) (owned_front front rest (All-tail Own s (front ++ rest) own))
-
--- ---- what a pass knows after a look and after a note
-
-pub sees_looked : (all : List Signed) (p : PassState) → Sees all p → Sees all (looked p all)
-sees_looked all p sees = record { own = sees.own; front = whole all; within = sees.own }
-
-pub sees_noted : (all : List Signed) (p : PassState) (e : Entry) → Sees all p → Sees (all ++ sign p.maker e ∷ []) (noted p all e)
-sees_noted all p e sees =
-    let own : entries_by p.maker (all ++ sign p.maker e ∷ []) ≡ p.made ++ e ∷ [] = by_append p.maker all (sign p.maker e ∷ []) ∙ (λ i. sees.own i ++ by_one p.maker e i) in
-    record { own = own; front = whole (all ++ sign p.maker e ∷ []); within = own }
-
--- what another maker notes leaves what a pass knows
-pub sees_others : (all : List Signed) (p : PassState) (other : Maker) (es : List Entry) → other ≢ p.maker → Sees all p → Sees (all ++ sign_all other es) p
-sees_others all p other es isnt sees = record {
-  own = by_append p.maker all (sign_all other es) ∙ (λ i. sees.own i ++ by_others other p.maker es isnt i) ∙ append-nil p.made;
-  front = longer all p.seen (sign_all other es) sees.front;
-  within = sees.within;
-}

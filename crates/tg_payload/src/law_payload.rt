@@ -1,5 +1,6 @@
 //! Payloads of the four kinds, side by side and in no box.
 ghost use Rattle.std.specs.Prelude.{◌≡◌, ◌≤◌, ◌∷◌, [], IfOk};
+ghost use Rattle.tg_model.specs.Law.{Fits};
 ghost use Rattle.tg_model.specs.Rules.{written};
 ghost use Rattle.tg_model.specs.declared.law.Law.TheVariants.{Cell, Sum, Max, Log};
 
@@ -72,6 +73,32 @@ impl LawPayload {
             kept: Kept::EmptyLog(EmptyLog { alloc, most }),
         }
     }
+
+    /// A payload of this law with this state, which has to fit the law. Takes memory only for the numbers of a log.
+    /// Fails only when out of memory.
+    pub fn of(alloc: Global, law: Law, state: &[u64]) -> Result<LawPayload, AllocError>
+        requires { Fits law state.now }
+        ensures { IfOk result (λ payload. ⟦<LawPayload as Payload>⟧.value payload ≡ record { law = law; state = state.now }) }
+    {
+        match law {
+            Law::Cell => Ok(LawPayload::cell(state[0])),
+            Law::Sum => Ok(LawPayload::sum(state[0])),
+            Law::Max => Ok(LawPayload::max(state[0])),
+            Law::Log(most) => log_of(alloc, most, state),
+        }
+    }
+}
+
+// The log of the last `most` numbers that has these, oldest first. Fails only when out of memory.
+fn log_of(alloc: Global, most: u32, state: &[u64]) -> Result<LawPayload, AllocError>
+    requires { Fits (Log most) state.now }
+    ensures { IfOk result (λ payload. ⟦<LawPayload as Payload>⟧.value payload ≡ record { law = Log most; state = state.now }) }
+{
+    let mut log = LawPayload::log(alloc, most);
+    for number in state {
+        log.write(*number)?;
+    }
+    Ok(log)
 }
 
 impl EmptyLog {

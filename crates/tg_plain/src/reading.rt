@@ -2,9 +2,9 @@
 ghost use Rattle.std.specs.Prelude.{◌+◌, ◌≤◌};
 ghost use Rattle.tg_text.specs.declared.fetch.TheConstants.{MOST_BYTES};
 
-use tg_reason::reason_of;
 use tg_text::{
-    Fetched, Line, LineBuffer, Lines, ScriptFault, Sink, Source, is_opening_after, standing_line,
+    Fetched, Line, LineBuffer, Lines, ScriptFault, Sink, Source, is_opening_after, reason_of,
+    standing_line,
 };
 
 /// How far a script was read.

@@ -5,6 +5,7 @@ ghost use Rattle.tg_program.specs.Boxes.{value_of_item};
 ghost use Rattle.tg_program.specs.Serving.{ServesFrom};
 ghost use Rattle.tg_program.specs.Starts.{MayServe};
 
+use crate::host::RunHost;
 use crate::serving::{RunPayloads, serve};
 use crate::start::Start;
 use crate::stop::Stop;
@@ -17,9 +18,7 @@ use tg_script::{Collector, Sink, Source, StockItem};
 /// Runs the source's script from the start, with new boxes: a cell with 0 for each worker, and those of the stock.
 /// Memory may be wanting before it; then nothing is read or written.
 pub(crate) fn serve_with_boxes<R: Threads + Wait + Sync, C: Collector, S: Source, K: Sink>(
-    rt: &R,
-    alloc: Global,
-    collector: &C,
+    host: &RunHost<R, C>,
     source: &mut S,
     sink: &mut K,
     start: &Start,
@@ -27,10 +26,10 @@ pub(crate) fn serve_with_boxes<R: Threads + Wait + Sync, C: Collector, S: Source
     requires servable { MayServe C.Ready start.now }
     ensures served { ServesFrom start.now (S.left source.old) (S.left source.new) (K.taken sink.old) (K.taken sink.new) result }
 {
-    let workers = new_cells(alloc, start.settings.workers)?;
-    let stock = new_drafts(alloc, &start.stock)?;
+    let workers = new_cells(host.alloc, start.settings.workers)?;
+    let stock = new_drafts(host.alloc, &start.stock)?;
     let payloads = RunPayloads { workers, stock };
-    serve(rt, alloc, collector, source, sink, start, payloads)
+    serve(host, source, sink, start, payloads)
 }
 
 // So many cells with 0. Fails only when out of memory.

@@ -13,6 +13,7 @@
 
 mod boxes;
 mod help;
+mod host;
 mod noted;
 mod on_threads;
 mod program;
@@ -23,6 +24,7 @@ mod stop;
 mod streams;
 mod words;
 
+pub use host::RunHost;
 pub use on_threads::OnThreads;
 pub use program::{exit_status, obey};
 pub use serving::{RunPayloads, serve};

@@ -2,9 +2,8 @@
 ghost use Rattle.std.specs.Prelude.{◌≡◌, ◌≤◌, length};
 
 use crate::stop::Stop;
-use tg_reason::reason_of;
 use tg_script::{MOST_LINE_BYTES, Next, ScriptFault, Source};
-use tg_text::LineBuffer;
+use tg_text::{LineBuffer, reason_of};
 use tg_threads::RaceFault;
 
 // The line that came last, without its line feed, and whether that came.

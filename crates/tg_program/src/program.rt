@@ -3,6 +3,7 @@ ghost use Rattle.std.specs.Prelude.{◌≡◌};
 ghost use Rattle.tg_program.specs.Faults.{exit_status};
 ghost use Rattle.tg_program.specs.Ranges.{AreInRange};
 
+use crate::host::RunHost;
 use crate::on_threads::OnThreads;
 use crate::settings::Options;
 use crate::start::{StartFault, prepare};
@@ -117,7 +118,12 @@ where
     match prepare(alloc, options) {
         Ok(start) => {
             let collector = OnThreads::new(rt, alloc);
-            match serve_buffered(rt, alloc, &collector, reader, writer, &start, options.why) {
+            let host = RunHost {
+                rt,
+                alloc,
+                collector: &collector,
+            };
+            match serve_buffered(&host, reader, writer, &start) {
                 Ok(ended) => ended.into_outcome(),
                 Err(stop) => Err(Failure::from(stop)),
             }

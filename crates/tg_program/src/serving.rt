@@ -2,20 +2,20 @@
 ghost use Rattle.std.specs.Prelude.{◌≡◌, ◌+◌, ◌<◌, ◌≤◌, ℕ, List, Some, true, OnOk, map};
 ghost use Rattle.tg_script.specs.Lines.{read_failures};
 ghost use Rattle.tg_script.specs.Running.{FinishesSink};
-ghost use Rattle.tg_script.specs.Script.{MayRun, MayStart, start_with};
+ghost use Rattle.tg_script.specs.Script.{MayRun, MayStart, start_of_setup};
 ghost use Rattle.tg_threads.specs.Race.{FinishesRace, RacesFrom};
 ghost use Rattle.tg_program.specs.Faults.{stop_read_failures, stop_write_failures};
 ghost use Rattle.tg_program.specs.Serving.{RanAs, ServesFrom, WasBegun, race_text_as};
 ghost use Rattle.tg_program.specs.Starts.{HasPayloads, MayServe};
 
+use crate::host::RunHost;
 use crate::start::Start;
 use crate::stop::Stop;
-use std::alloc::Global;
 use std::sync::Wait;
 use std::thread::Threads;
 use tg_payload::{Draft, Payload};
 use tg_script::{
-    Collector, ScriptFault, Sink, Source, drafts_of, run_script_entries, run_script_with,
+    Collector, RunSetup, ScriptFault, Sink, Source, drafts_of, run_script_entries, run_script_with,
 };
 use tg_threads::{Entries, NoTurnstile, RaceFault, Replies, run_race};
 
@@ -34,9 +34,7 @@ pub struct RunPayloads<P: Payload> {
 /// of what the workers store; then nothing is read or written.
 #[inline(always)]
 pub fn serve<P: Payload + Send, R: Threads + Wait + Sync, C: Collector, S: Source, K: Sink>(
-    rt: &R,
-    alloc: Global,
-    collector: &C,
+    host: &RunHost<R, C>,
     source: &mut S,
     sink: &mut K,
     start: &Start,
@@ -51,56 +49,61 @@ pub fn serve<P: Payload + Send, R: Threads + Wait + Sync, C: Collector, S: Sourc
     ensures finished { WasBegun result → K.finished sink.new ≡ true }
 {
     let RunPayloads { workers, stock } = payloads;
-    let workers = drafts_of(alloc, workers)?;
+    let workers = drafts_of(host.alloc, workers)?;
+    let setup = RunSetup {
+        settings: start.settings,
+        workers,
+        stock,
+    };
     if start.race {
-        return race(rt, alloc, source, sink, start, workers, stock).map_err(Stop::Race);
+        return race(host, source, sink, start.entries, setup).map_err(Stop::Race);
     }
-    run(alloc, collector, source, sink, start, workers, stock).map_err(Stop::Script)
+    run(host, source, sink, start.entries, setup).map_err(Stop::Script)
 }
 
-// Runs the script line by line, and writes replies, or entries where the start says so.
+// Runs the script line by line, and writes replies, or entries where that is asked for.
 #[inline(always)]
-fn run<P: Payload, C: Collector, S: Source, K: Sink>(
-    alloc: Global,
-    collector: &C,
+fn run<P: Payload, R, C: Collector, S: Source, K: Sink>(
+    host: &RunHost<R, C>,
     source: &mut S,
     sink: &mut K,
-    start: &Start,
-    workers: Vec<Draft<P>>,
-    stock: Vec<Draft<P>>,
+    entries: bool,
+    setup: RunSetup<P>,
 ) -> Result<(), ScriptFault>
-    requires runnable { MayRun C.Ready start.now.settings workers.items }
+    requires runnable { MayRun C.Ready setup.settings setup.workers.items }
     ensures ran { (bytes before : List ℕ) → S.left source.old ≡ Some bytes → K.taken sink.old ≡ Some before →
         (rest : List ℕ) × (S.left source.new ≡ Some rest)
-        × RanAs start.now.entries (start_with start.now.settings workers.items stock.items) bytes before result rest (K.taken sink.new) }
+        × RanAs entries (start_of_setup setup) bytes before result rest (K.taken sink.new) }
     ensures read_failed { S.failures source.new ≡ S.failures source.old + read_failures result }
     ensures finish { FinishesSink K.failures K.finished sink.old sink.new result }
 {
-    let settings = start.settings;
-    if start.entries {
-        run_script_entries(alloc, collector, source, sink, settings, workers, stock)
+    if entries {
+        run_script_entries(host.alloc, host.collector, source, sink, setup)
     } else {
-        run_script_with(alloc, collector, source, sink, settings, workers, stock)
+        run_script_with(host.alloc, host.collector, source, sink, setup)
     }
 }
 
-// Runs the script as a race, and writes replies, or entries where the start says so.
-fn race<P: Payload + Send, R: Threads + Wait + Sync, S: Source, K: Sink>(
-    rt: &R,
-    alloc: Global,
+// Runs the script as a race, and writes replies, or entries where that is asked for.
+fn race<P: Payload + Send, R: Threads + Wait + Sync, C, S: Source, K: Sink>(
+    host: &RunHost<R, C>,
     source: &mut S,
     sink: &mut K,
-    start: &Start,
-    workers: Vec<Draft<P>>,
-    stock: Vec<Draft<P>>,
+    entries: bool,
+    setup: RunSetup<P>,
 ) -> Result<(), RaceFault>
-    requires startable { MayStart start.now.settings workers.items }
+    requires startable { MayStart setup.settings setup.workers.items }
     ensures raced { RacesFrom S.left S.asked S.failures K.taken source.old source.new sink.old sink.new
-        (race_text_as start.now.entries) (start_with start.now.settings workers.items stock.items) result }
+        (race_text_as entries) (start_of_setup setup) result }
     ensures finish { FinishesRace K.failures K.finished sink.old sink.new result }
 {
-    let settings = start.settings;
-    if start.entries {
+    let RunHost { rt, alloc, .. } = *host;
+    let RunSetup {
+        settings,
+        workers,
+        stock,
+    } = setup;
+    if entries {
         run_race::<P, Entries, S, K, NoTurnstile, R>(
             rt,
             alloc,

@@ -17,6 +17,8 @@ pub struct Start {
     pub race: bool,
     /// Whether the text of the history is written in the place of replies.
     pub entries: bool,
+    /// Whether it is said why a line is bad.
+    pub why: bool,
     /// The kinds of the boxes for the vertices that are made, in order.
     pub stock: Vec<StockItem>,
 }
@@ -67,6 +69,7 @@ pub fn prepare(alloc: Global, options: &Options) -> Result<Start, StartFault>
     ensures settings { IfOk result (λ start. (start.settings ≡ options.now.settings) × MayHoldWorkers start.settings) }
     ensures race { IfOk result (λ start. start.race ≡ options.now.race) }
     ensures entries { IfOk result (λ start. start.entries ≡ options.now.entries) }
+    ensures why { IfOk result (λ start. start.why ≡ options.now.why) }
     ensures stock { IfOk result (λ start. IsStockText options.now.stock.now start.stock.items) }
     ensures ready { IfOk result IsReady }
     ensures refused { IfErr result (IsStartFault options.now.settings options.now.stock.now) }
@@ -80,6 +83,7 @@ pub fn prepare(alloc: Global, options: &Options) -> Result<Start, StartFault>
         settings,
         race: options.race,
         entries: options.entries,
+        why: options.why,
         stock,
     })
 }

@@ -7,10 +7,10 @@ ghost use Rattle.tg_program.specs.Serving.{ServesFrom};
 ghost use Rattle.tg_program.specs.Starts.{MayServe};
 
 use crate::boxes::serve_with_boxes;
+use crate::host::RunHost;
 use crate::noted::Noted;
 use crate::start::{Start, StartFault};
 use crate::stop::{Failure, Stop};
-use std::alloc::Global;
 use std::io::{BufRead, BufReader, BufWriter, Read, Write};
 use std::marker::Brand;
 use std::sync::Wait;
@@ -52,38 +52,38 @@ pub(crate) fn serve_buffered<
     R: Read + Drop,
     W: Write + Drop,
 >(
-    rt: &T,
-    alloc: Global,
-    collector: &C,
+    host: &RunHost<T, C>,
     reader: R,
     writer: W,
     start: &Start,
-    why: bool,
 ) -> Result<Ended<BufReader<R>, BufWriter<W>>, Stop>
     requires servable { MayServe C.Ready start.now }
     ensures status { IfErr result (λ stop. status_of_stop stop ≡ 1) }
     ensures served { IfOk result (λ ended.
         ServesFrom start.now (R.remaining reader) (reader_remaining R.remaining ended.reader) (W.contents writer) (writer_contents W.contents ended.writer) ended.outcome) }
 {
-    let Ok(reader) = BufReader::with_capacity(alloc, BLOCK, reader) else {
+    let Ok(reader) = BufReader::with_capacity(host.alloc, BLOCK, reader) else {
         return Err(Stop::Start(StartFault::OutOfMemory));
     };
-    let Ok(writer) = BufWriter::with_capacity(alloc, BLOCK, writer) else {
+    let Ok(writer) = BufWriter::with_capacity(host.alloc, BLOCK, writer) else {
         return Err(Stop::Start(StartFault::OutOfMemory));
     };
-    let (asked, read_failures, write_failures) = (Blank::new(1), Blank::new(1), Blank::new(1));
+    let blanks = StreamBlanks {
+        asked: Blank::new(1),
+        read_failures: Blank::new(1),
+        write_failures: Blank::new(1),
+    };
     Ok(serve_counted::<Brand, Brand, Brand, T, C, BufReader<R>, BufWriter<W>>(
-        rt,
-        alloc,
-        collector,
-        asked,
-        read_failures,
-        write_failures,
-        reader,
-        writer,
-        start,
-        why,
+        host, blanks, reader, writer, start,
     ))
+}
+
+// What counts how often a reader is asked and fails, and how often a writer fails.
+#[derive(Drop)]
+struct StreamBlanks {
+    asked: Blank,
+    read_failures: Blank,
+    write_failures: Blank,
 }
 
 // Serves where these ledgers name how often the reader is asked and fails, and how often the writer fails.
@@ -95,26 +95,20 @@ fn serve_counted<
     C: Collector,
     R: BufRead + Drop,
     W: Write + Drop,
->(
-    rt: &T,
-    alloc: Global,
-    collector: &C,
-    asked: Blank,
-    read_failures: Blank,
-    write_failures: Blank,
-    reader: R,
-    writer: W,
-    start: &Start,
-    why: bool,
-) -> Ended<R, W>
+>(host: &RunHost<T, C>, blanks: StreamBlanks, reader: R, writer: W, start: &Start) -> Ended<R, W>
     requires servable { MayServe C.Ready start.now }
-    requires countable { MayCountStreams A.name A.parts B.name B.parts F.name F.parts asked read_failures write_failures }
+    requires countable { MayCountStreams A.name A.parts B.name B.parts F.name F.parts blanks.asked blanks.read_failures blanks.write_failures }
     ensures served { ServesFrom start.now (R.remaining reader) (R.remaining result.reader) (W.contents writer) (W.contents result.writer) result.outcome }
 {
+    let StreamBlanks {
+        asked,
+        read_failures,
+        write_failures,
+    } = blanks;
     let (asked, read_failures) = (Count::<A>::new(asked), Count::<B>::new(read_failures));
-    let mut source = Noted::new(OfRead::new(reader, asked, read_failures), why);
+    let mut source = Noted::new(OfRead::new(reader, asked, read_failures), start.why);
     let mut sink = OfWrite::new(writer, Count::<F>::new(write_failures));
-    let outcome = serve_with_boxes(rt, alloc, collector, &mut source, &mut sink, start);
+    let outcome = serve_with_boxes(host, &mut source, &mut sink, start);
     let reason = source.reason(&outcome, start.settings.workers);
     let OfRead { reader, .. } = source.source;
     let OfWrite { writer, .. } = sink;

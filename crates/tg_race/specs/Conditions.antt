@@ -1,12 +1,16 @@
 -- When a helper may do what: each event's condition on the helper's own record, stated once. The world tests it, and the
 -- calls of a helper at the table require it.
-use Rattle.std.specs.Prelude.{ℕ, ◌==◌, ◌&&◌, Bool, not, nat_lt, List, length, if◌then◌else◌}
+use Rattle.std.specs.Prelude.{◌≡◌, ℕ, ◌*◌, ◌<◌, ◌≤◌, ◌==◌, ◌&&◌, Bool, IsTrue, not, nat_lt, List, length, if◌then◌else◌}
 use Rattle.std.specs.List.{list_any, list_all}
 use Rattle.tg_word.specs.declared.Place.{Place}
+use Rattle.tg_word.specs.declared.TheConstants.{CELLS}
+use Rattle.tg_word.specs.Word.{IsPlace}
+use Rattle.tg_race.specs.declared.race_table.CellWord.{CellWord}
 use Rattle.tg_race.specs.declared.record.Counts.{Counts}
 use Rattle.tg_race.specs.declared.record.Record.{Record}
-use Rattle.tg_race.specs.Words.{same_place, space_of_age}
+use Rattle.tg_race.specs.Words.{IsForward, place_of, same_place, space_of_age}
 use Rattle.tg_race.specs.Race.{is_chunk, has_room, owns}
+use Rattle.tg_race.specs.Seats.{Board, Seated, IsWordIn}
 
 -- a chunk of roots is claimed only by a record that has none past the last
 abbrev pub can_claim_roots : Counts → Record → Bool
@@ -37,3 +41,41 @@ is_new v =
 -- a share is given away only by a new record that keeps one
 abbrev pub can_part : Record → Bool
 can_part v = is_new v && nat_lt 1 v.share
+
+-- ---- what a call of a helper at a table requires
+
+-- the helper sits at this table, and its event is allowed
+pub record MayAct (helper : Seated) (board : Board) (condition : Bool) : Type 0 where
+  pub own : helper.table ≡ board.table
+  pub allowed : IsTrue condition
+
+-- both helpers sit at this table
+pub record SitTogether (mine theirs : Seated) (board : Board) : Type 0 where
+  pub own : mine.table ≡ board.table
+  pub other : theirs.table ≡ board.table
+
+-- the helper sits at this table, and the cell has a word in it: it isn't in a block that Old keeps
+pub record MayLookAtCell (helper : Seated) (board : Board) (cell : ℕ) : Type 0 where
+  pub own : helper.table ≡ board.table
+  pub inside : cell < board.counts.cells
+  pub moved : CELLS * board.counts.kept ≤ cell
+
+-- the same for a cell with its word
+pub record MayLookAtWord (helper : Seated) (board : Board) (at : CellWord) : Type 0 where
+  pub own : helper.table ≡ board.table
+  pub word : IsWordIn board at
+
+-- the helper may look at the cell, and may give this place
+pub record MayClaimCell (helper : Seated) (board : Board) (cell : ℕ) (p : Place) : Type 0 where
+  pub own : helper.table ≡ board.table
+  pub inside : cell < board.counts.cells
+  pub moved : CELLS * board.counts.kept ≤ cell
+  pub place : IsPlace p
+  pub allowed : IsTrue (can_use helper.done p)
+
+-- the same for a cell with its word, and the word of a place
+pub record MayClaimWord (helper : Seated) (board : Board) (at : CellWord) (given : ℕ) : Type 0 where
+  pub own : helper.table ≡ board.table
+  pub word : IsWordIn board at
+  pub forward : IsForward given
+  pub allowed : IsTrue (can_use helper.done (place_of given))

@@ -98,6 +98,10 @@ race_after r helper v (Meet other) = record r { records = slice_set (slice_set r
 abbrev pub happens : Course → ℕ → Event → Course
 happens c helper e = record c { race = race_after c.race helper (record_at c.race helper) e }
 
+-- it is told whether the event can happen, and it happens where it can
+abbrev pub HappensIfItCan : Course → Course → ℕ → Event → Bool → Type 0
+HappensIfItCan old new helper e told = (told ≡ can_happen old helper e) × (new ≡ (if told then happens old helper e else old))
+
 -- the course race_after a list of events, of any helpers; one that can't happen changes nothing
 abbrev pub course_after : Course → List (ℕ × Event) → Course
 course_after c [] = c

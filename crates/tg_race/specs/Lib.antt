@@ -6,4 +6,5 @@ pub mod Course
 pub mod Board
 pub mod Seats
 pub mod Claims
+pub mod Laws
 pub mod Inner

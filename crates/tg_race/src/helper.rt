@@ -1,13 +1,11 @@
 //! A helper: a seat at the table. Each call is one event of the race, and ensures what that event does to the record.
-ghost use Rattle.std.specs.Prelude.{◌≡◌, ◌≢◌, ◌*◌, ◌<◌, ◌≤◌, false, IfSome, IfNone, IsTrue, Some, All};
-ghost use Rattle.tg_word.specs.declared.TheConstants.{CELLS};
+ghost use Rattle.std.specs.Prelude.{◌≡◌, ◌≢◌, ◌<◌, false, IfSome, IfNone, Some, All};
 ghost use Rattle.tg_word.specs.declared.Place.{Place as PlaceOf};
 ghost use Rattle.tg_word.specs.Word.{IsPlace};
 ghost use Rattle.tg_race.specs.Race.{HasMet, empty, with_chunk, with_seen, with_won, with_claimed_block, both, less_one};
 ghost use Rattle.tg_race.specs.Board.{IsRecorded};
-ghost use Rattle.tg_race.specs.Seats.{IsWordIn};
 ghost use Rattle.tg_race.specs.Words.{IsForward, place_of};
-ghost use Rattle.tg_race.specs.Conditions.{blocks_of, can_claim_roots, can_claim_block, can_use, can_part};
+ghost use Rattle.tg_race.specs.Conditions.{MayAct, MayClaimCell, MayClaimWord, MayLookAtCell, MayLookAtWord, SitTogether, blocks_of, can_claim_roots, can_claim_block, can_part};
 ghost use Rattle.tg_race.specs.Course.{has_met};
 ghost use Rattle.tg_race.specs.Claims.{claimed, place_found};
 
@@ -49,8 +47,7 @@ impl Model for Helper {
 impl Helper {
     /// Makes another helper, of share 1, and keeps the rest of its own share.
     pub fn split(&mut self, table: &RaceTable) -> Helper
-        requires own { self.old.table ≡ table.now.table }
-        requires allowed { IsTrue (can_part self.old.done) }
+        requires { MayAct self.old table.now (can_part self.old.done) }
         ensures kept { self.new ≡ record self.old { done = less_one self.old.done } }
         ensures made { (result.table ≡ self.old.table) × (result.done ≡ empty 1) }
     {
@@ -60,8 +57,7 @@ impl Helper {
 
     /// Takes in all that another helper has done, with its share.
     pub fn join(&mut self, table: &RaceTable, other: Helper)
-        requires own { self.old.table ≡ table.now.table }
-        requires other { other.table ≡ table.now.table }
+        requires { SitTogether self.old other table.now }
         ensures { self.new ≡ record self.old { done = both self.old.done other.done } }
     {
         let Helper { seat } = other;
@@ -71,8 +67,7 @@ impl Helper {
     /// Claims the next chunk of roots, and answers its number, which may be past the last. It is greater than those of
     /// all chunks that the helper claimed before.
     pub fn claim_roots(&mut self, table: &RaceTable) -> u64
-        requires own { self.old.table ≡ table.now.table }
-        requires allowed { IsTrue (can_claim_roots table.now.counts self.old.done) }
+        requires { MayAct self.old table.now (can_claim_roots table.now.counts self.old.done) }
         ensures drawn { self.new ≡ record self.old { done = with_chunk self.old.done result } }
         ensures fresh { All (λ c. c < result) self.old.done.chunks }
     {
@@ -86,9 +81,7 @@ impl Helper {
     /// seen before has one, and it is the same.
     #[inline(always)]
     pub fn look(&mut self, table: &RaceTable, cell: u64) -> Option<Place>
-        requires own { self.old.table ≡ table.now.table }
-        requires inside { cell < table.now.counts.cells }
-        requires moved { CELLS * table.now.counts.kept ≤ cell }
+        requires { MayLookAtCell self.old table.now cell }
         ensures none { IfNone result (self.new ≡ self.old) }
         ensures some { IfSome result (λ p. self.new ≡ record self.old { done = with_seen self.old.done (cell, p) }) }
         ensures place { IfSome result IsPlace }
@@ -106,8 +99,7 @@ impl Helper {
     /// The word of the place that a cell has got, or 0 where it has none. The helper has then seen it.
     #[inline(always)]
     pub fn look_word(&mut self, table: &RaceTable, at: CellWord) -> u64
-        requires own { self.old.table ≡ table.now.table }
-        requires word { IsWordIn table.now at }
+        requires { MayLookAtWord self.old table.now at }
         ensures none { result ≡ 0 → self.new ≡ self.old }
         ensures some { result ≢ 0 → self.new ≡ record self.old { done = with_seen self.old.done (at.cell, place_of result) } }
         ensures forward { result ≢ 0 → IsForward result }
@@ -121,11 +113,7 @@ impl Helper {
     /// Whether the cell was won or lost is decided by one exchange: a place that a cell has never changes.
     #[inline(always)]
     pub fn claim_cell(&mut self, table: &RaceTable, cell: u64, place: Place) -> Claim
-        requires own { self.old.table ≡ table.now.table }
-        requires inside { cell < table.now.counts.cells }
-        requires moved { CELLS * table.now.counts.kept ≤ cell }
-        requires place { IsPlace place }
-        requires allowed { IsTrue (can_use self.old.done place) }
+        requires { MayClaimCell self.old table.now cell place }
         ensures done { self.new ≡ record self.old { done = claimed self.old.done cell place result } }
         ensures place { IsPlace (place_found place result) }
     {
@@ -139,10 +127,7 @@ impl Helper {
     /// Gives a cell the place in a word, if it has none, and answers 0; else the word of the place that it has.
     #[inline(always)]
     pub fn claim_word(&mut self, table: &RaceTable, at: CellWord, word: u64) -> u64
-        requires own { self.old.table ≡ table.now.table }
-        requires word { IsWordIn table.now at }
-        requires forward { IsForward word }
-        requires allowed { IsTrue (can_use self.old.done (place_of word)) }
+        requires { MayClaimWord self.old table.now at word }
         ensures won { result ≡ 0 → self.new ≡ record self.old { done = with_won self.old.done (at.cell, place_of word) } }
         ensures lost { result ≢ 0 → self.new ≡ record self.old { done = with_seen self.old.done (at.cell, place_of result) } }
         ensures forward { result ≢ 0 → IsForward result }
@@ -156,8 +141,7 @@ impl Helper {
     /// Claims the next block of Aged or of Old, and answers its number, which is greater than those of all blocks of
     /// that space that the helper claimed before. These are full.
     pub fn claim_block(&mut self, table: &RaceTable, aged: bool) -> u64
-        requires own { self.old.table ≡ table.now.table }
-        requires allowed { IsTrue (can_claim_block aged self.old.done) }
+        requires { MayAct self.old table.now (can_claim_block aged self.old.done) }
         ensures drawn { self.new ≡ record self.old { done = with_claimed_block aged self.old.done result } }
         ensures fresh { All (λ b. b < result) (blocks_of aged self.old.done) }
     {

@@ -1,18 +1,17 @@
 //! The laws of the race, each the contract of a function that does nothing.
-ghost use Rattle.std.specs.Prelude.{◌==◌, if◌then◌else◌, ◌≡◌, ◌≢◌, ◌↔◌, ◌+◌, ◌*◌, ◌<◌, ◌≤◌, ℕ, List, [], ◌∷◌, IsTrue, length, slice_index, AllPairs};
-ghost use lib.ListN.{get_elem?};
-ghost use mathlib.Core.Option.{some};
+ghost use Rattle.std.specs.Prelude.{◌≡◌, ◌≢◌, ◌↔◌, ◌+◌, ◌*◌, ◌<◌, ◌≤◌, ℕ, List, [], ◌∷◌, IsTrue, length, AllPairs};
 ghost use Rattle.tg_race.specs.declared.record.Counts.{Counts};
 ghost use Rattle.tg_race.specs.declared.record.Record.{Record};
 ghost use Rattle.tg_race.specs.declared.event.Event.{Event};
 ghost use Rattle.tg_word.specs.declared.TheConstants.{CELLS};
 ghost use Rattle.tg_word.specs.declared.Place.{Place};
 ghost use Rattle.tg_word.specs.Word.{IsPlace};
-ghost use Rattle.tg_race.specs.Words.{AGED, OLD, place_word, has_pair};
+ghost use Rattle.tg_race.specs.Words.{AGED, OLD, has_pair};
 ghost use Rattle.tg_race.specs.Board.{IsClosedTable};
-ghost use Rattle.tg_race.specs.Weights.{weigh, one_at};
-ghost use Rattle.tg_race.specs.Race.{Race, Rule, EachRecord, IsDrawn, AreConsecutive, AreDrawnOnce, AreWinsOf, AreWonOnce, all_of, both, has_number};
-ghost use Rattle.tg_race.specs.Course.{Net, Course, counts_of, KeepsRule, HasEarnedWins, IsCompleteRecord, IsReachedCell, forwarding_word, can_happen, happens, course_after, starting};
+ghost use Rattle.tg_race.specs.Weights.{weigh};
+ghost use Rattle.tg_race.specs.Race.{Race, Rule, EachRecord, IsDrawn, AreConsecutive, AreDrawnOnce, AreWinsOf, AreWonOnce, all_of, both};
+ghost use Rattle.tg_race.specs.Course.{Net, Course, KeepsRule, HasEarnedWins, IsCompleteRecord, can_happen, happens, course_after, starting};
+ghost use Rattle.tg_race.specs.Laws.{FillsAllButSome, EachStandsOnce, GivesPlacesOnce, HasJustTheReached, HasJustTheWins, HasWinsIn, IsCompleteTable, KeepsCellPlaces, StandsForAll, times_drawn, won_into};
 
 /// After every list of events of any number of helpers the rule holds.
 pub fn the_rule_holds_after_all_events()
@@ -23,32 +22,32 @@ pub fn the_rule_holds_after_all_events()
 /// No event changes a place that a cell has.
 #[tactic(auto, using(crate::proofs::Courses::places_stay, crate::proofs::Courses::events_stay))]
 pub fn places_never_change()
-    ensures event { (c : Course) (helper : ℕ) (e : Event) → IsTrue (can_happen c helper e) → (cell : ℕ) → forwarding_word c.race cell ≢ 0 → forwarding_word (happens c helper e).race cell ≡ forwarding_word c.race cell }
-    ensures events { (c : Course) (events : List (ℕ × Event)) (cell : ℕ) → forwarding_word c.race cell ≢ 0 → forwarding_word (course_after c events).race cell ≡ forwarding_word c.race cell }
+    ensures event { (c : Course) (helper : ℕ) (e : Event) → IsTrue (can_happen c helper e) → KeepsCellPlaces c.race (happens c helper e).race }
+    ensures events { (c : Course) (events : List (ℕ × Event)) → KeepsCellPlaces c.race (course_after c events).race }
 {}
 
 /// Where one record stands for all helpers and is complete, the cells with a place are the closure of the roots.
 #[tactic(auto, using(crate::proofs::Closure::closure))]
 pub fn a_complete_race_is_the_closure()
-    ensures { (c : Course) (id : ℕ) (v : Record) → KeepsRule c → get_elem? c.race.records id ≡ some v → v.share ≡ c.net.helpers → IsCompleteRecord c.net v → (cell : ℕ) → (forwarding_word c.race cell ≢ 0) ↔ IsReachedCell c.net cell }
+    ensures { (c : Course) (id : ℕ) (v : Record) → KeepsRule c → StandsForAll c.net.helpers c.race id v → IsCompleteRecord c.net v → HasJustTheReached c.net c.race.words }
 {}
 
 /// What a record has won stands in the table: the cell has the place that was won, which is in range.
 pub fn wins_stand_in_the_table()
-    ensures words { (k : Counts) (r : Race) → Rule k r → EachRecord (λ v. (cell : ℕ) (p : Place) → IsTrue (has_pair cell p v.won) → slice_index r.words cell ≡ place_word p) r.records }
+    ensures words { (k : Counts) (r : Race) → Rule k r → EachRecord (HasWinsIn r.words) r.records }
     ensures places { (k : Counts) (r : Race) → Rule k r → EachRecord (λ v. (cell : ℕ) (p : Place) → IsTrue (has_pair cell p v.won) → IsPlace p) r.records }
 {}
 
 /// The places in a closed table are those of the pairs that its one record has won, and no other.
 pub fn a_closed_table_has_the_wins()
-    ensures { (k : Counts) (words : List ℕ) (done : Record) → IsClosedTable k words done → (cell : ℕ) (p : Place) → IsPlace p → (slice_index words cell ≡ place_word p) ↔ IsTrue (has_pair cell p done.won) }
+    ensures { (k : Counts) (words : List ℕ) (done : Record) → IsClosedTable k words done → HasJustTheWins done words }
 {}
 
 /// No cell of a closed table was won twice, and no place was given twice: an equal place is that of an equal cell.
 pub fn wins_of_a_closed_table_differ()
     ensures cells { (k : Counts) (words : List ℕ) (done : Record) → IsClosedTable k words done → AllPairs (λ q r. q.0 ≢ r.0) done.won }
     ensures places { (k : Counts) (words : List ℕ) (done : Record) → IsClosedTable k words done → AllPairs (λ q r. q.1 ≢ r.1) done.won }
-    ensures one_cell { (k : Counts) (words : List ℕ) (done : Record) → IsClosedTable k words done → (cell other : ℕ) (p : Place) → IsTrue (has_pair cell p done.won) → IsTrue (has_pair other p done.won) → cell ≡ other }
+    ensures one_cell { (k : Counts) (words : List ℕ) (done : Record) → IsClosedTable k words done → GivesPlacesOnce done.won }
 {}
 
 /// The numbers of chunks, and those of blocks, that were claimed at a closed table differ and have no gap.
@@ -61,12 +60,12 @@ pub fn numbers_of_a_closed_table_have_no_gap()
 /// Where the record of a closed table is complete and its wins were earned, the cells with a place are the closure of
 /// the roots.
 pub fn a_closed_table_is_the_closure()
-    ensures { (net : Net) (words : List ℕ) (done : Record) → IsClosedTable (counts_of net) words done → HasEarnedWins net done → IsCompleteRecord net done → (cell : ℕ) → (slice_index words cell ≢ 0) ↔ IsReachedCell net cell }
+    ensures { (net : Net) (words : List ℕ) (done : Record) → IsCompleteTable net words done → HasEarnedWins net done → HasJustTheReached net words }
 {}
 
 /// Where one record stands for all helpers, all others are spent: the race with that record alone is under the rule.
 pub fn one_record_stands_alone()
-    ensures { (k : Counts) (r : Race) (id : ℕ) (v : Record) → Rule k r → get_elem? r.records id ≡ some v → v.share ≡ k.helpers → Rule k (record r { records = v ∷ [] }) }
+    ensures { (k : Counts) (r : Race) (id : ℕ) (v : Record) → Rule k r → StandsForAll k.helpers r id v → Rule k (record r { records = v ∷ [] }) }
 {}
 
 /// Wins stay earned when two records become one.
@@ -87,18 +86,18 @@ pub fn blocks_are_few()
 /// The same of each block that was claimed in a closed table; and those of a space are full of cells that were won into
 /// it, but for one a helper.
 pub fn claimed_blocks_are_few()
-    ensures aged_blocks { (k : Counts) (words : List ℕ) (done : Record) → IsClosedTable k words done → (b : ℕ) → IsTrue (has_number b done.aged_blocks) → CELLS * (b + 1) ≤ CELLS * k.helpers + length done.won }
-    ensures old_blocks { (k : Counts) (words : List ℕ) (done : Record) → IsClosedTable k words done → (b : ℕ) → IsTrue (has_number b done.old_blocks) → CELLS * (b + 1) ≤ CELLS * (k.kept + k.helpers) + length done.won }
-    ensures aged_filled { (k : Counts) (words : List ℕ) (done : Record) → IsClosedTable k words done → CELLS * length done.aged_blocks ≤ CELLS * k.helpers + weigh (λ q. if q.1.space == AGED then 1 else 0) done.won }
-    ensures old_filled { (k : Counts) (words : List ℕ) (done : Record) → IsClosedTable k words done → CELLS * length done.old_blocks ≤ CELLS * k.helpers + weigh (λ q. if q.1.space == OLD then 1 else 0) done.won }
+    ensures aged_blocks { (k : Counts) (words : List ℕ) (done : Record) → IsClosedTable k words done → FillsAllButSome k.helpers done.won done.aged_blocks }
+    ensures old_blocks { (k : Counts) (words : List ℕ) (done : Record) → IsClosedTable k words done → FillsAllButSome (k.kept + k.helpers) done.won done.old_blocks }
+    ensures aged_filled { (k : Counts) (words : List ℕ) (done : Record) → IsClosedTable k words done → CELLS * length done.aged_blocks ≤ CELLS * k.helpers + won_into AGED done.won }
+    ensures old_filled { (k : Counts) (words : List ℕ) (done : Record) → IsClosedTable k words done → CELLS * length done.old_blocks ≤ CELLS * k.helpers + won_into OLD done.won }
 {}
 
 /// What 'drawn' says of one number: it stands once in the records if it is below the counter and not below the start,
 /// and else not at all.
 pub fn numbers_are_drawn_once()
-    ensures drawn { (start counter : ℕ) (of : Record → List ℕ) (records : List Record) → IsDrawn start counter of records → (n : ℕ) → start ≤ n → n < counter → weigh (λ v. weigh (one_at n) (of v)) records ≡ 1 }
-    ensures below { (start counter : ℕ) (of : Record → List ℕ) (records : List Record) → IsDrawn start counter of records → (n : ℕ) → n < start → weigh (λ v. weigh (one_at n) (of v)) records ≡ 0 }
-    ensures above { (start counter : ℕ) (of : Record → List ℕ) (records : List Record) → IsDrawn start counter of records → (n : ℕ) → counter ≤ n → weigh (λ v. weigh (one_at n) (of v)) records ≡ 0 }
+    ensures drawn { (start counter : ℕ) (of : Record → List ℕ) (records : List Record) → IsDrawn start counter of records → EachStandsOnce start counter of records }
+    ensures below { (start counter : ℕ) (of : Record → List ℕ) (records : List Record) → IsDrawn start counter of records → (n : ℕ) → n < start → times_drawn of records n ≡ 0 }
+    ensures above { (start counter : ℕ) (of : Record → List ℕ) (records : List Record) → IsDrawn start counter of records → (n : ℕ) → counter ≤ n → times_drawn of records n ≡ 0 }
 {}
 
 /// What the rule says by weights is what these words say: the numbers that the records have drawn differ, and are those

@@ -1,7 +1,7 @@
 //! The race as a state machine, with no atomic.
 ghost use Rattle.std.specs.Prelude.{◌≡◌, nat_lt, IfOk, MatchResult, if◌then◌else◌, true, false, slice_get};
 ghost use Rattle.std.specs.Option.{option_copied};
-ghost use Rattle.tg_race.specs.Course.{net_of, IsRaceable, can, can_win, is_within, can_happen, happens, starting, record_at};
+ghost use Rattle.tg_race.specs.Course.{net_of, HappensIfItCan, IsRaceable, can, can_win, is_within, can_happen, happens, starting, record_at};
 ghost use Rattle.tg_race.specs.declared.event.Event.TheVariants.{Claim, Look, Lose, Win, Block, Part, Meet};
 
 use crate::event::Event;
@@ -61,7 +61,7 @@ impl World {
     /// The answer is true where the event could happen: its helper was made and isn't spent, and its condition held.
     /// Else it is false and nothing changes; where memory is wanted nothing changes either.
     pub fn event(&mut self, helper: usize, event: Event) -> Result<bool, AllocError>
-        ensures { MatchResult result (λ b. (b ≡ can_happen self.old helper event) × (self.new ≡ (if b then happens self.old helper event else self.old))) (λ _. self.new ≡ self.old) }
+        ensures { MatchResult result (HappensIfItCan self.old self.new helper event) (λ _. self.new ≡ self.old) }
     {
         if !self.can_happen(helper, event) {
             return Ok(false);

@@ -103,6 +103,11 @@ pub record IsFollowable (starts : List ℕ) (words : ℕ) (remembered : List Pla
   pub numbered : All (IsNumbered starts words) row.cells.items
   pub marked : IsMarked remembered row
 
+-- each of these indexes is that of a row that a collection of this kind may follow, after which these cells are to be remembered
+abbrev pub AreFollowable : Kind → List ℕ → ℕ → List Place → List (ℕ × IndexedRow) → Type 0
+AreFollowable kind starts words notes rows =
+    (name : ℕ) (row : IndexedRow) → lookup (nat_eq name) rows ≡ Some row → IsFollowable starts words (known_notes kind notes) row
+
 -- The index comes from the one that stood under the name, whose row isn't left behind. These cells are to be remembered.
 pub record IsFollowed (kind : Kind) (starts forward : List ℕ) (notes : List Place) (rows : List (ℕ × IndexedRow)) (name : ℕ) (followed : IndexedRow) : Type 0 where
   pub row : IndexedRow

@@ -1,25 +1,22 @@
 //! The graph in the cells: what one change writes.
 ghost use Rattle.std.specs.Prelude.{◌≡◌, ◌+◌, ◌<◌, ◌≤◌, ◌⊎◌, ◌↔◌, ℕ, List, true, length, slice_index, slice_set, Err, IfOk, IfSome, IsOk, None, OnErr, OnOk, Some, option_map};
-ghost use Rattle.std.specs.List.{All, Contains};
+ghost use Rattle.std.specs.List.{Contains};
 ghost use Rattle.tg_word.specs.declared.Place.{Place};
 ghost use Rattle.tg_word.specs.Word.{nursery_space, place_in, rights_in};
 ghost use Rattle.tg_word.specs.declared.TheConstants.{MAX_NURSERIES};
-ghost use Rattle.tg_model.specs.Graph.{listing_of};
-ghost use Rattle.tg_model.specs.Rules.{state_of, with_value, written_at};
+ghost use Rattle.tg_model.specs.Rules.{state_of};
 ghost use Rattle.tg_block.specs.declared.CellKind.TheVariants.{Object};
 ghost use Rattle.tg_space.specs.SpaceList.{HasCell, cell_at, space_of};
 ghost use Rattle.tg_space.specs.SpaceTable.{IsSpaceTable, place_in_space, used_of};
 ghost use Rattle.tg_space.specs.Soundness.{IsKindAt};
 ghost use Rattle.tg_space.specs.Generations.{AreRemembered};
-ghost use Rattle.tg_space.specs.Targets.{young_spaces};
 ghost use Rattle.tg_nursery.specs.Allocation.{HasRoomLeft};
 ghost use Rattle.tg_rows.specs.Content.{IsNamed};
-ghost use Rattle.tg_rows.specs.Inner.Following.{IsRowPut};
 ghost use Rattle.tg_rows.specs.Graph.{IsGraph, content_in};
 ghost use Rattle.tg_rows.specs.Rows.{IsVertexAt, name_at};
-ghost use Rattle.tg_rows.specs.Steps.{TakesOneCell, ChangesTo, KeepsRows};
-ghost use Rattle.tg_rows.specs.Spots.{note_for, vertex_put, with_note};
-ghost use Rattle.tg_rows.specs.Inner.Deeds.{AddsEdgeToRow, CanGive, CanMakeAt, CanReserve, HasObject, HasSpot, MakesRoomInCells, MakesVertexAt, MakesVertexRoom};
+ghost use Rattle.tg_rows.specs.Steps.{TakesOneCell, KeepsRows};
+ghost use Rattle.tg_rows.specs.Spots.{vertex_put, with_note};
+ghost use Rattle.tg_rows.specs.Inner.Deeds.{AddsEdgeToRow, CanGive, CanMakeAt, CanReserve, HasObject, HasSpot, IsEdgePut, ListsRow, MakesRoomInCells, MakesVertexAt, MakesVertexRoom, PlacesVertex, WritesNumber};
 
 use crate::references::put;
 use crate::rows::{Spot, edges_of};
@@ -40,6 +37,26 @@ pub struct Found {
     pub place: Place,
     /// The rights over the target, at least one.
     pub rights: Rights,
+}
+
+/// Rights over an object that are given to another.
+#[derive(Clone, Copy)]
+pub struct Gift {
+    /// Where the object is.
+    pub to: Place,
+    /// The rights over it, at least one.
+    pub rights: Rights,
+}
+
+/// A vertex that is to be made.
+#[derive(Drop)]
+pub struct NewVertex<P: Payload> {
+    /// Its name, which no vertex has.
+    pub name: u64,
+    /// The rights over it that its maker gets, at least one.
+    pub rights: Rights,
+    /// What it stores.
+    pub draft: Draft<P>,
 }
 
 /// No vertex was made. The draft comes back as it was.
@@ -90,8 +107,7 @@ impl<P: Payload> Cells<P> {
     #[inline(always)]
     pub fn row(&self, from: Place) -> Result<EdgeList, AllocError>
         requires { HasObject self.now from }
-        ensures { let content = content_in self.now.spaces.spaces self.now.payloads in
-            IfOk result (λ edges. (n : ℕ) → All (λ x. x < n) content.names → edges ≡ listing_of content.label n (name_at self.now.spaces.spaces from)) }
+        ensures { IfOk result (ListsRow self.now from) }
     {
         let mut edges = edges_of(self.alloc, &self.spaces, from)?;
         edges.sort_unstable_by_key(|edge| edge.0);
@@ -129,8 +145,7 @@ impl<P: Payload> Cells<P> {
     #[inline(always)]
     pub fn write(&mut self, at: Place, number: u64) -> Result<(), AllocError>
         requires { HasObject self.old at }
-        ensures written { let content = content_in self.old.spaces.spaces self.old.payloads in
-            OnOk result (ChangesTo self.old.spaces self.new.spaces self.new.payloads (IsNamed content) content.label (written_at content.value (name_at self.old.spaces.spaces at) number)) }
+        ensures written { OnOk result (WritesNumber self.old self.new at number) }
         ensures spaces { self.new.spaces ≡ self.old.spaces }
         ensures places { self.new.remembered.places ≡ self.old.remembered.places }
         ensures refused { OnErr result (self.new.payloads ≡ self.old.payloads) }
@@ -146,21 +161,20 @@ impl<P: Payload> Cells<P> {
         &mut self,
         nursery: u64,
         from: Place,
-        to: Place,
         spot: Spot,
-        rights: Rights,
+        gift: Gift,
     ) -> Result<(), RoomFault>
-        requires row { HasSpot self.old from (name_at self.old.spaces.spaces to) spot }
-        requires gift { CanGive self.old nursery to rights }
-        ensures edge { AddsEdgeToRow self.old self.new nursery from to rights result }
+        requires row { HasSpot self.old from (name_at self.old.spaces.spaces gift.to) spot }
+        requires gift { CanGive self.old nursery gift.to gift.rights }
+        ensures edge { AddsEdgeToRow self.old self.new nursery from gift.to gift.rights result }
         ensures had_room { HasRoomLeft self.old.spaces (nursery_space nursery) 1 → length (space_of self.old.spaces.spaces 0) ≡ 0 → IsOk result }
-        ensures put { OnOk result (IsRowPut self.old.spaces self.new.spaces self.old.remembered.places self.new.remembered.places from
-            (name_at self.old.spaces.spaces to) spot (note_for spot (young_spaces to.space))) }
+        ensures put { OnOk result (IsEdgePut self.old self.new from gift.to spot) }
         ensures one_cell { OnOk result (TakesOneCell self.old.spaces self.new.spaces (nursery_space nursery)) }
     {
+        let to = gift.to;
         let note = spot.note(Kind::Nursery.moves(to.space));
         self.make_room(nursery, note, spot.cells())?;
-        put(&mut self.spaces, nursery, spot, to, rights);
+        put(&mut self.spaces, nursery, spot, to, gift.rights);
         remember(&mut self.remembered, note);
         Ok(())
     }
@@ -173,14 +187,17 @@ impl<P: Payload> Cells<P> {
         &mut self,
         nursery: u64,
         from: Place,
-        name: u64,
         spot: Spot,
-        rights: Rights,
-        draft: Draft<P>,
+        vertex: NewVertex<P>,
     ) -> Result<Place, VertexRefused<P>>
-        requires { CanMakeAt self.old nursery from name spot rights }
-        ensures { MakesVertexAt self.old self.new nursery from name spot rights draft result }
+        requires { CanMakeAt self.old nursery from vertex.name spot vertex.rights }
+        ensures { MakesVertexAt self.old self.new nursery from vertex.name spot vertex.rights vertex.draft result }
     {
+        let NewVertex {
+            name,
+            rights,
+            draft,
+        } = vertex;
         let note = spot.note(true);
         if let Err(why) = self.make_vertex_room(nursery, note, 1 + spot.cells()) {
             return Err(VertexRefused { draft, why });
@@ -235,8 +252,7 @@ impl<P: Payload> Cells<P> {
         requires fresh { ¬ IsNamed (content_in self.old.spaces.spaces self.old.payloads) name }
         requires spare { 0 < self.old.payloads.spare }
         requires left { HasRoomLeft self.old.spaces (nursery_space nursery) 1 }
-        ensures placed { let content = content_in self.old.spaces.spaces self.old.payloads in
-            ChangesTo self.old.spaces self.new.spaces self.new.payloads (λ x. IsNamed content x ⊎ (x ≡ name)) content.label (with_value content.value name draft) }
+        ensures placed { PlacesVertex self.old self.new name draft }
         ensures vertex { IsVertexAt self.new.spaces.spaces name result }
         ensures next { result ≡ place_in_space (nursery_space nursery) (used_of self.old.spaces (nursery_space nursery)) }
         ensures written { (key : ℕ) × (self.new.spaces ≡ vertex_put self.old.spaces (nursery_space nursery) name key) }

@@ -11,14 +11,14 @@ ghost use Rattle.std.specs.Map.{lookup};
 ghost use Rattle.tg_rows.specs.Rows.{name_at};
 ghost use Rattle.tg_rows.specs.Inner.Deeds.{AddsEdgeToRow, CanGive, CanLook, CanMake, FollowsChange, HasObject, HasSpot, IsEdgeFound, IsReadied, KeepsIndexed, LooksAlong, LooksForNew, MakesVertex, TakesRights};
 
-use crate::cells::{Cells, Found, VertexRefused};
-use crate::indexed_row::{IndexedRow, find_indexed, forget_if_empty, spot_for_new};
+use crate::cells::{Cells, Found, Gift, NewVertex, VertexRefused};
+use crate::indexed_row::{IndexedRow, RowPut, find_indexed, forget_if_empty, spot_for_new};
 use crate::indexes::{LongRows, Way};
 use crate::references::narrow;
 use crate::rows::{Spot, find_spot, may_get_long, places_of};
 use std::alloc::AllocError;
 use tg_index::{NumberSet, RowIndex};
-use tg_payload::{Draft, Payload};
+use tg_payload::Payload;
 use tg_rights::Rights;
 use tg_space::{Kind, RoomFault};
 use tg_word::Place;
@@ -86,30 +86,22 @@ impl<P: Payload> Cells<P> {
     // What follows in the indexes where rights over the vertex with a name were put at the spot for it in a row, which
     // was looked along so. The row has an index then, if it is long.
     #[inline(always)]
-    fn follow(
-        &self,
-        rows: &mut LongRows,
-        way: Way,
-        from: Place,
-        name: u64,
-        spot: Spot,
-        note: Option<Place>,
-    )
-        requires { AreBehind self.now.spaces self.now.remembered.places rows.old way from name spot note }
+    fn follow(&self, rows: &mut LongRows, way: Way, put: RowPut)
+        requires { AreBehind self.now.spaces self.now.remembered.places rows.old way put.from put.name put.spot put.note }
         ensures indexed { AreIndexed self.now.spaces.spaces self.now.remembered.places rows.new.entries }
-        ensures long { IsLongRow self.now.spaces.spaces from → IsTrue (indexed_in rows.new.entries (name_at self.now.spaces.spaces from)) }
-        ensures names { MayIndex (name_at self.now.spaces.spaces from) rows.old.entries rows.new.entries }
+        ensures long { IsLongRow self.now.spaces.spaces put.from → IsTrue (indexed_in rows.new.entries (name_at self.now.spaces.spaces put.from)) }
+        ensures names { MayIndex (name_at self.now.spaces.spaces put.from) rows.old.entries rows.new.entries }
     {
         match way {
             Way::Walk => {}
             Way::Index(at) => match rows.indexes.get_index_mut(at) {
-                Some(row) => row.follow(&self.spaces, from, name, spot, note),
+                Some(row) => row.follow(&self.spaces, put),
                 None => unreachable!(),
             },
             Way::New(row) => {
                 let mut row = Box::into_inner(row);
-                row.follow(&self.spaces, from, name, spot, note);
-                rows.add(self.name_of(from), row);
+                row.follow(&self.spaces, put);
+                rows.add(self.name_of(put.from), row);
             }
         }
     }
@@ -164,22 +156,31 @@ impl<P: Payload> Cells<P> {
         rows: &mut LongRows,
         nursery: u64,
         from: Place,
-        to: Place,
-        rights: Rights,
+        gift: Gift,
     ) -> Result<(), RoomFault>
         requires row { CanLook self.old rows.old from }
-        requires gift { CanGive self.old nursery to rights }
-        ensures edge { AddsEdgeToRow self.old self.new nursery from to rights result }
+        requires gift { CanGive self.old nursery gift.to gift.rights }
+        ensures edge { AddsEdgeToRow self.old self.new nursery from gift.to gift.rights result }
         ensures rows { FollowsChange self.old self.new rows.old rows.new from result }
     {
         let Ok(way) = self.way_to_change(rows, from) else {
             return Err(RoomFault::OutOfMemory);
         };
+        let to = gift.to;
         let name = self.name_of(to);
         let spot = self.spot(rows, &way, from, name);
-        self.put_edge(nursery, from, to, spot, rights)?;
+        self.put_edge(nursery, from, spot, gift)?;
         let note = spot.note(Kind::Nursery.moves(to.space));
-        self.follow(rows, way, from, name, spot, note);
+        self.follow(
+            rows,
+            way,
+            RowPut {
+                from,
+                name,
+                spot,
+                note,
+            },
+        );
         Ok(())
     }
 
@@ -194,28 +195,20 @@ impl<P: Payload> Cells<P> {
         let way = self.way(rows, from);
         if let Spot::Reference { cell, index } = self.spot(rows, &way, from, name) {
             narrow(&mut self.spaces, cell, index, rights);
-            self.forget(rows, way, from, name, cell, index);
+            let word = self.spaces.read(cell, index);
+            self.forget(rows, way, name, word);
         }
     }
 
     // What follows in the index of a row, which was looked along so, where the reference to the vertex with a name lost
-    // rights.
-    fn forget(
-        &self,
-        rows: &mut LongRows,
-        way: Way,
-        from: Place,
-        name: u64,
-        cell: Place,
-        index: usize,
-    )
-        requires { AreUncleared self.now.spaces self.now.remembered.places rows.old.entries way from name cell index }
+    // rights and is this word now.
+    fn forget(&self, rows: &mut LongRows, way: Way, name: u64, word: u64)
+        requires { AreUncleared self.now.spaces self.now.remembered.places rows.old.entries way name word }
         ensures { KeepsIndexed self.now rows.old rows.new }
     {
         let Way::Index(at) = way else {
             return;
         };
-        let word = self.spaces.read(cell, index);
         match rows.indexes.get_index_mut(at) {
             Some(row) => forget_if_empty(&mut row.names, name, word),
             None => unreachable!(),
@@ -231,22 +224,33 @@ impl<P: Payload> Cells<P> {
         rows: &mut LongRows,
         nursery: u64,
         from: Place,
-        name: u64,
-        rights: Rights,
-        draft: Draft<P>,
+        vertex: NewVertex<P>,
     ) -> Result<Place, VertexRefused<P>>
         requires row { CanLook self.old rows.old from }
-        requires vertex { CanMake self.old nursery name rights }
-        ensures vertex { MakesVertex self.old self.new nursery from name rights draft result }
+        requires vertex { CanMake self.old nursery vertex.name vertex.rights }
+        ensures vertex { MakesVertex self.old self.new nursery from vertex.name vertex.rights vertex.draft result }
         ensures rows { FollowsChange self.old self.new rows.old rows.new from result }
     {
         let Ok(way) = self.way_to_change(rows, from) else {
-            let why = RoomFault::OutOfMemory;
-            return Err(VertexRefused { draft, why });
+            return Err(VertexRefused {
+                draft: vertex.draft,
+                why: RoomFault::OutOfMemory,
+            });
         };
+        let name = vertex.name;
         let spot = self.spot_for_new(rows, &way, from, name);
-        let to = self.put_vertex(nursery, from, name, spot, rights, draft)?;
-        self.follow(rows, way, from, name, spot, spot.note(true));
+        let to = self.put_vertex(nursery, from, spot, vertex)?;
+        let note = spot.note(true);
+        self.follow(
+            rows,
+            way,
+            RowPut {
+                from,
+                name,
+                spot,
+                note,
+            },
+        );
         Ok(to)
     }
 }

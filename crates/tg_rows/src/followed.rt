@@ -1,18 +1,16 @@
 //! What a collection does to the indexes of rows. The blocks of from-space may be gone by then: cells are told by their
 //! numbers (`Moves`).
-ghost use Rattle.std.specs.Prelude.{◌≡◌, ◌≢◌, ◌≤◌, ◌<◌, ℕ, List, Some, length, map, nat_eq, slice_get, take, OnErr, OnOk};
+ghost use Rattle.std.specs.Prelude.{◌≡◌, ◌≢◌, ◌≤◌, ◌<◌, ℕ, List, Some, length, map, slice_get, take, OnErr, OnOk};
 ghost use Rattle.std.specs.List.{All};
-ghost use Rattle.std.specs.Map.{lookup};
 ghost use Rattle.indexmap.specs.IndexMap.{index_map_len, values};
-ghost use Rattle.indexmap.specs.Layout.{set_value_at};
 ghost use Rattle.tg_index.specs.Bits.{bit_in};
 ghost use Rattle.tg_space.specs.Collection.{new_place};
 ghost use Rattle.tg_space.specs.Numbering.{IsNumbered, followed_place, followed_word};
 ghost use Rattle.tg_space.specs.Targets.{from_space};
 ghost use Rattle.tg_word.specs.Word.{place_in};
 ghost use Rattle.tg_word.specs.declared.Place.{Place as PlaceOf};
-ghost use Rattle.tg_rows.specs.Index.{AreAged, AreFollowed, AreMovedToOld, IsAged, IsFollowable, IsFollowedTo, IsLeftBehind, IsMarked, IsOldPlace, IsOldRow, known_notes};
-ghost use Rattle.tg_rows.specs.Inner.Followed.{CanFollow, CanFollowCells, CanMark, KeepsMarks};
+ghost use Rattle.tg_rows.specs.Index.{AreAged, AreFollowable, AreFollowed, AreMovedToOld, IsAged, IsFollowedTo, IsLeftBehind, IsMarked, IsOldPlace, IsOldRow, known_notes};
+ghost use Rattle.tg_rows.specs.Inner.Followed.{CanFollow, CanFollowCells, CanFollowEach, CanMark, FollowsRowAt, KeepsMarks};
 ghost use Rattle.tg_rows.specs.declared.indexed_row.IndexedRow.{IndexedRow as RowOf};
 
 use crate::indexed_row::IndexedRow;
@@ -42,7 +40,7 @@ impl LongRows {
     /// Cells have the numbers that they had before it. The cells that are to be remembered are in `noted`. It asks for
     /// memory for marks alone, and does without it where that is refused.
     pub fn follow(&mut self, moves: Moves, noted: &Remembered)
-        requires rows { (name : ℕ) (row : RowOf) → lookup (nat_eq name) self.old.entries ≡ Some row → IsFollowable moves.numbering.now.starts (length moves.forward.now.words) (known_notes moves.kind noted.now.places) row }
+        requires rows { AreFollowable moves.kind moves.numbering.now.starts (length moves.forward.now.words) noted.now.places self.old.entries }
         requires to_old { AreMovedToOld moves.kind moves.forward.now.words }
         ensures { AreFollowed moves.entry.kind moves.entry.numbering.now.starts moves.entry.forward.now.words noted.now.places self.old.entries self.new.entries }
     {
@@ -61,7 +59,7 @@ fn follow_rows(
     rows: &mut IndexMap<u64, IndexedRow>,
     first: usize,
 ) -> usize
-    requires rows { (name : ℕ) (row : RowOf) → lookup (nat_eq name) rows.old.entries ≡ Some row → CanFollow moves.kind moves.numbering.now.starts moves.forward.now.words noted.now.places row }
+    requires rows { CanFollowEach moves.kind moves.numbering.now.starts moves.forward.now.words noted.now.places rows.old.entries }
     requires aged { AreAged rows.old.entries first }
     requires full { moves.kind ≡ Kind.Full → first ≡ 0 }
     ensures followed { AreFollowed moves.entry.kind moves.entry.numbering.now.starts moves.entry.forward.now.words noted.now.places rows.old.entries rows.new.entries }
@@ -94,9 +92,7 @@ fn follow_row_at(
 ) -> Fate
     requires inside { at < index_map_len rows.old }
     requires can { (row : RowOf) → slice_get (values rows.old) at ≡ Some row → CanFollow moves.kind moves.numbering.now.starts moves.forward.now.words noted.now.places row }
-    ensures { (row followed : RowOf) × (slice_get (values rows.old) at ≡ Some row) × (rows.new.entries ≡ set_value_at rows.old.entries at followed)
-        × (result ≢ Fate.Gone → IsFollowedTo moves.entry.kind moves.entry.numbering.now.starts moves.entry.forward.now.words row followed) × IsAged followed × (result ≡ Fate.Old → IsOldRow followed) × (result ≢ Fate.Gone → IsMarked noted.now.places followed)
-        × (result ≡ Fate.Gone → IsLeftBehind moves.entry.kind moves.entry.numbering.now.starts moves.entry.forward.now.words row) }
+    ensures { FollowsRowAt moves.entry.kind moves.entry.numbering.now.starts moves.entry.forward.now.words noted.now.places rows.old.entries rows.new.entries at result }
 {
     match rows.get_index_mut(at) {
         Some(row) => follow_row(moves, noted, row),

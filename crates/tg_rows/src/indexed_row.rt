@@ -1,8 +1,8 @@
 //! The index of a row: where the reference to each name stands, with no walk. See 'Rows and their indexes' in
-//! docs/ARCHITECTURE.md.
+//! docs/inside/ARCHITECTURE.md.
 ghost use Rattle.std.specs.Prelude.{◌≡◌, ◌≢◌, ℕ, Option, Some, None, IsSome, ◌+◌, ◌*◌, ◌^◌, ◌<◌, ◌≤◌, length, slice_index_or, IfSome, OnOk};
 ghost use Rattle.tg_word.specs.declared.Place.{Place};
-ghost use Rattle.tg_index.specs.Slots.{IsIndexOf, PutsAt, place_number};
+ghost use Rattle.tg_index.specs.Slots.{ClearsName, place_number};
 ghost use Rattle.tg_rows.specs.Inner.Following.{HasRoomIn, IsRowFollowed, IsNotedIn, HasSameIndex, NotesCell};
 ghost use Rattle.tg_rows.specs.Index.{IsPlaceOf, IsRowIndex};
 ghost use Rattle.tg_rows.specs.declared.indexed_row.TheConstants.{CHUNK_REFERENCES, FEWER_IN_OBJECT};
@@ -35,6 +35,19 @@ pub struct IndexedRow {
     pub noted: NumberSet,
 }
 
+/// Rights over a vertex were put in a row.
+#[derive(Clone, Copy)]
+pub(crate) struct RowPut {
+    /// The object of the row.
+    pub(crate) from: Place,
+    /// The name of the vertex.
+    pub(crate) name: u64,
+    /// The spot for the reference to it.
+    pub(crate) spot: Spot,
+    /// The cell that was noted with it, if there is one.
+    pub(crate) note: Option<Place>,
+}
+
 impl IndexedRow {
     /// Makes room for one more name and for one more cell, and for the note of each cell that is known to be in Old.
     /// Nothing else changes.
@@ -48,29 +61,21 @@ impl IndexedRow {
         self.cells.reserve()
     }
 
-    /// What follows in the index where a reference to the vertex with a name was put at the spot for it. There is room
-    /// for it.
+    /// What follows in the index where a reference was put in the row. There is room for it.
     #[inline(always)]
-    pub(crate) fn follow(
-        &mut self,
-        spaces: &Spaces,
-        from: Place,
-        name: u64,
-        spot: Spot,
-        note: Option<Place>,
-    )
-        requires put { IsRowFollowed spaces.now from name spot note self.old }
+    pub(crate) fn follow(&mut self, spaces: &Spaces, put: RowPut)
+        requires put { IsRowFollowed spaces.now put.from put.name put.spot put.note self.old }
         requires room { HasRoomIn self.old }
-        ensures index { IsRowIndex spaces.now.spaces from self.new.names self.new.cells.items }
-        ensures marks { NotesCell note self.old self.new }
+        ensures index { IsRowIndex spaces.now.spaces put.from self.new.names self.new.cells.items }
+        ensures marks { NotesCell put.note self.old self.new }
     {
-        self.mark(note);
-        match spot {
+        self.mark(put.note);
+        match put.spot {
             Spot::Reference { .. } => {}
-            Spot::Empty { .. } => self.names.put(name),
+            Spot::Empty { .. } => self.names.put(put.name),
             Spot::Full { last } => {
                 self.names.grow(CHUNK_REFERENCES as u64);
-                self.names.put(name);
+                self.names.put(put.name);
                 self.cells.push(spaces.read(last, LINK));
             }
         }
@@ -113,7 +118,7 @@ impl IndexedRow {
 /// Takes a name away where the word of its reference is empty.
 pub(crate) fn forget_if_empty(names: &mut RowIndex, name: u64, word: u64)
     requires { IsSome (place_number names.old name) }
-    ensures gone { word ≡ 0 → (slots later : ℕ → Option ℕ) (n : ℕ) → IsIndexOf names.old slots → place_number names.old name ≡ Some n → PutsAt slots later n None → IsIndexOf names.new later }
+    ensures gone { word ≡ 0 → ClearsName names.old name names.new }
     ensures len { names.new.len ≡ names.old.len }
     ensures kept { word ≢ 0 → names.new ≡ names.old }
 {

@@ -1,5 +1,5 @@
 //! The indexes of long rows, and which of them may have young cells. See 'Rows and their indexes' in
-//! docs/ARCHITECTURE.md.
+//! docs/inside/ARCHITECTURE.md.
 ghost use Rattle.std.specs.Prelude.{◌≡◌, ◌≤◌, ◌<◌, ℕ, List, [], None, Some, if◌then◌else◌, length, nat_eq, option_copied, slice_get, IfSome, OnOk};
 ghost use Rattle.std.specs.Map.{lookup};
 ghost use Rattle.tg_rows.specs.Inner.Following.{IsReadyAt};

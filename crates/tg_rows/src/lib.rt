@@ -23,7 +23,7 @@
 //! **Indexes.** A row of more than four cells is found by its index: the number of the place at which each name stands,
 //! and the row's cells in chain order. It is there once rights were put in such a row, agrees with the words at all
 //! times, and is kept by every call and every collection. A shorter row is walked along. Contracts see which names have
-//! an index. What a collection makes of one is told by 'Rows and their indexes' in docs/ARCHITECTURE.md.
+//! an index. What a collection makes of one is told by 'Rows and their indexes' in docs/inside/ARCHITECTURE.md.
 //!
 //! **Memory.** Growth comes first, so a refused call leaves the cells as they were, blocks included; at most there is
 //! room for one more payload and one more note.
@@ -41,7 +41,7 @@ mod references;
 mod row_cells;
 mod rows;
 
-pub use cells::{Cells, Found, VertexRefused};
+pub use cells::{Cells, Found, Gift, NewVertex, VertexRefused};
 pub use indexed_row::IndexedRow;
 pub use indexes::LongRows;
 pub use row_cells::RowCells;

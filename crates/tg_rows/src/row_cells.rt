@@ -1,4 +1,4 @@
-//! The cells of a long row. See 'Rows and their indexes' in docs/ARCHITECTURE.md.
+//! The cells of a long row. See 'Rows and their indexes' in docs/inside/ARCHITECTURE.md.
 ghost use Rattle.std.specs.Prelude.{◌≡◌, ◌<◌, ◌++◌, ◌∷◌, ◌^◌, [], Some, length, map, slice_get, OnOk};
 ghost use Rattle.tg_word.specs.Word.{place_in};
 

@@ -1,3 +1,4 @@
 pub mod Verdict
 pub mod Effect
 pub mod Parties
+pub mod Laws

@@ -8,6 +8,8 @@ use Rattle.tg_text.specs.declared.line.Line.TheVariants as line
 use Rattle.tg_text.specs.declared.fault.ScriptFault.{ScriptFault}
 use Rattle.tg_text.specs.declared.fault.ScriptFault.TheVariants as fault
 use Rattle.tg_text.specs.Reading.{MayStand}
+use Rattle.tg_model.specs.declared.value.Value.{Value}
+use Rattle.tg_script.specs.declared.run_script.Settings.{Settings}
 
 -- a line that may stand behind the edges
 abbrev pub IsCommand : Line → Type 0
@@ -20,6 +22,10 @@ pub record IsAnswerable (Ready : Type 0) (l : Line) : Type 0 where
 
 abbrev pub edge_lines : List Edge → List Line
 edge_lines edges = map line.Edge edges
+
+-- the opening by these settings, with these edges, of workers with these values
+abbrev pub plan_by : Settings → List Edge → List Value → Plan
+plan_by settings edges values = record { workers = settings.workers; edges = edges; values = values; limit = settings.max_vertices }
 
 -- The store is opened with the plan, has no entry, and stands for the graph that the plan starts from; or a limit of the plan is
 -- out of its range, or else memory was wanting, or a block for each worker where the heap may have so many.

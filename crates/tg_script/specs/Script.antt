@@ -22,6 +22,7 @@ use Rattle.tg_text.specs.declared.answer.Refusal.TheVariants as refusal
 use Rattle.tg_text.specs.declared.fault.ScriptFault.{ScriptFault}
 use Rattle.tg_text.specs.Reading.{ReadsScript}
 use Rattle.tg_text.specs.Texts.{answer_text}
+use Rattle.tg_script.specs.declared.run_script.RunSetup.{RunSetup}
 use Rattle.tg_script.specs.declared.run_script.Settings.{Settings}
 
 -- ---- the answer to one line
@@ -159,6 +160,10 @@ start_with settings values stock = record {
   values = values;
   stock = stock;
 }
+
+-- the start from a setup
+abbrev pub start_of_setup : {P : Type 0} → RunSetup P → Start
+start_of_setup setup = start_with setup.settings setup.workers.items setup.stock.items
 
 -- a run may start with these settings, and with payloads of these values for its workers: one for each of from 1 to 64
 pub record MayStart (settings : Settings) (values : List Value) : Type 0 where

@@ -1,18 +1,17 @@
 //! The run of a whole script that writes entries in the place of replies.
-ghost use Rattle.std.specs.Prelude.{◌≡◌, ℕ, List, [], Some};
+ghost use Rattle.std.specs.Prelude.{◌≡◌, []};
 ghost use Rattle.tg_script.specs.Entering.{EntersFrom};
 ghost use Rattle.tg_script.specs.Inner.Beginning.{MayGoOn};
-ghost use Rattle.tg_script.specs.Inner.Run.{Shows};
-ghost use Rattle.tg_script.specs.Inner.Telling.{EntersAll, UsesStreams};
+ghost use Rattle.tg_script.specs.Inner.Telling.{EntersCommands, UsesStreams};
 ghost use Rattle.tg_script.specs.Running.{FinishesSink};
-ghost use Rattle.tg_script.specs.Script.{MayRun, Scene, start_with};
+ghost use Rattle.tg_script.specs.Script.{MayRun, start_of_setup};
 
 use crate::collector::Collector;
-use crate::run_script::{Begun, Settings, begin, finish, run_commands};
+use crate::run_script::{Begun, RunSetup, begin, finish, run_commands};
 use crate::telling::Entries;
 use std::alloc::Global;
 use tg_entries::{write_end, write_opening};
-use tg_payload::{Draft, Payload};
+use tg_payload::Payload;
 use tg_text::{ScriptFault, Sink, Source};
 
 /// Runs the script as [`run_script_with`](crate::run_script_with) does, and writes the text of its history, as
@@ -28,15 +27,13 @@ pub fn run_script_entries<P: Payload, C: Collector, S: Source, K: Sink>(
     collector: &C,
     source: &mut S,
     sink: &mut K,
-    settings: Settings,
-    workers: Vec<Draft<P>>,
-    stock: Vec<Draft<P>>,
+    setup: RunSetup<P>,
 ) -> Result<(), ScriptFault>
-    requires runnable { MayRun C.Ready settings workers.items }
-    ensures entered { EntersFrom S.left S.asked S.failures K.taken source.old source.new sink.old sink.new (start_with settings workers.items stock.items) result }
+    requires runnable { MayRun C.Ready setup.settings setup.workers.items }
+    ensures entered { EntersFrom S.left S.asked S.failures K.taken source.old source.new sink.old sink.new (start_of_setup setup) result }
     ensures finish { FinishesSink K.failures K.finished sink.old sink.new result }
 {
-    match begin(alloc, source, sink, settings, workers, stock) {
+    match begin(alloc, source, sink, setup) {
         Ok(mut begun) => {
             let outcome = enter_all(collector, source, sink, &mut begun);
             drop(begun);
@@ -57,21 +54,13 @@ fn enter_all<P: Payload, C: Collector, S: Source, K: Sink>(
 ) -> Result<(), ScriptFault>
     requires runnable { MayGoOn C.Ready begun.old.script begun.old.first }
     requires none { begun.old.run.store.entries ≡ [] }
-    ensures written { (t : Scene) (rest before : List ℕ) → Shows begun.old.run t → S.left source.old ≡ Some rest → K.taken sink.old ≡ Some before →
-        (left : List ℕ) × (S.left source.new ≡ Some left) × EntersAll begun.old.script rest t begun.old.first begun.old.run.store.opening before result left (K.taken sink.new) }
+    ensures written { EntersCommands S.left K.taken source.old source.new sink.old sink.new begun.old result }
     ensures streams { UsesStreams S.asked S.failures K.failures source.old source.new sink.old sink.new begun.old.script begun.old.first result }
 {
     let Ok(()) = write_opening(sink, begun.run.store.opening()) else {
         return Err(ScriptFault::WriteFailed);
     };
-    let entered = run_commands::<P, Entries, C, S, K>(
-        &mut begun.run,
-        collector,
-        &mut begun.script,
-        source,
-        sink,
-        begun.first,
-    );
+    let entered = run_commands::<P, Entries, C, S, K>(begun, collector, source, sink);
     // It tells that the entries are a legal history, whatever came of the lines.
     let count = begun.run.store.journal().len();
     entered?;

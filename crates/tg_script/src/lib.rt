@@ -35,7 +35,9 @@ pub use entering::run_script_entries;
 pub use helpers::Helpers;
 pub use opening::open_store;
 pub use refusals::{apply_refusal, collect_refusal, create_answer, helpers_refusal};
-pub use run_script::{InMemory, Settings, run_in_memory, run_script_one, run_script_with};
+pub use run_script::{
+    InMemory, RunSetup, Settings, run_in_memory, run_script_one, run_script_with,
+};
 pub use tg_parallel::MOST_HELPERS;
 pub use tg_store::Limits;
 pub use tg_text::{

@@ -1,15 +1,17 @@
 //! The opening of a run: the edge lines of its script, and the store that they make.
-ghost use Rattle.std.specs.Prelude.{◌≡◌, ◌<◌, ◌≤◌, ℕ, List, length, Some, IfOk};
+ghost use Rattle.std.specs.Prelude.{◌≡◌, ℕ, List, Some, IfOk};
 ghost use Rattle.std.specs.List.{All};
-ghost use Rattle.tg_model.specs.Opened.{Plan, JoinsWorkers};
-ghost use Rattle.tg_script.specs.Opening.{OpensStore};
+ghost use Rattle.tg_model.specs.Opened.{JoinsWorkers};
+ghost use Rattle.tg_script.specs.Opening.{OpensStore, plan_by};
+ghost use Rattle.tg_script.specs.Script.{MayStart};
 ghost use Rattle.tg_script.specs.Inner.Beginning.{AsksForEdges, IsFront, ReadsEdges};
 
+use crate::run_script::Settings;
 use crate::script::Script;
 use std::alloc::Global;
 use tg_model::{Edge, MAX_VERTICES, Opening};
 use tg_payload::{Draft, Payload, values_of};
-use tg_store::{Limits, OpenFault, Store};
+use tg_store::{OpenFault, Store};
 use tg_text::{Line, ScriptFault, Sink, Source};
 
 /// The edges in front of a script, the line behind them, and the script behind that.
@@ -52,23 +54,26 @@ pub(crate) fn read_edges<S: Source, K: Sink>(
     })
 }
 
-/// Opens the store with the workers, the edges between them and their payloads, and these limits. Refused for a number
-/// of vertices that is out of its range, or else for want of memory, or of a block for each worker where the heap may
+/// Opens the store by the settings, with the edges between the workers and their payloads. Refused for a number of
+/// vertices that is out of its range, or else for want of memory, or of a block for each worker where the heap may
 /// have fewer.
 pub fn open_store<P: Payload>(
     alloc: Global,
-    workers: u64,
+    settings: &Settings,
     edges: Vec<Edge>,
     drafts: Vec<Draft<P>>,
-    max_vertices: u64,
-    limits: Limits,
 ) -> Result<Store<P>, ScriptFault>
-    requires workers { (1 ≤ workers) × (workers ≤ 64) }
-    requires edges { All (JoinsWorkers workers) edges.items }
-    requires drafts { length drafts.items ≡ workers }
-    ensures opened { let plan : Plan = record { workers = workers; edges = edges.items; values = drafts.items; limit = max_vertices } in OpensStore plan limits.max_blocks result }
-    ensures limits { IfOk result (λ store. store.heap.table.limits ≡ limits) }
+    requires startable { MayStart settings.now drafts.items }
+    requires edges { All (JoinsWorkers settings.now.workers) edges.items }
+    ensures opened { OpensStore (plan_by settings.now edges.items drafts.items) settings.now.limits.max_blocks result }
+    ensures limits { IfOk result (λ store. store.heap.table.limits ≡ settings.now.limits) }
 {
+    let Settings {
+        workers,
+        max_vertices,
+        limits,
+        ..
+    } = *settings;
     if max_vertices < 1 || MAX_VERTICES < max_vertices || max_vertices < workers {
         return Err(ScriptFault::BadLimits);
     }

@@ -2,10 +2,9 @@
 ghost use Rattle.std.specs.Prelude.{◌≡◌, ◌≢◌, ℕ, List, [], Some, Err, true, IfErr, IfOk};
 ghost use Rattle.tg_script.specs.Inner.Beginning.{Begins, BeginsStreams, IsBegun, MayGoOn};
 ghost use Rattle.tg_script.specs.Inner.Counting.{MayCountInMemory, RunsInMemory};
-ghost use Rattle.tg_script.specs.Inner.Run.{Shows};
-ghost use Rattle.tg_script.specs.Inner.Telling.{TellsFirst, UsesStreams};
+ghost use Rattle.tg_script.specs.Inner.Telling.{RunsCommands, UsesStreams};
 ghost use Rattle.tg_script.specs.Running.{Finishes, FinishesSink, IsDue, Ran, RunsFrom};
-ghost use Rattle.tg_script.specs.Script.{MayRun, MayStart, Scene, start_with};
+ghost use Rattle.tg_script.specs.Script.{MayRun, MayStart, start_of_setup, start_with};
 
 use crate::collector::{Collector, OneThread};
 use crate::helpers::Helpers;
@@ -35,13 +34,22 @@ pub struct Settings {
     pub limits: Limits,
 }
 
-/// Runs the script, with one payload for each worker of the opening, by rising name, and a stock of payloads for the
-/// vertices that the script makes: a create or spawn line takes the first that is left, and where no vertex is made it
-/// stands in front again. The store opens at the first line that is no edge line, or at the end of the input; each
-/// reply is written before the next line is run, and what was written is finished before the source is asked for what
-/// it doesn't hold. What is written is the text for the lines before the first fault, and after `WriteFailed` all of it
-/// but a part of the last reply. The source is asked for at most 1,048,577 bytes. The sink is finished at the end,
-/// after a fault too, which then stands.
+/// What a run starts from beside its script.
+#[derive(Drop)]
+pub struct RunSetup<P: Payload> {
+    pub settings: Settings,
+    /// One payload for each worker of the opening, by rising name.
+    pub workers: Vec<Draft<P>>,
+    /// The payloads for the vertices that the script makes.
+    pub stock: Vec<Draft<P>>,
+}
+
+/// Runs the script from the setup. A create or spawn line takes the first payload that is left of the stock, and where
+/// no vertex is made it stands in front again. The store opens at the first line that is no edge line, or at the end of
+/// the input. Each reply is written before the next line is run, and what was written is finished before the source is
+/// asked for what it doesn't hold. What is written is the text for the lines before the first fault, and after
+/// `WriteFailed` all of it but a part of the last reply. The source is asked for at most 1,048,577 bytes. The sink is
+/// finished at the end, after a fault too, which then stands.
 ///
 /// The collector makes the collections, each with as many helpers as the settings have. Where that is more than one, a
 /// line may be answered `refused threads` for want of a thread; nothing is changed then.
@@ -50,38 +58,25 @@ pub fn run_script_with<P: Payload, C: Collector, S: Source, K: Sink>(
     collector: &C,
     source: &mut S,
     sink: &mut K,
-    settings: Settings,
-    workers: Vec<Draft<P>>,
-    stock: Vec<Draft<P>>,
+    setup: RunSetup<P>,
 ) -> Result<(), ScriptFault>
-    requires runnable { MayRun C.Ready settings workers.items }
-    ensures ran { RunsFrom S.left S.asked S.failures K.taken source.old source.new sink.old sink.new (start_with settings workers.items stock.items) result }
+    requires runnable { MayRun C.Ready setup.settings setup.workers.items }
+    ensures ran { RunsFrom S.left S.asked S.failures K.taken source.old source.new sink.old sink.new (start_of_setup setup) result }
     ensures finish { FinishesSink K.failures K.finished sink.old sink.new result }
 {
-    match begin(alloc, source, sink, settings, workers, stock) {
-        Ok(begun) => {
-            let Begun {
-                mut run,
-                mut script,
-                first,
-            } = begun;
-            let outcome = run_commands::<P, Replies, C, S, K>(
-                &mut run,
-                collector,
-                &mut script,
-                source,
-                sink,
-                first,
-            );
-            drop(run);
+    match begin(alloc, source, sink, setup) {
+        Ok(mut begun) => {
+            let outcome = run_commands::<P, Replies, C, S, K>(&mut begun, collector, source, sink);
+            drop(begun);
             finish(sink, outcome)
         }
         Err(fault) => finish(sink, Err(fault)),
     }
 }
 
-/// Runs the script as [`run_script_with`] does, with collections by the thread that runs it alone: how many helpers the
-/// settings have isn't looked at.
+/// Runs the script as [`run_script_with`] does, with one payload for each worker of the opening, by rising name, and a
+/// stock of payloads for the vertices that the script makes. The thread that runs it makes the collections alone: how
+/// many helpers the settings have isn't looked at.
 pub fn run_script_one<P: Payload, S: Source, K: Sink>(
     alloc: Global,
     source: &mut S,
@@ -98,7 +93,12 @@ pub fn run_script_one<P: Payload, S: Source, K: Sink>(
         helpers: Helpers::one(),
         ..settings
     };
-    run_script_with(alloc, &OneThread, source, sink, settings, workers, stock)
+    let setup = RunSetup {
+        settings,
+        workers,
+        stock,
+    };
+    run_script_with(alloc, &OneThread, source, sink, setup)
 }
 
 /// What a run in memory wrote, and how it ended.
@@ -114,19 +114,25 @@ pub fn run_in_memory<P: Payload, C: Collector>(
     alloc: Global,
     collector: &C,
     script: &[u8],
-    settings: Settings,
-    workers: Vec<Draft<P>>,
-    stock: Vec<Draft<P>>,
+    setup: RunSetup<P>,
 ) -> InMemory
-    requires runnable { MayRun C.Ready settings workers.items }
-    ensures ran { (left : List ℕ) × Ran (start_with settings workers.items stock.items) script.now [] result.outcome left (Some result.written.items) }
-    ensures due { IfErr result.outcome (IsDue (start_with settings workers.items stock.items)) }
+    requires runnable { MayRun C.Ready setup.settings setup.workers.items }
+    ensures ran { (left : List ℕ) × Ran (start_of_setup setup) script.now [] result.outcome left (Some result.written.items) }
+    ensures due { IfErr result.outcome (IsDue (start_of_setup setup)) }
     ensures read { result.outcome ≢ Err ScriptFault.ReadFailed }
 {
-    let (asked, failures) = (Blank::new(1), Blank::new(1));
-    run_counted::<P, C, Brand, Brand>(
-        alloc, collector, script, settings, workers, stock, asked, failures,
-    )
+    let blanks = MemoryBlanks {
+        asked: Blank::new(1),
+        failures: Blank::new(1),
+    };
+    run_counted::<P, C, Brand, Brand>(alloc, collector, script, setup, blanks)
+}
+
+// What counts how often a source in memory is asked, and how often a sink in memory fails.
+#[derive(Drop)]
+struct MemoryBlanks {
+    asked: Blank,
+    failures: Blank,
 }
 
 // The counts of the source and of the sink are those of the ledgers A and F.
@@ -134,27 +140,17 @@ fn run_counted<P: Payload, C: Collector, A: Ledger, F: Ledger>(
     alloc: Global,
     collector: &C,
     script: &[u8],
-    settings: Settings,
-    workers: Vec<Draft<P>>,
-    stock: Vec<Draft<P>>,
-    asked: Blank,
-    failures: Blank,
+    setup: RunSetup<P>,
+    blanks: MemoryBlanks,
 ) -> InMemory
-    requires runnable { MayRun C.Ready settings workers.items }
-    requires countable { MayCountInMemory A.name A.parts F.name F.parts asked failures }
-    ensures ran { RunsInMemory (start_with settings workers.items stock.items) script.now result }
+    requires runnable { MayRun C.Ready setup.settings setup.workers.items }
+    requires countable { MayCountInMemory A.name A.parts F.name F.parts blanks.asked blanks.failures }
+    ensures ran { RunsInMemory (start_of_setup setup) script.now result }
 {
+    let MemoryBlanks { asked, failures } = blanks;
     let mut source = Bytes::new(script, Count::<A>::new(asked));
     let mut sink = Written::new(alloc, Count::<F>::new(failures));
-    let outcome = run_script_with(
-        alloc,
-        collector,
-        &mut source,
-        &mut sink,
-        settings,
-        workers,
-        stock,
-    );
+    let outcome = run_script_with(alloc, collector, &mut source, &mut sink, setup);
     let Written { bytes, .. } = sink;
     InMemory {
         written: bytes,
@@ -192,28 +188,24 @@ pub(crate) fn begin<P: Payload, S: Source, K: Sink>(
     alloc: Global,
     source: &mut S,
     sink: &mut K,
-    settings: Settings,
-    workers: Vec<Draft<P>>,
-    stock: Vec<Draft<P>>,
+    setup: RunSetup<P>,
 ) -> Result<Begun<P>, ScriptFault>
-    requires startable { MayStart settings workers.items }
-    ensures begun { IfOk result (IsBegun (start_with settings workers.items stock.items)) }
-    ensures bytes { (bytes : List ℕ) → S.left source.old ≡ Some bytes → (rest : List ℕ) × (S.left source.new ≡ Some rest) × Begins (start_with settings workers.items stock.items) bytes result rest }
-    ensures streams { BeginsStreams S.asked S.failures K.failures K.taken source.old source.new sink.old sink.new (start_with settings workers.items stock.items) result }
+    requires startable { MayStart setup.settings setup.workers.items }
+    ensures begun { IfOk result (IsBegun (start_of_setup setup)) }
+    ensures bytes { (bytes : List ℕ) → S.left source.old ≡ Some bytes → (rest : List ℕ) × (S.left source.new ≡ Some rest) × Begins (start_of_setup setup) bytes result rest }
+    ensures streams { BeginsStreams S.asked S.failures K.failures K.taken source.old source.new sink.old sink.new (start_of_setup setup) result }
 {
+    let RunSetup {
+        settings,
+        workers,
+        stock,
+    } = setup;
     let Front {
         edges,
         first,
         script,
     } = read_edges(alloc, source, sink, settings.workers)?;
-    let store = open_store(
-        alloc,
-        settings.workers,
-        edges,
-        workers,
-        settings.max_vertices,
-        settings.limits,
-    )?;
+    let store = open_store(alloc, &settings, edges, workers)?;
     let supply = Supply::new(stock);
     let helpers = settings.helpers;
     let run = Run {
@@ -226,28 +218,25 @@ pub(crate) fn begin<P: Payload, S: Source, K: Sink>(
 
 /// Runs the lines from the first on that is no edge line, where there is one, and writes what is told of each.
 pub(crate) fn run_commands<P: Payload, T: Telling, C: Collector, S: Source, K: Sink>(
-    run: &mut Run<P>,
+    begun: &mut Begun<P>,
     collector: &C,
-    script: &mut Script,
     source: &mut S,
     sink: &mut K,
-    first: Option<Line>,
 ) -> Result<(), ScriptFault>
-    requires runnable { MayGoOn C.Ready script.old first }
-    ensures written { (t : Scene) (rest before : List ℕ) → Shows run.old t → S.left source.old ≡ Some rest → K.taken sink.old ≡ Some before →
-        (left : List ℕ) × (S.left source.new ≡ Some left) × TellsFirst T.told script.old rest t first run.old.store.entries before result left run.new.store.entries (K.taken sink.new) }
-    ensures kept { run.new.store.opening ≡ run.old.store.opening }
-    ensures streams { UsesStreams S.asked S.failures K.failures source.old source.new sink.old sink.new script.old first result }
+    requires runnable { MayGoOn C.Ready begun.old.script begun.old.first }
+    ensures written { RunsCommands S.left K.taken T.told source.old source.new sink.old sink.new begun.old begun.new result }
+    ensures kept { begun.new.run.store.opening ≡ begun.old.run.store.opening }
+    ensures streams { UsesStreams S.asked S.failures K.failures source.old source.new sink.old sink.new begun.old.script begun.old.first result }
 {
-    let Some(first) = first else {
+    let Some(first) = begun.first else {
         return Ok(());
     };
     let mut line = first;
     'lines: loop {
-        let Ok(()) = T::run_line(run, collector, sink, line) else {
+        let Ok(()) = T::run_line(&mut begun.run, collector, sink, line) else {
             return Err(ScriptFault::WriteFailed);
         };
-        let came = script.next(source, sink)?;
+        let came = begun.script.next(source, sink)?;
         let Some(next) = came else {
             return Ok(());
         };

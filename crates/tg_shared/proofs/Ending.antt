@@ -1,6 +1,6 @@
 -- What the keeper knows of an end.
 use Rattle.std.specs.Prelude.{IfErr, OnErr}
-use Rattle.std.proofs.Common.{◌≡◌, ◌↔◌, ◌∙◌, ◌+◌, ◌++◌, ℕ, ◌-◌, ◌<◌, ◌≤◌, ◌^◌, List, [], Result, Ok, Err, drop, length, length-append, append-nil, ap, arith, refl, sym}
+use Rattle.std.proofs.Common.{◌≡◌, ◌↔◌, ◌∙◌, ◌+◌, ◌++◌, ℕ, ◌-◌, ◌≤◌, List, [], Result, Ok, Err, drop, length, length-append, append-nil, ap, arith, refl, sym}
 use Rattle.tg_model.specs.Graph.{IsSubject, listing_of}
 use Rattle.tg_journal.specs.declared.entry.Entry.{Entry}
 use Rattle.tg_passes.specs.declared.signed.Maker.TheVariants.{Keeper}
@@ -10,8 +10,8 @@ use Rattle.tg_store.specs.Store.{StoreState, IsUnchanged, graph_of_store}
 use Rattle.tg_store.specs.declared.fault.ApplyFault.{ApplyFault}
 use Rattle.tg_store.specs.declared.fault.ApplyFault.TheVariants.{NoSuchWorker}
 use Rattle.tg_shared.specs.Serving.{HasNotedEnd}
-use Rattle.tg_shared.specs.Sessions.{AtSeen, HasEnded, KeeperLooked, KeeperState, LockedState, SharedStart, graph_seen, keeper_knowledge}
-use Rattle.tg_shared.proofs.Calls.{Held, found_with}
+use Rattle.tg_shared.specs.Sessions.{AtSeen, HasEnded, HoldsWhenFree, KeeperLooked, KeeperState, LockedState, SharedStart, graph_seen, keeper_knowledge}
+use Rattle.tg_shared.proofs.Calls.{found_with}
 use Rattle.tg_shared.proofs.Knowing.{got_more, graph_is, keeper_looked}
 use Rattle.tg_shared.proofs.Leavings.{legal_more, length_leaving}
 
@@ -31,15 +31,15 @@ module _ (v w : LockedState) (old new : KeeperState) (worker count : ℕ) (noted
 pub counted_more : (v w : LockedState) (old new : KeeperState) (worker count : ℕ) → HasNotedEnd v w old new → HasLeft worker v.store w.store → count ≡ length (listing_of (graph_of_store v.store).label (graph_of_store v.store).made worker) → length new.made ≡ length old.made + (count + 1)
 counted_more v w old new worker count noted left number = count_left v w old new worker count noted left number
 
-pub has_ended : (start : SharedStart) (v w : LockedState) (old new : KeeperState) (worker count : ℕ) → Held start v → Held start w → Sees v.signed (keeper_knowledge old) → HasNotedEnd v w old new → HasLeft worker v.store w.store
+pub has_ended : (start : SharedStart) (v w : LockedState) (old new : KeeperState) (worker count : ℕ) → HoldsWhenFree start v → HoldsWhenFree start w → Sees v.signed (keeper_knowledge old) → HasNotedEnd v w old new → HasLeft worker v.store w.store
     → count ≡ length (listing_of (graph_of_store v.store).label (graph_of_store v.store).made worker) → HasEnded start worker old new count
 has_ended start v w old new worker count held after sees noted left number =
-    let graph : graph_of_store v.store ≡ graph_seen start v.signed = graph_is start v.store v.signed held.2 held.0 in
+    let graph : graph_of_store v.store ≡ graph_seen start v.signed = graph_is start v.store v.signed held.grown_by held.gone_on in
     record {
       before = v.signed;
       sees = sees;
       left = found_with start v.signed _ v held refl (
-        record { legal = legal_more v.store w.store (leaving (graph_of_store v.store) worker) left.entries left.opening after.1; edges = number },
+        record { legal = legal_more v.store w.store (leaving (graph_of_store v.store) worker) left.entries left.opening after.faithful; edges = number },
         found_with start new.seen (HasLeft worker v.store) w after noted.seen left,
       );
       made = made_left v w old new worker count noted left number ∙ ap (λ g. old.made ++ leaving g worker) graph;
@@ -61,10 +61,6 @@ got_count old new worker at all count left here there number =
     let more = length-append old.entries (leaving (graph_of_store old) worker) in
     (omega (arith, long, grew, more, here, there, number), omega (arith, long, grew, more, here, there, number), omega (arith, long, grew, more, here, there, number))
 
--- what the keeper made and makes has a number
-pub made_fits : (made entered amount next total last start count all : ℕ) → made ≡ entered → amount ≡ entered → next ≡ amount + count → last ≡ total + count → next ≤ last → all ≡ start + last → all < 2 ^ 64 → made + count < 2 ^ 64
-made_fits made entered amount next total last start count all same rest more counted most long fits = omega (arith, same, rest, more, counted, most, long, fits)
-
 -- where nobody was ended, the keeper has looked
 nothing_noted : (v w : LockedState) (old new : KeeperState) → HasNotedEnd v w old new → IsUnchanged v.store w.store → (new.made ≡ old.made) × (new.seen ≡ v.signed)
 nothing_noted v w old new noted same =
@@ -77,7 +73,7 @@ pub none_ended : {T : Type 0} (r : Result T ApplyFault) (v w : LockedState) (old
 none_ended (Ok t) v w old new sees noted same = tt
 none_ended (Err e) v w old new sees noted same = let kept = nothing_noted v w old new noted same in (keeper_looked old new v.signed kept.0 kept.1 sees, noted.next)
 
-pub none_looked : {T : Type 0} (r : Result T ApplyFault) (start : SharedStart) (v w : LockedState) (old new : KeeperState) (worker : ℕ) → Held start v → HasNotedEnd v w old new → OnErr r (IsUnchanged v.store w.store) → ((r ≡ Err NoSuchWorker) ↔ (¬ IsSubject (graph_of_store v.store) worker))
+pub none_looked : {T : Type 0} (r : Result T ApplyFault) (start : SharedStart) (v w : LockedState) (old new : KeeperState) (worker : ℕ) → HoldsWhenFree start v → HasNotedEnd v w old new → OnErr r (IsUnchanged v.store w.store) → ((r ≡ Err NoSuchWorker) ↔ (¬ IsSubject (graph_of_store v.store) worker))
     → IfErr r (λ why. why ≡ NoSuchWorker → AtSeen start new.seen (λ s. ¬ IsSubject (graph_of_store s) worker))
 none_looked (Ok t) start v w old new worker held noted same told = tt
 none_looked (Err e) start v w old new worker held noted same told = λ is. found_with start new.seen (λ s. ¬ IsSubject (graph_of_store s) worker) v held (nothing_noted v w old new noted same).1 (told.0 (ap Err is))

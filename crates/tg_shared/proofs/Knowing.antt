@@ -21,10 +21,26 @@ use Rattle.tg_passes.proofs.Signing.{by_append, by_one, by_other, by_others, by_
 use Rattle.tg_store.specs.Store.{StoreState, IsFaithful, graph_of_store}
 use Rattle.tg_shared.specs.declared.receipt.Receipt.{Receipt}
 use Rattle.tg_shared.specs.Serving.{HasNoted, Signs}
-use Rattle.tg_shared.specs.Sessions.{AtSeen, GoesOn, HasAllUnlessEnded, HasGrownBy, HasLooked, HasMade, IsGone, IsRolled, KeeperState, KeeperLooked, KeepsReceipts, LockedState, SessionState, SharedStart, StaysOut, graph_seen, keeper_knowledge, knowledge, retired_behind, retired_by, since}
+use Rattle.tg_shared.specs.Sessions.{GoesOn, HasAllUnlessEnded, HasGrownBy, HasLooked, HasMade, HoldsWhenFree, IsGone, IsRolled, KeeperState, KeeperLooked, KeepsReceipts, LockedState, OnlyLooked, SessionState, SharedStart, StaysOut, graph_seen, keeper_knowledge, knowledge, retired_behind, retired_by, sessions_made, since, subjects_at}
 use Rattle.tg_shared.proofs.Balances.{graph_more, graph_same, locked_as, not_both}
 use Rattle.tg_shared.proofs.Leavings.{legal_more}
 use Rattle.tg_shared.proofs.Staying.{behind_append, none_later, who_retired, who_stays}
+
+-- ---- what is behind the lock
+
+some_of : (all some more : ℕ) → all ≡ some + more → some ≤ all
+some_of all some more is = omega arith
+
+pub free_as : (start : SharedStart) (s : StoreState) (sessions entered : ℕ) (roll : RollState) → IsFaithful s → GoesOn start s → sessions ≡ sessions_made start s.entries → IsRolled start s roll entered → HoldsWhenFree start (locked_as s sessions entered roll.signed)
+free_as start s sessions entered roll faithful on made rolled = record {
+  faithful = faithful;
+  gone_on = on;
+  grown_by = rolled.grown;
+  entered = rolled.ended;
+  sessions = made;
+  started = some_of sessions (length (subjects_at start)) _ made;
+  none_ended = λ never. rolled.ended ∙ ap (λ (l : List Entry). length l) (rolled.grown.none_ended never);
+}
 
 -- ---- the entries since the start
 
@@ -151,8 +167,11 @@ looked_all old new all is sees = record {
   own = subst (λ (x : SessionState). entries_by (Session x.worker) x.seen ≡ x.made) (sym is) sees.own;
 }
 
-pub seen_only : (old new : SessionState) (all : List Signed) → new ≡ record old { seen = all } → new ≡ record old { seen = new.seen }
-seen_only old new all is = is ∙ (λ i. record old { seen = sym (ap (λ (x : SessionState). x.seen) is) i })
+pub only_looked : (old new : SessionState) (all : List Signed) → new ≡ record old { seen = all } → Sees all (knowledge old) → OnlyLooked old new
+only_looked old new all is sees = record {
+  looked = looked_all old new all is sees;
+  same = is ∙ (λ i. record old { seen = sym (ap (λ (x : SessionState). x.seen) is) i });
+}
 
 -- one that did nothing has looked too
 pub looked_none : (old new : SessionState) → KeepsReceipts old new → entries_by (Session old.worker) old.seen ≡ old.made → HasLooked old new
@@ -184,9 +203,6 @@ keeper_only old new all is = is ∙ (λ i. record old { seen = sym (ap (λ (x : 
 -- a session sees what one with the same knowledge sees
 pub sees_as : (all : List Signed) (old ready : SessionState) → KeepsReceipts old ready → Sees all (knowledge ready) → Sees all (knowledge old)
 sees_as all old ready keeps sees = subst (Sees all) (λ i. record { maker = Session (keeps.0 i); made = keeps.5 i; seen = keeps.6 i }) sees
-
-pub at_seen : (start : SharedStart) (s : StoreState) (seen all : List Signed) (P : StoreState → Type 0) → GoesOn start s → IsFaithful s → HasGrownBy start s all → seen ≡ all → P s → AtSeen start seen P
-at_seen start s seen all P on faithful grew is holds = (s, on, faithful, (subst (HasGrownBy start s) (sym is) grew, holds))
 
 -- ---- who is a subject
 
@@ -280,9 +296,6 @@ gone_noted start old new signed worker front e grew entries opening own is on be
 -- what a session's pass sees, the session sees
 pub sees_view : (all : List Signed) (v : SessionState) (pass : PassState) (worker : ℕ) → v.worker ≡ worker → v.made ≡ pass.made → v.seen ≡ pass.seen → pass.maker ≡ Session worker → Sees all pass → Sees all (knowledge v)
 sees_view all v pass worker named made seen maker sees = subst (Sees all) (λ i. record { maker = (maker ∙ ap Session (sym named)) i; made = sym made i; seen = sym seen i }) sees
-
-pub sees_keeper : (all : List Signed) (k : KeeperState) (pass : PassState) → k.made ≡ pass.made → k.seen ≡ pass.seen → pass.maker ≡ Keeper → Sees all pass → Sees all (keeper_knowledge k)
-sees_keeper all k pass made seen maker sees = subst (Sees all) (λ i. record { maker = maker i; made = sym made i; seen = sym seen i }) sees
 
 -- ---- a session's notes
 

@@ -8,7 +8,7 @@ use Rattle.std.proofs.lemmas.Option.{get_or_from_slice_get, slice_get-get_or, sl
 use Rattle.tg_journal.specs.declared.entry.Entry.{Entry}
 use Rattle.tg_journal.specs.Journal.{Entries}
 use Rattle.tg_shared.specs.declared.receipt.Receipt.{Receipt}
-use Rattle.tg_shared.specs.Receipts.{AreParts, MatchParts, ReceiptsMatch, Stands, all_receipts}
+use Rattle.tg_shared.specs.Receipts.{AreParts, MatchParts, MatchesFrom, Stands, all_receipts}
 use Rattle.tg_shared.specs.Sessions.{KeptInParts, MatchesSince, SessionState, parts_of}
 use Rattle.tg_shared.proofs.Matching.{MatchFrom, held-is_from}
 
@@ -41,7 +41,7 @@ match_parts entries (part ∷ parts) worker first lists are match =
     (joined entries part.entries worker first match.0 (all_receipts match.1) are.2 are.1 here later)
 
 pub parts_match : (entries : List Entry) (parts : List Entries) (worker first : ℕ) (lists : List (List Receipt)) → AreParts first entries parts → MatchParts parts worker lists →
-    ReceiptsMatch entries worker (all_receipts lists) × All (λ r. first ≤ r.at) (all_receipts lists)
+    MatchesFrom first entries worker (all_receipts lists)
 parts_match entries parts worker first lists are match = (held-is_from entries worker first (all_receipts lists)).1 (match_parts entries parts worker first lists are match)
 
 -- ---- sessions that have all their receipts, part by part
@@ -49,7 +49,7 @@ parts_match entries parts worker first lists are match = (held-is_from entries w
 pub since_kept : (entries : List Entry) (first : ℕ) (parts : List Entries) (s : SessionState) → AreParts first entries parts → KeptInParts parts s → MatchesSince entries first s
 unfolding MatchesSince
 since_kept entries first parts s are kept =
-    subst (λ (rs : List Receipt). ReceiptsMatch entries s.worker rs × All (λ r. first ≤ r.at) rs) (sym kept.all) (parts_match entries parts s.worker first kept.lists are kept.each)
+    subst (MatchesFrom first entries s.worker) (sym kept.all) (parts_match entries parts s.worker first kept.lists are kept.each)
 
 -- sessions that took none over
 pub ones : (ss : List SessionState) → All (λ s. s.parts ≡ 1) ss → parts_of ss ≡ length ss

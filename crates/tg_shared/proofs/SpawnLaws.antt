@@ -20,7 +20,8 @@ use Rattle.tg_passes.specs.declared.signed.Signed.{Signed}
 use Rattle.tg_passes.specs.Passes.{BeginsWith, sign}
 use Rattle.tg_passes.proofs.Signing.{longer}
 use Rattle.tg_store.specs.Store.{StoreState, graph_of_store}
-use Rattle.tg_shared.specs.Sessions.{AtSeen, IsAnswered, IsOnItsOwn, SessionState, SharedStart, graph_seen, retired_behind}
+use Rattle.tg_shared.specs.Laws.{HasNotLeft, IsSpawnedIn}
+use Rattle.tg_shared.specs.Sessions.{IsAnswered, IsNobodyAtSeen, SessionState, SharedStart, graph_seen}
 use Rattle.tg_shared.proofs.Knowing.{graph_front, graph_is, none_of, stays_made}
 
 there : (b c : Bool) (g k : ProtectionGraph) (n name : ℕ) → IsSubject k name → cond b (cond c (Name n) WorkersFull) VerticesFull ≡ Name name → IsSubject (cond b (cond c k g) g) name
@@ -46,19 +47,17 @@ seen_spawned start before after label law state name told =
     subst (λ (g : ProtectionGraph). IsSubject g name) (sym all) (spawned_is (graph_of_store s) before.worker name label law state (sym told.legal.3.1.reply))
 
 -- who was a subject after a front of the entries that a session sees is not gone after all of them
-not_gone : (start : SharedStart) (all : List Signed) (session : SessionState) (front : List Signed) → BeginsWith all front → IsSubject (graph_seen start front) session.worker → IsOnItsOwn start all session → retired_behind false session.made ≡ false
-    → ¬ AtSeen start all (λ s. ¬ IsSubject (graph_of_store s) session.worker)
-not_gone start all session front begins here alone none gone =
-    gone.3.1 (stays_made start gone.0 all gone.1 gone.2 gone.3.0 session.worker session.made front begins.0 alone.sees.own (none_of start gone.0 all gone.3.0 session.worker alone.alone) none begins.1 here)
+not_gone : (start : SharedStart) (all : List Signed) (session : SessionState) (front : List Signed) → BeginsWith all front → IsSubject (graph_seen start front) session.worker → HasNotLeft start all session → ¬ IsNobodyAtSeen start all session.worker
+not_gone start all session front begins here stays gone =
+    gone.3.1 (stays_made start gone.0 all gone.1 gone.2 gone.3.0 session.worker session.made front begins.0 stays.alone.sees.own (none_of start gone.0 all gone.3.0 session.worker stays.alone.alone) stays.none begins.1 here)
 
-pub from_the_start : (start : SharedStart) (all : List Signed) (session : SessionState) → IsSubject (graph_after (start_of start.opening) start.entries) session.worker → IsOnItsOwn start all session → retired_behind false session.made ≡ false
-    → ¬ AtSeen start all (λ s. ¬ IsSubject (graph_of_store s) session.worker)
-from_the_start start all session here alone none =
-    not_gone start all session [] (all, refl) (subst (λ (l : List Entry). IsSubject (graph_after (start_of start.opening) l) session.worker) (sym (append-nil start.entries)) here) alone none
+pub from_the_start : (start : SharedStart) (all : List Signed) (session : SessionState) → IsSubject (graph_after (start_of start.opening) start.entries) session.worker → HasNotLeft start all session → ¬ IsNobodyAtSeen start all session.worker
+from_the_start start all session here stays =
+    not_gone start all session [] (all, refl) (subst (λ (l : List Entry). IsSubject (graph_after (start_of start.opening) l) session.worker) (sym (append-nil start.entries)) here) stays
 
-pub from_a_spawn : (start : SharedStart) (all : List Signed) (before after session : SessionState) (label : RightSet) (law : Law) (state : List ℕ) → IsAnswered start before after (Spawn label law state) (Name session.worker)
-    → BeginsWith all after.seen → IsOnItsOwn start all session → retired_behind false session.made ≡ false → ¬ AtSeen start all (λ s. ¬ IsSubject (graph_of_store s) session.worker)
-from_a_spawn start all before after session label law state told begins alone none = not_gone start all session after.seen begins (seen_spawned start before after label law state session.worker told) alone none
+pub from_a_spawn : (start : SharedStart) (all : List Signed) (session : SessionState) → IsSpawnedIn start all session.worker → HasNotLeft start all session → ¬ IsNobodyAtSeen start all session.worker
+from_a_spawn start all session told stays =
+    not_gone start all session told.after.seen told.begins (seen_spawned start told.before told.after told.label told.law told.state session.worker told.answered) stays
 
 -- what was seen before is in front of what was seen then
 pub seen_grows : (start : SharedStart) (old new : SessionState) (deed : Deed) (reply : Reply) → IsAnswered start old new deed reply → BeginsWith new.seen old.seen

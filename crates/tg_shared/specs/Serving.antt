@@ -1,17 +1,19 @@
 -- What the calls behind the lock do, each told once: of the call itself, and of whoever makes it for a session.
-use Rattle.std.specs.Prelude.{◌≡◌, ◌≢◌, ◌↔◌, ℕ, List, ◌++◌, Result, Err, IfErr, IfOk, OnErr, OnOk, drop, length}
+use Rattle.std.specs.Prelude.{◌≡◌, ◌≢◌, ◌↔◌, ◌⊎◌, ◌<◌, ◌≤◌, ℕ, List, [], ◌∷◌, ◌++◌, Result, Err, IfErr, IfOk, IsErrAnd, OnErr, OnOk, drop, length}
 use Rattle.tg_rights.specs.RightSet.{RightSet}
 use Rattle.tg_model.specs.declared.command.Command.{Command}
 use Rattle.tg_model.specs.declared.command.Deed.{Deed}
-use Rattle.tg_model.specs.declared.command.Deed.TheVariants.{Plain}
+use Rattle.tg_model.specs.declared.command.Deed.TheVariants.{Plain, Spawn}
+use Rattle.tg_model.specs.declared.opening.TheConstants.{MAX_WORKERS}
 use Rattle.tg_model.specs.declared.reply.Denial.{Denial}
+use Rattle.tg_model.specs.declared.reply.Reply.{Reply}
 use Rattle.tg_model.specs.declared.reply.Reply.TheVariants.{Denied, Name, VerticesFull, WorkersFull}
 use Rattle.tg_model.specs.declared.value.Value.{Value}
 use Rattle.tg_model.specs.Graph.{ProtectionGraph, IsSubject, listing_of}
 use Rattle.tg_model.specs.Rules.{IsAllowed, answer_of, step}
 use Rattle.tg_journal.specs.declared.entry.Entry.{Entry}
 use Rattle.tg_passes.specs.declared.signed.Maker.TheVariants.{Keeper, Session}
-use Rattle.tg_passes.specs.Passes.{RollState, sign_all}
+use Rattle.tg_passes.specs.Passes.{PassState, RollState, Sees, sign_all}
 use Rattle.tg_graph.specs.Heap.{nursery_of}
 use Rattle.tg_rules.specs.Effect.{AddsEdge, LacksCellsToServe}
 use Rattle.tg_space.specs.declared.kind.Kind.{Kind}
@@ -23,7 +25,16 @@ use Rattle.tg_store.specs.declared.fault.ApplyFault.TheVariants.{HeapFull, NoSuc
 use Rattle.tg_store.specs.declared.fault.CreateFault.TheVariants as fault
 use Rattle.tg_store.specs.declared.fault.CreateRefused.{CreateRefused}
 use Rattle.tg_store.specs.Store.{StoreState, HasFewBlocks, IsUnchanged, StandsFor, graph_of_store}
-use Rattle.tg_shared.specs.Sessions.{AddsReceipts, KeeperState, KeepsReceipts, LockedState, Records, RecordsNothing, SessionState}
+use Rattle.tg_shared.specs.Sessions.{AddsReceipts, HoldsWhenFree, IsFresh, KeeperState, KeepsReceipts, LockedState, Records, RecordsNothing, SessionState, SharedStart}
+
+-- ---- looking at what is behind the lock
+
+-- Who knows so much of the entries since the start looked at all of them. It sees them. What is behind the lock is as it was, and what
+-- holds whenever the lock is free holds of it.
+pub record IsLookedAt (start : SharedStart) (old new : LockedState) (pass : PassState) : Type 0 where
+  pub held : HoldsWhenFree start old
+  pub sees : Sees old.signed pass
+  pub same : new ≡ old
 
 -- ---- what stays behind the lock
 
@@ -36,6 +47,10 @@ pub record KeepsNumbers (old new : LockedState) : Type 0 where
 pub record Signs (all next : RollState) (before after : SessionState) (entries : List Entry) : Type 0 where
   pub roll : next ≡ record { signed = all.signed ++ sign_all (Session before.worker) entries; below = all.below }
   pub seen : after.seen ≡ next.signed
+
+-- The entry of a deed of the session, with this reply, comes so.
+abbrev pub SignsDeed : RollState → RollState → SessionState → SessionState → Deed → Reply → Type 0
+SignsDeed all next before after deed reply = Signs all next before after (record { worker = before.worker; deed = deed; reply = reply } ∷ [])
 
 -- the entries that the store got
 abbrev pub entries_more : LockedState → LockedState → List Entry
@@ -80,12 +95,26 @@ pub record IsMadeAndNoted (deed : Deed) (label : RightSet) (value : Value) (old 
   pub entry : Records old new before after deed (Name name)
   pub made : IsMadeFor deed before.worker label value old new name
 
+-- A subject was made by a spawn, with its session, which is fresh.
+abbrev pub IsSpawnedAndNoted : RightSet → Value → StoreState → StoreState → SessionState → SessionState → SessionState → Type 0
+IsSpawnedAndNoted label value old new before after fresh = IsFresh fresh × IsMadeAndNoted (Spawn label value.law value.state) label value old new before after fresh.worker
+
 -- What is noted of a vertex that was not made: an entry and a receipt where as many were made, or as many are subjects, as may be, and
 -- the heap stays; else nothing.
 pub record NotesRefusal {P T : Type 0} (deed : Deed) (old new : StoreState) (before after : SessionState) (result : Result T (CreateRefused P)) : Type 0 where
   pub no_more_entry : IfErr result (λ refused. refused.why ≡ fault.VerticesFull → Records old new before after deed VerticesFull × (new.heap ≡ old.heap))
   pub too_many_entry : IfErr result (λ refused. refused.why ≡ fault.WorkersFull → Records old new before after deed WorkersFull × (new.heap ≡ old.heap))
   pub refused : IfErr result (λ refused. refused.why ≢ fault.VerticesFull → refused.why ≢ fault.WorkersFull → RecordsNothing old new before after)
+
+-- The worker is a subject, and a vertex may still be made, but as many subjects are active as may be.
+abbrev pub IsCrowdedFor : ProtectionGraph → ℕ → Type 0
+IsCrowdedFor g worker = IsSubject g worker × (g.made < g.limit) × (MAX_WORKERS ≤ length g.subjects)
+
+-- `WorkersFull` refuses a worker's spawn only where as many subjects are active as may be. There nothing else refuses it but want of
+-- memory.
+pub record RefusesCrowd {P T : Type 0} (worker : ℕ) (old : StoreState) (result : Result T (CreateRefused P)) : Type 0 where
+  pub too_many : (g : ProtectionGraph) → StandsFor old g → IfErr result (λ refused. refused.why ≡ fault.WorkersFull → IsCrowdedFor g worker)
+  pub crowded : (g : ProtectionGraph) → StandsFor old g → IsCrowdedFor g worker → IsErrAnd result (λ refused. (refused.why ≡ fault.WorkersFull) ⊎ (refused.why ≡ fault.OutOfMemory))
 
 -- ---- leaving
 

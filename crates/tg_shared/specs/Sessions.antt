@@ -1,6 +1,7 @@
 -- What contracts see of a session and of the value behind the lock, and what a call does to them.
-use Rattle.std.specs.Prelude.{◌≡◌, ◌≢◌, ℕ, ◌+◌, ◌<◌, ◌≤◌, ◌==◌, max, Bool, true, false, Option, Some, None, List, [], ◌∷◌, ◌++◌, Result, Ok, Err, IfErr, OnOk, length, map, take, drop}
+use Rattle.std.specs.Prelude.{◌≡◌, ◌≢◌, ℕ, ◌+◌, ◌<◌, ◌≤◌, ◌==◌, max, min, Bool, true, false, Option, Some, None, List, [], ◌∷◌, ◌++◌, Result, Ok, Err, IfErr, MatchResult, OnOk, length, map, take, drop}
 use Rattle.std.specs.List.{All, AllPairs, count_by, filter, sum_by}
+use Rattle.tg_rights.specs.RightSet.{RightSet}
 use Rattle.tg_model.specs.declared.command.Deed.{Deed}
 use Rattle.tg_model.specs.declared.command.Command.{Command}
 use Rattle.tg_model.specs.declared.command.Command.TheVariants.{Retire}
@@ -21,6 +22,7 @@ use Rattle.tg_rows.specs.Spots.{LacksCellsFor}
 use Rattle.tg_rules.specs.Effect.{AddsEdge, LacksCellsToServe}
 use Rattle.tg_space.specs.declared.kind.Kind.{Kind}
 use Rattle.tg_store.specs.Collecting.{IsSwept}
+use Rattle.tg_store.specs.Held.{IsHeldOver}
 use Rattle.tg_store.specs.Leaving.{HasLeft, leaving}
 use Rattle.tg_store.specs.declared.fault.ApplyFault.{ApplyFault}
 use Rattle.tg_store.specs.declared.fault.ApplyFault.TheVariants as apply
@@ -33,7 +35,7 @@ use Rattle.tg_passes.specs.declared.signed.Signed.{Signed}
 use Rattle.tg_passes.specs.Passes.{AreOwn, BeginsWith, PassState, RollState, RoundTable, Sees, entries_by, entries_of, own_entries, sign, sign_all}
 use Rattle.tg_shared.specs.declared.receipt.Receipt.{Receipt}
 use Rattle.tg_shared.specs.declared.round.Blanks.{Blanks}
-use Rattle.tg_shared.specs.Receipts.{MatchParts, ReceiptsMatch, all_receipts, receipt_of, receipts_from}
+use Rattle.tg_shared.specs.Receipts.{MatchParts, MatchesFrom, all_receipts, receipt_of, receipts_from}
 
 -- A session: the name of its subject, its receipts in order, how many before them were handed out, for how many sessions it stands
 -- (its own, and those that it took over), whether it entered a retire of its own, for how many more receipts there is room, and the
@@ -190,6 +192,17 @@ pub record HasGrownBy (start : SharedStart) (s : StoreState) (signed : List Sign
 abbrev pub AtSeen : SharedStart → List Signed → (StoreState → Type 0) → Type 0
 AtSeen start seen holds = AtSome start (λ s. HasGrownBy start s seen × holds s)
 
+-- The worker was a subject, or was none, when exactly these entries had been made since the start.
+abbrev pub IsSubjectAtSeen : SharedStart → List Signed → ℕ → Type 0
+IsSubjectAtSeen start seen worker = AtSeen start seen (λ s. IsSubject (graph_of_store s) worker)
+
+abbrev pub IsNobodyAtSeen : SharedStart → List Signed → ℕ → Type 0
+IsNobodyAtSeen start seen worker = AtSeen start seen (λ s. ¬ IsSubject (graph_of_store s) worker)
+
+-- The worker held this label over a vertex then.
+abbrev pub IsHeldAtSeen : SharedStart → List Signed → ℕ → ℕ → Option RightSet → Type 0
+IsHeldAtSeen start seen worker target label = AtSeen start seen (λ s. IsHeldOver (graph_of_store s) worker target label)
+
 -- that graph
 abbrev pub graph_seen : SharedStart → List Signed → ProtectionGraph
 graph_seen start seen = graph_after (start_of start.opening) (start.entries ++ entries_of seen)
@@ -197,6 +210,18 @@ graph_seen start seen = graph_after (start_of start.opening) (start.entries ++ e
 -- After these entries since the start the worker has been made, and is no subject any more.
 abbrev pub IsGone : SharedStart → List Signed → ℕ → Type 0
 IsGone start seen worker = AtSeen start seen (λ s. (worker < (graph_of_store s).made) × (¬ IsSubject (graph_of_store s) worker))
+
+-- After these entries since the start, and then those of its own, the worker has been made, and is no subject any more.
+abbrev pub IsGoneAfter : SharedStart → List Signed → ℕ → List Entry → Type 0
+IsGoneAfter start all worker entries = IsGone start (all ++ sign_all (Session worker) entries) worker
+
+-- A session that sees these entries has not retired, since it would be gone then.
+abbrev pub StillActs : SharedStart → List Signed → SessionState → Type 0
+StillActs start all session = Sees all (knowledge session) → session.retired ≡ true → ¬ IsGone start session.seen session.worker
+
+-- A session that sees these entries and has retired, and was gone when it looked last, is gone after all of them.
+abbrev pub StaysGone : SharedStart → List Signed → SessionState → Type 0
+StaysGone start all session = Sees all (knowledge session) → session.retired ≡ true → IsGone start session.seen session.worker → IsGone start all session.worker
 
 -- The session sees these entries: it made exactly its own of them, and they begin with those that it has seen. If the keeper may end
 -- workers, it made none of this worker among them.
@@ -214,6 +239,18 @@ pub record IsRolled (start : SharedStart) (store : StoreState) (roll : RollState
   pub grown : HasGrownBy start store roll.signed
   pub ended : entered ≡ length (entries_by Keeper roll.signed)
   pub below : roll.below ≤ (graph_of_store store).made
+
+-- What holds of the value behind the lock whenever the lock is free. The store keeps its promise. It is the shared one, gone on, with
+-- exactly the entries since that the roll has, and so many of these are the keeper's as were counted. One session was made for each
+-- subject of the start, and one for each that was made since. No worker was ended if the start lets nobody.
+pub record HoldsWhenFree (start : SharedStart) (locked : LockedState) : Type 0 where
+  pub faithful : IsFaithful locked.store
+  pub gone_on : GoesOn start locked.store
+  pub grown_by : HasGrownBy start locked.store locked.signed
+  pub entered : locked.entered ≡ length (entries_by Keeper locked.signed)
+  pub sessions : locked.sessions ≡ sessions_made start locked.store.entries
+  pub started : length (subjects_at start) ≤ locked.sessions
+  pub none_ended : start.may_end ≡ false → locked.entered ≡ 0
 
 -- A collection left so many vertices when exactly these entries had been made since the start: of two stores that may have been behind
 -- the lock then, it made the second out of the first.
@@ -237,6 +274,11 @@ pub record HasLooked (old new : SessionState) : Type 0 where
   pub kept : KeepsReceipts (record old { seen = new.seen }) new
   pub grown : BeginsWith new.seen old.seen
   pub own : entries_by (Session new.worker) new.seen ≡ new.made
+
+-- A session that asked something under the lock has looked, and is otherwise as it was.
+pub record OnlyLooked (old new : SessionState) : Type 0 where
+  pub looked : HasLooked old new
+  pub same : new ≡ record old { seen = new.seen }
 
 -- A keeper that took the lock and ended nobody has seen all entries up to then. It made the same entries, which are exactly the
 -- keeper's among those that it has seen.
@@ -289,9 +331,13 @@ pub record IsAnswered (start : SharedStart) (old new : SessionState) (deed : Dee
 -- the command was allowed and a cell was lacking; or memory ran out.
 pub record RefusesCall (start : SharedStart) (command : Command) (old new : SessionState) (why : ApplyFault) : Type 0 where
   pub looked : HasLooked old new
-  pub no_such_worker : why ≡ apply.NoSuchWorker → AtSeen start new.seen (λ s. ¬ IsSubject (graph_of_store s) old.worker)
+  pub no_such_worker : why ≡ apply.NoSuchWorker → IsNobodyAtSeen start new.seen old.worker
   pub full : why ≡ apply.HeapFull → AtSeen start new.seen (λ s.
       IsAllowed (graph_of_store s) old.worker (Plain command) × AddsEdge command × LacksCellsToServe s.heap.table (nursery_of s.heap old.worker) old.worker command)
+
+-- A command's reply, which is shown by what is answered, is that of an entry with its receipt; or the command is refused.
+abbrev pub AnswersCall : {T : Type 0} → Result T ApplyFault → (T → Reply) → SharedStart → Command → SessionState → SessionState → Type 0
+AnswersCall result shown start command old new = MatchResult result (λ reply. IsAnswered start old new (Plain command) (shown reply)) (RefusesCall start command old new)
 
 -- What of a leave comes next after these entries since the start: a remove for each edge that the worker has in this graph, by rising
 -- name, and a retire. They were legal there, and the worker gave up so many edges.
@@ -333,7 +379,7 @@ RecordsNothing old new before after = IsUnchanged old new × KeepsReceipts befor
 -- say of one if as many are subjects as may be.
 pub record MayRefuseAtSeen {P T : Type 0} (start : SharedStart) (deed : Deed) (value : Value) (old new : SessionState) (result : Result T (CreateRefused P)) : Type 0 where
   pub full : IfErr result (λ refused. refused.why ≡ fault.VerticesFull → IsAnswered start old new deed VerticesFull)
-  pub no_such_worker : IfErr result (λ refused. refused.why ≡ fault.NoSuchWorker → AtSeen start new.seen (λ s. ¬ IsSubject (graph_of_store s) old.worker))
+  pub no_such_worker : IfErr result (λ refused. refused.why ≡ fault.NoSuchWorker → IsNobodyAtSeen start new.seen old.worker)
   pub heap_full : IfErr result (λ refused. refused.why ≡ fault.HeapFull → AtSeen start new.seen (λ s.
       IsAllowed (graph_of_store s) old.worker deed × LacksCellsFor s.heap.table (nursery_space (nursery_of s.heap old.worker)) 1 old.worker (graph_of_store s).made))
   pub handed_back : IfErr result (λ refused. refused.draft ≡ value)
@@ -371,12 +417,29 @@ reply_made (Err refused) = reply_entered refused.why
 
 -- the session's receipts match the journal, and none is of an entry before the start
 unfoldable pub MatchesSince : List Entry → ℕ → SessionState → Type 0
-MatchesSince entries start s = ReceiptsMatch entries s.worker s.receipts × All (λ r. start ≤ r.at) s.receipts
+MatchesSince entries start s = MatchesFrom start entries s.worker s.receipts
+
+-- no two sessions are of one worker
+abbrev pub AreApart : List SessionState → Type 0
+AreApart sessions = AllPairs (λ s t. s.worker ≢ t.worker) sessions
+
+-- The place from which on a store holds its entries, after those before a place were given up. It goes back for no place, and not past
+-- the last entry.
+abbrev pub held_after : ℕ → StoreState → ℕ
+held_after upto s = max s.handed (min upto (length s.entries))
+
+-- the place from which on a store holds the entries that were made since it was shared
+abbrev pub held_from : SharedStart → StoreState → ℕ
+held_from start s = max (length start.entries) s.handed
 
 -- Sessions may close: the receipts of each match the journal since the start, and no two are of one worker.
 pub record MayClose (entries : List Entry) (start : ℕ) (sessions : List SessionState) : Type 0 where
   pub matching : All (MatchesSince entries start) sessions
-  pub apart : AllPairs (λ s t. s.worker ≢ t.worker) sessions
+  pub apart : AreApart sessions
+
+-- Sessions may close with a store: the receipts of each match what its journal holds of the entries since the start.
+abbrev pub MayCloseWith : SharedStart → StoreState → List SessionState → Type 0
+MayCloseWith start s sessions = MayClose s.entries (held_from start s) sessions
 
 -- how many receipts the sessions have
 abbrev pub count_of : List SessionState → ℕ
@@ -390,6 +453,10 @@ handed_of sessions = sum_by (λ s. s.handed) sessions
 abbrev pub parts_of : List SessionState → ℕ
 parts_of sessions = sum_by (λ s. s.parts) sessions
 
+-- Each entry that the store got since it was shared has its receipt, which the sessions have or handed out.
+abbrev pub CountsAll : SharedStart → List SessionState → StoreState → Type 0
+CountsAll start sessions s = length s.entries ≡ length start.entries + handed_of sessions + count_of sessions
+
 -- What is found of so many entries, where there were so many when the store was shared, so many sessions were made, and the keeper
 -- made so many entries for workers that he ended.
 pub record AddsUp (start entries made entered : ℕ) (sessions : List SessionState) : Type 0 where
@@ -399,10 +466,6 @@ pub record AddsUp (start entries made entered : ℕ) (sessions : List SessionSta
   pub least : start + entered + handed_of sessions + count_of sessions ≤ entries
   -- and each is counted, where no session is missing
   pub count : parts_of sessions ≡ made → entries ≡ start + entered + handed_of sessions + count_of sessions
-
--- the place from which on a store holds the entries that were made since it was shared
-abbrev pub held_from : SharedStart → StoreState → ℕ
-held_from start s = max (length start.entries) s.handed
 
 -- A session that handed out no receipt and took over nobody has receipts of all entries of its worker among these, in their order.
 abbrev pub HasAll : List Entry → SessionState → Type 0
@@ -427,3 +490,12 @@ pub record KeptInParts (parts : List Entries) (s : SessionState) : Type 0 where
 pub record AreSharedOut (entries : List Entry) (sessions : List SessionState) : Type 0 where
   pub each_of_one : All (λ e. count_by (λ s. s.worker == e.worker) sessions ≡ 1) entries
   pub own : All (λ s. map (λ r. r.entry) s.receipts ≡ filter (λ e. e.worker == s.worker) entries) sessions
+
+-- What is said of the receipts of sessions none of which is missing, where no worker was ended.
+pub record SharesOut (start : SharedStart) (s : StoreState) (sessions : List SessionState) : Type 0 where
+  -- if as many receipts were handed out as entries, those that are left are of exactly the entries that the store holds
+  pub shared_out : length start.entries + handed_of sessions ≡ held_from start s → AreSharedOut (drop (held_from start s) s.entries) sessions
+  -- if no receipt was handed out, no entry was
+  pub none_handed : handed_of sessions ≡ 0 → held_from start s ≡ length start.entries
+  -- of a store that was shared whole, the receipts are of all entries since
+  pub whole : start.in_parts ≡ false → AreSharedOut (since start s) sessions

@@ -1,17 +1,11 @@
 //! The calls of a session, each under the lock.
-ghost use Rattle.std.specs.Prelude.{◌≡◌, ◌≢◌, ◌⊎◌, ◌≤◌, ℕ, Err, false, IfOk, IfErr, IsErrAnd, MatchResult, OnErr, OnOk, true, ⊤};
-ghost use Rattle.tg_model.specs.Graph.{IsSubject};
-ghost use Rattle.tg_model.specs.Rules.{IsAllowed};
-ghost use Rattle.tg_model.specs.declared.command.Deed.TheVariants.{Create, Plain, Spawn};
+ghost use Rattle.std.specs.Prelude.{◌≡◌, ◌≢◌, ◌⊎◌, Err, IfOk, IfErr, IsErrAnd, OnErr, OnOk, true, ⊤};
+ghost use Rattle.tg_model.specs.declared.command.Deed.TheVariants.{Create, Spawn};
 ghost use Rattle.tg_model.specs.declared.reply.Reply.TheVariants.{Name, WorkersFull};
-ghost use Rattle.tg_graph.specs.Heap.{nursery_of};
-ghost use Rattle.tg_rules.specs.Effect.{AddsEdge, LacksCellsToServe};
 ghost use Rattle.tg_passes.specs.declared.signed.Maker.TheVariants as maker;
 ghost use Rattle.tg_passes.specs.Passes.{entries_by};
-ghost use Rattle.tg_store.specs.Held.{IsHeldOver};
 ghost use Rattle.tg_store.specs.Room.{LacksRoomToCollect};
-ghost use Rattle.tg_store.specs.Store.{graph_of_store};
-ghost use Rattle.tg_shared.specs.Sessions.{AtSeen, HasLeftAtSeen, HasLooked, IsAnswered, IsFresh, KeepsReceipts, LeavesAtSeen, MayNote, MayRefuseAtSeen, RefusesCall};
+ghost use Rattle.tg_shared.specs.Sessions.{AnswersCall, AtSeen, HasLeftAtSeen, HasLooked, IsAnswered, IsFresh, IsHeldAtSeen, IsNobodyAtSeen, KeepsReceipts, LeavesAtSeen, MayNote, MayRefuseAtSeen, OnlyLooked};
 
 use crate::round::Round;
 use crate::session::Session;
@@ -49,20 +43,19 @@ impl<L: Round> Session<L> {
         store: &SharedStore<L, P>,
         command: Command,
     ) -> Result<&Reply, ApplyFault>
-        ensures* receipt { sem 𝓛 (follows_so (the_row L.row (record { start = L.start; keeper = L.keeper }) L.Ledger) (the_row L.row (record { start = L.start; keeper = L.keeper }) L.Ledger) self.entry.ghost_name none (λ _ _. ⊤)
-            (λ after. MatchResult result (λ reply. IsAnswered L.start self.old after (Plain command) reply.now) (RefusesCall L.start command self.old after))) }
+        ensures* receipt { let row = the_row L.row (record { start = L.start; keeper = L.keeper }) L.Ledger in
+            sem 𝓛 (follows_so row row self.entry.ghost_name none (λ _ _. ⊤) (λ after. AnswersCall result (λ reply. reply.now) L.start command self.old after)) }
         ensures retired { self.old.retired ≡ true → IsErrAnd result (λ why. why ≡ ApplyFault.NoSuchWorker) }
     {
         if self.retired() {
             return Err(ApplyFault::NoSuchWorker);
         }
         self.make_room(&[])?;
-        let mut locked = store.locked.lock(rt);
-        // for what holds of it: the shared store, gone on, all of whose entries the session has then seen
+        let mut locked = store.lock(rt);
+        // It shows what holds of the store, all of whose entries the session has then seen.
         locked.look(self);
-        let _ = locked.store();
         locked.apply(self, command)?;
-        // and that the new entry is legal
+        // It shows that the new entry is legal.
         let _ = locked.store();
         Ok(self.last_reply())
     }
@@ -89,12 +82,11 @@ impl<L: Round> Session<L> {
         if let Err(why) = self.make_ready(draft.value().state.as_slice()) {
             return Err(CreateRefused { draft, why });
         }
-        let mut locked = store.locked.lock(rt);
-        // for what holds of it: the shared store, gone on, all of whose entries the session has then seen
+        let mut locked = store.lock(rt);
+        // It shows what holds of the store, all of whose entries the session has then seen.
         locked.look(self);
-        let _ = locked.store();
         let created = locked.create(self, label, draft);
-        // and of the one that is left
+        // It shows what holds of the store that is left.
         let _ = locked.store();
         created
     }
@@ -127,12 +119,11 @@ impl<L: Round> Session<L> {
         if let Err(why) = self.make_ready(draft.value().state.as_slice()) {
             return Err(CreateRefused { draft, why });
         }
-        let mut locked = store.locked.lock(rt);
-        // for what holds of it: the shared store, gone on, all of whose entries the session has then seen
+        let mut locked = store.lock(rt);
+        // It shows what holds of the store, all of whose entries the session has then seen.
         locked.look(self);
-        let _ = locked.store();
         let spawned = locked.spawn(self, label, draft);
-        // and of the one that is left
+        // It shows what holds of the store that is left.
         let _ = locked.store();
         spawned
     }
@@ -146,7 +137,7 @@ impl<L: Round> Session<L> {
         ensures notable { OnOk result (MayNote self.new state.now) }
         ensures receipts { KeepsReceipts self.old self.new }
         ensures retired { self.old.retired ≡ true → result ≡ Err CreateFault.NoSuchWorker }
-        ensures why { IfErr result (λ why. (why ≡ CreateFault.NoSuchWorker × AtSeen L.start self.old.seen (λ s. ¬ IsSubject (graph_of_store s) self.old.worker)) ⊎ (why ≡ CreateFault.OutOfMemory)) }
+        ensures why { IfErr result (λ why. (why ≡ CreateFault.NoSuchWorker × IsNobodyAtSeen L.start self.old.seen self.old.worker) ⊎ (why ≡ CreateFault.OutOfMemory)) }
         ensures own { entries_by (maker.Session self.old.worker) self.old.seen ≡ self.old.made }
     {
         if self.retired() {
@@ -175,19 +166,18 @@ impl<L: Round> Session<L> {
         ensures left { IfOk result (HasLeftAtSeen L.start self.old self.new) }
         ensures gone { OnOk result (self.new.retired ≡ true) }
         ensures refused { OnErr result (HasLooked self.old self.new) }
-        ensures no_such_worker { IfErr result (λ why. why ≡ ApplyFault.NoSuchWorker → AtSeen L.start self.new.seen (λ s. ¬ IsSubject (graph_of_store s) self.old.worker)) }
+        ensures no_such_worker { IfErr result (λ why. why ≡ ApplyFault.NoSuchWorker → IsNobodyAtSeen L.start self.new.seen self.old.worker) }
         ensures never_full { result ≢ Err ApplyFault.HeapFull }
         ensures retired { self.old.retired ≡ true → IsErrAnd result (λ why. why ≡ ApplyFault.NoSuchWorker) }
     {
         if self.retired() {
             return Err(ApplyFault::NoSuchWorker);
         }
-        let mut locked = store.locked.lock(rt);
-        // for what holds of it: the shared store, gone on, all of whose entries the session has then seen
+        let mut locked = store.lock(rt);
+        // It shows what holds of the store, all of whose entries the session has then seen.
         locked.look(self);
-        let _ = locked.store();
         let left = locked.leave(self);
-        // and that the new entries are legal
+        // It shows that the new entries are legal.
         let _ = locked.store();
         left
     }
@@ -203,14 +193,12 @@ impl<L: Round> Session<L> {
         store: &SharedStore<L, P>,
         target: u64,
     ) -> Option<Label>
-        ensures held { AtSeen L.start self.new.seen (λ s. IsHeldOver (graph_of_store s) self.old.worker target result) }
-        ensures looked { HasLooked self.old self.new }
-        ensures same { self.new ≡ record self.old { seen = self.new.seen } }
+        ensures held { IsHeldAtSeen L.start self.new.seen self.old.worker target result }
+        ensures looked { OnlyLooked self.old self.new }
     {
-        let mut locked = store.locked.lock(rt);
-        // for what holds of it: the shared store, gone on, all of whose entries the session has then seen
+        let mut locked = store.lock(rt);
+        // It shows what holds of the store, all of whose entries the session has then seen.
         locked.look(self);
-        let _ = locked.store();
         locked.label(self, target)
     }
 
@@ -227,15 +215,13 @@ impl<L: Round> Session<L> {
         ensures number { IfOk result (LeavesAtSeen L.start self.new.seen kind) }
         ensures full { IfErr result (λ why. why ≡ RoomFault.HeapFull → AtSeen L.start self.new.seen (λ s.
             LacksRoomToCollect kind 1 s.heap)) }
-        ensures looked { HasLooked self.old self.new }
-        ensures same { self.new ≡ record self.old { seen = self.new.seen } }
+        ensures looked { OnlyLooked self.old self.new }
     {
-        let mut locked = store.locked.lock(rt);
-        // for what holds of it: the shared store, gone on, all of whose entries the session has then seen
+        let mut locked = store.lock(rt);
+        // It shows what holds of the store, all of whose entries the session has then seen.
         locked.look(self);
-        let _ = locked.store();
         let left = locked.collect(kind);
-        // and of the one that is left
+        // It shows what holds of the store that is left.
         let _ = locked.store();
         left
     }

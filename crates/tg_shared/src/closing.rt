@@ -1,8 +1,8 @@
 //! The end of a round.
-ghost use Rattle.std.specs.Prelude.{◌≡◌, ◌≢◌, ◌↔◌, ◌<◌, ◌≤◌, ◌+◌, ◌-◌, false, IsTrue, IfErr, IsErr, IsErrAnd, OnErr, OnOk, length, drop};
-ghost use Rattle.std.specs.List.{All, AllPairs};
+ghost use Rattle.std.specs.Prelude.{◌≡◌, ◌↔◌, ◌<◌, ◌≤◌, ◌+◌, ◌-◌, false, IsTrue, IfErr, IsErr, IsErrAnd, OnErr, OnOk, length};
+ghost use Rattle.std.specs.List.{All};
 ghost use Rattle.std.specs.List.Sorted.{IsNonDecreasingBy};
-ghost use Rattle.tg_shared.specs.Sessions.{MatchesSince, MayClose, count_of};
+ghost use Rattle.tg_shared.specs.Sessions.{AreApart, MatchesSince, MayClose, count_of};
 
 use crate::locked::Locked;
 use crate::receipt::{Receipt, receipts_match};
@@ -34,10 +34,8 @@ pub struct LockedRefused<L: Round, P: Payload> {
 }
 
 impl<L: Round, P: Payload> Locked<L, P> {
-    ghost use Rattle.tg_passes.specs.declared.signed.Maker.TheVariants as maker;
-    ghost use Rattle.tg_passes.specs.Passes.{entries_by};
-    ghost use Rattle.tg_shared.specs.Closing.{EndsRound, IsSignedBy};
-    ghost use Rattle.tg_shared.specs.Sessions.{AddsUp, AreSharedOut, HasAllUnlessEnded, MayClose, count_of, handed_of, held_from, parts_of, since};
+    ghost use Rattle.tg_shared.specs.Closing.{EndsRound};
+    ghost use Rattle.tg_shared.specs.Sessions.{AddsUp, MayCloseWith, SharesOut, count_of, handed_of, parts_of};
 
     /// Ends a round: hands out the store, where all sessions are given back and their receipts are right. Then the
     /// journal has grown by as many entries as there are receipts, and they are shared out among the sessions. What the
@@ -47,30 +45,25 @@ impl<L: Round, P: Payload> Locked<L, P> {
     /// `ReceiptMismatch` exactly where they stand for as many, and may not close. What was handed in then comes back,
     /// and the sessions may be in another order. Takes no memory, and for n sessions time as n log n.
     ///
-    /// Of a store that was shared whole (`whole`) no session has handed out a receipt: where the keeper ended no
-    /// worker, each entry made since stands in exactly one receipt, and the receipts of each session are all its
-    /// entries.
+    /// Of a store that was shared whole (`whole` of `shared_out`) no session has handed out a receipt: where the keeper
+    /// ended no worker, each entry made since stands in exactly one receipt, and the receipts of each session are all
+    /// its entries.
     ///
-    /// `single` says this of each single session whose worker the keeper didn't end, whatever the other sessions did. A
-    /// session that handed out no receipt and took over nobody has receipts of all entries of its worker since the
-    /// store was shared.
+    /// `ends` says this of each single session whose worker the keeper didn't end, whatever the other sessions did
+    /// (`single`). A session that handed out no receipt and took over nobody has receipts of all entries of its worker
+    /// since the store was shared.
     ///
-    /// `signed` says who made each entry since the store was shared: each session made exactly its own, and the entries
-    /// begin with those that the session has seen. So what a session was answered after the entries that it had seen is
-    /// an answer on the journal up to there.
+    /// It also says who made each entry since the store was shared (`signed`). Each session made exactly its own, and
+    /// the entries begin with those that the session has seen. So what a session was answered after the entries that it
+    /// had seen is an answer on the journal up to there.
     pub fn close(self, sessions: Vec<Session<L>>) -> Result<Store<P>, LockedRefused<L, P>>
         ensures ends { EndsRound L.start self sessions.items result }
         ensures all { OnOk result (parts_of sessions.items ≡ self.sessions) }
         ensures count { OnOk result (length self.store.entries ≡ length L.start.entries + self.entered + handed_of sessions.items + count_of sessions.items) }
-        ensures shared_out { self.entered ≡ 0 → OnOk result (length L.start.entries + handed_of sessions.items ≡ held_from L.start self.store →
-            AreSharedOut (drop (held_from L.start self.store) self.store.entries) sessions.items) }
-        ensures none_handed { self.entered ≡ 0 → OnOk result (handed_of sessions.items ≡ 0 → held_from L.start self.store ≡ length L.start.entries) }
-        ensures whole { L.start.in_parts ≡ false → self.entered ≡ 0 → OnOk result (AreSharedOut (drop (length L.start.entries) self.store.entries) sessions.items) }
-        ensures single { OnOk result (All (HasAllUnlessEnded (entries_by maker.Keeper self.signed) (since L.start self.store)) sessions.items) }
-        ensures signed { OnOk result (IsSignedBy L.start self.store sessions.items self.signed) }
+        ensures shared_out { self.entered ≡ 0 → OnOk result (SharesOut L.start self.store sessions.items) }
         ensures missing { IsErrAnd result (λ refused. refused.why ≡ CloseFault.SessionsMissing) ↔ (parts_of sessions.items < self.sessions) }
         ensures mismatch { IsErrAnd result (λ refused. refused.why ≡ CloseFault.ReceiptMismatch) ↔
-            ((self.sessions ≤ parts_of sessions.items) × (¬ MayClose self.store.entries (held_from L.start self.store) sessions.items)) }
+            ((self.sessions ≤ parts_of sessions.items) × (¬ MayCloseWith L.start self.store sessions.items)) }
         ensures counted { IfErr result (λ refused. refused.why ≡ CloseFault.ReceiptMismatch → length L.start.entries + self.entered + count_of sessions.items ≤ length self.store.entries) }
     {
         if still_owed(self.sessions, sessions.as_slice()) > 0 {
@@ -93,13 +86,8 @@ impl<L: Round, P: Payload> Locked<L, P> {
     pub fn reclaim(mut self, mut sessions: Vec<Session<L>>) -> Result<Store<P>, LockedRefused<L, P>>
         ensures ends { EndsRound L.start self sessions.items result }
         ensures adds_up { OnOk result (AddsUp (length L.start.entries) (length self.store.entries) self.sessions self.entered sessions.items) }
-        ensures shared_out { self.entered ≡ 0 → OnOk result (parts_of sessions.items ≡ self.sessions → length L.start.entries + handed_of sessions.items ≡ held_from L.start self.store →
-            AreSharedOut (drop (held_from L.start self.store) self.store.entries) sessions.items) }
-        ensures none_handed { self.entered ≡ 0 → OnOk result (parts_of sessions.items ≡ self.sessions → handed_of sessions.items ≡ 0 → held_from L.start self.store ≡ length L.start.entries) }
-        ensures whole { L.start.in_parts ≡ false → self.entered ≡ 0 → OnOk result (parts_of sessions.items ≡ self.sessions → AreSharedOut (drop (length L.start.entries) self.store.entries) sessions.items) }
-        ensures single { OnOk result (All (HasAllUnlessEnded (entries_by maker.Keeper self.signed) (since L.start self.store)) sessions.items) }
-        ensures signed { OnOk result (IsSignedBy L.start self.store sessions.items self.signed) }
-        ensures mismatch { IsErr result ↔ (¬ MayClose self.store.entries (held_from L.start self.store) sessions.items) }
+        ensures shared_out { self.entered ≡ 0 → OnOk result (parts_of sessions.items ≡ self.sessions → SharesOut L.start self.store sessions.items) }
+        ensures mismatch { IsErr result ↔ (¬ MayCloseWith L.start self.store sessions.items) }
         ensures only { IfErr result (λ refused. refused.why ≡ CloseFault.ReceiptMismatch) }
         ensures counted { OnErr result (length L.start.entries + self.entered + count_of sessions.items ≤ length self.store.entries) }
     {
@@ -196,7 +184,7 @@ fn are_since(start: u64, receipts: &[Receipt]) -> bool
 // Whether no two sessions are of one worker. They stand in the order of the names, so two of one worker are neighbours.
 fn are_apart<L: Round>(sessions: &[Session<L>]) -> bool
     requires rising { IsNonDecreasingBy (λ s. s.worker) sessions.now }
-    ensures { IsTrue result ↔ AllPairs (λ s t. s.worker ≢ t.worker) sessions.now }
+    ensures { IsTrue result ↔ AreApart sessions.now }
 {
     for i in 1..sessions.len() {
         if sessions[i - 1].worker() == sessions[i].worker() {

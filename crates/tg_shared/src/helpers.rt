@@ -2,7 +2,7 @@
 ghost use Rattle.std.specs.Prelude.{◌≡◌, ◌≢◌, Err, IfOk, IfErr};
 ghost use Rattle.tg_store.specs.Collecting.{AreHelpers};
 ghost use Rattle.tg_store.specs.Room.{LacksRoomToCollect};
-ghost use Rattle.tg_shared.specs.Sessions.{AtSeen, HasLooked, LeavesAtSeen};
+ghost use Rattle.tg_shared.specs.Sessions.{AtSeen, LeavesAtSeen, OnlyLooked};
 ghost use Rattle.tg_shared.specs.Serving.{Collects};
 
 use crate::locked::Locked;
@@ -58,16 +58,14 @@ impl<L: Round> Session<L> {
         ensures number { IfOk result (LeavesAtSeen L.start self.new.seen kind) }
         ensures full { IfErr result (λ why. why ≡ HelpersFault.HeapFull → AtSeen L.start self.new.seen (λ s.
             LacksRoomToCollect kind helpers s.heap)) }
-        ensures looked { HasLooked self.old self.new }
-        ensures same { self.new ≡ record self.old { seen = self.new.seen } }
+        ensures looked { OnlyLooked self.old self.new }
         ensures alone { helpers ≡ 1 → result ≢ Err HelpersFault.NoThread }
     {
-        let mut locked = store.locked.lock(rt);
-        // for what holds of it: the shared store, gone on, all of whose entries the session has then seen
+        let mut locked = store.lock(rt);
+        // It shows what holds of the store, all of whose entries the session has then seen.
         locked.look(self);
-        let _ = locked.store();
         let left = locked.collect_with(rt, self.alloc(), kind, helpers, gate);
-        // and of the one that is left
+        // It shows what holds of the store that is left.
         let _ = locked.store();
         left
     }

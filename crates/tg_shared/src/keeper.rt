@@ -1,11 +1,10 @@
 //! Who may take a shared store's entries, see all of its graph, and end a worker.
-ghost use Rattle.std.specs.Prelude.{◌≡◌, ◌≢◌, ◌+◌, ◌++◌, ◌<◌, ◌∷◌, ◌^◌, [], true, Err, IfErr, IfOk, OnErr, length};
+ghost use Rattle.std.specs.Prelude.{◌≡◌, ◌≢◌, ◌+◌, ◌++◌, ◌<◌, ◌∷◌, ◌^◌, [], true, Err, IfErr, IfOk, OnErr, length, max, min};
 ghost use Rattle.tg_could.specs.Reached.{IsReachedPicture};
-ghost use Rattle.tg_model.specs.Graph.{IsSubject};
 ghost use Rattle.tg_store.specs.Store.{graph_of_store};
 ghost use Rattle.tg_passes.specs.declared.signed.Maker.TheVariants as maker;
-ghost use Rattle.tg_passes.specs.Passes.{BeginsWith, fresh_pass, sign, sign_all};
-ghost use Rattle.tg_shared.specs.Sessions.{AtSeen, HasEnded, KeeperLooked};
+ghost use Rattle.tg_passes.specs.Passes.{fresh_pass, sign, sign_all};
+ghost use Rattle.tg_shared.specs.Sessions.{AtSeen, HasEnded, IsNobodyAtSeen, KeeperLooked};
 
 use crate::mirror::Mirror;
 use crate::round::{HandedOut, Rolled, Round};
@@ -112,11 +111,31 @@ impl<L: Round> Keeper<L> {
         ensures looked { KeeperLooked self.old self.new }
         ensures held { AtSeen L.start self.new.seen (λ s. (result.entries ≡ s.entries) × (result.start ≡ s.handed)) }
     {
-        let mut locked = store.locked.lock(rt);
-        // for what holds of it: the shared store, gone on, all of whose entries the keeper has then seen
+        let mut locked = store.lock(rt);
+        // It shows what holds of the store, all of whose entries the keeper has then seen.
         locked.tell(self);
-        let _ = locked.store();
         locked.take_journal(self)
+    }
+
+    /// Gives up the entries before a place that the store behind the lock still holds, by one call of
+    /// [`Locked::forget`](crate::Locked::forget) under the lock. The journal keeps their room, so a service that has
+    /// written these entries out, from the receipts of all sessions, takes no more memory for later ones. All entries
+    /// are given up if the place is after the last one, and none if the last part ended after the place. The next part
+    /// begins after what was given up, and the keeper has then seen all entries. As after
+    /// [`take_journal`](Keeper::take_journal), a session that still has a receipt of such an entry can't be closed. The
+    /// store has to be shared so as to be handed out in parts. Takes no memory.
+    pub fn forget<P: Payload, R: Wait>(&mut self, rt: &R, store: &SharedStore<L, P>, upto: u64)
+        requires in_parts { L.start.in_parts ≡ true }
+        ensures next { self.new.next ≡ max self.old.next (min upto (length L.start.entries + length self.new.seen)) }
+        ensures looked { KeeperLooked self.old self.new }
+        ensures held { AtSeen L.start self.new.seen (λ s. s.handed ≡ self.new.next) }
+    {
+        let mut locked = store.lock(rt);
+        // It shows what holds of the store, all of whose entries the keeper has then seen.
+        locked.tell(self);
+        locked.forget(self, upto);
+        // It shows what holds of the store that is left.
+        let _ = locked.store();
     }
 
     /// Ends a worker whose session is elsewhere, whether that comes back or not, by one call of
@@ -140,14 +159,14 @@ impl<L: Round> Keeper<L> {
         ensures ended { IfOk result (HasEnded L.start worker self.old self.new) }
         ensures entered { IfOk result (λ count. length self.new.made ≡ length self.old.made + (count + 1)) }
         ensures refused { OnErr result (KeeperLooked self.old self.new × (self.new.next ≡ self.old.next)) }
-        ensures no_such_worker { IfErr result (λ why. why ≡ ApplyFault.NoSuchWorker → AtSeen L.start self.new.seen (λ s. ¬ IsSubject (graph_of_store s) worker)) }
+        ensures no_such_worker { IfErr result (λ why. why ≡ ApplyFault.NoSuchWorker → IsNobodyAtSeen L.start self.new.seen worker) }
         ensures never_full { result ≢ Err ApplyFault.HeapFull }
     {
-        let mut locked = store.locked.lock(rt);
-        // for what holds of it: the shared store, gone on
+        let mut locked = store.lock(rt);
+        // It shows what holds of the store.
         let _ = locked.store();
         let ended = locked.end(self, worker);
-        // and of the one that is left
+        // It shows what holds of the store that is left.
         let _ = locked.store();
         ended
     }
@@ -165,10 +184,9 @@ impl<L: Round> Keeper<L> {
         ensures shown { IfOk result (λ picture. AtSeen L.start self.new.seen (λ s. IsReachedPicture picture (graph_of_store s))) }
         ensures looked { KeeperLooked self.old self.new × (self.new.next ≡ self.old.next) }
     {
-        let mut locked = store.locked.lock(rt);
-        // for what holds of it: the shared store, gone on, all of whose entries the keeper has then seen
+        let mut locked = store.lock(rt);
+        // It shows what holds of the store, all of whose entries the keeper has then seen.
         locked.tell(self);
-        let _ = locked.store();
         locked.picture(alloc)
     }
 }

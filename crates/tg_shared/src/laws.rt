@@ -1,35 +1,30 @@
 //! What receipts say of a history. A function here does nothing: what it ensures is the law.
-ghost use Rattle.std.specs.Prelude.{◌≡◌, ◌≢◌, ◌≤◌, ◌+◌, ◌++◌, ℕ, List, Option, drop, false, length, take, true};
+ghost use Rattle.std.specs.Prelude.{◌≡◌, ◌+◌, ℕ, List, Option, drop, false, length, take, true};
 ghost use Rattle.std.specs.List.{All, AllPairs, Contains};
 ghost use Rattle.tg_rights.specs.RightSet.{RightSet};
 ghost use Rattle.tg_model.specs.declared.command.Deed.{Deed};
-ghost use Rattle.tg_model.specs.declared.command.Deed.TheVariants.{Spawn};
-ghost use Rattle.tg_model.specs.declared.law.Law.{Law};
 ghost use Rattle.tg_model.specs.declared.reply.Reply.{Reply};
-ghost use Rattle.tg_model.specs.declared.reply.Reply.TheVariants.{Name};
-ghost use Rattle.tg_model.specs.Opened.{start_of};
 ghost use Rattle.tg_passes.specs.declared.signed.Signed.{Signed};
-ghost use Rattle.tg_passes.specs.Passes.{BeginsWith, Sees, entries_of, own_entries};
-ghost use Rattle.tg_model.specs.Graph.{IsReachable, IsSubject, ProtectionGraph};
-ghost use Rattle.tg_graph.specs.Heap.{content_of};
+ghost use Rattle.tg_passes.specs.Passes.{BeginsWith, Sees};
+ghost use Rattle.tg_model.specs.Graph.{IsSubject, ProtectionGraph};
 ghost use Rattle.tg_space.specs.declared.kind.Kind.{Kind};
 ghost use Rattle.tg_journal.specs.declared.entry.Entry.{Entry};
-ghost use Rattle.tg_journal.specs.History.{IsLegal, IsLegalEntry, graph_after};
+ghost use Rattle.tg_journal.specs.History.{IsLegal};
 ghost use Rattle.tg_shared.specs.declared.receipt.Receipt.{Receipt};
 ghost use Rattle.tg_journal.specs.Journal.{Entries};
-ghost use Rattle.tg_shared.specs.Receipts.{AreParts, MatchParts, ReceiptsMatch, all_receipts};
-ghost use Rattle.tg_shared.specs.Sessions.{AreSharedOut, AtSeen, GoesOn, HasEnded, HasGrownBy, HasLooked, IsAnswered, IsOnItsOwn, KeeperState, KeptInParts, LeavesAtSeen, MayClose, SessionState, SharedStart, count_of, graph_seen, held_from, knowledge, parts_of, retired_behind, since, subjects_at};
-ghost use Rattle.tg_space.specs.declared.kind.Kind.TheVariants.{Full};
+ghost use Rattle.tg_shared.specs.Laws.{AreKeptInParts, ClosesOver, EndsOnly, GrowsInto, HasExactly, HasNotLeft, IsCountLeft, IsSpawnedIn, KnowsItsOwn, StaysWhole, WasAnswered, graph_up_to};
+ghost use Rattle.tg_shared.specs.Receipts.{AreParts, MatchParts, MatchesFrom, ReceiptsMatch, all_receipts};
+ghost use Rattle.tg_shared.specs.Sessions.{AreSharedOut, AtSeen, HasEnded, HasGrownBy, HasLooked, IsAnswered, IsHeldAtSeen, IsNobodyAtSeen, IsOnItsOwn, IsSubjectAtSeen, KeeperState, LeavesAtSeen, MayClose, MayCloseWith, SessionState, SharedStart, count_of, graph_seen, held_from, knowledge, parts_of, retired_behind, since, subjects_at};
 ghost use Rattle.tg_store.specs.Held.{IsHeldOver};
-ghost use Rattle.tg_store.specs.Leaving.{HasLeft, left_by};
-ghost use Rattle.tg_store.specs.Store.{IsCountOf, IsFaithful, StoreState, graph_of_store};
+ghost use Rattle.tg_store.specs.Leaving.{HasLeft};
+ghost use Rattle.tg_store.specs.Store.{IsFaithful, StoreState, graph_of_store};
 
 /// The entry of each receipt that matches a legal history was answered by the rules, on the graph after all entries
 /// before it; and among these are the entries of all earlier receipts. So what a session reads stands after all that it
 /// wrote before.
 pub fn receipts_stand_in_order()
     ensures answered { (g : ProtectionGraph) (entries : List Entry) (worker : ℕ) (receipts : List Receipt) →
-        IsLegal g entries → ReceiptsMatch entries worker receipts → All (λ r. IsLegalEntry (graph_after g (take r.at entries)) r.entry) receipts }
+        IsLegal g entries → ReceiptsMatch entries worker receipts → All (WasAnswered g entries) receipts }
     ensures earlier { (entries : List Entry) (worker : ℕ) (receipts : List Receipt) →
         ReceiptsMatch entries worker receipts → AllPairs (λ r later. Contains (take later.at entries) r.entry) receipts }
 {}
@@ -40,7 +35,7 @@ pub fn receipts_stand_in_order()
 pub fn receipts_of_parts_match()
     ensures { (entries : List Entry) (parts : List Entries) (worker first : ℕ) (lists : List (List Receipt)) →
         AreParts first entries parts → MatchParts parts worker lists →
-        ReceiptsMatch entries worker (all_receipts lists) × All (λ r. first ≤ r.at) (all_receipts lists) }
+        MatchesFrom first entries worker (all_receipts lists) }
 {}
 
 /// Receipts that may close with a journal, as many as it has entries from a place on, share these out.
@@ -54,15 +49,14 @@ pub fn as_many_receipts_share_out()
 /// one worker, and there are as many receipts as entries, each entry stands in exactly one of them, and the receipts of
 /// each session are all its entries, in their order. The last part may be what the store still holds.
 pub fn kept_parts_share_out()
-    ensures { (entries : List Entry) (first : ℕ) (parts : List Entries) (sessions : List SessionState) →
-        AreParts first entries parts → All (KeptInParts parts) sessions → AllPairs (λ s t. s.worker ≢ t.worker) sessions →
-        length entries ≡ first + count_of sessions → AreSharedOut (drop first entries) sessions }
+    ensures { (entries : List Entry) (first : ℕ) (sessions : List SessionState) →
+        AreKeptInParts entries first sessions → length entries ≡ first + count_of sessions → AreSharedOut (drop first entries) sessions }
 {}
 
 /// Of a store that was shared whole, no entry made since is handed out while it is shared. So where `close` says from
 /// which place on it has looked, that is the place where the store was shared.
 pub fn a_whole_journal_is_held()
-    ensures { (start : SharedStart) (s : StoreState) → GoesOn start s → start.in_parts ≡ false → held_from start s ≡ length start.entries }
+    ensures { (start : SharedStart) (s : StoreState) → StaysWhole start s → held_from start s ≡ length start.entries }
 {}
 
 /// What a close says of the receipts of a store that was shared whole: where they may close, and there are as many as
@@ -71,8 +65,8 @@ pub fn a_whole_journal_is_held()
 /// [`Locked::close`](crate::Locked::close) and [`close_with`](crate::close_with) have all of this wherever the keeper
 /// ended no worker, whatever the sessions' holders did.
 pub fn a_whole_round_is_shared_out()
-    ensures { (start : SharedStart) (s : StoreState) (sessions : List SessionState) → GoesOn start s → start.in_parts ≡ false →
-        MayClose s.entries (held_from start s) sessions → length s.entries ≡ length start.entries + count_of sessions → AreSharedOut (drop (length start.entries) s.entries) sessions }
+    ensures { (start : SharedStart) (s : StoreState) (sessions : List SessionState) → StaysWhole start s →
+        MayCloseWith start s sessions → length s.entries ≡ length start.entries + count_of sessions → AreSharedOut (since start s) sessions }
 {}
 
 /// Sessions that took no other over stand for as many as they are.
@@ -83,8 +77,8 @@ pub fn each_stands_for_itself()
 /// Who has left a store as its subject, by its own session or ended by the keeper, is no subject of the store again,
 /// whatever entries come behind it. So each later call of its session is answered that there is no such worker.
 pub fn who_left_stays_away()
-    ensures { (old new later : StoreState) (worker : ℕ) (entries : List Entry) → IsFaithful old → IsSubject (graph_of_store old) worker → HasLeft worker old new →
-        later.opening ≡ new.opening → later.entries ≡ new.entries ++ entries → ¬ IsSubject (graph_of_store later) worker }
+    ensures { (old new later : StoreState) (worker : ℕ) → IsFaithful old → IsSubject (graph_of_store old) worker →
+        HasLeft worker old new → GrowsInto new later → ¬ IsSubject (graph_of_store later) worker }
 {}
 
 /// What a session knows bounds what its calls are refused for. Its worker was a subject when the store was shared, or
@@ -93,18 +87,17 @@ pub fn who_left_stays_away()
 /// session that has looked sees those that it has seen, so none of its calls is answered that there is no such worker.
 /// A round whose keeper may end nobody needs no premise on the keeper.
 pub fn a_session_without_a_retire_is_a_subject()
-    ensures from_the_start { (start : SharedStart) (all : List Signed) (session : SessionState) → Contains (subjects_at start) session.worker → IsOnItsOwn start all session → retired_behind false session.made ≡ false →
-        ¬ AtSeen start all (λ s. ¬ IsSubject (graph_of_store s) session.worker) }
-    ensures spawned { (start : SharedStart) (all : List Signed) (before after session : SessionState) (label : RightSet) (law : Law) (state : List ℕ) →
-        IsAnswered start before after (Spawn label law state) (Name session.worker) → BeginsWith all after.seen → IsOnItsOwn start all session → retired_behind false session.made ≡ false →
-        ¬ AtSeen start all (λ s. ¬ IsSubject (graph_of_store s) session.worker) }
+    ensures from_the_start { (start : SharedStart) (all : List Signed) (s : SessionState) →
+        Contains (subjects_at start) s.worker → HasNotLeft start all s → ¬ IsNobodyAtSeen start all s.worker }
+    ensures spawned { (start : SharedStart) (all : List Signed) (s : SessionState) →
+        IsSpawnedIn start all s.worker → HasNotLeft start all s → ¬ IsNobodyAtSeen start all s.worker }
 {}
 
 /// Where a retire is among the entries that a session made, its worker is a subject of no store whose entries the
 /// session sees.
 pub fn a_session_with_a_retire_has_no_subject()
-    ensures { (start : SharedStart) (all : List Signed) (session : SessionState) (s : StoreState) → GoesOn start s → IsFaithful s → HasGrownBy start s all → IsOnItsOwn start all session →
-        retired_behind false session.made ≡ true → ¬ IsSubject (graph_of_store s) session.worker }
+    ensures { (start : SharedStart) (all : List Signed) (s : SessionState) →
+        IsOnItsOwn start all s → retired_behind false s.made ≡ true → ¬ IsSubjectAtSeen start all s.worker }
 {}
 
 /// A session that has looked sees the entries that it has seen, which are all up to its look.
@@ -120,36 +113,34 @@ pub fn what_a_session_has_seen_grows()
 /// What a session knows of a store whose entries it sees, if the keeper made none of its worker: the entries of its
 /// worker since the start are exactly those that its own calls made, and all begin with those that it has seen.
 pub fn a_session_knows_its_own_entries()
-    ensures { (start : SharedStart) (all : List Signed) (session : SessionState) (s : StoreState) → HasGrownBy start s all → IsOnItsOwn start all session →
-        (own_entries session.worker (since start s) ≡ session.made) × BeginsWith (since start s) (entries_of session.seen) }
+    ensures { (start : SharedStart) (all : List Signed) (x : SessionState) (s : StoreState) →
+        HasGrownBy start s all → IsOnItsOwn start all x → KnowsItsOwn (since start s) x }
 {}
 
 /// An answer without an entry is an answer on the closed journal. Of a store with exactly the entries that a session,
 /// or the keeper, has seen there is one graph. When the round is closed, and the entries since the start begin with
 /// these, that graph is the one after so many entries of the journal.
 pub fn an_answer_is_of_the_closed_journal()
-    ensures { (start : SharedStart) (s closed : StoreState) (signed seen : List Signed) → GoesOn start s → HasGrownBy start s seen → GoesOn start closed → HasGrownBy start closed signed → BeginsWith signed seen →
-        (graph_of_store s ≡ graph_seen start seen) × (graph_of_store s ≡ graph_after (start_of closed.opening) (take (length start.entries + length seen) closed.entries)) }
+    ensures seen { (start : SharedStart) (seen : List Signed) (s : StoreState) → HasExactly start seen s → graph_of_store s ≡ graph_seen start seen }
+    ensures closed { (start : SharedStart) (seen : List Signed) (s closed : StoreState) →
+        HasExactly start seen s → ClosesOver start seen closed → graph_of_store s ≡ graph_up_to start seen closed }
 {}
 
 /// The label that a session was answered is the one that the closed journal's graph has, after as many entries since
 /// the store was shared as the session had seen then.
 pub fn a_label_is_of_the_closed_journal()
-    ensures { (start : SharedStart) (closed : StoreState) (signed seen : List Signed) (worker target : ℕ) (label : Option RightSet) → AtSeen start seen (λ s. IsHeldOver (graph_of_store s) worker target label) →
-        GoesOn start closed → HasGrownBy start closed signed → BeginsWith signed seen →
-        IsHeldOver (graph_after (start_of closed.opening) (take (length start.entries + length seen) closed.entries)) worker target label }
+    ensures { (start : SharedStart) (seen : List Signed) (s : StoreState) → ClosesOver start seen s →
+        (worker target : ℕ) (label : Option RightSet) → IsHeldAtSeen start seen worker target label → IsHeldOver (graph_up_to start seen s) worker target label }
 {}
 
 /// Who is ended by the keeper stops being a subject, and nobody else does: the graph after the entries that the keeper
 /// has then seen is the one before, without the named worker and what it held.
 pub fn an_end_is_of_the_named_worker()
-    ensures { (start : SharedStart) (old new : KeeperState) (worker count : ℕ) → HasEnded start worker old new count →
-        (before : List Signed) × BeginsWith new.seen before × IsSubject (graph_seen start before) worker × (graph_seen start new.seen ≡ left_by (graph_seen start before) worker) }
+    ensures { (start : SharedStart) (old new : KeeperState) (worker count : ℕ) → HasEnded start worker old new count → EndsOnly start new.seen worker }
 {}
 
 /// What a collection of a session answers is how many vertices a store has that may have been behind the lock when
 /// exactly these entries had been made, and after a full one how many can be reached in the graph after them.
 pub fn what_is_left_is_counted()
-    ensures { (start : SharedStart) (seen : List Signed) (kind : Kind) (number : ℕ) → LeavesAtSeen start seen kind number → AtSeen start seen (λ s.
-        (number ≡ length (content_of s.heap).names) × (kind ≡ Full → IsCountOf (IsReachable (graph_of_store s)) number)) }
+    ensures { (start : SharedStart) (seen : List Signed) (kind : Kind) (number : ℕ) → LeavesAtSeen start seen kind number → AtSeen start seen (IsCountLeft kind number) }
 {}

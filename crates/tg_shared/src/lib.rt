@@ -19,7 +19,7 @@
 //! What a call does to the value behind the lock stands in the contracts of [`Locked`], the type that is locked: each
 //! of its calls is one call of the store and makes at most one receipt. The clauses of a session speak of its own
 //! receipts, and of a store with exactly the entries that the session has then seen since the start: its answer was
-//! right of such a store (see 'What a session can know' in docs/ARCHITECTURE.md). Its own entries among these are
+//! right of such a store ('What a session can know' in docs/inside/ARCHITECTURE.md). Its own entries among these are
 //! exactly those that its calls made, by its pass (see 'How a session knows its own entries' there), and [`close`] says
 //! that the journal begins with what each session has seen. Whenever the lock is free, the store is the shared one,
 //! gone on, and keeps its promise ([`Locked::store`]), and the book that stands beside it has counted each entry since.
@@ -30,7 +30,8 @@
 //! A service that goes on for years takes the journal and the receipts in parts: who shares the store so has its
 //! [`Keeper`], who takes the entries while the sessions go on, and each session hands its receipts out
 //! ([`Session::take_receipts`]), to be looked at with the part that has their entries ([`receipts_match`]; [`laws`]
-//! join the parts). Each part begins where the keeper's last one ended ([`Keeper::next`]). One that is done goes into
+//! join the parts). [`Keeper::forget`] and [`Session::forget_receipts`] give entries and receipts up, and keep their
+//! room. Each part begins where the keeper's last one ended ([`Keeper::next`]). One that is done goes into
 //! another ([`Session::take_over`]). Of a store that is shared whole nothing is handed out before it is closed, neither
 //! entries nor receipts.
 //!
@@ -40,7 +41,7 @@
 //! the receipts that came are no more than the entries.
 //!
 //! The book is that of a ledger ([`std::sync::ledger`]). That there are as many receipts as entries, where a close
-//! succeeds, is told by 'Why the count is known at the close' in docs/ARCHITECTURE.md.
+//! succeeds, is told by 'Why the count is known at the close' in docs/inside/ARCHITECTURE.md.
 //!
 //! **Why nothing is refused between an entry and its receipt.** A session makes room for the receipt, and copies the
 //! state of a vertex to be made, before it takes the lock ([`Session::make_room`]); the reply moves into the receipt.

@@ -1,5 +1,5 @@
 //! The value behind the lock, and what each call does to it.
-ghost use Rattle.std.specs.Prelude.{◌≡◌, ◌≢◌, ◌⊎◌, ◌<◌, ◌≤◌, ◌+◌, ◌^◌, ℕ, [], Err, false, true, IfOk, IfErr, IsErrAnd, OnOk, OnErr, drop, length};
+ghost use Rattle.std.specs.Prelude.{◌≡◌, ◌≢◌, ◌<◌, ◌≤◌, ◌+◌, ◌^◌, ℕ, [], Err, true, IfOk, IfErr, OnOk, OnErr, drop, length, max, min};
 ghost use Rattle.std.specs.List.{All};
 ghost use Rattle.tg_subjects.specs.Subjects.{AreSubjects, names_of};
 ghost use Rattle.tg_shared.specs.Sessions.{AreFresh};
@@ -52,33 +52,25 @@ impl<L: Round, P: Payload> Model for Locked<L, P> {
 }
 
 impl<L: Round, P: Payload> Locked<L, P> {
-    ghost use Rattle.tg_model.specs.Graph.{ProtectionGraph, IsSubject};
-    ghost use Rattle.tg_model.specs.declared.opening.TheConstants.{MAX_WORKERS};
+    ghost use Rattle.tg_model.specs.Graph.{ProtectionGraph};
     ghost use Rattle.tg_could.specs.Reached.{IsReachedPicture};
     ghost use Rattle.tg_store.specs.Held.{IsHeldOver};
     ghost use Rattle.tg_store.specs.Made.{MayRefuse};
     ghost use Rattle.tg_store.specs.Room.{LacksRoomToCollect};
-    ghost use Rattle.tg_store.specs.Store.{IsFaithful, StandsFor};
-    ghost use Rattle.tg_passes.specs.declared.signed.Maker.TheVariants as maker;
-    ghost use Rattle.tg_passes.specs.Passes.{Sees, entries_by};
-    ghost use Rattle.tg_shared.specs.Serving.{Collects, EndsWorker, HasNoted, HasNotedEnd, IsMadeAndNoted, KeepsNumbers, KeepsRound, NotesLeaving, NotesRefusal, ServesCommand};
-    ghost use Rattle.tg_shared.specs.Sessions.{AreFresh, GoesOn, HasGrownBy, IsFresh, MayNote, MayShare, keeper_knowledge, knowledge, sessions_made, subjects_at};
+    ghost use Rattle.tg_store.specs.Store.{StandsFor};
+    ghost use Rattle.tg_passes.specs.Passes.{Sees};
+    ghost use Rattle.tg_shared.specs.Serving.{Collects, EndsWorker, HasNoted, HasNotedEnd, IsLookedAt, IsMadeAndNoted, IsSpawnedAndNoted, KeepsNumbers, KeepsRound, NotesLeaving, NotesRefusal, RefusesCrowd, ServesCommand};
+    ghost use Rattle.tg_shared.specs.Sessions.{AreFresh, HoldsWhenFree, MayNote, MayShare, held_after, keeper_knowledge, knowledge};
 
-    /// The store. What holds whenever the lock is free is told here: the store's own promise, that its journal is a
-    /// legal history of its opening and its heap stands for the graph after it; and it is the store that was shared,
-    /// gone on: with its opening and its limits, with all entries from before, and with exactly those since that the
-    /// roll has (`grown_by`). One session was made for each subject that it had then, and one for each that was made
-    /// since. No worker was ended if its start lets nobody.
+    /// The store, and what holds whenever the lock is free (`held`). The store keeps its own promise: its journal is a
+    /// legal history of its opening, and its heap stands for the graph after it. It is the store that was shared, gone
+    /// on: with its opening and its limits, with all entries from before, and with exactly those since that the roll
+    /// has (`grown_by`). One session was made for each subject that it had then, and one for each that was made since.
+    /// No worker was ended if its start lets nobody.
     pub fn store(&self) -> &Store<P>
         ensures same { result.now ≡ self.now.store }
-        ensures faithful { IsFaithful self.now.store }
-        ensures gone_on { GoesOn L.start self.now.store }
-        ensures grown_by { HasGrownBy L.start self.now.store self.now.signed }
-        ensures entered { self.now.entered ≡ length (entries_by maker.Keeper self.now.signed) }
+        ensures held { HoldsWhenFree L.start self.now }
         ensures grown { length L.start.entries ≤ length self.now.store.entries }
-        ensures sessions { self.now.sessions ≡ sessions_made L.start self.now.store.entries }
-        ensures started { length (subjects_at L.start) ≤ self.now.sessions }
-        ensures none_ended { L.start.may_end ≡ false → self.now.entered ≡ 0 }
     {
         // It tells that the store is faithful.
         let _ = self.store.journal();
@@ -102,24 +94,24 @@ impl<L: Round, P: Payload> Locked<L, P> {
 
     /// The keeper looks at all entries since the start, and has then seen them. It is otherwise as it was, and so is
     /// what is behind the lock. The entries that the keeper made are exactly the keeper's among all, which begin with
-    /// those that it had seen (`sees`). The store holds its entries from the place on at which the keeper's last part
-    /// ended.
+    /// those that it had seen (`sees`). What holds whenever the lock is free is shown too (`held`). The store holds its
+    /// entries from the place on at which the keeper's last part ended.
     pub fn tell(&mut self, keeper: &mut Keeper<L>)
-        ensures sees { Sees self.old.signed (keeper_knowledge keeper.old) }
+        ensures looks { IsLookedAt L.start self.old self.new (keeper_knowledge keeper.old) }
         ensures next { keeper.old.next ≡ self.old.store.handed }
-        ensures same { self.new ≡ self.old }
         ensures keeper { keeper.new ≡ record keeper.old { seen = self.old.signed } }
     {
+        // It shows that the store is faithful.
+        let _ = self.store.journal();
         self.register.roll.look(&mut keeper.pass);
         self.handed.tell(&mut keeper.next);
     }
 
     /// The session looks at all entries since the start, and has then seen them. It is otherwise as it was, and so is
     /// what is behind the lock. The entries that its own calls made are exactly its own among all, which begin with
-    /// those that it had seen (`sees`).
+    /// those that it had seen (`sees`). What holds whenever the lock is free is shown too (`held`).
     pub fn look(&mut self, session: &mut Session<L>)
-        ensures sees { Sees self.old.signed (knowledge session.old) }
-        ensures same { self.new ≡ self.old }
+        ensures looks { IsLookedAt L.start self.old self.new (knowledge session.old) }
         ensures session { session.new ≡ record session.old { seen = self.old.signed } }
     {
         // It shows that the store is faithful, so who was gone stays so.
@@ -233,13 +225,10 @@ impl<L: Round, P: Payload> Locked<L, P> {
         draft: Draft<P>,
     ) -> Result<Session<L>, CreateRefused<P>>
         requires notable { MayNote session.old draft.state }
-        ensures served { IfOk result (λ fresh. IsFresh fresh × IsMadeAndNoted (Deed.Spawn label draft.law draft.state) label draft self.old.store self.new.store session.old session.new fresh.worker) }
+        ensures served { IfOk result (IsSpawnedAndNoted label draft self.old.store self.new.store session.old session.new) }
         ensures refusals { MayRefuse (Deed.Spawn label draft.law draft.state) session.old.worker draft self.old.store self.new.store result }
         ensures noted { NotesRefusal (Deed.Spawn label draft.law draft.state) self.old.store self.new.store session.old session.new result }
-        ensures too_many { (g : ProtectionGraph) → StandsFor self.old.store g → IfErr result (λ refused. refused.why ≡ CreateFault.WorkersFull →
-            IsSubject g session.old.worker × (g.made < g.limit) × (MAX_WORKERS ≤ length g.subjects)) }
-        ensures crowded { (g : ProtectionGraph) → StandsFor self.old.store g → IsSubject g session.old.worker → g.made < g.limit → MAX_WORKERS ≤ length g.subjects →
-            IsErrAnd result (λ refused. (refused.why ≡ CreateFault.WorkersFull) ⊎ (refused.why ≡ CreateFault.OutOfMemory)) }
+        ensures crowded { RefusesCrowd session.old.worker self.old.store result }
         ensures one_more { OnOk result (self.new.sessions ≡ self.old.sessions + 1) }
         ensures no_more_sessions { OnErr result (self.new.sessions ≡ self.old.sessions) }
         ensures entered { self.new.entered ≡ self.old.entered }
@@ -352,6 +341,21 @@ impl<L: Round, P: Payload> Locked<L, P> {
         journal
     }
 
+    /// Gives up the entries before a place, by one call of the store, where it was shared so as to be handed out in
+    /// parts. They count as handed out to the keeper, and the journal keeps their room. All entries are given up if the
+    /// place is after the last one, and none if they were all handed out before. No session is touched.
+    pub fn forget(&mut self, keeper: &mut Keeper<L>, upto: u64)
+        requires in_parts { L.start.in_parts ≡ true }
+        ensures joined { keeper.old.next ≡ self.old.store.handed }
+        ensures keeper { keeper.new ≡ record keeper.old { next = held_after upto self.old.store } }
+        ensures forgotten { self.new ≡ record self.old { store = record self.old.store { handed = held_after upto self.old.store } } }
+    {
+        let start = self.store.journal().start();
+        let upto = place_held(self.store.journal(), upto);
+        self.store.forget(upto);
+        self.handed.raise(&mut keeper.next, upto - start);
+    }
+
     /// Collects the heap, by one call of the store. The journal stays as it is, and no session is touched.
     pub fn collect(&mut self, kind: Kind) -> Result<u64, RoomFault>
         ensures collected { Collects kind 0 self.old self.new result }
@@ -366,6 +370,13 @@ fn deed_of(command: &Command) -> Deed
     ensures { result ≡ Deed.Plain command.now }
 {
     Deed::Plain(*command)
+}
+
+// The place from which on a journal holds its entries, after those before this one are given up.
+fn place_held(journal: &Journal, upto: u64) -> u64
+    ensures { result ≡ max journal.now.start (min upto (length journal.now.entries)) }
+{
+    upto.min(journal.len()).max(journal.start())
 }
 
 // The entries of a journal from a place on.

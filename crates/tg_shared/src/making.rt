@@ -1,11 +1,8 @@
 //! A vertex made for a session, and the receipt of what was entered of it.
-ghost use Rattle.std.specs.Prelude.{◌≡◌, ◌⊎◌, ◌<◌, ◌≤◌, ◌+◌, ◌∷◌, [], Some, None, IfOk, IfErr, IsErrAnd, length};
-ghost use Rattle.tg_model.specs.Graph.{ProtectionGraph, IsSubject};
-ghost use Rattle.tg_model.specs.declared.opening.TheConstants.{MAX_WORKERS};
+ghost use Rattle.std.specs.Prelude.{◌≡◌, ◌+◌, Some, None, IfOk, IfErr};
 ghost use Rattle.tg_store.specs.Made.{IsMadeFor, MayRefuse};
 ghost use Rattle.tg_model.specs.Making.{deed_making};
-ghost use Rattle.tg_store.specs.Store.{StandsFor};
-ghost use Rattle.tg_shared.specs.Serving.{Signs};
+ghost use Rattle.tg_shared.specs.Serving.{RefusesCrowd, SignsDeed};
 ghost use Rattle.tg_shared.specs.Sessions.{MayNote, Records, RecordsNothing, StaysOut, reply_entered, reply_made};
 
 use crate::round::{Register, Round};
@@ -30,13 +27,11 @@ pub(crate) fn make<L: Round, P: Payload>(
     requires out { StaysOut L.start store.old register.old.roll.signed session.old }
     ensures made { IfOk result (IsMadeFor (deed_making kind label draft) session.old.worker label draft store.old store.new) }
     ensures refusals { MayRefuse (deed_making kind label draft) session.old.worker draft store.old store.new result }
-    ensures too_many { (g : ProtectionGraph) → StandsFor store.old g → IfErr result (λ refused. refused.why ≡ CreateFault.WorkersFull →
-        (kind ≡ Making.Subject) × IsSubject g session.old.worker × (g.made < g.limit) × (MAX_WORKERS ≤ length g.subjects)) }
-    ensures crowded { kind ≡ Making.Subject → (g : ProtectionGraph) → StandsFor store.old g → IsSubject g session.old.worker → g.made < g.limit → MAX_WORKERS ≤ length g.subjects →
-        IsErrAnd result (λ refused. (refused.why ≡ CreateFault.WorkersFull) ⊎ (refused.why ≡ CreateFault.OutOfMemory)) }
+    ensures too_many { IfErr result (λ refused. refused.why ≡ CreateFault.WorkersFull → kind ≡ Making.Subject) }
+    ensures crowded { kind ≡ Making.Subject → RefusesCrowd session.old.worker store.old result }
     ensures noted { (reply : Reply) → reply_made result ≡ Some reply → Records store.old store.new session.old session.new (deed_making kind label draft) reply × (register.new.book.total ≡ register.old.book.total + 1) }
     ensures signed { (reply : Reply) → reply_made result ≡ Some reply →
-        Signs register.old.roll register.new.roll session.old session.new (record { worker = session.old.worker; deed = deed_making kind label draft; reply = reply } ∷ []) }
+        SignsDeed register.old.roll register.new.roll session.old session.new (deed_making kind label draft) reply }
     ensures same_heap { IfErr result (λ refused. (reply : Reply) → reply_entered refused.why ≡ Some reply → store.new.heap ≡ store.old.heap) }
     ensures nothing { reply_made result ≡ None → RecordsNothing store.old store.new session.old session.new × (register.new ≡ register.old) }
 {

@@ -1,13 +1,11 @@
 //! The store behind its lock, from sharing it to closing it.
-ghost use Rattle.std.specs.Prelude.{◌≡◌, ◌<◌, ◌≤◌, ◌+◌, List, [], false, IfOk, IfErr, IsErrAnd, OnOk, drop, length};
+ghost use Rattle.std.specs.Prelude.{◌≡◌, ◌≤◌, ◌+◌, List, [], false, IfOk, IfErr, length};
 ghost use Rattle.std.specs.List.{All};
 ghost use Rattle.std.specs.List.Sorted.{IsPermutation};
-ghost use Rattle.tg_store.specs.Store.{IsFaithful};
-ghost use Rattle.tg_passes.specs.declared.signed.Maker.TheVariants as maker;
 ghost use Rattle.tg_passes.specs.declared.signed.Signed.{Signed};
-ghost use Rattle.tg_passes.specs.Passes.{Sees, entries_by};
-ghost use Rattle.tg_shared.specs.Closing.{IsGivenBack, IsSignedBy};
-ghost use Rattle.tg_shared.specs.Sessions.{AreFresh, AreSharedOut, AtSome, GoesOn, HasAll, HasAllUnlessEnded, HasGrownBy, MayClose, count_of, handed_of, held_from, keeper_knowledge, parts_of, sessions_made, since, subjects_at};
+ghost use Rattle.tg_passes.specs.Passes.{Sees};
+ghost use Rattle.tg_shared.specs.Closing.{ClosesAll, IsGivenBack, IsSignedBy, MismatchAtSome};
+ghost use Rattle.tg_shared.specs.Sessions.{AreFresh, AreSharedOut, CountsAll, HasAll, HasAllUnlessEnded, HoldsWhenFree, SharesOut, count_of, handed_of, keeper_knowledge, parts_of, sessions_made, since};
 
 use crate::closing::{CloseFault, LockedRefused};
 use crate::keeper::Keeper;
@@ -15,9 +13,17 @@ use crate::locked::Locked;
 use crate::round::{Blanks, Round};
 use crate::session::Session;
 use std::alloc::Global;
-use std::sync::Mutex;
+use std::hint::spin_loop;
+use std::sync::{Mutex, MutexGuard, Wait};
 use tg_payload::Payload;
 use tg_store::Store;
+
+// How often a call tries the lock before it waits for it, and how many pauses are between two tries: 16,000 pauses at
+// most, which take under a millisecond. A command holds the lock for less than a microsecond, so a try mostly succeeds,
+// and no thread goes to sleep. While the lock is held for long, a thread that waits for it sleeps.
+const TRIES: u32 = 2_000;
+
+const PAUSES: u32 = 8;
 
 /// A store behind a lock, which many threads use through their sessions.
 #[derive(Drop)]
@@ -82,16 +88,23 @@ impl<L: Round, P: Payload> SharedStore<L, P> {
         }
     }
 
+    // Takes the lock, which each call of a session or of the keeper does. The lock is tried for a while before the
+    // thread sleeps.
+    pub(crate) fn lock<R: Wait>(&self, rt: &R) -> MutexGuard<'_, Locked<L, P>> {
+        for _ in 0..TRIES {
+            if let Some(locked) = self.locked.try_lock() {
+                return locked;
+            }
+            pause();
+        }
+        self.locked.lock(rt)
+    }
+
     /// What was behind the lock, for a caller who wants to name it: [`Locked::close`] then tells exactly whether the
-    /// round ends. It is the store that was shared, gone on. Takes no memory, and no lock is waited for.
+    /// round ends. What holds whenever the lock is free holds of it (`held`), as of [`Locked::store`]. Takes no memory,
+    /// and no lock is waited for.
     pub fn into_locked(self) -> Locked<L, P>
-        ensures faithful { IsFaithful result.store }
-        ensures gone_on { GoesOn L.start result.store }
-        ensures grown_by { HasGrownBy L.start result.store result.signed }
-        ensures sessions { result.sessions ≡ sessions_made L.start result.store.entries }
-        ensures started { length (subjects_at L.start) ≤ result.sessions }
-        ensures entered { result.entered ≡ length (entries_by maker.Keeper result.signed) }
-        ensures none_ended { L.start.may_end ≡ false → result.entered ≡ 0 }
+        ensures held { HoldsWhenFree L.start result }
     {
         let SharedStore { locked } = self;
         let locked = locked.into_inner();
@@ -105,11 +118,7 @@ impl<L: Round, P: Payload> SharedStore<L, P> {
     /// and the store holds its entries from that place on at which the keeper's last part ended. The keeper has then
     /// seen all entries, and is otherwise as it was.
     pub fn into_locked_with(self, keeper: &mut Keeper<L>) -> Locked<L, P>
-        ensures faithful { IsFaithful result.store }
-        ensures gone_on { GoesOn L.start result.store }
-        ensures grown_by { HasGrownBy L.start result.store result.signed }
-        ensures sessions { result.sessions ≡ sessions_made L.start result.store.entries }
-        ensures started { length (subjects_at L.start) ≤ result.sessions }
+        ensures held { HoldsWhenFree L.start result }
         ensures entered { result.entered ≡ length keeper.old.made }
         ensures sees { Sees result.signed (keeper_knowledge keeper.old) }
         ensures held_from { result.store.handed ≡ keeper.old.next }
@@ -136,7 +145,7 @@ impl<L: Round, P: Payload> SharedStore<L, P> {
 /// the sessions may be in another order. Takes no memory, for n sessions time as n log n, and no lock is waited for.
 ///
 /// Of a store that was shared whole no session can hand out a receipt. So that each entry made since stands in exactly
-/// one receipt (`whole`) has no other condition there than that the keeper may end no worker.
+/// one receipt (`whole` of `shared_out`) has no other condition there than that the keeper may end no worker.
 ///
 /// Where the keeper may end workers, the journal may have grown by more than there are receipts: by what the keeper
 /// entered for them. [`close_with`] tells how much that is.
@@ -152,27 +161,15 @@ pub fn close<L: Round, P: Payload>(
     sessions: Vec<Session<L>>,
 ) -> Result<Store<P>, CloseRefused<L, P>>
     ensures back { IfOk result (IsGivenBack L.start sessions.items) }
-    ensures count { L.start.may_end ≡ false → IfOk result (λ store. length store.entries ≡ length L.start.entries + handed_of sessions.items + count_of sessions.items) }
-    ensures shared_out { L.start.may_end ≡ false → IfOk result (λ store. length L.start.entries + handed_of sessions.items ≡ held_from L.start store →
-        AreSharedOut (drop (held_from L.start store) store.entries) sessions.items) }
-    ensures none_handed { L.start.may_end ≡ false → IfOk result (λ store. handed_of sessions.items ≡ 0 → held_from L.start store ≡ length L.start.entries) }
-    ensures whole { L.start.in_parts ≡ false → L.start.may_end ≡ false → IfOk result (λ store. AreSharedOut (drop (length L.start.entries) store.entries) sessions.items) }
+    ensures count { L.start.may_end ≡ false → IfOk result (CountsAll L.start sessions.items) }
+    ensures shared_out { L.start.may_end ≡ false → IfOk result (λ store. SharesOut L.start store sessions.items) }
     ensures single { L.start.may_end ≡ false → IfOk result (λ store. All (HasAll (since L.start store)) sessions.items) }
     ensures signed { IfOk result (λ store. (signed : List Signed) × IsSignedBy L.start store sessions.items signed) }
-    ensures all { IfOk result (λ store. parts_of sessions.items ≡ sessions_made L.start store.entries) }
-    ensures missing { IfErr result (λ refused. refused.why ≡ CloseFault.SessionsMissing → AtSome L.start (λ s. parts_of sessions.items < sessions_made L.start s.entries)) }
-    ensures too_few { parts_of sessions.items < length (subjects_at L.start) → IsErrAnd result (λ refused. refused.why ≡ CloseFault.SessionsMissing) }
-    ensures mismatch { IfErr result (λ refused. refused.why ≡ CloseFault.ReceiptMismatch → AtSome L.start (λ s.
-        (length L.start.entries + count_of sessions.items ≤ length s.entries) × (¬ MayClose s.entries (held_from L.start s) sessions.items))) }
-    ensures handed_back { IfErr result (λ refused. IsPermutation sessions.items refused.sessions.items) }
+    ensures closes { ClosesAll L.start (length L.start.entries) sessions.items result }
 {
     let locked = store.into_locked();
     match locked.close(sessions) {
-        Ok(store) => {
-            // It tells that the store is faithful.
-            let _ = store.journal();
-            Ok(store)
-        }
+        Ok(store) => Ok(store),
         Err(refused) => Err(back_behind_its_lock(refused)),
     }
 }
@@ -195,26 +192,17 @@ pub fn close_with<L: Round, P: Payload>(
 ) -> Result<Store<P>, CloseRefused<L, P>>
     ensures back { IfOk result (IsGivenBack L.start sessions.items) }
     ensures count { IfOk result (λ store. length store.entries ≡ length L.start.entries + length keeper.old.made + handed_of sessions.items + count_of sessions.items) }
-    ensures whole { L.start.in_parts ≡ false → keeper.old.made ≡ [] → IfOk result (λ store. AreSharedOut (drop (length L.start.entries) store.entries) sessions.items) }
+    ensures whole { L.start.in_parts ≡ false → keeper.old.made ≡ [] → IfOk result (λ store. AreSharedOut (since L.start store) sessions.items) }
     ensures held_from { IfOk result (λ store. store.handed ≡ keeper.old.next) }
     ensures none_ended { L.start.may_end ≡ false → keeper.old.made ≡ [] }
     ensures single { IfOk result (λ store. All (HasAllUnlessEnded keeper.old.made (since L.start store)) sessions.items) }
-    ensures signed { IfOk result (λ store. (signed : List Signed) × IsSignedBy L.start store sessions.items signed × Sees signed (keeper_knowledge keeper.old) × (keeper.new.seen ≡ signed)) }
-    ensures all { IfOk result (λ store. parts_of sessions.items ≡ sessions_made L.start store.entries) }
-    ensures missing { IfErr result (λ refused. refused.why ≡ CloseFault.SessionsMissing → AtSome L.start (λ s. parts_of sessions.items < sessions_made L.start s.entries)) }
-    ensures too_few { parts_of sessions.items < length (subjects_at L.start) → IsErrAnd result (λ refused. refused.why ≡ CloseFault.SessionsMissing) }
-    ensures mismatch { IfErr result (λ refused. refused.why ≡ CloseFault.ReceiptMismatch → AtSome L.start (λ s.
-        (length L.start.entries + length keeper.old.made + count_of sessions.items ≤ length s.entries) × (¬ MayClose s.entries (held_from L.start s) sessions.items))) }
-    ensures handed_back { IfErr result (λ refused. IsPermutation sessions.items refused.sessions.items) }
+    ensures signed { IfOk result (λ store. IsSignedBy L.start store sessions.items keeper.new.seen × Sees keeper.new.seen (keeper_knowledge keeper.old)) }
+    ensures closes { ClosesAll L.start (length L.start.entries + length keeper.old.made) sessions.items result }
     ensures keeper { keeper.new ≡ record keeper.old { seen = keeper.new.seen } }
 {
     let locked = store.into_locked_with(keeper);
     match locked.close(sessions) {
-        Ok(store) => {
-            // It tells that the store is faithful.
-            let _ = store.journal();
-            Ok(store)
-        }
+        Ok(store) => Ok(store),
         Err(refused) => Err(back_behind_its_lock(refused)),
     }
 }
@@ -234,22 +222,23 @@ pub fn reclaim<L: Round, P: Payload>(
 ) -> Result<Store<P>, CloseRefused<L, P>>
     ensures back { IfOk result (IsGivenBack L.start sessions.items) }
     ensures within { IfOk result (λ store. parts_of sessions.items ≤ sessions_made L.start store.entries) }
-    ensures count { L.start.may_end ≡ false → IfOk result (λ store. parts_of sessions.items ≡ sessions_made L.start store.entries →
-        length store.entries ≡ length L.start.entries + handed_of sessions.items + count_of sessions.items) }
+    ensures count { L.start.may_end ≡ false → IfOk result (λ store. parts_of sessions.items ≡ sessions_made L.start store.entries → CountsAll L.start sessions.items store) }
     ensures single { L.start.may_end ≡ false → IfOk result (λ store. All (HasAll (since L.start store)) sessions.items) }
     ensures signed { IfOk result (λ store. (signed : List Signed) × IsSignedBy L.start store sessions.items signed) }
-    ensures mismatch { IfErr result (λ refused. (refused.why ≡ CloseFault.ReceiptMismatch) × AtSome L.start (λ s.
-        (length L.start.entries + count_of sessions.items ≤ length s.entries) × (¬ MayClose s.entries (held_from L.start s) sessions.items))) }
+    ensures mismatch { IfErr result (λ refused. (refused.why ≡ CloseFault.ReceiptMismatch) × MismatchAtSome L.start (length L.start.entries) sessions.items) }
     ensures handed_back { IfErr result (λ refused. IsPermutation sessions.items refused.sessions.items) }
 {
     let locked = store.into_locked();
     match locked.reclaim(sessions) {
-        Ok(store) => {
-            // It tells that the store is faithful.
-            let _ = store.journal();
-            Ok(store)
-        }
+        Ok(store) => Ok(store),
         Err(refused) => Err(back_behind_its_lock(refused)),
+    }
+}
+
+// Lets the processor pause between two tries of the lock.
+fn pause() {
+    for _ in 0..PAUSES {
+        spin_loop();
     }
 }
 

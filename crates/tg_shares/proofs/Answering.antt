@@ -16,7 +16,7 @@ use Rattle.tg_shared.specs.Sessions.{AtSeen, HasLooked, LockedState, RecordsNoth
 use Rattle.tg_shared.proofs.Calls.{found_with}
 use Rattle.tg_shared.proofs.Replies.{IsReady, refused_ready}
 use Rattle.tg_shares.specs.declared.fault.LeaveFault.{LeaveFault}
-use Rattle.tg_shares.specs.declared.fault.LeaveFault.TheVariants.{Share, Store}
+use Rattle.tg_shares.specs.declared.fault.LeaveFault.TheVariants.{Share}
 use Rattle.tg_shares.specs.declared.fault.ShareFault.{ShareFault}
 use Rattle.tg_shares.specs.declared.fault.Lack.TheVariants.{Entries}
 use Rattle.tg_shares.specs.declared.purse.Portion.{Portion}

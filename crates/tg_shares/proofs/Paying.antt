@@ -1,5 +1,5 @@
 -- What a call makes of the vertices that are paid for, and that there is a name for who can pay.
-use Rattle.std.specs.Prelude.{IfErr, IfOk, OnErr, OnOk}
+use Rattle.std.specs.Prelude.{IfOk, OnErr}
 use Rattle.std.proofs.Common.{◌≡◌, ◌≢◌, refl, sym, subst, ℕ, ◌+◌, ◌<◌, ◌≤◌, Result, Ok, Err, ◌∙◌, ap, arith, length, length-append}
 use Rattle.tg_model.specs.declared.command.Command.{Command}
 use Rattle.tg_model.specs.declared.command.Deed.{Deed}
@@ -19,11 +19,8 @@ use Rattle.tg_store.specs.declared.fault.ApplyFault.{ApplyFault}
 use Rattle.tg_store.specs.declared.fault.CreateFault.{CreateFault}
 use Rattle.tg_store.specs.declared.fault.CreateFault.TheVariants as fault
 use Rattle.tg_shared.specs.Serving.{EndsWorker}
-use Rattle.tg_shared.specs.Sessions.{LockedState, Records, RecordsNothing, SessionState}
+use Rattle.tg_shared.specs.Sessions.{LockedState}
 use Rattle.tg_shared.proofs.Leavings.{length_leaving}
-use Rattle.tg_shares.specs.declared.fault.LeaveFault.{LeaveFault}
-use Rattle.tg_shares.specs.declared.fault.LeaveFault.TheVariants.{Share}
-use Rattle.tg_shares.specs.declared.fault.ShareFault.{ShareFault}
 use Rattle.tg_shares.specs.declared.purse.Portion.{Portion}
 use Rattle.tg_shares.specs.Shares.{IsCovered, one_entry, one_vertex}
 use Rattle.tg_shares.specs.Tills.{ArePaid, TakesIn, TillState}
@@ -55,14 +52,6 @@ covered_command left old new worker command reply held entry opening =
     let limit = limit_kept old new opening in
     omega (arith, grows, none, limit, held)
 
--- nor does one that is refused
-pub covered_applied : {T E : Type 0} (r : Result T E) (left : ℕ) (old new : StoreState) (command : Command) (reply : Reply) (before after : SessionState) → IsCovered left old
-    → OnOk r (Records old new before after (Plain command) reply) → OnErr r (RecordsNothing old new before after) → new.opening ≡ old.opening → IsCovered left new
-covered_applied (Ok t) left old new command reply before after held entry refused opening =
-    covered_command left old new before.worker command reply held entry.entry opening
-covered_applied (Err e) left old new command reply before after held entry refused opening =
-    covered_alike left old new held opening refused.0.entries
-
 -- any deed makes one at most, and that was paid
 pub covered_one : (left next : ℕ) (old new : StoreState) (worker : ℕ) (deed : Deed) (reply : Reply) → IsCovered left old
     → Enters old new worker deed reply → new.opening ≡ old.opening → next + 1 ≡ left → IsCovered next new
@@ -77,11 +66,6 @@ pub name_left : (left vertices : ℕ) (s : StoreState) → IsCovered left s → 
 name_left left vertices s held some within full =
     let limit : (graph_of_store s).limit ≡ s.opening.limit = graph_after-limit (start_of s.opening) s.entries in
     omega (arith, limit, held, some, within, full)
-
--- what is said of the share's fault that is there
-pub share_told : {T : Type 0} (r : Result T LeaveFault) (Q : ShareFault → Type 0) → ((fault : ShareFault) → r ≡ Err (Share fault) → Q fault) → IfErr r (λ why. (fault : ShareFault) → why ≡ Share fault → Q fault)
-share_told (Ok t) Q told = tt
-share_told (Err why) Q told = λ fault is. told fault (ap Err is)
 
 -- ---- entries
 

@@ -1,12 +1,9 @@
 //! Who has a session and pays for its calls.
 ghost use Rattle.std.specs.Prelude.{◌≡◌, ◌≢◌, ◌<◌, ◌+◌, Err, IfErr, IfOk, IsErrAnd, OnErr, OnOk, true, false};
-ghost use Rattle.tg_model.specs.Graph.{IsSubject};
 ghost use Rattle.tg_model.specs.declared.command.Deed.TheVariants.{Create, Plain, Spawn};
 ghost use Rattle.tg_model.specs.declared.reply.Reply.TheVariants.{Name, WorkersFull};
-ghost use Rattle.tg_store.specs.Held.{IsHeldOver};
 ghost use Rattle.tg_store.specs.Room.{LacksRoomToCollect};
-ghost use Rattle.tg_store.specs.Store.{graph_of_store};
-ghost use Rattle.tg_shared.specs.Sessions.{AtSeen, HasLeftAtSeen, HasLooked, IsAnswered, IsFresh, LeavesAtSeen, MayRefuseAtSeen, RefusesCall};
+ghost use Rattle.tg_shared.specs.Sessions.{AtSeen, HasLeftAtSeen, HasLooked, IsAnswered, IsFresh, IsHeldAtSeen, IsNobodyAtSeen, LeavesAtSeen, MayRefuseAtSeen, OnlyLooked, RefusesCall};
 ghost use Rattle.tg_shares.specs.declared.fault.ShareFault.{ShareFault as ShareFaultOf};
 ghost use Rattle.tg_shares.specs.Shares.{CanPayForVertex, IsAnsweredSomehow, LacksToLeaveAtSeen, Pays, PaysFor, PaysForSpawn, entries_alone, one_entry, one_vertex};
 
@@ -53,11 +50,10 @@ impl<L: Round, V: Ledger, E: Ledger> Client<L, V, E> {
         }
         self.session.make_room(&[])?;
         let mut metered = store.metered.lock(rt);
-        // for what holds of it: the shared store, gone on, all of whose entries the session has then seen
+        // It shows what holds of the store, all of whose entries the session has then seen.
         metered.look(self);
-        let _ = metered.store();
         let answered = metered.apply(self, command);
-        // and that the new entry is legal
+        // It shows that the new entry is legal.
         let _ = metered.store();
         answered
     }
@@ -88,11 +84,10 @@ impl<L: Round, V: Ledger, E: Ledger> Client<L, V, E> {
             return Err(CreateRefused { draft, why });
         }
         let mut metered = store.metered.lock(rt);
-        // for what holds of it: the shared store, gone on, all of whose entries the session has then seen
+        // It shows what holds of the store, all of whose entries the session has then seen.
         metered.look(self);
-        let _ = metered.store();
         let created = metered.create(self, label, draft);
-        // and of the one that is left
+        // It shows what holds of the store that is left.
         let _ = metered.store();
         created
     }
@@ -129,11 +124,10 @@ impl<L: Round, V: Ledger, E: Ledger> Client<L, V, E> {
             return Err(CreateRefused { draft, why });
         }
         let mut metered = store.metered.lock(rt);
-        // for what holds of it: the shared store, gone on, all of whose entries the session has then seen
+        // It shows what holds of the store, all of whose entries the session has then seen.
         metered.look(self);
-        let _ = metered.store();
         let spawned = metered.spawn(self, label, draft);
-        // and of the one that is left
+        // It shows what holds of the store that is left.
         let _ = metered.store();
         spawned
     }
@@ -155,7 +149,7 @@ impl<L: Round, V: Ledger, E: Ledger> Client<L, V, E> {
         ensures paid { IfOk result (λ count. Pays (entries_alone (count + 1)) self.old.purse self.new.purse) }
         ensures refused { OnErr result (HasLooked self.old.session self.new.session × (self.new.purse ≡ self.old.purse)) }
         ensures lacks { IfErr result (λ why. (fault : ShareFaultOf) → why ≡ LeaveFault.Share fault → LacksToLeaveAtSeen L.start self.new.session self.old.purse fault) }
-        ensures no_such_worker { IfErr result (λ why. why ≡ LeaveFault.Store ApplyFault.NoSuchWorker → AtSeen L.start self.new.session.seen (λ s. ¬ IsSubject (graph_of_store s) self.old.session.worker)) }
+        ensures no_such_worker { IfErr result (λ why. why ≡ LeaveFault.Store ApplyFault.NoSuchWorker → IsNobodyAtSeen L.start self.new.session.seen self.old.session.worker) }
         ensures never_full { result ≢ Err (LeaveFault.Store ApplyFault.HeapFull) }
         ensures retired { self.old.session.retired ≡ true → IsErrAnd result (λ why. why ≡ LeaveFault.Store ApplyFault.NoSuchWorker) }
     {
@@ -163,11 +157,10 @@ impl<L: Round, V: Ledger, E: Ledger> Client<L, V, E> {
             return Err(LeaveFault::Store(ApplyFault::NoSuchWorker));
         }
         let mut metered = store.metered.lock(rt);
-        // for what holds of it: the shared store, gone on, all of whose entries the session has then seen
+        // It shows what holds of the store, all of whose entries the session has then seen.
         metered.look(self);
-        let _ = metered.store();
         let left = metered.leave(self);
-        // and that the new entries are legal
+        // It shows that the new entries are legal.
         let _ = metered.store();
         left
     }
@@ -180,14 +173,13 @@ impl<L: Round, V: Ledger, E: Ledger> Client<L, V, E> {
         store: &MeteredStore<L, V, E, P>,
         target: u64,
     ) -> Option<Label>
-        ensures held { AtSeen L.start self.new.session.seen (λ s. IsHeldOver (graph_of_store s) self.old.session.worker target result) }
-        ensures looked { HasLooked self.old.session self.new.session }
-        ensures same { self.new ≡ record self.old { session = record self.old.session { seen = self.new.session.seen } } }
+        ensures held { IsHeldAtSeen L.start self.new.session.seen self.old.session.worker target result }
+        ensures looked { OnlyLooked self.old.session self.new.session }
+        ensures purse { self.new.purse ≡ self.old.purse }
     {
         let mut metered = store.metered.lock(rt);
-        // for what holds of it: the shared store, gone on, all of whose entries the session has then seen
+        // It shows what holds of the store, all of whose entries the session has then seen.
         metered.look(self);
-        let _ = metered.store();
         metered.label(self, target)
     }
 
@@ -201,15 +193,14 @@ impl<L: Round, V: Ledger, E: Ledger> Client<L, V, E> {
     ) -> Result<u64, RoomFault>
         ensures number { IfOk result (LeavesAtSeen L.start self.new.session.seen kind) }
         ensures full { IfErr result (λ why. why ≡ RoomFault.HeapFull → AtSeen L.start self.new.session.seen (λ s. LacksRoomToCollect kind 1 s.heap)) }
-        ensures looked { HasLooked self.old.session self.new.session }
-        ensures same { self.new ≡ record self.old { session = record self.old.session { seen = self.new.session.seen } } }
+        ensures looked { OnlyLooked self.old.session self.new.session }
+        ensures purse { self.new.purse ≡ self.old.purse }
     {
         let mut metered = store.metered.lock(rt);
-        // for what holds of it: the shared store, gone on, all of whose entries the session has then seen
+        // It shows what holds of the store, all of whose entries the session has then seen.
         metered.look(self);
-        let _ = metered.store();
         let left = metered.collect(kind);
-        // and of the one that is left
+        // It shows what holds of the store that is left.
         let _ = metered.store();
         left
     }

@@ -1,5 +1,5 @@
 //! What is behind the lock, and what each call does to it.
-ghost use Rattle.std.specs.Prelude.{◌≡◌, ◌≢◌, ◌<◌, ◌≤◌, ◌+◌, Err, IfOk, IfErr, OnErr, false, length, true};
+ghost use Rattle.std.specs.Prelude.{◌≡◌, ◌≢◌, ◌<◌, ◌≤◌, ◌+◌, Err, IfOk, IfErr, length, true};
 ghost use Rattle.tg_shares.specs.Shares.{IsCovered};
 ghost use Rattle.tg_shares.specs.Tills.{ArePaid};
 
@@ -43,11 +43,10 @@ impl<L: Round, V: Ledger, E: Ledger, P: Payload> Metered<L, V, E, P> {
     ghost use Rattle.tg_store.specs.Held.{IsHeldOver};
     ghost use Rattle.tg_store.specs.Made.{MayRefuse};
     ghost use Rattle.tg_store.specs.Room.{LacksRoomToCollect};
-    ghost use Rattle.tg_store.specs.Store.{IsFaithful, StandsFor};
-    ghost use Rattle.tg_passes.specs.declared.signed.Maker.TheVariants as maker;
-    ghost use Rattle.tg_passes.specs.Passes.{Sees, entries_by};
-    ghost use Rattle.tg_shared.specs.Serving.{Collects, EndsWorker, HasNoted, HasNotedEnd, IsMadeAndNoted, KeepsNumbers, KeepsRound, NotesRefusal, ServesCommand};
-    ghost use Rattle.tg_shared.specs.Sessions.{AreFresh, GoesOn, HasGrownBy, IsFresh, MayNote, MayShare, keeper_knowledge, knowledge, sessions_made, subjects_at};
+    ghost use Rattle.tg_store.specs.Store.{StandsFor};
+    ghost use Rattle.tg_passes.specs.Passes.{Sees};
+    ghost use Rattle.tg_shared.specs.Serving.{Collects, EndsWorker, HasNoted, HasNotedEnd, IsLookedAt, IsMadeAndNoted, IsSpawnedAndNoted, KeepsNumbers, KeepsRound, NotesRefusal, ServesCommand};
+    ghost use Rattle.tg_shared.specs.Sessions.{AreFresh, HoldsWhenFree, MayNote, MayShare, keeper_knowledge, knowledge};
     ghost use Rattle.tg_shares.specs.Shares.{CanPayForVertex, LeavesPaying, MayShareOut, PaysFor, PaysForSpawn, one_entry, one_vertex};
 
     /// Shares a store as [`Locked::open`] does, and hands out a purse with so many vertices and entries, which all are
@@ -85,13 +84,7 @@ impl<L: Round, V: Ledger, E: Ledger, P: Payload> Metered<L, V, E, P> {
     /// The locked store, without the shares, for who ends the round. Takes no memory.
     pub(crate) fn into_locked(self) -> Locked<L, P>
         ensures same { result ≡ self.locked }
-        ensures faithful { IsFaithful result.store }
-        ensures gone_on { GoesOn L.start result.store }
-        ensures grown_by { HasGrownBy L.start result.store result.signed }
-        ensures entered { result.entered ≡ length (entries_by maker.Keeper result.signed) }
-        ensures sessions { result.sessions ≡ sessions_made L.start result.store.entries }
-        ensures started { length (subjects_at L.start) ≤ result.sessions }
-        ensures none_ended { L.start.may_end ≡ false → result.entered ≡ 0 }
+        ensures held { HoldsWhenFree L.start result }
         ensures within { length result.store.entries ≤ length L.start.entries + result.entered + E.parts }
     {
         let Metered { locked, till } = self;
@@ -104,9 +97,7 @@ impl<L: Round, V: Ledger, E: Ledger, P: Payload> Metered<L, V, E, P> {
     /// The store: what holds whenever the lock is free is told here.
     pub(crate) fn store(&self) -> &Store<P>
         ensures same { result.now ≡ self.now.locked.store }
-        ensures faithful { IsFaithful self.now.locked.store }
-        ensures gone_on { GoesOn L.start self.now.locked.store }
-        ensures grown_by { HasGrownBy L.start self.now.locked.store self.now.locked.signed }
+        ensures held { HoldsWhenFree L.start self.now.locked }
     {
         self.locked.store()
     }
@@ -114,8 +105,7 @@ impl<L: Round, V: Ledger, E: Ledger, P: Payload> Metered<L, V, E, P> {
     /// The session looks at all entries since the start, by one call of [`Locked::look`], and has then seen them. All
     /// else stays as it is.
     pub(crate) fn look(&mut self, client: &mut Client<L, V, E>)
-        ensures sees { Sees self.old.locked.signed (knowledge client.old.session) }
-        ensures same { self.new.locked ≡ self.old.locked }
+        ensures looks { IsLookedAt L.start self.old.locked self.new.locked (knowledge client.old.session) }
         ensures session { client.new.session ≡ record client.old.session { seen = self.old.locked.signed } }
         ensures same_purse { client.new.purse ≡ client.old.purse }
     {
@@ -125,8 +115,7 @@ impl<L: Round, V: Ledger, E: Ledger, P: Payload> Metered<L, V, E, P> {
     /// The keeper looks at all entries since the start, by one call of [`Locked::tell`], and has then seen them. All
     /// else stays as it is.
     pub(crate) fn tell(&mut self, keeper: &mut Keeper<L>)
-        ensures sees { Sees self.old.locked.signed (keeper_knowledge keeper.old) }
-        ensures same { self.new.locked ≡ self.old.locked }
+        ensures looks { IsLookedAt L.start self.old.locked self.new.locked (keeper_knowledge keeper.old) }
         ensures keeper { keeper.new ≡ record keeper.old { seen = self.old.locked.signed } }
     {
         self.locked.tell(keeper);
@@ -198,7 +187,7 @@ impl<L: Round, V: Ledger, E: Ledger, P: Payload> Metered<L, V, E, P> {
     ) -> Result<Session<L>, CreateRefused<P>>
         requires notable { MayNote client.old.session draft.state }
         requires share { CanPayForVertex client.old.purse }
-        ensures served { IfOk result (λ fresh. IsFresh fresh × IsMadeAndNoted (Spawn label draft.law draft.state) label draft self.old.locked.store self.new.locked.store client.old.session client.new.session fresh.worker) }
+        ensures served { IfOk result (IsSpawnedAndNoted label draft self.old.locked.store self.new.locked.store client.old.session client.new.session) }
         ensures refusals { MayRefuse (Spawn label draft.law draft.state) client.old.session.worker draft self.old.locked.store self.new.locked.store result }
         ensures never_full { IfErr result (λ refused. refused.why ≢ CreateFault.VerticesFull) }
         ensures noted { NotesRefusal (Spawn label draft.law draft.state) self.old.locked.store self.new.locked.store client.old.session client.new.session result }

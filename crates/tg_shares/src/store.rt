@@ -1,10 +1,8 @@
 //! A store with shares behind its lock, from sharing it to having it back.
-ghost use Rattle.std.specs.Prelude.{◌≡◌, ◌≢◌, ◌≤◌, ◌+◌, false, true, Err, IfErr, IfOk, OnErr, length};
-ghost use Rattle.tg_model.specs.Graph.{IsSubject, ProtectionGraph};
-ghost use Rattle.tg_store.specs.Store.{IsFaithful, StandsFor, graph_of_store};
-ghost use Rattle.tg_shared.specs.Sessions.{AreFresh, AtSeen, GoesOn, HasEnded, HasGrownBy, KeeperLooked, MayShare, sessions_made, subjects_at};
-ghost use Rattle.tg_passes.specs.declared.signed.Maker.TheVariants as maker;
-ghost use Rattle.tg_passes.specs.Passes.{entries_by};
+ghost use Rattle.std.specs.Prelude.{◌≡◌, ◌≢◌, ◌≤◌, ◌+◌, true, Err, IfErr, IfOk, OnErr, length};
+ghost use Rattle.tg_model.specs.Graph.{ProtectionGraph};
+ghost use Rattle.tg_store.specs.Store.{StandsFor};
+ghost use Rattle.tg_shared.specs.Sessions.{AreFresh, AtSeen, HasEnded, HoldsWhenFree, IsNobodyAtSeen, KeeperLooked, MayShare};
 ghost use Rattle.tg_shares.specs.Shares.{MayShareOut};
 
 use crate::metered::{Metered, OpenedStore};
@@ -56,20 +54,24 @@ impl<L: Round, V: Ledger, E: Ledger, P: Payload> MeteredStore<L, V, E, P> {
         ensures purse { IfOk result (λ opened. opened.purse ≡ whole) }
         ensures handed_back { IfErr result (λ refused. refused ≡ store) }
     {
-        let OpenedStore {
-            metered,
-            sessions,
-            keeper,
-            purse,
-        } = Metered::open(alloc, blanks, parts, whole, store)?;
-        Ok(SharedOut {
-            store: MeteredStore {
-                metered: Mutex::new(metered),
-            },
-            sessions,
-            purse,
-            keeper,
-        })
+        match Metered::open(alloc, blanks, parts, whole, store) {
+            Ok(
+                OpenedStore {
+                    metered,
+                    sessions,
+                    keeper,
+                    purse,
+                },
+            ) => Ok(SharedOut {
+                store: MeteredStore {
+                    metered: Mutex::new(metered),
+                },
+                sessions,
+                purse,
+                keeper,
+            }),
+            Err(store) => Err(store),
+        }
     }
 
     /// Hands out the entries that the store behind the lock holds, as [`Keeper::take_journal`] does of a store without
@@ -84,9 +86,8 @@ impl<L: Round, V: Ledger, E: Ledger, P: Payload> MeteredStore<L, V, E, P> {
         ensures held { AtSeen L.start keeper.new.seen (λ s. (result.entries ≡ s.entries) × (result.start ≡ s.handed)) }
     {
         let mut metered = self.metered.lock(rt);
-        // for what holds of it: the shared store, gone on, all of whose entries the keeper has then seen
+        // It shows what holds of the store, all of whose entries the keeper has then seen.
         metered.tell(keeper);
-        let _ = metered.store();
         metered.take_journal(keeper)
     }
 
@@ -106,14 +107,14 @@ impl<L: Round, V: Ledger, E: Ledger, P: Payload> MeteredStore<L, V, E, P> {
         ensures ended { IfOk result (HasEnded L.start worker keeper.old keeper.new) }
         ensures entered { IfOk result (λ count. length keeper.new.made ≡ length keeper.old.made + (count + 1)) }
         ensures refused { OnErr result (KeeperLooked keeper.old keeper.new × (keeper.new.next ≡ keeper.old.next)) }
-        ensures no_such_worker { IfErr result (λ why. why ≡ ApplyFault.NoSuchWorker → AtSeen L.start keeper.new.seen (λ s. ¬ IsSubject (graph_of_store s) worker)) }
+        ensures no_such_worker { IfErr result (λ why. why ≡ ApplyFault.NoSuchWorker → IsNobodyAtSeen L.start keeper.new.seen worker) }
         ensures never_full { result ≢ Err ApplyFault.HeapFull }
     {
         let mut metered = self.metered.lock(rt);
-        // for what holds of it: the shared store, gone on
+        // It shows what holds of the store.
         let _ = metered.store();
         let ended = metered.end(keeper, worker);
-        // and of the one that is left
+        // It shows what holds of the store that is left.
         let _ = metered.store();
         ended
     }
@@ -123,13 +124,7 @@ impl<L: Round, V: Ledger, E: Ledger, P: Payload> MeteredStore<L, V, E, P> {
     /// [`Locked::reclaim`](tg_shared::Locked::reclaim) ends it if some are lost. All clients together have made no more
     /// entries than the first purse had (`within`). Takes no memory, and no lock is waited for.
     pub fn into_locked(self) -> Locked<L, P>
-        ensures faithful { IsFaithful result.store }
-        ensures gone_on { GoesOn L.start result.store }
-        ensures grown_by { HasGrownBy L.start result.store result.signed }
-        ensures entered { result.entered ≡ length (entries_by maker.Keeper result.signed) }
-        ensures sessions { result.sessions ≡ sessions_made L.start result.store.entries }
-        ensures started { length (subjects_at L.start) ≤ result.sessions }
-        ensures none_ended { L.start.may_end ≡ false → result.entered ≡ 0 }
+        ensures held { HoldsWhenFree L.start result }
         ensures within { length result.store.entries ≤ length L.start.entries + result.entered + E.parts }
     {
         let MeteredStore { metered } = self;

@@ -5,7 +5,7 @@ use Rattle.tg_word.specs.declared.Place.{Place}
 use Rattle.tg_word.specs.declared.TheConstants.{SPACES, CELLS, MOST_SPACE_BLOCKS}
 use Rattle.tg_word.specs.Word.{nursery_space}
 use Rattle.tg_block.specs.Cells.{free_cell}
-use Rattle.tg_space.specs.declared.limits.TheConstants.{MOST_BLOCKS}
+use Rattle.tg_space.specs.declared.limits.TheConstants.{MOST_LARGE_BLOCKS}
 use Rattle.tg_space.specs.SpaceList.{SpaceList, BlockList, IsSpace, HasCell, space_of, cell_at, blocks_before, block_count}
 use Rattle.tg_space.specs.declared.kind.Kind.{Kind}
 use Rattle.tg_space.specs.declared.kind.Kind.TheVariants.{Full, Nursery}
@@ -18,12 +18,16 @@ pub record BlockLimits : Type 0 where
 abbrev pub limits_of : ℕ → ℕ → BlockLimits
 limits_of max_blocks space_blocks = record { max_blocks = max_blocks; space_blocks = space_blocks }
 
--- at most 65,536 blocks in all and 1,048,576 in one space, and at least one
-pub record AreLimits (l : BlockLimits) : Type 0 where
+-- at most so many blocks in all and 1,048,576 in one space, and at least one
+pub record AreLimitsTo (most : ℕ) (l : BlockLimits) : Type 0 where
   pub some_blocks : 1 ≤ l.max_blocks
-  pub few_blocks : l.max_blocks ≤ MOST_BLOCKS
+  pub few_blocks : l.max_blocks ≤ most
   pub some_in_space : 1 ≤ l.space_blocks
   pub few_in_space : l.space_blocks ≤ MOST_SPACE_BLOCKS
+
+-- the limits of any heap: at most 1,048,576 blocks in all
+abbrev pub AreLimits : BlockLimits → Type 0
+AreLimits l = AreLimitsTo MOST_LARGE_BLOCKS l
 
 pub record SpaceTable : Type 0 where
   pub spaces : SpaceList

@@ -4,7 +4,7 @@ ghost use Rattle.std.specs.List.{All, Contains};
 ghost use Rattle.tg_block.specs.Cells.{free_cell};
 ghost use Rattle.tg_block.specs.declared.TheConstants.{CHUNK_POINTERS, CHUNK_TAG, KEY, LINK, NAME, OBJECT_POINTERS, OBJECT_TAG, WORDS};
 ghost use Rattle.tg_model.specs.declared.opening.TheConstants.{MAX_LASTING_VERTICES, MAX_VERTICES, MAX_WORKERS};
-ghost use Rattle.tg_space.specs.declared.limits.TheConstants.{MOST_BLOCKS};
+ghost use Rattle.tg_space.specs.declared.limits.TheConstants.{MOST_BLOCKS, MOST_LARGE_BLOCKS};
 ghost use Rattle.tg_word.specs.declared.TheConstants.{AGED, BLOCK_AT, CELLS, CELL_AT, MAX_NURSERIES, MOST_SPACE_BLOCKS, OLD, PRESENT_AT, SPACES, SPACE_AT};
 ghost use Rattle.tg_word.specs.declared.Place.{Place};
 ghost use Rattle.tg_space.specs.SpaceList.{HasCell, IsSpaceList, SpaceList, cell_at, cells_of, flat_of, with_block, with_word_at};
@@ -50,6 +50,6 @@ pub fn numbers_are_these()
     ensures word { (CELL_AT ≡ 8) × (BLOCK_AT ≡ 14) × (SPACE_AT ≡ 34) × (PRESENT_AT ≡ 41) }
     ensures cell { (WORDS ≡ 8) × (OBJECT_TAG ≡ 1) × (CHUNK_TAG ≡ 2) × (NAME ≡ 1) × (KEY ≡ 2) × (OBJECT_POINTERS ≡ 4) × (CHUNK_POINTERS ≡ 1) × (LINK ≡ 7) }
     ensures spaces { (OLD ≡ 0) × (AGED ≡ 1) × (MAX_NURSERIES ≡ 64) × (SPACES ≡ 66) }
-    ensures blocks { (CELLS ≡ 64) × (MOST_SPACE_BLOCKS ≡ 1048576) × (MOST_BLOCKS ≡ 65536) }
+    ensures blocks { (CELLS ≡ 64) × (MOST_SPACE_BLOCKS ≡ 1048576) × (MOST_BLOCKS ≡ 65536) × (MOST_LARGE_BLOCKS ≡ 1048576) }
     ensures graph { (MAX_WORKERS ≡ 64) × (MAX_VERTICES ≡ 16777216) × (MAX_LASTING_VERTICES ≡ 281474976710656) }
 {}

@@ -38,7 +38,7 @@ pub use adoption::Adoption;
 pub use copied::Copied;
 pub use forwarding::{Forwarding, ForwardingTable};
 pub use kind::Kind;
-pub use limits::{Limits, MOST_BLOCKS};
+pub use limits::{Limits, MOST_BLOCKS, MOST_LARGE_BLOCKS};
 pub use moves::Moves;
 pub use numbering::Numbering;
 pub use pointers::first_pointer;

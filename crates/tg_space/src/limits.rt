@@ -2,14 +2,17 @@
 ghost use Rattle.std.specs.Prelude.{◌≡◌, ◌≤◌, ◌^◌, IfErr};
 ghost use Rattle.std.specs.Result.{OkIff};
 ghost use Rattle.tg_word.specs.declared.TheConstants.{MOST_SPACE_BLOCKS};
-ghost use Rattle.tg_space.specs.SpaceTable.{AreLimits, limits_of};
+ghost use Rattle.tg_space.specs.SpaceTable.{AreLimits, AreLimitsTo, limits_of};
 
 use std::marker::Model;
 use tg_model::OpeningFault;
 use tg_word::MOST_SPACE_BLOCKS;
 
-/// The greatest number of blocks that all spaces may have together when one more is asked for.
+/// The most blocks that `Limits::new` lets all spaces have together: 4,194,304 cells.
 pub const MOST_BLOCKS: u64 = 65_536;
+
+/// The most blocks that `Limits::large` lets all spaces have together, 2^20: 67,108,864 cells.
+pub const MOST_LARGE_BLOCKS: u64 = 1_048_576;
 
 /// How many blocks a heap may have.
 #[derive(Clone, Copy, Debug)]
@@ -32,14 +35,31 @@ impl Model for Limits {
 }
 
 impl Limits {
-    /// The limits with these numbers, where each is in its range: `max_blocks` from 1 to 65,536 and `space_blocks`
-    /// from 1 to 1,048,576. Otherwise the answer is `BadLimits`. It takes no memory.
+    /// The limits with these numbers, if each is in its range: `max_blocks` from 1 to 65,536 and `space_blocks` from 1
+    /// to 1,048,576. Otherwise the answer is `BadLimits`. It takes no memory.
     pub fn new(max_blocks: u64, space_blocks: u64) -> Result<Limits, OpeningFault>
+        ensures limits { OkIff result (AreLimitsTo MOST_BLOCKS (limits_of max_blocks space_blocks)) (limits_of max_blocks space_blocks) }
+        ensures fault { IfErr result (λ fault. fault ≡ OpeningFault.BadLimits) }
+    {
+        Limits::within(MOST_BLOCKS, max_blocks, space_blocks)
+    }
+
+    /// As `new`, for a large heap: `max_blocks` may be up to 1,048,576.
+    pub fn large(max_blocks: u64, space_blocks: u64) -> Result<Limits, OpeningFault>
         ensures limits { OkIff result (AreLimits (limits_of max_blocks space_blocks)) (limits_of max_blocks space_blocks) }
         ensures fault { IfErr result (λ fault. fault ≡ OpeningFault.BadLimits) }
     {
+        Limits::within(MOST_LARGE_BLOCKS, max_blocks, space_blocks)
+    }
+
+    // Limits by which all spaces have at most so many blocks together.
+    fn within(most: u64, max_blocks: u64, space_blocks: u64) -> Result<Limits, OpeningFault>
+        requires { most ≤ MOST_LARGE_BLOCKS }
+        ensures limits { OkIff result (AreLimitsTo most (limits_of max_blocks space_blocks)) (limits_of max_blocks space_blocks) }
+        ensures fault { IfErr result (λ fault. fault ≡ OpeningFault.BadLimits) }
+    {
         let is_in_range = 1 <= max_blocks
-            && max_blocks <= MOST_BLOCKS
+            && max_blocks <= most
             && 1 <= space_blocks
             && space_blocks <= MOST_SPACE_BLOCKS;
         if !is_in_range {
@@ -51,12 +71,13 @@ impl Limits {
         })
     }
 
-    /// How many blocks all spaces together may have, from 1 to 65,536. What holds of all limits is told here.
+    /// How many blocks all spaces together may have, from 1 to 1,048,576. The clause `limits` says what holds of all
+    /// limits.
     pub fn max_blocks(self) -> u64
         ensures value { result ≡ self.max_blocks }
         ensures limits { AreLimits self }
         ensures least { 1 ≤ result }
-        ensures most { result ≤ MOST_BLOCKS }
+        ensures most { result ≤ MOST_LARGE_BLOCKS }
     {
         self.max_blocks
     }

@@ -5,7 +5,9 @@ use Rattle.tg_model.specs.declared.command.Command.TheVariants.{Remove, Retire}
 use Rattle.tg_model.specs.declared.command.Deed.TheVariants.{Plain}
 use Rattle.tg_model.specs.declared.reply.Reply.TheVariants.{Done}
 use Rattle.tg_model.specs.Graph.{ProtectionGraph, listing_of, without_subject}
+use Rattle.tg_model.specs.Rules.{step}
 use Rattle.tg_journal.specs.declared.entry.Entry.{Entry}
+use Rattle.tg_journal.specs.History.{graph_after}
 use Rattle.tg_store.specs.Store.{StoreState, graph_of_store}
 
 -- x gives up an edge
@@ -19,6 +21,10 @@ retiring x = record { worker = x; deed = Plain Retire; reply = Done }
 -- x leaves: it gives up each of its edges, by rising name, and retires
 abbrev pub leaving : ProtectionGraph → ℕ → List Entry
 leaving g x = map (removal x) (listing_of g.label g.made x) ++ retiring x ∷ []
+
+-- the graph after x has given up the edges of this row, and retired
+abbrev pub graph_after_leave : ProtectionGraph → ℕ → List (ℕ × RightSet) → ProtectionGraph
+graph_after_leave g x row = step (graph_after g (map (removal x) row)) x (Plain Retire)
 
 -- the graph that x has left: it holds nothing, and is no subject
 abbrev pub left_by : ProtectionGraph → ℕ → ProtectionGraph

@@ -10,7 +10,7 @@ use Rattle.tg_word.specs.Word.{nursery_space}
 use Rattle.tg_rows.specs.Content.{IsNamed}
 use Rattle.tg_graph.specs.Heap.{content_of, nursery_of}
 use Rattle.tg_rows.specs.Spots.{IsMadeInRow, LacksCellsFor}
-use Rattle.tg_store.specs.declared.fault.CreateFault.TheVariants.{NoSuchWorker, OutOfMemory, VerticesFull, HeapFull}
+use Rattle.tg_store.specs.declared.fault.CreateFault.TheVariants.{NoSuchWorker, OutOfMemory, VerticesFull, WorkersFull, HeapFull}
 use Rattle.tg_store.specs.declared.fault.CreateRefused.{CreateRefused}
 use Rattle.tg_store.specs.Store.{StoreState, StandsFor}
 
@@ -21,6 +21,10 @@ pub record IsMadeFor (deed : Deed) (worker : ℕ) (label : RightSet) (value : Va
   pub step : (g : ProtectionGraph) → StandsFor old g → StandsFor new (step g worker deed)
   pub stored : IsNamed (content_of new.heap) vertex × ((content_of new.heap).value vertex ≡ Some value)
   pub placed : IsMadeInRow old.heap.table new.heap.table old.heap.remembered new.heap.remembered (nursery_space (nursery_of old.heap worker)) worker vertex label
+
+-- refused because too many subjects are active, or for want of memory
+abbrev pub IsCrowdedOut : {P T : Type 0} → Result T (CreateRefused P) → Type 0
+IsCrowdedOut result = IsErrAnd result (λ refused. (refused.why ≡ WorkersFull) ⊎ (refused.why ≡ OutOfMemory))
 
 -- When a worker's deed makes no vertex, by the graph that the store stands for, and what stays then; opening, limits and counts stay always.
 pub record MayRefuse {P T : Type 0} (deed : Deed) (worker : ℕ) (value : Value) (old new : StoreState) (result : Result T (CreateRefused P)) : Type 0 where

@@ -1,14 +1,11 @@
 //! How a worker leaves, on the heap and in the journal.
 ghost use Rattle.std.specs.Prelude.{◌≡◌, ◌<◌, ◌∷◌, ◌++◌, [], length, map};
-ghost use Rattle.tg_model.specs.declared.command.Command.{Command};
-ghost use Rattle.tg_model.specs.declared.command.Deed.{Deed};
 ghost use Rattle.tg_model.specs.Graph.{ProtectionGraph, IsSubject, without_subject};
-ghost use Rattle.tg_model.specs.Rules.{step};
-ghost use Rattle.tg_journal.specs.History.{IsLegal, graph_after};
+ghost use Rattle.tg_journal.specs.History.{IsLegal};
 ghost use Rattle.tg_graph.specs.Heap.{content_of, subject_names};
 ghost use Rattle.tg_graph.specs.Standing.{IsContentOf};
 ghost use Rattle.tg_rules.specs.Verdict.{HasSubject};
-ghost use Rattle.tg_store.specs.Leaving.{removal, retiring};
+ghost use Rattle.tg_store.specs.Leaving.{graph_after_leave, removal, retiring};
 
 use crate::tallied::TalliedJournal;
 use tg_graph::Heap;
@@ -33,7 +30,7 @@ pub(crate) fn leave_heap<P: Payload>(
     ensures limits { heap.new.table.limits ≡ heap.old.table.limits }
     ensures subjects { subject_names heap.new ≡ without_subject (subject_names heap.old) subject.name }
     ensures stands { (g : ProtectionGraph) → IsContentOf (content_of heap.old) g → IsSubject g subject.name → IsLegal g (map (removal subject.name) row.now) →
-        IsContentOf (content_of heap.new) (step (graph_after g (map (removal subject.name) row.now)) subject.name (Deed.Plain Command.Retire)) }
+        IsContentOf (content_of heap.new) (graph_after_leave g subject.name row.now) }
 {
     for edge in row.as_slice() {
         heap.drop_rights(subject.place, edge.0, edge.1);

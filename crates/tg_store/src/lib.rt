@@ -25,7 +25,7 @@
 //! A call that is refused leaves the store as it was, and hands back what it was handed; only a create or a spawn for
 //! which there are too many vertices, or too many subjects, makes an entry too. Room for the entry comes first, and so
 //! does the copy of the reply; what a command needs of the heap comes next: see 'Why the entry comes last' in
-//! docs/ARCHITECTURE.md.
+//! docs/inside/ARCHITECTURE.md.
 //!
 //! A store is generic in its payloads, and a box of a payload is a payload (`tg_payload`): so payloads of several kinds
 //! stand side by side in boxes, and the store makes none. Only a read, a write or an append that the rules allow

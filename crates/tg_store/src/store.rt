@@ -1,5 +1,5 @@
 //! The store and its calls.
-ghost use Rattle.std.specs.Prelude.{◌≡◌, ◌≢◌, ◌↔◌, ◌⊎◌, ◌≤◌, ◌<◌, ◌+◌, ◌-◌, ◌^◌, ℕ, [], Err, Ok, None, Some, IfOk, IfErr, IfSome, IsSome, IsTrue, IsErrAnd, OnOk, OnErr, MatchOption, length};
+ghost use Rattle.std.specs.Prelude.{◌≡◌, ◌≢◌, ◌↔◌, ◌≤◌, ◌<◌, ◌+◌, ◌-◌, ◌^◌, ℕ, [], Err, Ok, None, Some, IfOk, IfErr, IfSome, IsSome, IsTrue, IsErrAnd, OnOk, OnErr, MatchOption, length};
 ghost use Rattle.tg_model.specs.Rules.{step};
 ghost use Rattle.tg_store.specs.Faults.{IsFirstDifference};
 
@@ -72,7 +72,7 @@ impl<P: Payload> Store<P> {
     ghost use Rattle.tg_store.specs.Collecting.{IsSwept, KeepsHistory};
     ghost use Rattle.tg_store.specs.Counts.{no_collections, refusals_in};
     ghost use Rattle.tg_store.specs.Held.{IsHeldOver};
-    ghost use Rattle.tg_store.specs.Made.{IsMadeFor, MayRefuse};
+    ghost use Rattle.tg_store.specs.Made.{IsCrowdedOut, IsMadeFor, MayRefuse};
     ghost use Rattle.tg_model.specs.Making.{deed_making};
     ghost use Rattle.tg_store.specs.Making.{IsLimitMet};
     ghost use Rattle.tg_store.specs.declared.making.Limit.{Limit as LimitOf};
@@ -304,7 +304,7 @@ impl<P: Payload> Store<P> {
         ensures too_many { (g : ProtectionGraph) → StandsFor self.old g → IfErr result (λ refused. refused.why ≡ CreateFault.WorkersFull →
             IsSubject g worker × (g.made < g.limit) × (MAX_WORKERS ≤ length g.subjects)) }
         ensures crowded { (g : ProtectionGraph) → StandsFor self.old g → IsSubject g worker → g.made < g.limit → MAX_WORKERS ≤ length g.subjects →
-            IsErrAnd result (λ refused. (refused.why ≡ CreateFault.WorkersFull) ⊎ (refused.why ≡ CreateFault.OutOfMemory)) }
+            IsCrowdedOut result }
         ensures too_many_entry { IfErr result (λ refused. refused.why ≡ CreateFault.WorkersFull →
             OnlyEnters self.old self.new worker (Deed.Spawn label draft.law draft.state) Reply.WorkersFull) }
         ensures refused { IfErr result (λ refused. refused.why ≢ CreateFault.VerticesFull → refused.why ≢ CreateFault.WorkersFull → IsUnchanged self.old self.new) }
@@ -330,7 +330,7 @@ impl<P: Payload> Store<P> {
         ensures too_many { (g : ProtectionGraph) → StandsFor self.old g → IfErr result (λ refused. refused.why ≡ CreateFault.WorkersFull →
             (kind ≡ Making.Subject) × IsSubject g worker × (g.made < g.limit) × (MAX_WORKERS ≤ length g.subjects)) }
         ensures crowded { kind ≡ Making.Subject → (g : ProtectionGraph) → StandsFor self.old g → IsSubject g worker → g.made < g.limit → MAX_WORKERS ≤ length g.subjects →
-            IsErrAnd result (λ refused. (refused.why ≡ CreateFault.WorkersFull) ⊎ (refused.why ≡ CreateFault.OutOfMemory)) }
+            IsCrowdedOut result }
         ensures too_many_entry { IfErr result (λ refused. refused.why ≡ CreateFault.WorkersFull →
             OnlyEnters self.old self.new worker (deed_making kind label draft) Reply.WorkersFull) }
         ensures refused { IfErr result (λ refused. refused.why ≢ CreateFault.VerticesFull → refused.why ≢ CreateFault.WorkersFull → IsUnchanged self.old self.new) }

@@ -2,9 +2,9 @@
 use Rattle.std.proofs.Common.{◌≡◌, ℕ, List, [], ◌∷◌, ◌++◌, Result, refl, sym, ap, subst, map}
 use Rattle.std.specs.Result.{IfOk}
 use Rattle.tg_shared.specs.Sessions.{SessionState, SharedStart}
-use Rattle.tg_weave.specs.declared.task.Task.{Task}
-use Rattle.tg_weave.specs.declared.work.Finished.{Finished}
-use Rattle.tg_weave.specs.Boxes.{Boxed, boxed_of}
+use Rattle.tg_threads.specs.declared.task.Task.{Task}
+use Rattle.tg_threads.specs.declared.work.Finished.{Finished}
+use Rattle.tg_threads.specs.Boxes.{Boxed, boxed_of}
 use Rattle.tg_threads.specs.Tasks.{Brings, AllBring, arena_seen}
 
 -- one worker more

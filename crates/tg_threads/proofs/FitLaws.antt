@@ -12,12 +12,12 @@ use Rattle.tg_text.specs.declared.answer.Refusal.TheVariants as refusal
 use Rattle.tg_script.specs.Opening.{IsCommand}
 use Rattle.tg_shared.specs.declared.receipt.Receipt.{Receipt}
 use Rattle.tg_shared.specs.Receipts.{Stands}
-use Rattle.tg_weave.specs.declared.task.Told.{Told}
-use Rattle.tg_weave.specs.declared.task.Told.TheVariants as came
-use Rattle.tg_weave.specs.Boxes.{Boxed}
-use Rattle.tg_weave.specs.Shares.{runner_of, is_run_by, share_of, told_of}
-use Rattle.tg_weave.specs.Telling.{entry_answer, told_answer, IsThere, text_of_told}
-use Rattle.tg_weave.proofs.ShareLaws.{run_same, run_past, runner_below}
+use Rattle.tg_threads.specs.declared.task.Told.{Told}
+use Rattle.tg_threads.specs.declared.task.Told.TheVariants as came
+use Rattle.tg_threads.specs.Boxes.{Boxed}
+use Rattle.tg_threads.specs.Shares.{runner_of, is_run_by, share_of, told_of}
+use Rattle.tg_threads.specs.Telling.{entry_answer, told_answer, IsThere, text_of_told}
+use Rattle.tg_threads.proofs.ShareLaws.{run_same, run_past, runner_below}
 use Rattle.tg_threads.specs.Output.{Arena, Tells, AreTold, is_retire_of, served_behind}
 use Rattle.tg_threads.specs.Tasks.{RunsOne, Runs, served_past}
 use Rattle.tg_threads.proofs.TellLaws.{Within, made_by, nobodys_told, others_retire, told_same}

@@ -21,9 +21,9 @@ use Rattle.tg_script.specs.Script.{create_of, spawn_of}
 use Rattle.tg_shared.specs.declared.receipt.Receipt.{Receipt}
 use Rattle.tg_shared.specs.Sessions.{AtSeen, HasGrownBy, LeavesAtSeen, SharedStart, since}
 use Rattle.tg_shared.proofs.Knowing.{since_is}
-use Rattle.tg_weave.specs.declared.task.Told.{Told}
-use Rattle.tg_weave.specs.declared.task.Told.TheVariants as came
-use Rattle.tg_weave.specs.Boxes.{Boxed}
+use Rattle.tg_threads.specs.declared.task.Told.{Told}
+use Rattle.tg_threads.specs.declared.task.Told.TheVariants as came
+use Rattle.tg_threads.specs.Boxes.{Boxed}
 use Rattle.tg_threads.specs.Output.{Arena, AtFront, EntersOrRefuses, TellsCollection, IsCountTold, TellsMade, IsOfStore, IsServed, IsUncollected, LeavesAtFront, Tells, arena_of}
 use Rattle.tg_threads.specs.Tasks.{RunsOne, Runs, served_past}
 

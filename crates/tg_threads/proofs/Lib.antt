@@ -1,7 +1,9 @@
+pub mod AssignedLaws
 pub mod BringLaws
 pub mod FitLaws
 pub mod FrontLaws
 pub mod OneLaws
+pub mod OrderLaws
 pub mod RaceLaws
 pub mod RunLaws
 pub mod ShareLaws

@@ -20,7 +20,7 @@ use Rattle.tg_text.specs.declared.answer.Answer.{Answer}
 use Rattle.tg_text.specs.declared.answer.Answer.TheVariants as told
 use Rattle.tg_text.specs.Texts.{answer_text}
 use Rattle.tg_script.specs.Script.{Scene, Answers, AnswersMaking, IsOutput, create_of, spawn_of, stock_left}
-use Rattle.tg_weave.specs.Boxes.{first_of, behind_first, box_of, stock_behind, boxed}
+use Rattle.tg_threads.specs.Boxes.{first_of, behind_first, box_of, stock_behind, boxed}
 use Rattle.tg_threads.specs.Output.{Arena, EntersOrRefuses, TellsMade, IsServed, Tells, AreTold, HasEach, IsOfFirst, IsOfOneThread, served_behind}
 use Rattle.tg_threads.proofs.TellLaws.{asked_of, making_of, none_is_some}
 

@@ -29,17 +29,17 @@ use Rattle.tg_shared.specs.Closing.{IsSignedBy}
 use Rattle.tg_shared.specs.Sessions.{SessionState, SharedStart, AreFresh, knowledge}
 use Rattle.tg_threads.specs.declared.fault.RaceFault.{RaceFault}
 use Rattle.tg_threads.specs.declared.fault.RaceFault.TheVariants as fault
-use Rattle.tg_weave.specs.declared.task.Told.{Told}
-use Rattle.tg_weave.specs.declared.work.Work.{Work}
-use Rattle.tg_weave.specs.declared.work.Finished.{Finished}
-use Rattle.tg_weave.specs.Boxes.{Boxed, boxed}
-use Rattle.tg_weave.specs.Shares.{IsInScriptOrder, all_shares, is_run_by, lines_in, share_of}
-use Rattle.tg_weave.specs.Telling.{text_of_told}
+use Rattle.tg_threads.specs.declared.task.Told.{Told}
+use Rattle.tg_threads.specs.declared.work.Work.{Work}
+use Rattle.tg_threads.specs.declared.work.Finished.{Finished}
+use Rattle.tg_threads.specs.Boxes.{Boxed, boxed}
+use Rattle.tg_threads.specs.Shares.{IsInScriptOrder, all_shares, is_run_by, lines_in, share_of}
+use Rattle.tg_threads.specs.Telling.{text_of_told}
 use Rattle.tg_script.specs.Entering.{plan_of}
 use Rattle.tg_threads.specs.Output.{Arena, IsNewStore, IsRaceOutput, RaceText, arena_of}
 use Rattle.tg_threads.specs.Tasks.{AllBring, AreRaced, all_assigned, assigned_of}
 use Rattle.tg_threads.specs.Race.{CountsRace, EndsRace, FinishesRace, HasFinished, HasHistory, HasRaced, IsOfTelling, IsRaceDue, IsWhole, RacesFrom, TellsRace, race_fault_of_audit, race_read_failures, race_write_failures}
-use Rattle.tg_threads.proofs.ShareLaws.{each_assigned}
+use Rattle.tg_threads.proofs.AssignedLaws.{each_assigned}
 use Rattle.tg_threads.proofs.WeaveLaws.{HasSeenFront, bring_as_many, each_told}
 
 -- as many fresh sessions as workers

@@ -37,12 +37,12 @@ use Rattle.tg_shared.specs.Sessions.{AddsReceipt, AreFresh, AtSeen, HasLooked, I
 use Rattle.tg_shared.proofs.Fresh.{fresh_push}
 use Rattle.tg_threads.specs.declared.threads.ThreadsFault.{ThreadsFault}
 use Rattle.tg_threads.specs.declared.threads.ThreadsFault.TheVariants as threads
-use Rattle.tg_weave.specs.declared.task.Told.{Told}
-use Rattle.tg_weave.specs.declared.task.Told.TheVariants as came
-use Rattle.tg_weave.specs.Boxes.{Boxed}
-use Rattle.tg_weave.proofs.ShareLaws.{named}
+use Rattle.tg_threads.specs.declared.task.Told.{Told}
+use Rattle.tg_threads.specs.declared.task.Told.TheVariants as came
+use Rattle.tg_threads.specs.Boxes.{Boxed}
+use Rattle.tg_threads.proofs.ShareLaws.{named}
 use Rattle.tg_threads.proofs.FrontLaws.{front_seen, runs_wider}
-use Rattle.tg_threads.proofs.ShareLaws.{mapped_each}
+use Rattle.tg_threads.proofs.AssignedLaws.{mapped_each}
 use Rattle.tg_threads.specs.Output.{Arena, AtFront, EntersOrRefuses, TellsCollection, TellsMade, IsOfStore, IsServed, Tells, arena_of, has_thread}
 use Rattle.tg_threads.specs.Tasks.{IsRunBy, HasAsked, HasMadeVertex, HasCollected, HasRun, RunsOne, Runs, is_deed, served_past, subject_spawned, subjects_spawned}
 

@@ -15,8 +15,8 @@ use Rattle.tg_text.specs.declared.answer.Answer.TheVariants as answer
 use Rattle.tg_text.specs.declared.answer.Refusal.TheVariants as refusal
 use Rattle.tg_script.specs.Opening.{IsCommand}
 use Rattle.tg_script.specs.Script.{create_of, spawn_of}
-use Rattle.tg_weave.specs.Shares.{runner_of, is_run_by}
-use Rattle.tg_weave.proofs.ShareLaws.{named}
+use Rattle.tg_threads.specs.Shares.{runner_of, is_run_by}
+use Rattle.tg_threads.proofs.ShareLaws.{named}
 use Rattle.tg_threads.specs.Output.{Arena, EntersOrRefuses, TellsMade, IsServed, Tells, has_thread, is_retire_of}
 
 pub none_is_some : {X : Type 0} (x : X) → None ≡ Some x → ⊥

@@ -15,17 +15,17 @@ use Rattle.tg_script.specs.Opening.{IsCommand}
 use Rattle.tg_shared.specs.declared.receipt.Receipt.{Receipt}
 use Rattle.tg_shared.specs.Receipts.{Stands}
 use Rattle.tg_shared.specs.Sessions.{SessionState, SharedStart, IsFresh, MatchesSince, MayClose, AreSharedOut, handed_of}
-use Rattle.tg_weave.specs.declared.task.Told.{Told}
-use Rattle.tg_weave.specs.declared.task.Told.TheVariants as came
-use Rattle.tg_weave.specs.declared.work.Finished.{Finished}
-use Rattle.tg_weave.specs.Boxes.{Boxed, boxed, stock_behind}
-use Rattle.tg_weave.specs.Shares.{all_sessions, runner_of, is_run_by, share_of, told_of, IsInScriptOrder}
-use Rattle.tg_weave.proofs.OrderLaws.{count_of}
+use Rattle.tg_threads.specs.declared.task.Told.{Told}
+use Rattle.tg_threads.specs.declared.task.Told.TheVariants as came
+use Rattle.tg_threads.specs.declared.work.Finished.{Finished}
+use Rattle.tg_threads.specs.Boxes.{Boxed, boxed, stock_behind}
+use Rattle.tg_threads.specs.Shares.{all_sessions, runner_of, is_run_by, share_of, told_of, IsInScriptOrder}
+use Rattle.tg_threads.proofs.OrderLaws.{count_of}
 use Rattle.tg_passes.specs.Passes.{BeginsWith, entries_of}
 use Rattle.tg_threads.specs.Output.{Arena, HasEach, arena_of, has_thread}
 use Rattle.tg_threads.specs.Tasks.{Runs, Brings, AllBring, all_assigned, arena_seen, AreRaced, served_past}
 use Rattle.tg_threads.proofs.FrontLaws.{runs_wider}
-use Rattle.tg_threads.proofs.ShareLaws.{own_lines}
+use Rattle.tg_threads.proofs.AssignedLaws.{own_lines}
 use Rattle.tg_threads.proofs.TellLaws.{thread_within}
 use Rattle.tg_threads.proofs.FitLaws.{FitAll, made_of, all_fit, woven, fit_told, fit_there, own_made, told_past}
 

@@ -1,3 +1,6 @@
+pub mod Boxes
 pub mod Output
 pub mod Race
+pub mod Shares
 pub mod Tasks
+pub mod Telling

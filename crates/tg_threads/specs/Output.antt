@@ -32,9 +32,9 @@ use Rattle.tg_text.specs.declared.answer.Refusal.{Refusal}
 use Rattle.tg_text.specs.declared.answer.Refusal.TheVariants as refusal
 use Rattle.tg_text.specs.Texts.{answer_text}
 use Rattle.tg_script.specs.Entering.{plan_of}
-use Rattle.tg_script.specs.Script.{MayWant, Start, commands_of, create_of, scene_of, spawn_of}
-use Rattle.tg_weave.specs.Boxes.{Boxed, boxed}
-use Rattle.tg_weave.specs.Telling.{end_text}
+use Rattle.tg_script.specs.Script.{IsOutput, MayWant, Start, commands_of, create_of, scene_of, spawn_of}
+use Rattle.tg_threads.specs.Boxes.{Boxed, boxed}
+use Rattle.tg_threads.specs.Telling.{end_text}
 
 -- ---- what the lines are run in
 
@@ -198,3 +198,11 @@ pub record IsOfOneThread (lines : List Line) (made : List Entry) : Type 0 where
   pub first : All IsOfFirst lines
   pub entered : length made ≡ length lines
   pub room : All (λ e. (e.reply ≢ reply.VerticesFull) × (e.reply ≢ reply.WorkersFull)) made
+
+-- Where all lines are commands of worker 0, each has its entry, and there was room for each vertex and each subject, the replies are
+-- the output of the plain run.
+abbrev pub OneWorkerIsThePlainRun : Type 0
+OneWorkerIsThePlainRun =
+    (start : Start) (arena : Arena) (lines : List Line) (entries made : List Entry) (replies : List ℕ) → IsLegal (scene_of start lines).graph entries →
+    AreTold arena (has_thread start.workers) (boxed start.stock (commands_of lines)) made replies → HasEach entries made → IsOfOneThread (commands_of lines) made →
+    IsOutput (scene_of start lines) (commands_of lines) replies

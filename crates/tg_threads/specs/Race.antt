@@ -1,5 +1,5 @@
 -- What comes of a whole script whose workers run their lines side by side.
-use Rattle.std.specs.Prelude.{◌≡◌, ◌⊎◌, ℕ, ◌+◌, ◌<◌, ◌≤◌, Bool, true, false, List, [], ◌++◌, Option, Some, None, Result, Ok, Err, IsOk, IfErr, IfOk, OnOk}
+use Rattle.std.specs.Prelude.{◌≡◌, ◌⊎◌, ℕ, ◌+◌, ◌<◌, ◌≤◌, Bool, true, false, List, [], ◌++◌, length, map, Option, Some, None, Result, Ok, Err, IsOk, IfErr, IfOk, OnOk}
 use Rattle.std.specs.List.{All}
 use Rattle.tg_model.specs.declared.value.Value.{Value}
 use Rattle.tg_model.specs.Opened.{IsPlan, Plan, start_of}
@@ -23,12 +23,15 @@ use Rattle.tg_threads.specs.declared.threads.ThreadsFault.{ThreadsFault}
 use Rattle.tg_threads.specs.declared.threads.ThreadsFault.TheVariants as threads
 use Rattle.tg_threads.specs.declared.race.OpenedRace.{OpenedRace}
 use Rattle.tg_threads.specs.declared.race.Raced.{Raced}
-use Rattle.tg_weave.specs.Boxes.{boxed}
+use Rattle.tg_threads.specs.declared.race.RanLines.{RanLines}
+use Rattle.tg_threads.specs.declared.work.Finished.{Finished}
+use Rattle.tg_threads.specs.Boxes.{boxed}
 use Rattle.tg_passes.specs.Passes.{BeginsWith, entries_of}
-use Rattle.tg_shared.specs.Sessions.{AreSharedOut, MayClose, SessionState, SharedStart, handed_of}
+use Rattle.tg_shared.specs.Sessions.{AreSharedOut, AtSome, MayClose, SessionState, SharedStart, count_of, handed_of, held_from, parts_of, sessions_made}
 use Rattle.tg_script.specs.Entering.{plan_of}
 use Rattle.tg_threads.specs.Output.{IsNewStore, IsRaceOutput, RaceText, arena_of}
-use Rattle.tg_threads.specs.Tasks.{AreRaced}
+use Rattle.tg_threads.specs.Shares.{IsInScriptOrder, all_sessions}
+use Rattle.tg_threads.specs.Tasks.{AllBring, AreRaced, all_assigned}
 
 -- ---- the script and its store
 
@@ -110,12 +113,17 @@ HasRaced race_text start bytes before (Err (fault.Script f)) left after = IsNotR
 HasRaced race_text start bytes before (Err fault.AuditFailed) left after = ⊥
 HasRaced race_text start bytes before (Err f) left after = (lines : List Line) × IsWhole start bytes lines left × (after ≡ Some before)
 
+-- whatever bytes its source had left and its sink had taken, a race from this start leaves what `HasRaced` says
+abbrev pub LeavesRaced : {S K T : Type 0} → (S → Option (List ℕ)) → (K → Option (List ℕ)) → S → S → K → K → RaceText → Start → Result T RaceFault → Type 0
+LeavesRaced left taken source source' sink sink' race_text start result =
+    (bytes before : List ℕ) → left source ≡ Some bytes → taken sink ≡ Some before →
+    (rest : List ℕ) × (left source' ≡ Some rest) × HasRaced race_text start bytes before result rest (taken sink')
+
 -- A race from this start, by what its source and its sink tell: of the bytes that are left, how often it was asked and has failed, and
 -- of the bytes that were taken.
 pub record RacesFrom {S K T : Type 0} (left : S → Option (List ℕ)) (asks failures : S → ℕ) (taken : K → Option (List ℕ))
     (source source' : S) (sink sink' : K) (race_text : RaceText) (start : Start) (result : Result T RaceFault) : Type 0 where
-  pub output : (bytes before : List ℕ) → left source ≡ Some bytes → taken sink ≡ Some before →
-      (rest : List ℕ) × (left source' ≡ Some rest) × HasRaced race_text start bytes before result rest (taken sink')
+  pub output : LeavesRaced left taken source source' sink sink' race_text start result
   pub due : IfErr result (IsRaceDue start)
   pub asked : asks source' ≤ asks source + 1048577
   pub read_failed : failures source' ≡ failures source + race_read_failures result
@@ -155,11 +163,25 @@ pub record RunsRace {P : Type 0} (helpers blocks : ℕ) (opening : Plan) (stock 
       × (raced.store.handed ≡ 0))
   pub fault : IfErr result IsBeforeWriting
 
+-- Each worker's session ran its lines, with this stock; what they came to stands in script order, and all of the sessions come back.
+pub record HasRanLines (start : SharedStart) (helpers : ℕ) (stock : List Value) (lines : List Line) (ran : RanLines SessionState) : Type 0 where
+  pub finished : List (Finished SessionState)
+  pub each : AllBring start helpers start.opening.workers (all_assigned start.opening.workers (boxed stock lines)) finished
+  pub order : IsInScriptOrder start.opening.workers lines (map (λ f. f.told.items) finished) ran.told.items
+  pub sessions : ran.sessions.items ≡ all_sessions finished
+
 -- the sessions of a store that is shared for a race, in which no worker is ended: it had no entry, and nothing of it was handed out
 pub record MayCloseRace (start : SharedStart) (sessions : List SessionState) : Type 0 where
   pub new : start.entries ≡ []
   pub none_ended : start.may_end ≡ false
   pub none_handed : handed_of sessions ≡ 0
+
+-- Why it isn't closed: a session is missing, or the receipts aren't the entries of a store that may have been behind the lock.
+abbrev pub IsUnclosedRace : SharedStart → List SessionState → RaceFault → Type 0
+IsUnclosedRace start sessions why =
+    (why ≡ fault.ReceiptMismatch)
+    × ((AtSome start (λ s. parts_of sessions < sessions_made start s.entries))
+    ⊎ AtSome start (λ s. (length start.entries + count_of sessions ≤ length s.entries) × (¬ MayClose s.entries (held_from start s) sessions)))
 
 -- The store that comes back with these sessions: each entry is one of their receipts, its entries begin with those that each has seen,
 -- and nothing was handed out.

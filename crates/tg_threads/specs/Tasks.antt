@@ -24,14 +24,14 @@ use Rattle.std.specs.declared.thread.PromisedHandle.{PromisedHandle}
 use Rattle.tg_threads.specs.declared.threads.Assigned.{Assigned}
 use Rattle.tg_threads.specs.declared.threads.ThreadsFault.{ThreadsFault}
 use Rattle.tg_threads.specs.declared.threads.ThreadsFault.TheVariants as threads
-use Rattle.tg_weave.specs.declared.task.Task.{Task}
-use Rattle.tg_weave.specs.declared.task.Told.{Told}
-use Rattle.tg_weave.specs.declared.task.Told.TheVariants as came
-use Rattle.tg_weave.specs.declared.work.Work.{Work}
-use Rattle.tg_weave.specs.declared.work.Finished.{Finished}
-use Rattle.tg_weave.specs.Boxes.{Boxed, boxed_of}
-use Rattle.tg_weave.specs.Shares.{runner_of, share_of, lines_in}
-use Rattle.tg_weave.specs.Telling.{IsThere, text_of_told}
+use Rattle.tg_threads.specs.declared.task.Task.{Task}
+use Rattle.tg_threads.specs.declared.task.Told.{Told}
+use Rattle.tg_threads.specs.declared.task.Told.TheVariants as came
+use Rattle.tg_threads.specs.declared.work.Work.{Work}
+use Rattle.tg_threads.specs.declared.work.Finished.{Finished}
+use Rattle.tg_threads.specs.Boxes.{Boxed, boxed_of}
+use Rattle.tg_threads.specs.Shares.{runner_of, share_of, lines_in}
+use Rattle.tg_threads.specs.Telling.{IsThere, text_of_told}
 use Rattle.tg_threads.specs.Output.{Arena, Tells, IsCountTold, IsOfStore, IsUncollected, AreTold, HasEach, arena_of, has_thread, is_retire_of}
 
 -- ---- what a line comes to
@@ -96,6 +96,12 @@ Runs arena served (b ∷ bs) ts rs =
 
 abbrev pub IsRunBy : ℕ → ℕ → Boxed → Type 0
 IsRunBy workers x b = runner_of workers b.line ≡ Some x
+
+-- However many workers there are and whose lines are run: if the session's worker runs the task's line, the session ran it.
+abbrev pub RunsTask : {P : Type 0} → SharedStart → ℕ → Bool → Task P → SessionState → SessionState → Result Told ThreadsFault → Type 0
+RunsTask start helpers served task old new result =
+    (workers : ℕ) (before : ℕ → Bool) → before old.worker ≡ served → IsRunBy workers old.worker (boxed_of task) →
+    IfOk result (λ told. HasRun (arena_of start helpers (entries_of new.seen)) before (boxed_of task) told old new)
 
 -- What is told of a line of a session's worker is this; or else there is a fault, and the worker is no subject of a store that may have
 -- been behind the lock with exactly the entries that the session has then seen.

@@ -6,7 +6,7 @@
 //! subjects that spawn lines made, whose lines nobody runs. [`in_script_order`] puts what the lines came to together
 //! again, and the store is closed and audited. What is written then is a [`RaceTelling`]: [`Replies`] writes the reply
 //! to each line, and behind them the number of entries, and [`Entries`] the text of the history. [`runner`] says whose
-//! thread runs a line. What needs no thread of this stands in `tg_weave`, and is offered here again.
+//! thread runs a line. `sharing`, `task`, `telling`, `weaving` and `work` need no thread: a session is any type there.
 //!
 //! What may be written for a whole script stands in `specs/Output`, as a relation between its lines and a legal
 //! history: the order between workers is open, it is that in which the lock was taken. The law of one worker says that
@@ -15,17 +15,25 @@
 #![tactic(auto)]
 
 mod fault;
+mod host;
 pub mod laws;
 mod race;
+mod sharing;
+mod task;
 mod telling;
 mod threads;
 mod turnstile;
+mod weaving;
+mod work;
 mod worker;
 
 pub use fault::RaceFault;
+pub use host::{RaceContext, RaceHost};
 pub use race::run_race;
-pub use telling::{Entries, RaceTelling, Replies};
-pub use tg_weave::{Task, Told, in_script_order, runner, sessions_of, share_out, tell_all};
+pub use sharing::share_out;
+pub use task::{Task, Told, runner};
+pub use telling::{Entries, RaceTelling, Replies, tell_all};
 pub use threads::{ThreadsFault, Work, run_threads};
 pub use turnstile::{NoTurnstile, Turnstile};
+pub use weaving::{in_script_order, sessions_of};
 pub use worker::{Finished, collect_by};

@@ -3,24 +3,27 @@ ghost use Rattle.std.specs.Prelude.{◌≡◌, ◌⊎◌, ◌+◌, ◌<◌, ◌�
 ghost use Rattle.std.specs.List.{All, range_with_len};
 ghost use Rattle.tg_model.specs.declared.value.Value.{Value};
 ghost use Rattle.tg_script.specs.Opening.{IsCommand};
-ghost use Rattle.tg_script.specs.Script.{MayStart, start_with};
-ghost use Rattle.tg_shared.specs.Sessions.{AreFresh, AtSome, MayClose, MayShare, count_of, held_from, parts_of, sessions_made};
-ghost use Rattle.tg_threads.specs.Race.{CountsRace, FinishesRace, HasFinished, HasRaced, IsClosedRace, IsRaceDue, MayCloseRace, MayRace, OpensRace, OpensSilently, RacesFrom, RunsRace};
+ghost use Rattle.tg_script.specs.Script.{MayStart, start_of_setup, start_with};
+ghost use Rattle.tg_shared.specs.Sessions.{AreFresh, MayShare};
+ghost use Rattle.tg_threads.specs.Race.{CountsRace, FinishesRace, HasFinished, HasRanLines, IsBeforeWriting, IsClosedRace, IsRaceDue, IsUnclosedRace, LeavesRaced, MayCloseRace, MayRace, OpensRace, OpensSilently, RacesFrom, RunsRace};
 
 use crate::fault::RaceFault;
+use crate::host::{RaceContext, RaceHost};
+use crate::sharing::share_out;
+use crate::task::Told;
 use crate::telling::RaceTelling;
 use crate::threads::run_threads;
 use crate::turnstile::Turnstile;
+use crate::weaving::{in_script_order, sessions_of};
 use std::alloc::Global;
 use std::marker::Brand;
 use std::sync::Wait;
 use std::thread::Threads;
 use tg_payload::{Draft, Payload};
-use tg_script::{Helpers, Settings, open_store, read_script};
+use tg_script::{Helpers, RunSetup, Settings, open_store, read_script};
 use tg_shared::{Blanks, Round, Session, Shared, SharedStore, close};
 use tg_store::Store;
 use tg_text::{Line, Sink, Source};
-use tg_weave::{Told, in_script_order, sessions_of, share_out};
 
 /// Runs the script, with one payload for each worker, by rising name, and a stock of payloads for the vertices that it
 /// makes: the i-th create or spawn line has the i-th of them, and where no vertex is made it is dropped.
@@ -61,9 +64,17 @@ pub fn run_race<
     ensures raced { RacesFrom S.left S.asked S.failures K.taken source.old source.new sink.old sink.new T.race_text (start_with settings workers.items stock.items) result }
     ensures finish { FinishesRace K.failures K.finished sink.old sink.new result }
 {
-    let outcome = race::<P, T, S, K, G, R>(
-        rt, alloc, source, sink, turnstile, settings, workers, stock,
-    );
+    let host = RaceHost {
+        rt,
+        alloc,
+        turnstile,
+    };
+    let setup = RunSetup {
+        settings,
+        workers,
+        stock,
+    };
+    let outcome = race::<P, T, S, K, G, R>(&host, source, sink, setup);
     finish(sink, outcome)
 }
 
@@ -88,37 +99,21 @@ fn race<
     K: Sink,
     G: Turnstile + Sync,
     R: Threads + Wait + Sync,
->(
-    rt: &R,
-    alloc: Global,
-    source: &mut S,
-    sink: &mut K,
-    turnstile: &G,
-    settings: Settings,
-    workers: Vec<Draft<P>>,
-    stock: Vec<Draft<P>>,
-) -> Result<(), RaceFault>
-    requires startable { MayStart settings workers.items }
-    ensures output { (bytes before : List ℕ) → S.left source.old ≡ Some bytes → K.taken sink.old ≡ Some before →
-        (left : List ℕ) × (S.left source.new ≡ Some left) × HasRaced T.race_text (start_with settings workers.items stock.items) bytes before result left (K.taken sink.new) }
-    ensures due { IfErr result (IsRaceDue (start_with settings workers.items stock.items)) }
+>(host: &RaceHost<G, R>, source: &mut S, sink: &mut K, setup: RunSetup<P>) -> Result<(), RaceFault>
+    requires startable { MayStart setup.settings setup.workers.items }
+    ensures output { LeavesRaced S.left K.taken source.old source.new sink.old sink.new T.race_text (start_of_setup setup) result }
+    ensures due { IfErr result (IsRaceDue (start_of_setup setup)) }
     ensures counts { CountsRace S.asked S.failures K.failures source.old source.new sink.old sink.new result }
 {
-    let helpers = settings.helpers;
-    let opened = open_race(alloc, source, sink, settings, workers)?;
-    let OpenedRace { store, lines } = opened;
-    let blanks = Blanks::new(alloc, store.opening().max_vertices() + 1)?;
-    let raced = share::<Brand, P, G, R>(
-        rt,
-        alloc,
-        turnstile,
-        helpers,
-        blanks,
-        store,
+    let RunSetup {
+        settings,
+        workers,
         stock,
-        lines.as_slice(),
-    )?;
-    let told = raced.tell::<T, K>(alloc, sink);
+    } = setup;
+    let helpers = settings.helpers;
+    let opened = open_race(host.alloc, source, sink, settings, workers)?;
+    let raced = race_opened::<P, G, R>(host, helpers, opened, stock)?;
+    let told = raced.tell::<T, K>(host.alloc, sink);
     drop(raced);
     told
 }
@@ -148,14 +143,7 @@ fn open_race<P: Payload, S: Source, K: Sink>(
     ensures silent { OpensSilently S.asked S.failures K.taken K.failures source.old source.new sink.old sink.new result }
 {
     let whole = read_script(alloc, source, sink, settings.workers)?;
-    let store = open_store(
-        alloc,
-        settings.workers,
-        whole.edges,
-        workers,
-        settings.max_vertices,
-        settings.limits,
-    )?;
+    let store = open_store(alloc, &settings, whole.edges, workers)?;
     Ok(OpenedRace {
         store,
         lines: whole.lines,
@@ -173,7 +161,7 @@ impl<P: Payload> Raced<P> {
     ghost use Rattle.std.specs.Prelude.{◌≡◌, ◌+◌, List, ℕ, Some, IfErr};
     ghost use Rattle.std.specs.List.{All};
     ghost use Rattle.tg_threads.specs.Race.{IsOfTelling, TellsRace, race_read_failures, race_write_failures};
-    ghost use Rattle.tg_weave.specs.Telling.{IsThere, text_of_told};
+    ghost use Rattle.tg_threads.specs.Telling.{IsThere, text_of_told};
 
     // Audits the journal, and writes what is told of the race.
     fn tell<T: RaceTelling, K: Sink>(&self, alloc: Global, sink: &mut K) -> Result<(), RaceFault>
@@ -193,24 +181,36 @@ impl<P: Payload> Raced<P> {
     }
 }
 
+// Runs the lines in the store that was opened for them, and closes.
+fn race_opened<P: Payload + Send, G: Turnstile + Sync, R: Threads + Wait + Sync>(
+    host: &RaceHost<G, R>,
+    helpers: Helpers,
+    opened: OpenedRace<P>,
+    stock: Vec<Draft<P>>,
+) -> Result<Raced<P>, RaceFault>
+    requires raceable { MayRace opened.store.opening opened.store.entries opened.lines.items }
+    ensures run { RunsRace helpers opened.store.heap.table.limits.max_blocks opened.store.opening stock.items opened.lines.items result }
+{
+    let blanks = Blanks::new(host.alloc, opened.store.opening().max_vertices() + 1)?;
+    share::<Brand, P, G, R>(host, helpers, blanks, opened, stock)
+}
+
 // Shares a store with no entry, runs the lines, and closes.
 fn share<L: Round + Send + Sync, P: Payload + Send, G: Turnstile + Sync, R: Threads + Wait + Sync>(
-    rt: &R,
-    alloc: Global,
-    turnstile: &G,
+    host: &RaceHost<G, R>,
     helpers: Helpers,
     blanks: Blanks,
-    store: Store<P>,
+    opened: OpenedRace<P>,
     stock: Vec<Draft<P>>,
-    lines: &[Line],
 ) -> Result<Raced<P>, RaceFault>
-    requires shareable { MayShare L.name L.parts L.keeper L.start blanks store }
+    requires shareable { MayShare L.name L.parts L.keeper L.start blanks opened.store }
     requires none_ended { L.start.may_end ≡ false }
-    requires raceable { MayRace store.opening store.entries lines.now }
-    ensures run { RunsRace helpers store.heap.table.limits.max_blocks store.opening stock.items lines.now result }
+    requires raceable { MayRace opened.store.opening opened.store.entries opened.lines.items }
+    ensures run { RunsRace helpers opened.store.heap.table.limits.max_blocks opened.store.opening stock.items opened.lines.items result }
 {
-    let shared = SharedStore::<L, P>::new(alloc, blanks, store)?;
-    run_shared(rt, alloc, turnstile, helpers, shared, stock, lines)
+    let OpenedRace { store, lines } = opened;
+    let shared = SharedStore::<L, P>::new(host.alloc, blanks, store)?;
+    run_shared(host, helpers, shared, stock, lines.as_slice())
 }
 
 // Runs the lines in the shared store, and closes.
@@ -220,9 +220,7 @@ fn run_shared<
     G: Turnstile + Sync,
     R: Threads + Wait + Sync,
 >(
-    rt: &R,
-    alloc: Global,
-    turnstile: &G,
+    host: &RaceHost<G, R>,
     helpers: Helpers,
     shared: Shared<L, P>,
     stock: Vec<Draft<P>>,
@@ -238,12 +236,69 @@ fn run_shared<
         sessions,
         ..
     } = shared;
+    let context = RaceContext {
+        host,
+        store: &store,
+        helpers,
+    };
+    match run_lines(&context, sessions, stock, lines) {
+        Ok(ran) => close_ran(store, ran),
+        Err(fault) => {
+            drop(store);
+            Err(fault)
+        }
+    }
+}
+
+// The sessions that come back, and what the lines came to, in script order.
+#[derive(Drop)]
+pub(crate) struct RanLines<S> {
+    sessions: Vec<S>,
+    told: Vec<Told>,
+}
+
+// Runs the lines, each by the session of its worker.
+fn run_lines<
+    L: Round + Send + Sync,
+    P: Payload + Send,
+    G: Turnstile + Sync,
+    R: Threads + Wait + Sync,
+>(
+    context: &RaceContext<L, P, G, R>,
+    sessions: Vec<Session<L>>,
+    stock: Vec<Draft<P>>,
+    lines: &[Line],
+) -> Result<RanLines<Session<L>>, RaceFault>
+    requires some { 1 ≤ L.start.opening.workers }
+    requires fresh { AreFresh (range_with_len 0 L.start.opening.workers) sessions.items }
+    ensures ran { IfOk result (HasRanLines L.start context.now.helpers stock.items lines.now) }
+    ensures fault { IfErr result IsBeforeWriting }
+{
+    let alloc = context.host.alloc;
     let works = share_out(alloc, sessions, stock, lines)?;
-    let finished = run_threads(rt, alloc, &store, turnstile, helpers, works)?;
+    let finished = run_threads(context, works)?;
     let told = in_script_order(alloc, lines, finished.as_slice())?;
     let sessions = sessions_of(alloc, finished)?;
-    let store = closed(store, sessions)?;
-    Ok(Raced { store, told })
+    Ok(RanLines { sessions, told })
+}
+
+// Closes the store with the sessions that came back.
+fn close_ran<L: Round, P: Payload>(
+    store: SharedStore<L, P>,
+    ran: RanLines<Session<L>>,
+) -> Result<Raced<P>, RaceFault>
+    requires { MayCloseRace L.start ran.sessions.items }
+    ensures closed { IfOk result (λ raced. IsClosedRace L.start ran.sessions.items raced.store × (raced.told.items ≡ ran.told.items)) }
+    ensures fault { IfErr result (λ fault. fault ≡ RaceFault.ReceiptMismatch) }
+{
+    let RanLines { sessions, told } = ran;
+    match closed(store, sessions) {
+        Ok(store) => Ok(Raced { store, told }),
+        Err(fault) => {
+            drop(told);
+            Err(fault)
+        }
+    }
 }
 
 // The store, where all sessions have come back and their receipts are right. Where no receipt was handed out, no entry
@@ -254,9 +309,7 @@ fn closed<L: Round, P: Payload>(
 ) -> Result<Store<P>, RaceFault>
     requires { MayCloseRace L.start sessions.items }
     ensures closed { IfOk result (IsClosedRace L.start sessions.items) }
-    ensures due { IfErr result (λ why. (why ≡ RaceFault.ReceiptMismatch)
-        × ((AtSome L.start (λ s. parts_of sessions.items < sessions_made L.start s.entries)) ⊎ AtSome L.start (λ s.
-        (length L.start.entries + count_of sessions.items ≤ length s.entries) × (¬ MayClose s.entries (held_from L.start s) sessions.items)))) }
+    ensures due { IfErr result (IsUnclosedRace L.start sessions.items) }
 {
     match close(store, sessions) {
         Ok(store) => Ok(store),

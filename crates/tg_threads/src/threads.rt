@@ -2,8 +2,10 @@
 ghost use Rattle.std.specs.Prelude.{◌≡◌, ◌≢◌, ℕ, IfOk, IfErr, map};
 ghost use Rattle.std.specs.List.{All};
 ghost use Rattle.tg_threads.specs.Tasks.{AllBring, HadNone, RunsTasks, assigned_of, promised_by};
-ghost use Rattle.tg_weave.specs.Boxes.{boxed_of};
+ghost use Rattle.tg_threads.specs.Boxes.{boxed_of};
 
+use crate::host::RaceContext;
+use crate::task::Task;
 use crate::turnstile::Turnstile;
 use crate::worker::{Finished, run_tasks};
 use std::alloc::{AllocError, AllocFailed, Global};
@@ -13,12 +15,11 @@ use std::thread;
 use std::thread::{Promise, PromisedHandle, Scope, Threads};
 use tg_payload::Payload;
 use tg_script::Helpers;
-use tg_shared::{Round, Session, SharedStore};
-use tg_weave::Task;
+use tg_shared::{Round, Session};
 use thiserror::Error;
 
 /// A worker's session, and the lines that its thread has to run.
-pub type Work<L, P> = tg_weave::Work<Session<L>, P>;
+pub type Work<L, P> = crate::work::Work<Session<L>, P>;
 
 /// Why not all of the workers' lines were run. The sessions are lost.
 #[derive(Clone, Copy, PartialEq, Eq, Debug, Error)]
@@ -70,7 +71,7 @@ impl<L: Round, P: Payload> Promise<Result<Finished<L>, ThreadsFault>> for Assign
     ghost use Rattle.std.specs.Prelude.{◌≢◌, IfErr, IfOk, map};
     ghost use Rattle.tg_threads.specs.declared.threads.ThreadsFault.TheVariants.{NoThread};
     ghost use Rattle.tg_threads.specs.Tasks.{Brings, arena_seen};
-    ghost use Rattle.tg_weave.specs.Boxes.{boxed_of};
+    ghost use Rattle.tg_threads.specs.Boxes.{boxed_of};
 
     ghost kept_by = { λ p r. IfErr r (λ fault. fault ≢ NoThread) × IfOk r (λ finished. Brings (arena_seen L.start p.helpers finished) L.start.opening.workers p.worker (map boxed_of p.tasks.value.items) finished) };
 }
@@ -85,25 +86,22 @@ pub fn run_threads<
     G: Turnstile + Sync,
     R: Threads + Wait + Sync,
 >(
-    rt: &R,
-    alloc: Global,
-    store: &SharedStore<L, P>,
-    turnstile: &G,
-    helpers: Helpers,
+    context: &RaceContext<L, P, G, R>,
     works: Vec<Work<L, P>>,
 ) -> Result<Vec<Finished<L>>, ThreadsFault>
     requires fresh { All (λ w. HadNone w.session) works.items }
-    ensures { IfOk result (λ all. AllBring L.start helpers L.start.opening.workers (map assigned_of works.items) all.items) }
+    ensures { IfOk result (λ all. AllBring L.start context.now.helpers L.start.opening.workers (map assigned_of works.items) all.items) }
 {
+    let rt = context.host.rt;
     thread::scope(
         thread::scope_env(),
         rt,
         |scope| -> Result<Vec<Finished<L>>, ThreadsFault>
             requires { All (λ w. HadNone w.session) works.items }
-            ensures { IfOk result (λ all. AllBring L.start helpers L.start.opening.workers (map assigned_of works.items) all.items) }
+            ensures { IfOk result (λ all. AllBring L.start context.entry.now.helpers L.start.opening.workers (map assigned_of works.items) all.items) }
         {
-            let handles = start_all(rt, alloc, scope, store, turnstile, helpers, works)?;
-            join_all(rt, alloc, handles)
+            let handles = start_all(context, scope, works)?;
+            join_all(context.host.rt, context.host.alloc, handles)
         },
     )
 }
@@ -117,21 +115,17 @@ fn start_all<
     G: Turnstile + Sync,
     R: Threads + Wait + Sync,
 >(
-    rt: &'s R,
-    alloc: Global,
+    context: &'s RaceContext<'s, L, P, G, R>,
     scope: &Scope<'s, E>,
-    store: &'s SharedStore<L, P>,
-    turnstile: &'s G,
-    helpers: Helpers,
     works: Vec<Work<L, P>>,
 ) -> Result<Vec<PromisedHandle<Result<Finished<L>, ThreadsFault>, Assigned<P>>>, ThreadsFault>
     requires fresh { All (λ w. HadNone w.session) works.items }
     ensures promises { IfOk result (λ handles. map promised_by handles.items ≡ map assigned_of works.items) }
-    ensures helpers { IfOk result (λ handles. All (λ h. h.promise.helpers ≡ helpers) handles.items) }
+    ensures helpers { IfOk result (λ handles. All (λ h. h.promise.helpers ≡ context.now.helpers) handles.items) }
 {
-    let mut handles = Vec::with_capacity(alloc, works.len())?;
+    let mut handles = Vec::with_capacity(context.host.alloc, works.len())?;
     for work in works {
-        let handle = start(rt, alloc, scope, store, turnstile, helpers, work)?;
+        let handle = start(context, scope, work)?;
         handles.push(handle)?;
     }
     Ok(handles)
@@ -146,22 +140,18 @@ fn start<
     G: Turnstile + Sync,
     R: Threads + Wait + Sync,
 >(
-    rt: &'s R,
-    alloc: Global,
+    context: &'s RaceContext<'s, L, P, G, R>,
     scope: &Scope<'s, E>,
-    store: &'s SharedStore<L, P>,
-    turnstile: &'s G,
-    helpers: Helpers,
     work: Work<L, P>,
 ) -> Result<PromisedHandle<Result<Finished<L>, ThreadsFault>, Assigned<P>>, ThreadsFault>
     requires fresh { HadNone work.session }
     ensures promise { IfOk result (λ handle. promised_by handle ≡ assigned_of work) }
-    ensures helpers { IfOk result (λ handle. handle.promise.helpers ≡ helpers) }
+    ensures helpers { IfOk result (λ handle. handle.promise.helpers ≡ context.now.helpers) }
     ensures fault { IfErr result (λ fault. fault ≡ ThreadsFault.NoThread) }
 {
-    let tg_weave::Work { session, tasks } = work;
+    let crate::work::Work { session, tasks } = work;
     let assigned = Assigned {
-        helpers,
+        helpers: context.helpers,
         worker: session.worker(),
         tasks: Snapshot::of(&tasks),
     };
@@ -169,8 +159,8 @@ fn start<
         assigned,
         move || -> Result<Finished<L>, ThreadsFault>
             requires { HadNone session }
-            ensures ran { RunsTasks L.start helpers L.start.opening.workers session.worker (map boxed_of tasks.items) result }
-        { run_tasks(rt, alloc, store, turnstile, helpers, session, tasks) },
+            ensures ran { RunsTasks L.start context.entry.now.helpers L.start.opening.workers session.worker (map boxed_of tasks.items) result }
+        { run_tasks(context, session, tasks) },
     ) else {
         return Err(ThreadsFault::NoThread);
     };

@@ -1,5 +1,5 @@
 //! The run of one worker's lines.
-ghost use Rattle.std.specs.Prelude.{◌≡◌, ◌<◌, ◌++◌, ◌∷◌, ◌↔◌, [], ℕ, Bool, true, false, if◌then◌else◌, length, map, List, Some, Err, IfErr, IfOk};
+ghost use Rattle.std.specs.Prelude.{◌≡◌, ◌≢◌, ◌<◌, ◌≤◌, ◌++◌, ◌∷◌, ◌↔◌, [], ℕ, Bool, true, false, if◌then◌else◌, length, map, List, Some, Err, IfErr, IfOk, OnOk};
 ghost use Rattle.std.specs.List.{count_by};
 ghost use Rattle.std.specs.Vec.{vec_len, vec_capacity};
 ghost use Rattle.tg_model.specs.declared.command.Deed.TheVariants as Deed;
@@ -14,9 +14,11 @@ ghost use Rattle.tg_shared.specs.Sessions.{AtSeen, HasLooked, LeavesAtSeen};
 ghost use Rattle.tg_shared.specs.declared.receipt.Receipt.{Receipt as ReceiptOf};
 ghost use Rattle.tg_text.specs.declared.answer.Refusal.{Refusal as RefusalOf};
 ghost use Rattle.tg_threads.specs.Output.{arena_of, is_retire_of};
-ghost use Rattle.tg_threads.specs.Tasks.{HadNone, HasAsked, HasCollected, HasMadeVertex, HasRun, IsRunBy, IsToldOrGone, KeepsSpawned, RunsTasks, is_deed, may_make_subject, served_past};
-ghost use Rattle.tg_weave.specs.Boxes.{boxed_of};
+ghost use Rattle.tg_threads.specs.Tasks.{Brings, HadNone, HasAsked, HasCollected, HasMadeVertex, IsToldOrGone, KeepsSpawned, RunsTask, RunsTasks, arena_seen, is_deed, may_make_subject, served_past};
+ghost use Rattle.tg_threads.specs.Boxes.{boxed_of};
 
+use crate::host::RaceContext;
+use crate::task::{Task, Told};
 use crate::threads::ThreadsFault;
 use crate::turnstile::Turnstile;
 use std::alloc::Global;
@@ -25,14 +27,13 @@ use std::thread::Threads;
 use tg_model::Command;
 use tg_payload::{Draft, Payload};
 use tg_rights::Label;
-use tg_script::{Helpers, apply_refusal, collect_refusal, create_answer, helpers_refusal};
+use tg_script::{apply_refusal, collect_refusal, create_answer, helpers_refusal};
 use tg_shared::{Gate, NoGate, Round, Session, SharedStore};
 use tg_store::{ApplyFault, CreateFault, Kind};
 use tg_text::{Answer, Line, Refusal};
-use tg_weave::{Task, Told};
 
 /// A worker's session after its lines, and what each of them came to, in their order.
-pub type Finished<L> = tg_weave::Finished<Session<L>>;
+pub type Finished<L> = crate::work::Finished<Session<L>>;
 
 /// Runs the lines, one after the other, and passes the turnstile before each. A collection has so many helpers. Behind
 /// its own retire that was entered, the worker's lines are refused and their payloads dropped; collections are run on.
@@ -40,32 +41,69 @@ pub type Finished<L> = tg_weave::Finished<Session<L>>;
 /// Want of memory is answered before any line is run, and `NoSuchWorker` where the session answers it though no retire
 /// of the worker was entered.
 pub(crate) fn run_tasks<L: Round, P: Payload, G: Turnstile, R: Threads + Wait + Sync>(
-    rt: &R,
-    alloc: Global,
-    store: &SharedStore<L, P>,
-    turnstile: &G,
-    helpers: Helpers,
-    mut session: Session<L>,
+    context: &RaceContext<L, P, G, R>,
+    session: Session<L>,
     tasks: Vec<Task<P>>,
 ) -> Result<Finished<L>, ThreadsFault>
     requires fresh { HadNone session }
-    ensures ran { RunsTasks L.start helpers L.start.opening.workers session.worker (map boxed_of tasks.items) result }
+    ensures ran { RunsTasks L.start context.now.helpers L.start.opening.workers session.worker (map boxed_of tasks.items) result }
 {
-    let mut told = Vec::with_capacity(alloc, tasks.len())?;
-    let mut spawned = Vec::with_capacity(alloc, spawn_lines(tasks.as_slice()))?;
-    let mut served = true;
-    for task in tasks {
-        turnstile.pass(session.worker());
-        let line = task.line;
-        let one = run_task(rt, store, helpers, served, &mut session, &mut spawned, task)?;
-        served = is_served_past(session.worker(), served, &line, one);
-        told.push(one)?;
-    }
-    Ok(tg_weave::Finished {
+    let (told, spawned) = room_for(context.host.alloc, tasks.as_slice())?;
+    let mut finished = crate::work::Finished {
         session,
         spawned,
         told,
-    })
+    };
+    match run_each(context, &mut finished, tasks) {
+        Ok(()) => Ok(finished),
+        Err(fault) => {
+            drop(finished);
+            Err(fault)
+        }
+    }
+}
+
+// Room for what the lines come to, and for the sessions of the subjects that they make.
+fn room_for<L: Round, P: Payload>(
+    alloc: Global,
+    tasks: &[Task<P>],
+) -> Result<(Vec<Told>, Vec<Session<L>>), ThreadsFault>
+    ensures none { IfOk result (λ room. (room.0.items ≡ []) × (room.1.items ≡ [])) }
+    ensures room { IfOk result (λ room. count_by may_make_subject tasks.now ≤ vec_capacity room.1) }
+    ensures fault { IfErr result (λ fault. fault ≡ ThreadsFault.OutOfMemory) }
+{
+    let told = Vec::with_capacity(alloc, tasks.len())?;
+    let spawned = Vec::with_capacity(alloc, spawn_lines(tasks))?;
+    Ok((told, spawned))
+}
+
+// Runs the lines of a session that has run none.
+fn run_each<L: Round, P: Payload, G: Turnstile, R: Threads + Wait + Sync>(
+    context: &RaceContext<L, P, G, R>,
+    finished: &mut Finished<L>,
+    tasks: Vec<Task<P>>,
+) -> Result<(), ThreadsFault>
+    requires fresh { HadNone finished.old.session }
+    requires none { (finished.old.told.items ≡ []) × (finished.old.spawned.items ≡ []) }
+    requires room { count_by may_make_subject tasks.items ≤ vec_capacity finished.old.spawned }
+    ensures ran { OnOk result (Brings (arena_seen L.start context.now.helpers finished.new) L.start.opening.workers finished.old.session.worker (map boxed_of tasks.items) finished.new) }
+    ensures fault { IfErr result (λ fault. fault ≢ ThreadsFault.NoThread) }
+{
+    let mut served = true;
+    for task in tasks {
+        context.host.turnstile.pass(finished.session.worker());
+        let line = task.line;
+        let one = run_task(
+            context,
+            served,
+            &mut finished.session,
+            &mut finished.spawned,
+            task,
+        )?;
+        served = is_served_past(finished.session.worker(), served, &line, one);
+        finished.told.push(one)?;
+    }
+    Ok(())
 }
 
 // How many of the lines may make a subject.
@@ -116,18 +154,15 @@ fn is_refused(served: bool, line: &Line) -> bool
 }
 
 // Runs one line, or refuses it where the worker's lines aren't run.
-fn run_task<L: Round, P: Payload, R: Threads + Wait + Sync>(
-    rt: &R,
-    store: &SharedStore<L, P>,
-    helpers: Helpers,
+fn run_task<L: Round, P: Payload, G: Turnstile, R: Threads + Wait + Sync>(
+    context: &RaceContext<L, P, G, R>,
     served: bool,
     session: &mut Session<L>,
     spawned: &mut Vec<Session<L>>,
     task: Task<P>,
 ) -> Result<Told, ThreadsFault>
     requires room { may_make_subject task ≡ true → vec_len spawned.old < vec_capacity spawned.old }
-    ensures run { (workers : ℕ) (before : ℕ → Bool) → before session.old.worker ≡ served → IsRunBy workers session.old.worker (boxed_of task) →
-        IfOk result (λ told. HasRun (arena_of L.start helpers (entries_of session.new.seen)) before (boxed_of task) told session.old session.new) }
+    ensures run { RunsTask L.start context.now.helpers served task session.old session.new result }
     ensures spawned { KeepsSpawned (if may_make_subject task then 1 else 0) session.old session.new spawned.old spawned.new result }
     ensures gone { IfErr result (λ why. (why ≡ ThreadsFault.NoSuchWorker) × AtSeen L.start session.new.seen (λ s. ¬ IsSubject (graph_of_store s) session.old.worker)) }
 {
@@ -136,11 +171,11 @@ fn run_task<L: Round, P: Payload, R: Threads + Wait + Sync>(
         return Ok(Told::Refused(Refusal::Worker));
     }
     match line {
-        Line::Plain { command, .. } => apply(rt, store, session, command),
-        Line::Create { label, .. } => create(rt, store, session, label, draft),
-        Line::Spawn { label, .. } => spawn(rt, store, session, spawned, label, draft),
-        Line::Full => Ok(collect(rt, store, helpers, session, Kind::Full)),
-        Line::Minor => Ok(collect(rt, store, helpers, session, Kind::Nursery)),
+        Line::Plain { command, .. } => apply(context.host.rt, context.store, session, command),
+        Line::Create { label, .. } => create(context, session, label, draft),
+        Line::Spawn { label, .. } => spawn(context, session, spawned, label, draft),
+        Line::Full => Ok(collect(context, session, Kind::Full)),
+        Line::Minor => Ok(collect(context, session, Kind::Nursery)),
         // No thread runs an edge line.
         Line::Edge(_) => Ok(Told::Refused(Refusal::Worker)),
     }
@@ -162,9 +197,8 @@ fn apply<L: Round, P: Payload, R: Wait>(
 }
 
 // The payload is dropped where no vertex is made.
-fn create<L: Round, P: Payload, R: Wait>(
-    rt: &R,
-    store: &SharedStore<L, P>,
+fn create<L: Round, P: Payload, G, R: Wait>(
+    context: &RaceContext<L, P, G, R>,
     session: &mut Session<L>,
     label: Label,
     draft: Option<Draft<P>>,
@@ -174,7 +208,7 @@ fn create<L: Round, P: Payload, R: Wait>(
     let Some(draft) = draft else {
         return Ok(Told::Refused(Refusal::Stock));
     };
-    match session.create(rt, store, label, draft) {
+    match session.create(context.host.rt, context.store, label, draft) {
         Ok(_) => Ok(last_told(session)),
         Err(refused) => {
             let why = refused.why;
@@ -185,9 +219,8 @@ fn create<L: Round, P: Payload, R: Wait>(
 }
 
 // As a create; and the new subject's session is kept with the others, for which there is room.
-fn spawn<L: Round, P: Payload, R: Wait>(
-    rt: &R,
-    store: &SharedStore<L, P>,
+fn spawn<L: Round, P: Payload, G, R: Wait>(
+    context: &RaceContext<L, P, G, R>,
     session: &mut Session<L>,
     spawned: &mut Vec<Session<L>>,
     label: Label,
@@ -200,7 +233,7 @@ fn spawn<L: Round, P: Payload, R: Wait>(
     let Some(draft) = draft else {
         return Ok(Told::Refused(Refusal::Stock));
     };
-    match session.spawn(rt, store, label, draft) {
+    match session.spawn(context.host.rt, context.store, label, draft) {
         Ok(fresh) => {
             spawned.push_reserved(fresh);
             Ok(last_told(session))
@@ -233,51 +266,48 @@ fn not_made<L: Round>(session: &Session<L>, why: CreateFault) -> Result<Told, Th
 }
 
 // How many vertices the heap then has is told of a full collection alone.
-fn collect<L: Round, P: Payload, R: Threads + Wait + Sync>(
-    rt: &R,
-    store: &SharedStore<L, P>,
-    helpers: Helpers,
+fn collect<L: Round, P: Payload, G, R: Threads + Wait + Sync>(
+    context: &RaceContext<L, P, G, R>,
     session: &mut Session<L>,
     kind: Kind,
 ) -> Told
-    ensures collected { HasCollected (arena_of L.start helpers (entries_of session.new.seen)) kind result }
+    ensures collected { HasCollected (arena_of L.start context.now.helpers (entries_of session.new.seen)) kind result }
     ensures looked { HasLooked session.old session.new }
 {
-    match (collect_by(rt, store, helpers, session, kind, &NoGate), kind) {
+    match (collect_by(context, session, kind, &NoGate), kind) {
         (Ok(kept), Kind::Full) => Told::Collected(Some(kept)),
         (Ok(_), Kind::Nursery) => Told::Collected(None),
         (Err(refusal), _) => Told::Refused(refusal),
     }
 }
 
-/// A race's collection, which a worker's thread asks its session for: by so many helpers, each of whom passes the gate.
-/// One helper is that thread, which collects alone and passes no gate. Answers how many vertices the heap then has.
+/// A race's collection, which a worker's thread asks its session for: by as many helpers as the context says, each of
+/// whom passes the gate. One helper is that thread, which collects alone and passes no gate. It returns how many
+/// vertices the heap then has.
 ///
 /// `Heap` was due of a store with exactly the entries that the session has then seen, where each of several helpers may
 /// leave a block open. `Threads` is answered of several helpers alone, where a thread couldn't be started. The only
 /// other refusal is `Memory`.
-pub fn collect_by<L: Round, P: Payload, R: Threads + Wait + Sync, G: Gate>(
-    rt: &R,
-    store: &SharedStore<L, P>,
-    helpers: Helpers,
+pub fn collect_by<L: Round, P: Payload, G, R: Threads + Wait + Sync, H: Gate>(
+    context: &RaceContext<L, P, G, R>,
     session: &mut Session<L>,
     kind: Kind,
-    gate: &G,
+    gate: &H,
 ) -> Result<u64, Refusal>
     ensures number { IfOk result (LeavesAtSeen L.start session.new.seen kind) }
-    ensures refused { IfErr result (MayWant helpers) }
+    ensures refused { IfErr result (MayWant context.now.helpers) }
     ensures full { IfErr result (λ why. why ≡ Refusal.Heap → AtSeen L.start session.new.seen (λ s.
-        LacksRoomToCollect kind helpers s.heap)) }
+        LacksRoomToCollect kind context.now.helpers s.heap)) }
     ensures looked { HasLooked session.old session.new }
 {
-    let number = helpers.number();
+    let number = context.helpers.number();
     if number == 1 {
-        return match session.collect(rt, store, kind) {
+        return match session.collect(context.host.rt, context.store, kind) {
             Ok(kept) => Ok(kept),
             Err(fault) => Err(collect_refusal(fault)),
         };
     }
-    match session.collect_with(rt, store, kind, number, gate) {
+    match session.collect_with(context.host.rt, context.store, kind, number, gate) {
         Ok(kept) => Ok(kept),
         Err(fault) => Err(helpers_refusal(fault)),
     }

@@ -1,5 +1,5 @@
 -- What a policy rests on: the texts of the command line, the questions that they are, and the exit status.
-use Rattle.std.specs.Prelude.{◌≡◌, ℕ, Bool, not, ◌&&◌, if◌then◌else◌, List, [], ◌∷◌, ◌++◌, codes, Option, Some, None}
+use Rattle.std.specs.Prelude.{◌≡◌, ℕ, Bool, IsTrue, not, ◌&&◌, if◌then◌else◌, List, [], ◌∷◌, ◌++◌, codes, Option, Some, None}
 use Rattle.std.specs.Str.Parse.{without_leading_plus, digits_value, IsNumeral}
 use Rattle.clap.specs.Matches.{found_of, matched_of, raw_values}
 use Rattle.clap.specs.declared.parser.matches.ArgMatches.{ArgMatches}
@@ -61,6 +61,11 @@ pub record IsKeptPolicy (p : Shown) (silent : List ℕ) (text : List ℕ) : Type
   pub question : Query
   pub is : IsQuestion text question
   pub never : NeverComes p silent question
+
+-- What answers mean for the exit status. If it is 0 after them, it was before, and what must never come about never does.
+pub record MeetsPolicy (old new : ℕ) (must_never : Bool) (never : Type 0) : Type 0 where
+  pub before : new ≡ 0 → old ≡ 0
+  pub kept : new ≡ 0 → IsTrue must_never → never
 
 -- the exit status after an answer: 1 if something must never come about and the answer isn't `never`
 abbrev pub status_after : ℕ → Bool → Bool → ℕ

@@ -36,6 +36,11 @@ TellsHold p silent x right y old new =
 abbrev pub IsNever : Shown → List ℕ → ℕ → Right → ℕ → Type 0
 IsNever p silent x right y = (g : ProtectionGraph) → IsPictureOf p g → NeverHolds silent g x right y
 
+-- whoever it answers of whatever right, this never comes about
+abbrev pub SaysNever : Answer → Type 0
+SaysNever answer =
+    (p : Shown) (silent : List ℕ) (x : ℕ) (right : Right) (y : ℕ) → AnswersShown p silent x right y answer → IsNever p silent x right y
+
 -- ---- questions with a star
 
 -- x is listed: by its name, or as one that isn't made yet where those are listed

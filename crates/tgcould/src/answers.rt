@@ -1,7 +1,7 @@
 //! The answers to all questions.
 ghost use Rattle.std.specs.Prelude.{◌≡◌, IfOk, IsTrue};
 ghost use Rattle.std.specs.List.{All};
-ghost use Rattle.tgcould.specs.Policies.{IsKeptPolicy, texts_of};
+ghost use Rattle.tgcould.specs.Policies.{IsKeptPolicy, MeetsPolicy, texts_of};
 ghost use Rattle.tgcould.specs.Told.{NeverComes};
 
 use crate::ask::{Said, tell};
@@ -38,9 +38,8 @@ impl Answers {
     /// Adds the answers to the questions of an option. If the exit status is 0 then, it was before. If what these
     /// questions ask about must never come about, it never does.
     pub fn add_all(&mut self, scene: &Scene, matches: &ArgMatches, option: &str, must_never: bool)
-        ensures before { self.new.notes.status ≡ 0 → self.old.notes.status ≡ 0 }
-        ensures kept { self.new.notes.status ≡ 0 → IsTrue must_never →
-            All (IsKeptPolicy scene.now.picture.now scene.now.silent.now) (texts_of matches.now option.now) }
+        ensures { MeetsPolicy self.old.notes.status self.new.notes.status must_never
+            (All (IsKeptPolicy scene.now.picture.now scene.now.silent.now) (texts_of matches.now option.now)) }
     {
         let values = matches.get_strs(option).unwrap_or(&[]);
         self.add_each(scene, values, must_never);
@@ -48,9 +47,8 @@ impl Answers {
 
     // Adds the answers to the questions that these texts are.
     fn add_each(&mut self, scene: &Scene, texts: &[&str], must_never: bool)
-        ensures before { self.new.notes.status ≡ 0 → self.old.notes.status ≡ 0 }
-        ensures kept { self.new.notes.status ≡ 0 → IsTrue must_never →
-            All (λ text. IsKeptPolicy scene.now.picture.now scene.now.silent.now text.now) texts.now }
+        ensures { MeetsPolicy self.old.notes.status self.new.notes.status must_never
+            (All (λ text. IsKeptPolicy scene.now.picture.now scene.now.silent.now text.now) texts.now) }
     {
         for text in texts {
             self.add_text(scene, text, must_never);
@@ -59,9 +57,8 @@ impl Answers {
 
     // Adds the answer to the question that a text is, or notes that it is none.
     fn add_text(&mut self, scene: &Scene, text: &str, must_never: bool)
-        ensures before { self.new.notes.status ≡ 0 → self.old.notes.status ≡ 0 }
-        ensures kept { self.new.notes.status ≡ 0 → IsTrue must_never →
-            IsKeptPolicy scene.now.picture.now scene.now.silent.now text.now }
+        ensures { MeetsPolicy self.old.notes.status self.new.notes.status must_never
+            (IsKeptPolicy scene.now.picture.now scene.now.silent.now text.now) }
     {
         match read_question(text) {
             Ok(query) => self.add_noted(scene, text, query, must_never),
@@ -71,9 +68,8 @@ impl Answers {
 
     // Adds the answer to a question, whose text this is, and what standard error says of it.
     fn add_noted(&mut self, scene: &Scene, text: &str, query: Query, must_never: bool)
-        ensures before { self.new.notes.status ≡ 0 → self.old.notes.status ≡ 0 }
-        ensures kept { self.new.notes.status ≡ 0 → IsTrue must_never →
-            NeverComes scene.now.picture.now scene.now.silent.now query }
+        ensures { MeetsPolicy self.old.notes.status self.new.notes.status must_never
+            (NeverComes scene.now.picture.now scene.now.silent.now query) }
     {
         let told = self.add(scene, text, query);
         self.notes.add(text, told, must_never);

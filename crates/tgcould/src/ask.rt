@@ -1,10 +1,9 @@
 //! What is asked of a picture, and told.
-ghost use Rattle.std.specs.Prelude.{◌≡◌, ℕ, List, IsTrue, true, false};
+ghost use Rattle.std.specs.Prelude.{◌≡◌, ℕ, IsTrue, true, false};
 ghost use Rattle.tg_rights.specs.declared.Right.{Right as TheRight};
-ghost use Rattle.tg_model.specs.Picture.{Shown};
 ghost use Rattle.tg_plain.specs.Grown.{Appends};
 ghost use Rattle.tgcould.specs.Texts.{answer_text};
-ghost use Rattle.tgcould.specs.Told.{AnswersShown, IsNever, IsNobody, IsNothing, NeverComes, TellsHold, named_in};
+ghost use Rattle.tgcould.specs.Told.{IsNever, IsNobody, IsNothing, NeverComes, SaysNever, TellsHold, named_in};
 
 use crate::query::{Query, VertexWord};
 use crate::stars::{HeldRights, Holders, held_by, holders_of};
@@ -69,8 +68,7 @@ fn tell_hold(alloc: Global, text: &mut PlainText, scene: &Scene, question: Quest
 // Appends the text of an answer.
 fn tell_answer(text: &mut PlainText, answer: &Answer) -> Said
     ensures text { Appends text.old (answer_text answer.now) text.new }
-    ensures never { IsTrue result.is_never → (p : Shown) (silent : List ℕ) (x : ℕ) (right : TheRight) (y : ℕ) →
-        AnswersShown p silent x right y answer.now → IsNever p silent x right y }
+    ensures never { IsTrue result.is_never → SaysNever answer.now }
 {
     add_answer(text, answer);
     Said {
@@ -82,8 +80,7 @@ fn tell_answer(text: &mut PlainText, answer: &Answer) -> Said
 
 // Whether an answer is that it never comes about.
 fn is_never(answer: &Answer) -> bool
-    ensures { IsTrue result → (p : Shown) (silent : List ℕ) (x : ℕ) (right : TheRight) (y : ℕ) →
-        AnswersShown p silent x right y answer.now → IsNever p silent x right y }
+    ensures { IsTrue result → SaysNever answer.now }
 {
     matches!(answer, Answer::Never(_))
 }

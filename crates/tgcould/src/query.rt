@@ -3,8 +3,8 @@ ghost use Rattle.std.specs.Prelude.{◌≡◌, [], ◌∷◌, codes, IfOk, IfSom
 ghost use Rattle.tg_rights.specs.RightSet.{letter_of};
 ghost use Rattle.tgcould.specs.Policies.{IsQuestion, IsBehind, IsVertex, AreWords};
 
-use tg_reason::reason_of_number;
 use tg_rights::Right;
+use tg_text::reason_of_number;
 
 /// A vertex of a question.
 #[derive(Clone, Copy)]

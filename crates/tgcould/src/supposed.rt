@@ -11,8 +11,7 @@ use crate::options::{AS_IF, SILENT};
 use clap::ArgMatches;
 use std::alloc::{AllocError, Global};
 use tg_model::{Edge, Picture};
-use tg_reason::reason_of;
-use tg_text::{Line, read_line};
+use tg_text::{Line, read_line, reason_of};
 
 // The most workers there are, so that each edge between two of them is one of the grammar.
 const ANY: u64 = u64::MAX;

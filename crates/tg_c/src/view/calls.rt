@@ -3,7 +3,6 @@ ghost use Rattle.std.specs.Prelude.{◌≡◌, IfOk, IfErr};
 ghost use Rattle.tg_c.specs.Inner.Stores.{KeepsStore};
 ghost use Rattle.tg_c.specs.View.{Glances, IsRefusedView, IsSeen};
 
-use crate::foresee::right_of;
 use crate::forms::EdgeIn;
 use crate::held::Holder;
 use crate::law_store::LawStore;
@@ -13,6 +12,7 @@ use crate::refusal::CallRefusal;
 use crate::view::place::ViewPlace;
 use crate::view::sight::Sight;
 use std::alloc::Global;
+use tg_rights::Right;
 
 /// Opens a view, which no place has yet, of the store in a place, where the silent ones take no turns, as if these
 /// edges were there too. What is asked for is looked at as a question's is (`crate::foresee`): the edges' rights, and
@@ -51,7 +51,7 @@ pub fn ask_view(
 ) -> Result<u64, CallRefusal>
     ensures { Glances view.old view.new x right y (λ told. result ≡ told) }
 {
-    let Some(right) = right_of(right) else {
+    let Some(right) = Right::of_bit(right) else {
         return Err(CallRefusal::BadRights);
     };
     view.with_open(alloc, |sight| sight.could(x, right, y).kind())

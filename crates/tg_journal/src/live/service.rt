@@ -7,16 +7,17 @@ use tg_model::{Command, Deed, Law, Making, Numbers, Reply, Value, denial_on};
 use tg_rights::Label;
 
 impl LiveGraph {
-    ghost use Rattle.tg_model.specs.Graph.{with_rights, without_rights, without_subject};
+    ghost use Rattle.tg_model.specs.Graph.{without_rights, without_subject};
     ghost use Rattle.tg_model.specs.Making.{deed_making};
-    ghost use Rattle.tg_model.specs.Rules.{HoldsOver, denial_of, step, answer_of, effect, reply_of, state_of};
+    ghost use Rattle.tg_model.specs.Picture.{with_edge};
+    ghost use Rattle.tg_model.specs.Rules.{HoldsOver, denial_of, effect, state_of};
     ghost use Rattle.tg_journal.specs.Live.{graph_kept};
-    ghost use Rattle.tg_journal.specs.Inner.Steps.{AnswersStep};
+    ghost use Rattle.tg_journal.specs.Inner.Steps.{IsDoneTo, TakesDeed, TakesServed};
 
     /// Takes a deed of a subject. The answer is that of the rules, and the graph becomes the next one. Fails only when
     /// out of memory, and the graph is then as before but for what names store that weren't made yet.
     pub(crate) fn apply(&mut self, worker: u64, deed: &Deed) -> Result<Reply, AllocError>
-        ensures { AnswersStep (graph_kept self.old) (graph_kept self.new) (answer_of (graph_kept self.old) worker deed.now) (step (graph_kept self.old) worker deed.now) result }
+        ensures { TakesDeed self.old self.new worker deed.now result }
     {
         match deed {
             Deed::Create { label, law, state } => {
@@ -41,8 +42,7 @@ impl LiveGraph {
         law: Law,
         state: &Numbers,
     ) -> Result<Reply, AllocError>
-        ensures { let deed = deed_making making label (record { law = law; state = state.now }) in
-            AnswersStep (graph_kept self.old) (graph_kept self.new) (answer_of (graph_kept self.old) worker deed) (step (graph_kept self.old) worker deed) result }
+        ensures { TakesDeed self.old self.new worker (deed_making making label (record { law = law; state = state.now })) result }
     {
         let name = self.made;
         if name >= self.max_vertices {
@@ -64,7 +64,7 @@ impl LiveGraph {
     // Does what a command asks for that is served.
     fn serve(&mut self, worker: u64, command: &Command) -> Result<Reply, AllocError>
         requires { denial_of (graph_kept self.old).label (graph_kept self.old).value worker command.now ≡ None }
-        ensures { AnswersStep (graph_kept self.old) (graph_kept self.new) (reply_of (graph_kept self.old).label (graph_kept self.old).value (graph_kept self.old).made worker command.now) (effect (graph_kept self.old) worker command.now) result }
+        ensures { TakesServed self.old self.new worker command.now result }
     {
         match *command {
             Command::Take { target, rights, .. } => self.add(worker, target, rights),
@@ -95,7 +95,7 @@ impl LiveGraph {
     // Gives one vertex rights over another, which someone holds already.
     fn add(&mut self, from: u64, to: u64, label: Label) -> Result<Reply, AllocError>
         requires { (x : ℕ) × HoldsOver (graph_kept self.old).label x to label }
-        ensures { AnswersStep (graph_kept self.old) (graph_kept self.new) Reply.Done (record (graph_kept self.old) { label = with_rights (graph_kept self.old).label from to label }) result }
+        ensures { IsDoneTo self.old self.new (with_edge (graph_kept self.old) from to label) result }
     {
         self.vertices.add(self.alloc, from, to, label)?;
         Ok(Reply::Done)
@@ -122,7 +122,7 @@ impl LiveGraph {
 
     // Writes to a vertex.
     fn write(&mut self, target: u64, value: u64) -> Result<Reply, AllocError>
-        ensures { AnswersStep (graph_kept self.old) (graph_kept self.new) Reply.Done (effect (graph_kept self.old) target (Command.Write target value)) result }
+        ensures { IsDoneTo self.old self.new (effect (graph_kept self.old) target (Command.Write target value)) result }
     {
         self.vertices.write(self.alloc, target, value)?;
         Ok(Reply::Done)

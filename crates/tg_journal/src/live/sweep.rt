@@ -23,8 +23,8 @@ impl LiveGraph {
         Ok(())
     }
 
-    // The vertices that a subject reaches. Fails only when out of memory.
-    fn reached(&self) -> Result<IndexSet<u64>, AllocError>
+    /// The vertices that a subject reaches. Fails only when out of memory.
+    pub(crate) fn reached(&self) -> Result<IndexSet<u64>, AllocError>
         ensures { IfOk result (λ names. (y : ℕ) → IsTrue (contains nat_eq names y) ↔ IsReachable (graph_kept self.now) y) }
     {
         let mut names = IndexSet::new(self.alloc);

@@ -5,7 +5,7 @@ ghost use Rattle.tg_rights.specs.RightSet.{RightSet};
 ghost use Rattle.tg_rights.specs.declared.Right.{Right};
 ghost use Rattle.tg_model.specs.Opened.{label_in};
 ghost use Rattle.tg_model.specs.Plain.{graph_of};
-ghost use Rattle.tg_model.specs.Picture.{Holds, IsPictureOf, StandsIn, AreAmong};
+ghost use Rattle.tg_model.specs.Picture.{Holds, IsPictureOf, StandsIn, IsLabelledBy, AreAmong};
 
 use crate::edge::Edge;
 use crate::graph::Graph;
@@ -41,7 +41,7 @@ fn edges_of(alloc: Global, graph: &Graph) -> Result<Vec<Edge>, AllocError>
 fn add_row(edges: &mut Vec<Edge>, from: u64, listing: &[(u64, Label)]) -> Result<(), AllocError>
     ensures all { OnOk result (All (StandsIn edges.new.items from) listing.now) }
     ensures kept { OnOk result ((a b : ℕ) (q : Right) → Holds (label_in edges.old.items) a q b → Holds (label_in edges.new.items) a q b) }
-    ensures only { OnOk result ((label : ℕ → ℕ → RightSet) → All (λ edge. edge.1 ≡ label from edge.0) listing.now → AreAmong edges.old.items label → AreAmong edges.new.items label) }
+    ensures only { OnOk result ((label : ℕ → ℕ → RightSet) → IsLabelledBy label from listing.now → AreAmong edges.old.items label → AreAmong edges.new.items label) }
 {
     for edge in listing {
         edges.push(Edge {

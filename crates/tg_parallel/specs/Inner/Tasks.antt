@@ -1,12 +1,19 @@
 -- What is asked for before helpers do a task.
 use Rattle.std.specs.Prelude.{◌≡◌, ℕ, ◌≤◌, All, List}
+use Rattle.tg_word.specs.declared.TheConstants.{MOST_SPACE_BLOCKS}
+use Rattle.tg_space.specs.SpaceTable.{SpaceTable}
+use Rattle.tg_space.specs.declared.root.Root.{Root}
+use Rattle.tg_evac.specs.declared.plan.Plan.{Plan}
 use Rattle.tg_race.specs.Race.{empty}
 use Rattle.tg_race.specs.Seats.{Board, Seated}
 use Rattle.tg_parallel.specs.declared.job.Job.{Job}
 use Rattle.tg_parallel.specs.declared.job.Task.{Task}
 use Rattle.tg_parallel.specs.declared.many.TheConstants.{MOST_HELPERS}
-use Rattle.tg_parallel.specs.Helping.{IsNew}
+use Rattle.tg_parallel.specs.declared.part.Helped.{Helped}
+use Rattle.tg_parallel.specs.Helping.{IsHelped, IsNew}
 use Rattle.tg_parallel.specs.Jobs.{IsOpen, MayCollect}
+use Rattle.tg_parallel.specs.Parts.{AreCountsOf}
+use Rattle.tg_parallel.specs.Whole.{MayFinish}
 
 -- as many helpers as there may be
 pub record MayCollectBy {G : Type 0} (helpers : ℕ) (task : Task G) : Type 0 where
@@ -24,3 +31,10 @@ pub record IsNewSeat (helpers : ℕ) (board : Board) (s : Seated) : Type 0 where
 pub record MayStartAll {G : Type 0} (job : Job G) (others : List Seated) : Type 0 where
   pub table : IsOpen job
   pub fresh : All (IsNew job.table.now) others
+
+-- what the helper that stands for all has made at a table may be finished by a plan
+pub record MayFinishAt (t : SpaceTable) (roots : List Root) (by : Plan) (board : Board) (made : Helped) : Type 0 where
+  pub plan : MayFinish t roots by
+  pub few : by.kept ≤ MOST_SPACE_BLOCKS
+  pub counts : AreCountsOf by.kind t.spaces roots board.counts
+  pub helped : IsHelped by.kind t roots board board.counts.helpers made

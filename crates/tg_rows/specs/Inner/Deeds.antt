@@ -1,9 +1,10 @@
 -- What the calls on one row are handed and what they promise: each set of clauses stands once, and has a name.
-use Rattle.std.specs.Prelude.{◌≡◌, ◌⊎◌, ℕ, ◌<◌, ◌≤◌, false, true, Option, Result, Err, IfErr, IfOk, IfSome, IsTrue, OnErr, OnOk, length}
+use Rattle.std.specs.Prelude.{◌≡◌, ◌⊎◌, ℕ, ◌<◌, ◌≤◌, false, true, List, Option, Result, Err, IfErr, IfOk, IfSome, IsTrue, OnErr, OnOk, length}
+use Rattle.std.specs.List.{All}
 use Rattle.tg_rights.specs.RightSet.{RightSet, is_none_held}
 use Rattle.tg_model.specs.declared.value.Value.{Value}
-use Rattle.tg_model.specs.Graph.{with_rights, without_rights}
-use Rattle.tg_model.specs.Rules.{with_value}
+use Rattle.tg_model.specs.Graph.{listing_of, with_rights, without_rights}
+use Rattle.tg_model.specs.Rules.{with_value, written_at}
 use Rattle.tg_word.specs.Word.{nursery_space}
 use Rattle.tg_word.specs.declared.Place.{Place}
 use Rattle.tg_word.specs.declared.TheConstants.{MAX_NURSERIES, CELLS}
@@ -12,6 +13,7 @@ use Rattle.tg_space.specs.SpaceList.{space_of}
 use Rattle.tg_space.specs.SpaceTable.{IsFull, IsSpaceTable}
 use Rattle.tg_space.specs.Soundness.{IsKindAt}
 use Rattle.tg_space.specs.Generations.{AreRemembered}
+use Rattle.tg_space.specs.Targets.{young_spaces}
 use Rattle.tg_space.specs.declared.room_fault.RoomFault.{RoomFault}
 use Rattle.tg_space.specs.declared.room_fault.RoomFault.TheVariants.{HeapFull}
 use Rattle.tg_nursery.specs.Allocation.{HasFewerLeft, HasRoomLeft, room_made_for}
@@ -60,6 +62,11 @@ pub record HasSpot {P : Type 0} (cells : Cells P) (p : Place) (name : ℕ) (s : 
   pub from : IsKindAt cells.spaces.spaces Object p
   pub spot : IsSpotFor cells.spaces.spaces name p s
 
+-- the edges are those of the vertex at a place, by rising name of the target
+abbrev pub ListsRow : {P : Type 0} → Cells P → Place → List (ℕ × RightSet) → Type 0
+ListsRow cells p edges = let content = content_in cells.spaces.spaces cells.payloads in
+    (n : ℕ) → All (λ x. x < n) content.names → edges ≡ listing_of content.label n (name_at cells.spaces.spaces p)
+
 -- ---- what a change is handed
 
 -- a nursery that there is may be asked for so many cells
@@ -92,6 +99,21 @@ pub record IsEdgeFound {P : Type 0} (cells : Cells P) (p : Place) (name : ℕ) (
   pub rights : rights_found result ≡ (content_in cells.spaces.spaces cells.payloads).label (name_at cells.spaces.spaces p) name
   pub some : IfSome result (λ found. is_none_held found.rights ≡ false)
   pub place : IfSome result (λ found. IsVertexAt cells.spaces.spaces name found.place)
+
+-- a number was written to what an object stores
+abbrev pub WritesNumber : {P : Type 0} → Cells P → Cells P → Place → ℕ → Type 0
+WritesNumber old new p number = let content = content_in old.spaces.spaces old.payloads in
+    ChangesTo old.spaces new.spaces new.payloads (IsNamed content) content.label (written_at content.value (name_at old.spaces.spaces p) number)
+
+-- an object with a name was put into a cell, and stores this value
+abbrev pub PlacesVertex : {P : Type 0} → Cells P → Cells P → ℕ → Value → Type 0
+PlacesVertex old new name value = let content = content_in old.spaces.spaces old.payloads in
+    ChangesTo old.spaces new.spaces new.payloads (λ x. IsNamed content x ⊎ (x ≡ name)) content.label (with_value content.value name value)
+
+-- rights over one object were put at this spot in the row of another
+abbrev pub IsEdgePut : {P : Type 0} → Cells P → Cells P → Place → Place → Spot → Type 0
+IsEdgePut old new from to s =
+    IsRowPut old.spaces new.spaces old.remembered.places new.remembered.places from (name_at old.spaces.spaces to) s (note_for s (young_spaces to.space))
 
 -- There is room for a note, if there is one, and for so many cells of a nursery, and nothing else changed. Where it is refused, there
 -- may be room for the note.

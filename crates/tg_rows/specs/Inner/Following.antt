@@ -143,9 +143,14 @@ pub record IsNarrowed (old new : SpaceTable) (from : Place) (name : ℕ) (cell :
   pub found : IsSpotFor old.spaces name from (Reference cell index)
   pub written : new ≡ word_put old cell index (narrowed (slice_index (cell_at old.spaces cell) index) rights)
 
--- these indexes are still those of the rows before rights were taken in one of them, which was looked along so
-pub record AreUncleared (new : SpaceTable) (places : List Place) (rows : List (ℕ × IndexedRow)) (way : Way) (from : Place) (name : ℕ) (cell : Place) (index : ℕ) : Type 0 where
+-- these indexes are still those of the rows before rights were taken in one of them, which was looked along so,
+-- and whose reference to the vertex with a name is this word now
+pub record AreUncleared (new : SpaceTable) (places : List Place) (rows : List (ℕ × IndexedRow)) (way : Way) (name word : ℕ) : Type 0 where
   pub old : SpaceTable
+  pub from : Place
+  pub cell : Place
+  pub index : ℕ
   pub narrowed : IsNarrowed old new from name cell index
+  pub left : word ≡ slice_index (cell_at new.spaces cell) index
   pub indexed : AreIndexed old.spaces places rows
   pub looked : IsWay old.spaces rows from way

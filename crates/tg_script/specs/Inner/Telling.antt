@@ -13,10 +13,11 @@ use Rattle.tg_text.specs.Sinks.{Writes}
 use Rattle.tg_text.specs.Texts.{answer_text}
 use Rattle.tg_entries.specs.Texts.{entry_text, history_text}
 use Rattle.tg_script.specs.declared.run.Run.{Run}
+use Rattle.tg_script.specs.declared.run_script.Begun.{Begun}
 use Rattle.tg_script.specs.declared.script.Script.{Script}
 use Rattle.tg_script.specs.Entering.{AreEntered, entered, unended_text}
 use Rattle.tg_script.specs.Lines.{CountsFailures, IsBehind, IsOfReading, ReadsFrom, read_failures, write_failures}
-use Rattle.tg_script.specs.Inner.Run.{Handles, MakesEntry}
+use Rattle.tg_script.specs.Inner.Run.{Handles, MakesEntry, Shows}
 use Rattle.tg_script.specs.Script.{Scene, Serves}
 use Rattle.tg_script.specs.Inner.Supply.{values_left}
 
@@ -118,3 +119,18 @@ EntersAll s bytes t first p before (Err fault.WriteFailed) left after =
 EntersAll s bytes t first p before (Err f) left after =
     IsOfReading f × (lines : List Line) × (es : List Entry) × ReadsCommands s bytes first lines (Some f) left × AreLegal t lines es
     × (after ≡ Some (before ++ unended_text p lines es))
+
+-- ---- by what source and sink tell of their bytes
+
+-- Whatever scene the run shows: what its lines from the first on leave in the sink, which entries there are then, and what is left
+-- behind them.
+abbrev pub RunsCommands : {S K P T : Type 0} → (S → Option (List ℕ)) → (K → Option (List ℕ)) → LineText → S → S → K → K → Begun P → Begun P → Result T ScriptFault → Type 0
+RunsCommands left taken told source source' sink sink' begun begun' result =
+    (t : Scene) (rest before : List ℕ) → Shows begun.run t → left source ≡ Some rest → taken sink ≡ Some before →
+    (last : List ℕ) × (left source' ≡ Some last) × TellsFirst told begun.script rest t begun.first begun.run.store.entries before result last begun'.run.store.entries (taken sink')
+
+-- the same where the opening, the entries and their number are written
+abbrev pub EntersCommands : {S K P T : Type 0} → (S → Option (List ℕ)) → (K → Option (List ℕ)) → S → S → K → K → Begun P → Result T ScriptFault → Type 0
+EntersCommands left taken source source' sink sink' begun result =
+    (t : Scene) (rest before : List ℕ) → Shows begun.run t → left source ≡ Some rest → taken sink ≡ Some before →
+    (last : List ℕ) × (left source' ≡ Some last) × EntersAll begun.script rest t begun.first begun.run.store.opening before result last (taken sink')

@@ -6,7 +6,7 @@ use Rattle.tg_c.specs.declared.place.StorePlace.{StorePlace}
 use Rattle.tg_c.specs.declared.refusal.CallRefusal.{CallRefusal}
 use Rattle.tg_c.specs.declared.refusal.CallRefusal.TheVariants as refusal
 use Rattle.tg_c.specs.Calls.{IsCall, IsShown}
-use Rattle.tg_c.specs.Could.{right_at}
+use Rattle.tg_rights.specs.RightSet.{right_of_bit}
 use Rattle.tg_c.specs.Ending.{AreToldHolders, AsksHolders}
 use Rattle.tg_c.proofs.CallLaws.{served_as}
 use Rattle.tg_c.proofs.ending.who_holds.Goals as goal
@@ -16,7 +16,7 @@ or_else other None = other
 or_else other (Some right) = right
 
 -- the store in an open place was asked for the right of these bits
-asked_of : (old new : StorePlace) (bits name : ℕ) (right : Right) (tells : Result (List ℕ) CallRefusal → Type 0) → Some right ≡ right_at bits
+asked_of : (old new : StorePlace) (bits name : ℕ) (right : Right) (tells : Result (List ℕ) CallRefusal → Type 0) → Some right ≡ right_of_bit bits
     → IsCall (λ why. why) (AreToldHolders right name) old new tells → AsksHolders old new bits name tells
 unfolding or_else
 asked_of old new bits name right tells is call = record {

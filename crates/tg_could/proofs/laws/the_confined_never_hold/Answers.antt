@@ -15,11 +15,12 @@ both_no true h k = false≢true k
 both_no false h k = false≢true h
 
 pub returns : goal.returns
-returns c silent g inside right y made confined y_made none x x_made x_inside =
+returns c silent g inside right y is x x_made x_inside =
+    let confined = is.confined in
     let out : ℕ → Bool = λ v. not (inside v) in
     let on : (a b : ℕ) → inside a ≡ inside b → out a ≡ true → out b ≡ true = λ a b same f. sym (ap not same) ∙ f in
     parted-never (IsSilent silent g) x right y g (record {
-      made = made;
+      made = is.made;
       sides = record { forward = out; back = out };
       separates = record {
         labels = record {
@@ -28,14 +29,14 @@ returns c silent g inside right y made confined y_made none x x_made x_inside =
             take_back = λ h. on b a (sym (confined.take a b h));
             grant_on = λ h. on a b (confined.grant a b h);
             grant_back = λ h. on b a (sym (confined.grant a b h));
-            source = λ h at_y. outside (inside a) (λ is. none a is (subst (Holds g.label a right) at_y h));
+            source = λ h at_y. outside (inside a) (λ held. is.none a held (subst (Holds g.label a right) at_y h));
           };
-          without = none x x_inside;
+          without = is.none x x_inside;
           not_given = λ a h f. both_no (inside a) (confined.grant a x h ∙ x_inside) f;
         };
         alike = λ p acts. refl;
         not_taken = λ acts f. both_no (inside x) x_inside f;
-        y_may_come = λ comes. absurd (omega (arith, comes.0, y_made));
+        y_may_come = λ comes. absurd (omega (arith, comes.0, is.target));
         x_may_come = λ comes. absurd (omega (arith, comes.0, x_made));
       };
     })

@@ -3,8 +3,8 @@ use Rattle.std.proofs.Common.{◌≤◌, ◌<◌, ◌+◌, ◌*◌, [], ℕ, Lis
 use Rattle.tg_space.specs.SpaceList.{cells_of, space_of}
 use Rattle.tg_space.specs.declared.kind.Kind.TheVariants.{Nursery}
 use Rattle.tg_space.proofs.Tables.{table_list}
-use Rattle.tg_graph.proofs.KeptDropped.{AreKeysBelow, dead_keys_are, keys_more, keys_none, keys_same, young_begin}
-use Rattle.tg_graph.proofs.settle.dead_keys.Goals.{else-word-eq0, then-word-eq0+in-Some+in_ok-push, then-word-eq0+in_default}
+use Rattle.tg_graph.proofs.KeptDropped.{AreKeysBelow, below_unused, dead_keys_are, keys_more, keys_none, keys_same, keys_skip, old_inside, young_begin}
+use Rattle.tg_graph.proofs.settle.dead_keys.Goals.{else-word-eq0, then-word-eq0+in-None, then-word-eq0+in-Some+in_ok-push-in-Some}
 use Rattle.tg_graph.proofs.settle.dead_keys.Goals as goal
 
 pub loop-number-init : goal.loop-number-init
@@ -13,6 +13,7 @@ loop-number-init c =
     let whole = table_list c.args.spaces.now c.cells-cells.ensures.table in
     record {
       high = omega (arith, c.len-number.ensures.blocks);
+      within = old_inside c.args.spaces.now c.cells-cells.ensures.table c.len-number.result c.len-number.ensures.blocks;
       keys =
           subst (λ (keys : List ℕ). AreKeysBelow h c.args.forward.now.words (64 * length (space_of h 0)) (64 * c.len-number.result) keys) (sym c.new-keys.ensures.items)
           (subst (λ (blocks : ℕ). AreKeysBelow h c.args.forward.now.words (64 * length (space_of h 0)) (64 * blocks) []) (sym c.len-number.ensures.blocks) (keys_none h whole c.args.forward.now.words (64 * length (space_of h 0))));
@@ -24,20 +25,41 @@ loop-number-preserved c =
     let forward = c.args.forward.now.words in
     let first = 64 * length (space_of h 0) in
     let n = c.loop-number.number in
+    let now = c.if-word-eq0.number in
     let whole = table_list c.args.spaces.now c.cells-cells.ensures.table in
+    let high = c.loop-number.invariant.high in
+    let inside : n < length (cells_of h) = omega (arith, c.cells-cells.ensures.cells) in
+    let step : (n ≤ now) × (now < length (cells_of h)) × AreKeysBelow h forward first (now + 1) c.if-word-eq0.keys.items = elim c.if-word-eq0.branch [
+      | then-word-eq0+in-Some+in_ok-push-in-Some w ↦ (
+        omega (arith, w.number-is),
+        omega (arith, w.number-is, inside),
+        subst (λ (m : ℕ). AreKeysBelow h forward first (m + 1) c.if-word-eq0.keys.items) (sym w.number-is)
+            (subst (AreKeysBelow h forward first (n + 1)) (sym (ap (λ (v : Vec ℕ Global). v.items) w.keys-is ∙ w.in_ok-push-in-Some.ensures.items))
+            (keys_more h whole forward first n c.loop-number.keys.items c.loop-number.invariant.keys c.requires.apart high w.in-Some.key (w.in-Some.ensures.some forward (sym c.word.ensures ∙ w.if-word-eq0.true)))),
+      )
+      | then-word-eq0+in-None w ↦
+          let last = w.last_unused-number in
+          let up : n + 1 ≤ last.result + 1 = omega (arith, last.ensures.from) in
+          let free = λ (cell : ℕ) (low : n + 1 ≤ cell) (below : cell < last.result + 1). last.ensures.free cell (omega arith) (omega arith) in
+          let same = keys_same h whole forward first n c.loop-number.keys.items c.loop-number.invariant.keys (λ key. w.in-None.ensures.none refl forward key) in
+          let skipped = keys_skip h whole forward first (n + 1) c.loop-number.keys.items same (last.result + 1) up (λ key. below_unused h whole forward first (n + 1) (last.result + 1) key up free) in (
+            omega (arith, w.number-is, last.ensures.from),
+            omega (arith, w.number-is, last.ensures.inside),
+            subst (λ (m : ℕ). AreKeysBelow h forward first (m + 1) c.if-word-eq0.keys.items) (sym w.number-is)
+                (subst (AreKeysBelow h forward first (last.result + 1)) (sym (ap (λ (v : Vec ℕ Global). v.items) w.keys-is)) skipped),
+          )
+      | else-word-eq0 w ↦ (
+        omega (arith, w.number-is),
+        omega (arith, w.number-is, inside),
+        subst (λ (m : ℕ). AreKeysBelow h forward first (m + 1) c.if-word-eq0.keys.items) (sym w.number-is)
+            (subst (AreKeysBelow h forward first (n + 1)) (sym (ap (λ (v : Vec ℕ Global). v.items) w.keys-is))
+            (keys_same h whole forward first n c.loop-number.keys.items c.loop-number.invariant.keys (λ key dead. w.if-word-eq0.false (c.word.ensures ∙ dead.uncopied)))),
+      )
+    ] in
     record {
-      high = let high = c.loop-number.invariant.high in omega arith;
-      keys = elim c.if-word-eq0.branch [
-        | then-word-eq0+in-Some+in_ok-push w ↦
-            subst (AreKeysBelow h forward first (n + 1)) (sym (ap (λ (v : Vec ℕ Global). v.items) w.keys-is ∙ w.in_ok-push.ensures.items))
-            (keys_more h whole forward first n c.loop-number.keys.items c.loop-number.invariant.keys c.requires.apart c.loop-number.invariant.high w.in-Some.key (w.in-Some.ensures.some forward (sym c.word.ensures ∙ w.if-word-eq0.true)))
-        | then-word-eq0+in_default w ↦
-            subst (AreKeysBelow h forward first (n + 1)) (sym (ap (λ (v : Vec ℕ Global). v.items) w.keys-is))
-            (keys_same h whole forward first n c.loop-number.keys.items c.loop-number.invariant.keys (λ key. w.in_default.ensures.none refl forward key))
-        | else-word-eq0 w ↦
-            subst (AreKeysBelow h forward first (n + 1)) (sym (ap (λ (v : Vec ℕ Global). v.items) w.keys-is))
-            (keys_same h whole forward first n c.loop-number.keys.items c.loop-number.invariant.keys (λ key dead. w.if-word-eq0.false (c.word.ensures ∙ dead.uncopied)))
-      ];
+      high = omega (arith, high, step.0);
+      within = omega (arith, step.1);
+      keys = step.2;
     }
 
 pub returns-clause-keys : goal.returns-clause-keys

@@ -22,7 +22,7 @@ loop-slot-preserved c =
     let slot = get_or row k None in
     let next : c.reserve.new.self.next ≡ k = c.in_ok-reserve.ensures.next ∙ at.next in
     record {
-      index = c.set_next.ensures.set (listed_row (take k row)) (listed_row (take (k + 1) row)) kept (listed_absent c.reserve.new.self row k c.requires kept _ refl)
+      index = c.set_next.ensures.rows (listed_row (take k row)) (listed_row (take (k + 1) row)) kept (listed_absent c.reserve.new.self row k c.requires kept _ refl)
           (subst (λ n. PutsAt (listed_row (take k row)) (listed_row (take (k + 1) row)) n slot) (sym next) (listed_next row k slot c.loop-slot-test.true refl));
       next = c.set_next.ensures.next ∙ ap (λ n. n + 1) next;
       len = c.set_next.ensures.len ∙ c.in_ok-reserve.ensures.len ∙ at.len;

@@ -6,7 +6,7 @@ pub returns : goal.returns
 returns c = record {
   create = create-subjects;
   command = command-subjects;
-  spawn = spawn-subjects;
+  spawn = λ g x label law state room. spawn-subjects g x label law state room.0 room.1;
   retire = retired;
   left = λ g x. refl;
   none = λ g x y deed. subject-step g x deed y;

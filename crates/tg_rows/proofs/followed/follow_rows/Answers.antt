@@ -15,44 +15,44 @@ follow_row_at-requires-clause-can c =
 
 pub loop-i-smaller-in-Gone : goal.loop-i-smaller-in-Gone
 loop-i-smaller-in-Gone c =
-    let long = later_long c.args.moves.kind c.args.moves.numbering.now.starts c.args.moves.forward.now.words c.args.noted.now.places c.args.rows.now.entries c.loop-i.rows.entries c.follow_row_at.new.rows.entries c.loop-i.i (omega (arith, c.loop-i-test.true)) c.loop-i.invariant.0 c.follow_row_at.ensures.0 c.follow_row_at.ensures.1 c.follow_row_at.ensures.2 c.follow_row_at.ensures.3 in
-    let out = taken c.args.moves.kind c.args.moves.numbering.now.starts c.args.moves.forward.now.words c.args.noted.now.places c.args.rows.now.entries c.loop-i.rows.entries c.follow_row_at.new.rows.entries c.loop-i.i (omega (arith, c.loop-i-test.true)) c.loop-i.invariant.0 c.follow_row_at.ensures.0 c.follow_row_at.ensures.1 c.follow_row_at.ensures.2 c.follow_row_at.ensures.3 c.swap_remove_index.result c.swap_remove_index.new.self.entries c.swap_remove_index.ensures.entry c.swap_remove_index.ensures.entries in
+    let long = later_long c.args.moves.kind c.args.moves.numbering.now.starts c.args.moves.forward.now.words c.args.noted.now.places c.args.rows.now.entries c.loop-i.rows.entries c.follow_row_at.new.rows.entries c.loop-i.i (omega (arith, c.loop-i-test.true)) c.loop-i.invariant.0 c.follow_row_at.ensures.row c.follow_row_at.ensures.followed c.follow_row_at.ensures.was c.follow_row_at.ensures.entries in
+    let out = taken c.args.moves.kind c.args.moves.numbering.now.starts c.args.moves.forward.now.words c.args.noted.now.places c.args.rows.now.entries c.loop-i.rows.entries c.follow_row_at.new.rows.entries c.loop-i.i (omega (arith, c.loop-i-test.true)) c.loop-i.invariant.0 c.follow_row_at.ensures.row c.follow_row_at.ensures.followed c.follow_row_at.ensures.was c.follow_row_at.ensures.entries c.swap_remove_index.result c.swap_remove_index.new.self.entries c.swap_remove_index.ensures.entry c.swap_remove_index.ensures.entries in
     let short = out.1 in
     omega (arith, long, short, c.loop-i-test.true)
 
 pub loop-i-preserved-in-Gone : goal.loop-i-preserved-in-Gone
 loop-i-preserved-in-Gone c =
-    let out = taken c.args.moves.kind c.args.moves.numbering.now.starts c.args.moves.forward.now.words c.args.noted.now.places c.args.rows.now.entries c.loop-i.rows.entries c.follow_row_at.new.rows.entries c.loop-i.i (omega (arith, c.loop-i-test.true)) c.loop-i.invariant.0 c.follow_row_at.ensures.0 c.follow_row_at.ensures.1 c.follow_row_at.ensures.2 c.follow_row_at.ensures.3 c.swap_remove_index.result c.swap_remove_index.new.self.entries c.swap_remove_index.ensures.entry c.swap_remove_index.ensures.entries in
-    let names = taken_out c.args.moves.kind c.args.moves.numbering.now.starts c.args.moves.forward.now.words c.args.noted.now.places c.args.rows.now.entries c.loop-i.rows.entries c.follow_row_at.new.rows.entries c.loop-i.i (omega (arith, c.loop-i-test.true)) c.loop-i.invariant.0 c.follow_row_at.ensures.0 c.follow_row_at.ensures.1 c.follow_row_at.ensures.2 c.follow_row_at.ensures.3 c.swap_remove_index.result c.swap_remove_index.new.self.entries c.swap_remove_index.ensures.entry
+    let out = taken c.args.moves.kind c.args.moves.numbering.now.starts c.args.moves.forward.now.words c.args.noted.now.places c.args.rows.now.entries c.loop-i.rows.entries c.follow_row_at.new.rows.entries c.loop-i.i (omega (arith, c.loop-i-test.true)) c.loop-i.invariant.0 c.follow_row_at.ensures.row c.follow_row_at.ensures.followed c.follow_row_at.ensures.was c.follow_row_at.ensures.entries c.swap_remove_index.result c.swap_remove_index.new.self.entries c.swap_remove_index.ensures.entry c.swap_remove_index.ensures.entries in
+    let names = taken_out c.args.moves.kind c.args.moves.numbering.now.starts c.args.moves.forward.now.words c.args.noted.now.places c.args.rows.now.entries c.loop-i.rows.entries c.follow_row_at.new.rows.entries c.loop-i.i (omega (arith, c.loop-i-test.true)) c.loop-i.invariant.0 c.follow_row_at.ensures.row c.follow_row_at.ensures.followed c.follow_row_at.ensures.was c.follow_row_at.ensures.entries c.swap_remove_index.result c.swap_remove_index.new.self.entries c.swap_remove_index.ensures.entry
     (if_some c.swap_remove_index.result (λ p. Updates nat_eq c.follow_row_at.new.rows c.swap_remove_index.new.self p.0 None) (λ p. (q : ℕ) → lookup (nat_eq q) c.swap_remove_index.new.self.entries ≡ cond (nat_eq p.0 q) None (lookup (nat_eq q) c.follow_row_at.new.rows.entries)) (λ p updates. updates.0) c.swap_remove_index.ensures.updates) in
-    (one_gone c.args.moves.kind c.args.moves.numbering.now.starts c.args.moves.forward.now.words c.args.noted.now.places c.args.rows.now.entries c.loop-i.rows.entries c.follow_row_at.new.rows.entries c.loop-i.i (omega (arith, c.loop-i-test.true)) c.loop-i.invariant.0 c.follow_row_at.ensures.0 c.follow_row_at.ensures.1 c.follow_row_at.ensures.2 c.follow_row_at.ensures.3 _ c.swap_remove_index.new.self.entries out.0 (c.follow_row_at.ensures.8 c.in-Gone.is) names, aged_rest c.loop-i.rows.entries c.follow_row_at.new.rows.entries c.loop-i.old c.loop-i.i (omega (arith, c.loop-i-test.true)) c.loop-i.invariant.2 c.loop-i.invariant.1 c.follow_row_at.ensures.0 c.follow_row_at.ensures.1 c.follow_row_at.ensures.2 c.follow_row_at.ensures.3 c.follow_row_at.ensures.5 _ c.swap_remove_index.new.self.entries out.0, c.loop-i.invariant.2)
+    (one_gone c.args.moves.kind c.args.moves.numbering.now.starts c.args.moves.forward.now.words c.args.noted.now.places c.args.rows.now.entries c.loop-i.rows.entries c.follow_row_at.new.rows.entries c.loop-i.i (omega (arith, c.loop-i-test.true)) c.loop-i.invariant.0 c.follow_row_at.ensures.row c.follow_row_at.ensures.followed c.follow_row_at.ensures.was c.follow_row_at.ensures.entries _ c.swap_remove_index.new.self.entries out.0 (c.follow_row_at.ensures.gone c.in-Gone.is) names, aged_rest c.loop-i.rows.entries c.follow_row_at.new.rows.entries c.loop-i.old c.loop-i.i (omega (arith, c.loop-i-test.true)) c.loop-i.invariant.2 c.loop-i.invariant.1 c.follow_row_at.ensures.row c.follow_row_at.ensures.followed c.follow_row_at.ensures.was c.follow_row_at.ensures.entries c.follow_row_at.ensures.aged _ c.swap_remove_index.new.self.entries out.0, c.loop-i.invariant.2)
 
 pub loop-i-smaller-in-Young : goal.loop-i-smaller-in-Young
 loop-i-smaller-in-Young c =
-    let long = later_long c.args.moves.kind c.args.moves.numbering.now.starts c.args.moves.forward.now.words c.args.noted.now.places c.args.rows.now.entries c.loop-i.rows.entries c.follow_row_at.new.rows.entries c.loop-i.i (omega (arith, c.loop-i-test.true)) c.loop-i.invariant.0 c.follow_row_at.ensures.0 c.follow_row_at.ensures.1 c.follow_row_at.ensures.2 c.follow_row_at.ensures.3 in
+    let long = later_long c.args.moves.kind c.args.moves.numbering.now.starts c.args.moves.forward.now.words c.args.noted.now.places c.args.rows.now.entries c.loop-i.rows.entries c.follow_row_at.new.rows.entries c.loop-i.i (omega (arith, c.loop-i-test.true)) c.loop-i.invariant.0 c.follow_row_at.ensures.row c.follow_row_at.ensures.followed c.follow_row_at.ensures.was c.follow_row_at.ensures.entries in
     omega (arith, long, c.loop-i-test.true)
 
 pub loop-i-preserved-in-Young : goal.loop-i-preserved-in-Young
 loop-i-preserved-in-Young c =
-    (one_followed c.args.moves.kind c.args.moves.numbering.now.starts c.args.moves.forward.now.words c.args.noted.now.places c.args.rows.now.entries c.loop-i.rows.entries c.follow_row_at.new.rows.entries c.loop-i.i (omega (arith, c.loop-i-test.true)) c.loop-i.invariant.0 c.follow_row_at.ensures.0 c.follow_row_at.ensures.1 c.follow_row_at.ensures.2 c.follow_row_at.ensures.3 (c.follow_row_at.ensures.4 (λ gone. young_or_gone (sym c.in-Young.is ∙ gone))) (c.follow_row_at.ensures.7 (λ gone. young_or_gone (sym c.in-Young.is ∙ gone))), aged_later c.loop-i.rows.entries c.follow_row_at.new.rows.entries c.loop-i.old c.loop-i.i (omega (arith, c.loop-i-test.true)) c.loop-i.invariant.2 c.loop-i.invariant.1 c.follow_row_at.ensures.0 c.follow_row_at.ensures.1 c.follow_row_at.ensures.2 c.follow_row_at.ensures.3 c.follow_row_at.ensures.5, omega (arith, c.loop-i.invariant.2))
+    (one_followed c.args.moves.kind c.args.moves.numbering.now.starts c.args.moves.forward.now.words c.args.noted.now.places c.args.rows.now.entries c.loop-i.rows.entries c.follow_row_at.new.rows.entries c.loop-i.i (omega (arith, c.loop-i-test.true)) c.loop-i.invariant.0 c.follow_row_at.ensures.row c.follow_row_at.ensures.followed c.follow_row_at.ensures.was c.follow_row_at.ensures.entries (c.follow_row_at.ensures.to (λ gone. young_or_gone (sym c.in-Young.is ∙ gone))) (c.follow_row_at.ensures.marked (λ gone. young_or_gone (sym c.in-Young.is ∙ gone))), aged_later c.loop-i.rows.entries c.follow_row_at.new.rows.entries c.loop-i.old c.loop-i.i (omega (arith, c.loop-i-test.true)) c.loop-i.invariant.2 c.loop-i.invariant.1 c.follow_row_at.ensures.row c.follow_row_at.ensures.followed c.follow_row_at.ensures.was c.follow_row_at.ensures.entries c.follow_row_at.ensures.aged, omega (arith, c.loop-i.invariant.2))
 
 pub swap_indices-requires : goal.swap_indices-requires
 swap_indices-requires c =
-    let long = later_long c.args.moves.kind c.args.moves.numbering.now.starts c.args.moves.forward.now.words c.args.noted.now.places c.args.rows.now.entries c.loop-i.rows.entries c.follow_row_at.new.rows.entries c.loop-i.i (omega (arith, c.loop-i-test.true)) c.loop-i.invariant.0 c.follow_row_at.ensures.0 c.follow_row_at.ensures.1 c.follow_row_at.ensures.2 c.follow_row_at.ensures.3 in
+    let long = later_long c.args.moves.kind c.args.moves.numbering.now.starts c.args.moves.forward.now.words c.args.noted.now.places c.args.rows.now.entries c.loop-i.rows.entries c.follow_row_at.new.rows.entries c.loop-i.i (omega (arith, c.loop-i-test.true)) c.loop-i.invariant.0 c.follow_row_at.ensures.row c.follow_row_at.ensures.followed c.follow_row_at.ensures.was c.follow_row_at.ensures.entries in
     record { a_in_bounds = omega (arith, long, c.loop-i-test.true); b_in_bounds = omega (arith, long, c.loop-i.invariant.2, c.loop-i-test.true) }
 
 pub loop-i-smaller : goal.loop-i-smaller
 loop-i-smaller c =
-    let long = later_long c.args.moves.kind c.args.moves.numbering.now.starts c.args.moves.forward.now.words c.args.noted.now.places c.args.rows.now.entries c.loop-i.rows.entries c.follow_row_at.new.rows.entries c.loop-i.i (omega (arith, c.loop-i-test.true)) c.loop-i.invariant.0 c.follow_row_at.ensures.0 c.follow_row_at.ensures.1 c.follow_row_at.ensures.2 c.follow_row_at.ensures.3 in
+    let long = later_long c.args.moves.kind c.args.moves.numbering.now.starts c.args.moves.forward.now.words c.args.noted.now.places c.args.rows.now.entries c.loop-i.rows.entries c.follow_row_at.new.rows.entries c.loop-i.i (omega (arith, c.loop-i-test.true)) c.loop-i.invariant.0 c.follow_row_at.ensures.row c.follow_row_at.ensures.followed c.follow_row_at.ensures.was c.follow_row_at.ensures.entries in
     let same = swapped_long c.follow_row_at.new.rows.entries c.swap_indices.new.self.entries c.loop-i.i c.loop-i.old c.swap_indices.ensures.entries in
     omega (arith, long, same, c.loop-i-test.true)
 
 pub loop-i-preserved : goal.loop-i-preserved
 loop-i-preserved c =
-    let long = later_long c.args.moves.kind c.args.moves.numbering.now.starts c.args.moves.forward.now.words c.args.noted.now.places c.args.rows.now.entries c.loop-i.rows.entries c.follow_row_at.new.rows.entries c.loop-i.i (omega (arith, c.loop-i-test.true)) c.loop-i.invariant.0 c.follow_row_at.ensures.0 c.follow_row_at.ensures.1 c.follow_row_at.ensures.2 c.follow_row_at.ensures.3 in
-    let on = one_followed c.args.moves.kind c.args.moves.numbering.now.starts c.args.moves.forward.now.words c.args.noted.now.places c.args.rows.now.entries c.loop-i.rows.entries c.follow_row_at.new.rows.entries c.loop-i.i (omega (arith, c.loop-i-test.true)) c.loop-i.invariant.0 c.follow_row_at.ensures.0 c.follow_row_at.ensures.1 c.follow_row_at.ensures.2 c.follow_row_at.ensures.3 (c.follow_row_at.ensures.4 (λ gone. old_or_gone (sym c.in-Old.is ∙ gone))) (c.follow_row_at.ensures.7 (λ gone. old_or_gone (sym c.in-Old.is ∙ gone))) in (
+    let long = later_long c.args.moves.kind c.args.moves.numbering.now.starts c.args.moves.forward.now.words c.args.noted.now.places c.args.rows.now.entries c.loop-i.rows.entries c.follow_row_at.new.rows.entries c.loop-i.i (omega (arith, c.loop-i-test.true)) c.loop-i.invariant.0 c.follow_row_at.ensures.row c.follow_row_at.ensures.followed c.follow_row_at.ensures.was c.follow_row_at.ensures.entries in
+    let on = one_followed c.args.moves.kind c.args.moves.numbering.now.starts c.args.moves.forward.now.words c.args.noted.now.places c.args.rows.now.entries c.loop-i.rows.entries c.follow_row_at.new.rows.entries c.loop-i.i (omega (arith, c.loop-i-test.true)) c.loop-i.invariant.0 c.follow_row_at.ensures.row c.follow_row_at.ensures.followed c.follow_row_at.ensures.was c.follow_row_at.ensures.entries (c.follow_row_at.ensures.to (λ gone. old_or_gone (sym c.in-Old.is ∙ gone))) (c.follow_row_at.ensures.marked (λ gone. old_or_gone (sym c.in-Old.is ∙ gone))) in (
       followed_swapped c.args.moves.kind c.args.moves.numbering.now.starts c.args.moves.forward.now.words c.args.noted.now.places c.args.rows.now.entries c.follow_row_at.new.rows.entries c.swap_indices.new.self.entries c.loop-i.old c.loop-i.i (omega (arith, long, c.loop-i-test.true)) c.loop-i.invariant.2 on c.swap_indices.ensures.entries c.swap_indices.ensures.reordered.2,
-      aged_swapped c.loop-i.rows.entries c.follow_row_at.new.rows.entries c.loop-i.old c.loop-i.i (omega (arith, c.loop-i-test.true)) c.loop-i.invariant.2 c.loop-i.invariant.1 c.follow_row_at.ensures.0 c.follow_row_at.ensures.1 c.follow_row_at.ensures.2 c.follow_row_at.ensures.3 c.follow_row_at.ensures.5 (c.follow_row_at.ensures.6 c.in-Old.is) c.swap_indices.new.self.entries c.swap_indices.ensures.entries,
+      aged_swapped c.loop-i.rows.entries c.follow_row_at.new.rows.entries c.loop-i.old c.loop-i.i (omega (arith, c.loop-i-test.true)) c.loop-i.invariant.2 c.loop-i.invariant.1 c.follow_row_at.ensures.row c.follow_row_at.ensures.followed c.follow_row_at.ensures.was c.follow_row_at.ensures.entries c.follow_row_at.ensures.aged (c.follow_row_at.ensures.old c.in-Old.is) c.swap_indices.new.self.entries c.swap_indices.ensures.entries,
       omega (arith, c.loop-i.invariant.2),
     )
 

@@ -4,8 +4,8 @@ use Rattle.tg_rules.proofs.laws.decisions_on_a_content_are_its_graphs.Goals as g
 
 pub returns : goal.returns
 returns c = record {
-  denial = λ content g x command stands subject. denial_of-stands content g stands x command subject;
-  answer = λ content g x command stands subject. answer_of-stands content g stands x command subject;
-  served = λ content g x command reply stands subject. answer-served content g stands x command subject reply;
-  denied = λ content g x command denial stands subject. answer-denied content g stands x command subject denial;
+  denial = λ content g x stands command. denial_of-stands content g stands.content x command stands.subject;
+  answer = λ content g x stands command. answer_of-stands content g stands.content x command stands.subject;
+  served = λ content g x stands command. answer-served content g stands.content x command stands.subject;
+  denied = λ content g x stands command. answer-denied content g stands.content x command stands.subject;
 }

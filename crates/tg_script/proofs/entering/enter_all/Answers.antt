@@ -23,7 +23,7 @@ pub returns-in_err-entered-clause-written : goal.returns-in_err-entered-clause-w
 returns-in_err-entered-clause-written g c = λ t rest before shows left taken.
     let k = g.K.Sink in
     let s = c.args.begun.now.run.store in
-    let new = c.run_commands-entered.new.run.store in
+    let new = c.run_commands-entered.new.begun.run.store in
     let begun = as_opening Wrote s.opening c.opening.result.now before (k.taken c.args.sink.now) (k.taken c.write_opening.new.sink) c.opening.ensures taken c.in-Ok.ensures.0 in
     let n = c.in_err-entered.ensures.written t rest (before ++ head_text s.opening) shows left begun in
     let legal = legal_from s.opening new.opening s.entries new.entries t.graph c.requires.none shows.0 c.in_err-entered.ensures.kept c.journal.ensures.faithful.legal in
@@ -38,7 +38,7 @@ pub returns-in_default-write_end-clause-written : goal.returns-in_default-write_
 returns-in_default-write_end-clause-written g c = λ t rest before shows left taken.
     let k = g.K.Sink in
     let s = c.args.begun.now.run.store in
-    let new = c.run_commands-entered.new.run.store in
+    let new = c.run_commands-entered.new.begun.run.store in
     let begun = as_opening Wrote s.opening c.opening.result.now before (k.taken c.args.sink.now) (k.taken c.write_opening.new.sink) c.opening.ensures taken c.in-Ok.ensures.0 in
     let n = c.in_ok-entered.ensures.written t rest (before ++ head_text s.opening) shows left begun in
     let legal = legal_from s.opening new.opening s.entries new.entries t.graph c.requires.none shows.0 c.in_ok-entered.ensures.kept c.journal.ensures.faithful.legal in
@@ -53,7 +53,7 @@ pub returns-clause-written : goal.returns-clause-written
 returns-clause-written g c = λ t rest before shows left taken.
     let k = g.K.Sink in
     let s = c.args.begun.now.run.store in
-    let new = c.run_commands-entered.new.run.store in
+    let new = c.run_commands-entered.new.begun.run.store in
     let begun = as_opening Wrote s.opening c.opening.result.now before (k.taken c.args.sink.now) (k.taken c.write_opening.new.sink) c.opening.ensures taken c.in-Ok.ensures.0 in
     let n = c.in_ok-entered.ensures.written t rest (before ++ head_text s.opening) shows left begun in
     let legal = legal_from s.opening new.opening s.entries new.entries t.graph c.requires.none shows.0 c.in_ok-entered.ensures.kept c.journal.ensures.faithful.legal in

@@ -2,7 +2,7 @@ use Rattle.std.proofs.Common.{arith, subst, Err}
 use Rattle.tg_model.specs.Opened.{Plan}
 use Rattle.tg_script.specs.Inner.Beginning.{scene_with}
 use Rattle.tg_script.specs.Inner.Telling.{EntersAll}
-use Rattle.tg_script.specs.Script.{start_with}
+use Rattle.tg_script.specs.Script.{start_of_setup}
 use Rattle.tg_script.proofs.DueLaws.{runs_begun, runs_finished, runs_unbegun, sink_finished}
 use Rattle.tg_script.proofs.EnteringLaws.{entering_finished, entering_unbegun, ran_entering}
 use Rattle.tg_script.proofs.entering.run_script_entries.Goals as goal
@@ -10,7 +10,7 @@ use Rattle.tg_script.proofs.entering.run_script_entries.Goals as goal
 pub returns-in-Ok-clause-entered : goal.returns-in-Ok-clause-entered
 returns-in-Ok-clause-entered g c =
     let k = g.K.Sink in
-    let start = start_with c.args.settings c.args.workers.items c.args.stock.items in
+    let start = start_of_setup c.args.setup in
     let begun = c.in-Ok.begun in
     let edges = begun.run.store.opening.edges in
     let is = c.in-Ok.ensures.begun in
@@ -33,7 +33,7 @@ returns-in-Ok-clause-finish g c =
 pub returns-in-Err-clause-entered : goal.returns-in-Err-clause-entered
 returns-in-Err-clause-entered g c =
     let k = g.K.Sink in
-    let start = start_with c.args.settings c.args.workers.items c.args.stock.items in
+    let start = start_of_setup c.args.setup in
     let f = c.in-Err.fault in
     let ended = c.finish-in-Err.ensures.outcome in
     runs_finished k.failures (runs_unbegun c.in-Err.ensures.bytes c.in-Err.ensures.streams (λ bytes before rest after h same. entering_unbegun (Unit {0}) f start bytes before rest after h same))

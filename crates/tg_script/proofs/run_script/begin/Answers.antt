@@ -2,9 +2,9 @@ use Rattle.std.proofs.Common.{◌≡◌, ◌∙◌, ap, arith, refl, subst, sym,
 use Rattle.tg_model.specs.declared.edge.Edge.{Edge}
 use Rattle.tg_model.specs.Opened.{Plan, start_of}
 use Rattle.tg_store.specs.Store.{StandsFor}
-use Rattle.tg_script.specs.Opening.{edge_lines}
+use Rattle.tg_script.specs.Opening.{edge_lines, plan_by}
 use Rattle.tg_script.specs.Inner.Beginning.{ReadsFirst, plan_with}
-use Rattle.tg_script.specs.Script.{start_with}
+use Rattle.tg_script.specs.Script.{start_of_setup}
 use Rattle.tg_script.proofs.LinesLaws.{err_is}
 use Rattle.tg_script.proofs.DueLaws.{keeping_due, opening_due, opening_fails}
 use Rattle.tg_script.proofs.RanLaws.{unbegun_edges, unbegun_store}
@@ -12,13 +12,13 @@ use Rattle.tg_script.proofs.run_script.begin.Goals as goal
 
 pub returns-in_err-edges-clause-bytes : goal.returns-in_err-edges-clause-bytes
 returns-in_err-edges-clause-bytes g c = λ bytes known.
-    let start = start_with c.args.settings c.args.workers.items c.args.stock.items in
+    let start = start_of_setup c.args.setup in
     let n = c.in_err-edges.ensures.bytes bytes known in
     rw (err_is c.from_residual.result _ c.from_residual.ensures.1) (n.0, n.1, unbegun_edges c.in_err-edges.field-0.0 start bytes n.0 c.in_err-edges.ensures.reading.reading.fault n.2)
 
 pub returns-in_err-edges-clause-streams : goal.returns-in_err-edges-clause-streams
 returns-in_err-edges-clause-streams g c =
-    let start = start_with c.args.settings c.args.workers.items c.args.stock.items in
+    let start = start_of_setup c.args.setup in
     let reading = c.in_err-edges.ensures.reading in
     rw (err_is c.from_residual.result _ c.from_residual.ensures.1) (record {
       due = keeping_due start c.in_err-edges.field-0.0 reading.reading.fault;
@@ -30,16 +30,16 @@ returns-in_err-edges-clause-streams g c =
 
 pub returns-in_err-store-clause-bytes : goal.returns-in_err-store-clause-bytes
 returns-in_err-store-clause-bytes g c = λ bytes known.
-    let start = start_with c.args.settings c.args.workers.items c.args.stock.items in
+    let start = start_of_setup c.args.setup in
     let front = c.in_ok-edges.field-0 in
-    let plan : Plan = record { workers = c.args.settings.workers; edges = front.edges.items; values = c.args.workers.items; limit = c.args.settings.max_vertices } in
+    let plan = plan_by c.args.setup.settings front.edges.items c.args.setup.workers.items in
     let n = c.in_ok-edges.ensures.bytes bytes known in
     rw (err_is c.from_residual-in_err-store.result _ c.from_residual-in_err-store.ensures.1) (n.0, n.1, unbegun_store plan c.in_err-store.field-0.0 start front.script bytes n.0 front.edges.items front.first refl refl c.in_err-store.ensures.opened c.in_ok-edges.ensures.front.first n.2)
 
 pub returns-in_err-store-clause-streams : goal.returns-in_err-store-clause-streams
 returns-in_err-store-clause-streams g c =
-    let start = start_with c.args.settings c.args.workers.items c.args.stock.items in
-    let plan : Plan = record { workers = c.args.settings.workers; edges = c.in_ok-edges.field-0.edges.items; values = c.args.workers.items; limit = c.args.settings.max_vertices } in
+    let start = start_of_setup c.args.setup in
+    let plan = plan_by c.args.setup.settings c.in_ok-edges.field-0.edges.items c.args.setup.workers.items in
     let reading = c.in_ok-edges.ensures.reading in
     let none = opening_fails (Unit {0}) plan start.blocks c.in_err-store.field-0.0 c.in_err-store.ensures.opened in
     rw (err_is c.from_residual-in_err-store.result _ c.from_residual-in_err-store.ensures.1) (record {
@@ -52,7 +52,7 @@ returns-in_err-store-clause-streams g c =
 
 pub returns : goal.returns
 returns g c =
-    let start = start_with c.args.settings c.args.workers.items c.args.stock.items in
+    let start = start_of_setup c.args.setup in
     let front = c.in_ok-edges.field-0 in
     let store = c.in_ok-store.store in
     let opened = c.in_ok-store.ensures.opened in

@@ -18,8 +18,8 @@ lines-init g c =
       opening = behind.1;
       under = λ first t rest before is shows left taken. under_first first c.in-Some.first (same_Some first c.in-Some.first (sym is ∙ c.in-Some.is)) shows left taken;
       failures = no_failures s.failures k.failures c.args.source.now c.args.sink.now;
-      kept = refl {a = c.args.run.now.store.opening};
-      asked = refl {a = s.asked c.args.source.now + c.args.script.now.lines.room};
+      kept = refl {a = c.args.begun.now.run.store.opening};
+      asked = refl {a = s.asked c.args.source.now + c.args.begun.now.script.lines.room};
     }
 
 pub returns-in_default-run_line-clause-written : goal.returns-in_default-run_line-clause-written
@@ -43,11 +43,11 @@ returns-in_err-came-clause-written g c = λ t rest before shows left taken.
     let w = c.in-Ok.ensures in
     let u = c.lines.invariant.under c.in-Some.first t rest before c.in-Some.is shows left taken in
     let n = c.in_err-came.ensures.bytes u.rest u.leaves in
-    let wrote = wrote_keeps (k.taken c.lines.sink) (k.taken c.run_line.new.sink) (k.taken c.next.new.sink) (g.T.Telling.told c.lines.line w.0 (values_left c.lines.run.supply)) w.3.0 c.in_err-came.ensures.reading.taken in
+    let wrote = wrote_keeps (k.taken c.lines.sink) (k.taken c.run_line.new.sink) (k.taken c.next.new.sink) (g.T.Telling.told c.lines.line w.0 (values_left c.lines.begun.run.supply)) w.3.0 c.in_err-came.ensures.reading.taken in
     rw (err_is c.from_residual.result _ c.from_residual.ensures.1) (rw c.in-Some.is (
       n.0,
       n.1,
-      tells_fault (Unit {0}) c.in_err-came.field-0.0 g.T.Telling.told c.args.script.now rest t c.in-Some.first c.args.run.now.store.entries before n.0 c.run_line.new.run.store.entries (k.taken c.next.new.sink) n.2.0
+      tells_fault (Unit {0}) c.in_err-came.field-0.0 g.T.Telling.told c.args.begun.now.script rest t c.in-Some.first c.args.begun.now.run.store.entries before n.0 c.run_line.new.run.store.entries (k.taken c.next.new.sink) n.2.0
           (under_end w.0 c.run_line.new.run (k.taken c.next.new.sink) (Some c.in_err-came.field-0.0) n.0 u w.1 w.2 wrote n.2.1),
     ))
 
@@ -68,7 +68,7 @@ returns-in_default-came-clause-written g c = λ t rest before shows left taken.
     let w = c.in-Ok.ensures in
     let ends = rw c.in_default-came.is at c.in_ok-came.ensures.bytes in
     let u = c.lines.invariant.under c.in-Some.first t rest before c.in-Some.is shows left taken in
-    let wrote = wrote_keeps (k.taken c.lines.sink) (k.taken c.run_line.new.sink) (k.taken c.next.new.sink) (g.T.Telling.told c.lines.line w.0 (values_left c.lines.run.supply)) w.3.0 c.in_ok-came.ensures.reading.taken in
+    let wrote = wrote_keeps (k.taken c.lines.sink) (k.taken c.run_line.new.sink) (k.taken c.next.new.sink) (g.T.Telling.told c.lines.line w.0 (values_left c.lines.begun.run.supply)) w.3.0 c.in_ok-came.ensures.reading.taken in
     let n = ends u.rest u.leaves in
     rw c.in-Some.is (n.0, n.1, under_end w.0 c.run_line.new.run (k.taken c.next.new.sink) None n.0 u w.1 w.2 wrote n.2)
 
@@ -92,8 +92,8 @@ lines-preserved g c =
     let asked = rw c.in-Some-came.is at c.in_ok-came.ensures.asked_of_line in
     let had = c.lines.invariant.failures in
     let reading = c.in_ok-came.ensures.reading in
-    let wrote = wrote_keeps (k.taken c.lines.sink) (k.taken c.run_line.new.sink) (k.taken c.next.new.sink) (g.T.Telling.told c.lines.line w.0 (values_left c.lines.run.supply)) w.3.0 reading.taken in
-    let n = next_command c.lines.script c.in-Some-came.next c.next.new.self c.lines.invariant.opening follows in
+    let wrote = wrote_keeps (k.taken c.lines.sink) (k.taken c.run_line.new.sink) (k.taken c.next.new.sink) (g.T.Telling.told c.lines.line w.0 (values_left c.lines.begun.run.supply)) w.3.0 reading.taken in
+    let n = next_command c.lines.begun.script c.in-Some-came.next c.next.new.self c.lines.invariant.opening follows in
     record {
       command = n.0;
       opening = n.1;

@@ -13,13 +13,13 @@ invariant-lines g l =
     let k = g.K.Sink in
     record {
       command : IsCommand l.line;
-      opening : l.script.opening ≡ false;
-      under : (first : Line) (t : Scene) (rest before : List ℕ) → l.fn.first ≡ Some first → Shows l.fn.run t → s.left l.fn.source ≡ Some rest → k.taken l.fn.sink ≡ Some before →
-          Under g.T.Telling.told l.fn.script rest t first l.fn.run.store.entries before l.script l.run l.line (s.left l.source) (k.taken l.sink);
-      kept : l.run.store.opening ≡ l.fn.run.store.opening;
+      opening : l.begun.script.opening ≡ false;
+      under : (first : Line) (t : Scene) (rest before : List ℕ) → l.fn.begun.first ≡ Some first → Shows l.fn.begun.run t → s.left l.fn.source ≡ Some rest → k.taken l.fn.sink ≡ Some before →
+          Under g.T.Telling.told l.fn.begun.script rest t first l.fn.begun.run.store.entries before l.begun.script l.begun.run l.line (s.left l.source) (k.taken l.sink);
+      kept : l.begun.run.store.opening ≡ l.fn.begun.run.store.opening;
       failures : CountsFailures s.failures k.failures l.fn.source l.source l.fn.sink l.sink 0 0;
-      asked : s.asked l.source + l.script.lines.room ≡ s.asked l.fn.source + l.fn.script.lines.room;
+      asked : s.asked l.source + l.begun.script.lines.room ≡ s.asked l.fn.source + l.fn.begun.script.lines.room;
     }
 
 abbrev pub decreases-lines : goal.decreases-lines
-decreases-lines g l = l.script.lines.room
+decreases-lines g l = l.begun.script.lines.room

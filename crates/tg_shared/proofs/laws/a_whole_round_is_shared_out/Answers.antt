@@ -4,6 +4,6 @@ use Rattle.tg_shared.proofs.Sharing.{shared_out, whole_held}
 use Rattle.tg_shared.proofs.laws.a_whole_round_is_shared_out.Goals as goal
 
 pub returns : goal.returns
-returns c = λ start s sessions on is may count.
-    let held : held_from start s ≡ length start.entries = whole_held start s on is in
+returns c = λ start s sessions stays may count.
+    let held : held_from start s ≡ length start.entries = whole_held start s stays.gone_on stays.whole in
     subst (λ n. AreSharedOut (drop n s.entries) sessions) held (shared_out s.entries (held_from start s) sessions may (count ∙ ap (λ n. n + count_of sessions) (sym held)))

@@ -1,19 +1,16 @@
-use Rattle.std.proofs.Common.{◌≡◌, ◌<◌, ◌≤◌, ◌∙◌, ◌++◌, ◌∷◌, [], ℕ, List, ap, length, refl, rules, subst, sym}
-use Rattle.std.specs.Prelude.{IfErr, IfOk}
+use Rattle.std.proofs.Common.{◌≡◌, ◌∙◌, ◌++◌, ◌∷◌, [], ℕ, List, ap, length, refl, rules, subst, sym}
+use Rattle.std.specs.Prelude.{IfOk}
 use Rattle.std.proofs.lemmas.Result.{IfErr-weaker}
 use Rattle.tg_model.specs.declared.command.Deed.{Deed}
-use Rattle.tg_model.specs.declared.making.Making.TheVariants.{Subject}
-use Rattle.tg_model.specs.declared.opening.TheConstants.{MAX_WORKERS}
 use Rattle.tg_model.specs.Graph.{IsSubject}
 use Rattle.tg_model.specs.Making.{deed_making}
-use Rattle.tg_store.specs.declared.fault.CreateFault.TheVariants.{WorkersFull}
 use Rattle.tg_store.specs.Made.{IsMadeFor, MayRefuse}
 use Rattle.tg_store.specs.Store.{Enters, graph_of_store}
 use Rattle.tg_journal.specs.declared.entry.Entry.{Entry}
 use Rattle.tg_model.specs.declared.reply.Reply.{Reply}
 use Rattle.tg_passes.specs.declared.signed.Maker.TheVariants.{Session}
 use Rattle.tg_passes.specs.Passes.{RollState, sign}
-use Rattle.tg_shared.specs.Serving.{Signs}
+use Rattle.tg_shared.specs.Serving.{RefusesCrowd, Signs}
 use Rattle.tg_shared.specs.Sessions.{AddsReceipt, KeepsReceipts, SessionState}
 use Rattle.tg_shared.proofs.Knowing.{sees_as}
 use Rattle.tg_shared.proofs.Noting.{gone_moved}
@@ -42,12 +39,13 @@ returns-clause-refusals g c =
     subst (λ (n : ℕ). MayRefuse (deed_making c.args.kind c.args.label c.args.draft) n c.args.draft c.args.store.now c.make-answer.new.self c.make-answer.result) c.worker-worker.ensures c.make-answer.ensures.refusals
 
 pub returns-clause-too_many : goal.returns-clause-too_many
-returns-clause-too_many g c = λ graph stands.
-    subst (λ (n : ℕ). IfErr c.make-answer.result (λ refused. refused.why ≡ WorkersFull → (c.args.kind ≡ Subject) × IsSubject graph n × (graph.made < graph.limit) × (MAX_WORKERS ≤ length graph.subjects))) c.worker-worker.ensures
-    (c.make-answer.ensures.too_many graph stands)
+returns-clause-too_many g c = IfErr-weaker c.make-answer.result _ _ (λ refused told why. (told why).0) (c.make-answer.ensures.too_many (graph_of_store c.args.store.now) refl)
 
 pub returns-clause-crowded : goal.returns-clause-crowded
-returns-clause-crowded g c = λ is graph stands subject low many. c.make-answer.ensures.crowded is graph stands (subst (λ (n : ℕ). IsSubject graph n) (sym c.worker-worker.ensures) subject) low many
+returns-clause-crowded g c = λ is. subst (λ (n : ℕ). RefusesCrowd n c.args.store.now c.make-answer.result) c.worker-worker.ensures (record {
+  too_many = λ graph stands. IfErr-weaker c.make-answer.result _ _ (λ refused told why. let all = told why in (all.1, all.2, all.3)) (c.make-answer.ensures.too_many graph stands);
+  crowded = λ graph stands crowd. c.make-answer.ensures.crowded is graph stands crowd.0 crowd.1 crowd.2;
+})
 
 pub returns-clause-same_heap : goal.returns-clause-same_heap
 returns-clause-same_heap g c =

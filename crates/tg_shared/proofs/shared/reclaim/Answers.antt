@@ -14,7 +14,8 @@ returns-in-Ok g c =
     let items : List SessionState = c.args.sessions.items in
     let start : ℕ = length g.L.Round.start.entries in
     let locked = c.into_locked-locked.result in
-    let made : locked.sessions ≡ sessions_made g.L.Round.start locked.store.entries = c.into_locked-locked.ensures.sessions in
+    let held = c.into_locked-locked.ensures.held in
+    let made : locked.sessions ≡ sessions_made g.L.Round.start locked.store.entries = held.sessions in
     let sums = c.in-Ok.ensures.adds_up in
     let ends = c.in-Ok.ensures.ends in
     let same : locked.store ≡ c.in-Ok.store = sym ends.store in
@@ -22,15 +23,15 @@ returns-in-Ok g c =
       back = subst (IsGivenBack g.L.Round.start items) same (record {
         matching = ends.matching;
         at_least = among start locked.entered (handed_of items) (count_of items) (length locked.store.entries) sums.least;
-        faithful = c.into_locked-locked.ensures.faithful;
+        faithful = held.faithful;
         gone_on = ends.gone_on;
       });
       within = subst (λ (s : StoreState). parts_of items ≤ sessions_made g.L.Round.start s.entries) same (subst (λ (n : ℕ). parts_of items ≤ n) made sums.within);
       count = λ no.
           subst (λ (s : StoreState). parts_of items ≡ sessions_made g.L.Round.start s.entries → length s.entries ≡ start + handed_of items + count_of items) same
-          (λ all. as_counted start locked.entered (handed_of items) (count_of items) (length locked.store.entries) (sums.count (all ∙ sym made)) (c.into_locked-locked.ensures.none_ended no));
-      single = λ never. subst (λ (s : StoreState). All (HasAll (drop start s.entries)) items) same (unended (drop start locked.store.entries) (entries_by Keeper locked.signed) items (c.into_locked-locked.ensures.grown_by.none_ended never) c.in-Ok.ensures.single);
-      signed = (locked.signed, subst (λ (s : StoreState). IsSignedBy g.L.Round.start s items locked.signed) same c.in-Ok.ensures.signed);
+          (λ all. as_counted start locked.entered (handed_of items) (count_of items) (length locked.store.entries) (sums.count (all ∙ sym made)) (held.none_ended no));
+      single = λ never. subst (λ (s : StoreState). All (HasAll (drop start s.entries)) items) same (unended (drop start locked.store.entries) (entries_by Keeper locked.signed) items (held.grown_by.none_ended never) ends.single);
+      signed = (locked.signed, subst (λ (s : StoreState). IsSignedBy g.L.Round.start s items locked.signed) same ends.signed);
       mismatch = tt;
       handed_back = tt;
     }
@@ -38,6 +39,7 @@ returns-in-Ok g c =
 pub returns-in-Err : goal.returns-in-Err
 returns-in-Err g c =
     let locked = c.into_locked-locked.result in
+    let held = c.into_locked-locked.ensures.held in
     record {
       back = tt;
       within = tt;
@@ -48,8 +50,8 @@ returns-in-Err g c =
         c.back_behind_its_lock.ensures.1 ∙ c.in-Err.ensures.only,
         (
           locked.store,
-          c.into_locked-locked.ensures.gone_on,
-          c.into_locked-locked.ensures.faithful,
+          held.gone_on,
+          held.faithful,
           (still_among (length g.L.Round.start.entries) locked.entered (count_of c.args.sessions.items) (length locked.store.entries) c.in-Err.ensures.counted, c.in-Err.ensures.mismatch.0 refl),
         ),
       );

@@ -11,13 +11,14 @@ returns-in-Ok g c =
     let entries : List Entry = c.in-Ok.store.entries in
     let start = g.L.Round.start in
     let first : length start.entries ≡ 0 = ap (λ (es : List Entry). length es) c.requires.new in
-    let since : held_from start c.in-Ok.store ≡ 0 = c.in-Ok.ensures.none_handed c.requires.none_ended c.requires.none_handed ∙ first in
+    let shares = c.in-Ok.ensures.shared_out c.requires.none_ended in
+    let since : held_from start c.in-Ok.store ≡ 0 = shares.none_handed c.requires.none_handed ∙ first in
     record {
       closed = record {
         opening = c.in-Ok.ensures.back.gone_on.opening;
         matching = subst (λ (n : ℕ). MayClose entries n items) since c.in-Ok.ensures.back.matching;
         shared_out = subst (λ (n : ℕ). AreSharedOut (drop n entries) items) since
-            (c.in-Ok.ensures.shared_out c.requires.none_ended (omega (arith, first, c.requires.none_handed, since)));
+            (shares.shared_out (omega (arith, first, c.requires.none_handed, since)));
         seen = seen_fronts start c.in-Ok.store items c.in-Ok.ensures.signed.0 c.requires.new c.in-Ok.ensures.signed.1;
         none_handed = omega (arith, le-max_right (length start.entries) c.in-Ok.store.handed, since);
       };
@@ -25,4 +26,4 @@ returns-in-Ok g c =
     }
 
 pub returns-in-Err-clause-due : goal.returns-in-Err-clause-due
-returns-in-Err-clause-due g c = (refl, unclosed c.in-Err.refused.why c.in-Err.ensures.missing c.in-Err.ensures.mismatch)
+returns-in-Err-clause-due g c = (refl, unclosed c.in-Err.refused.why c.in-Err.ensures.closes.missing c.in-Err.ensures.closes.mismatch)

@@ -1,7 +1,7 @@
 use Rattle.std.proofs.Common.{◌++◌, List, ap, sym, ◌∙◌}
 use Rattle.tg_model.specs.declared.edge.Edge.{Edge}
 use Rattle.tg_model.specs.Opened.{Plan}
-use Rattle.tg_script.specs.Opening.{edge_lines}
+use Rattle.tg_script.specs.Opening.{edge_lines, plan_by}
 use Rattle.tg_threads.proofs.RaceLaws.{commands_behind, edges_before}
 use Rattle.tg_threads.proofs.race.open_race.Goals as goal
 
@@ -12,7 +12,7 @@ returns-clause-output g c = λ bytes known.
     let commands = c.in_ok-whole.ensures.commands in
     let read = c.in_ok-whole.ensures.bytes bytes known in
     let opens = c.in_ok-store.ensures.opened in
-    let plan : List Edge → Plan = λ es. record { workers = c.args.settings.workers; edges = es; values = c.args.workers.items; limit = c.args.settings.max_vertices } in (
+    let plan : List Edge → Plan = λ es. plan_by c.args.settings es c.args.workers.items in (
       read.0,
       read.1,
       (

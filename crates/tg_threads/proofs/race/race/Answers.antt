@@ -3,7 +3,7 @@ use Rattle.std.proofs.lemmas.Result.{err_from_is_err_and}
 use Rattle.std.specs.List.{All}
 use Rattle.tg_text.specs.declared.line.Line.{Line}
 use Rattle.tg_script.specs.Opening.{IsCommand}
-use Rattle.tg_script.specs.Script.{commands_of, start_with}
+use Rattle.tg_script.specs.Script.{commands_of, start_of_setup}
 use Rattle.tg_script.proofs.LinesLaws.{keeps_known}
 use Rattle.tg_space.specs.SpaceTable.{BlockLimits}
 use Rattle.tg_script.specs.Entering.{plan_of}
@@ -13,12 +13,13 @@ use Rattle.tg_threads.proofs.race.race.Goals as goal
 
 pub returns-clause-output : goal.returns-clause-output
 returns-clause-output g c = λ bytes before known taken.
-    let start = start_with c.args.settings c.args.workers.items c.args.stock.items in
+    let start = start_of_setup c.args.setup in
     let s = g.K.Sink in
     let opens = c.in_ok-opened.ensures.output bytes known in
     let whole = opens.2 in
     let lines = whole.0 in
     let store = c.in_ok-raced.raced.store in
+    let opened = c.in_ok-opened.opened in
     let ts = c.in_ok-raced.raced.told.items in
     let came = c.in_ok-raced.ensures.run.raced in
     let shared = came.0 in
@@ -27,38 +28,26 @@ returns-clause-output g c = λ bytes before known taken.
       limits = came.1.limits ∙ ap (λ (l : BlockLimits). l.max_blocks) c.in_ok-opened.ensures.limits;
       none = came.1.none;
     } in
-    let same = raced_same (arena_of shared start.helpers store.entries) c.in_ok-opened.opened.store.opening.workers start.workers start.stock c.as_slice.result.now (commands_of lines) store.entries ts
-    c.in_ok-opened.ensures.new.0 (c.as_slice.ensures.value ∙ whole.2) came.3 in (
+    let same = raced_same (arena_of shared start.helpers store.entries) opened.store.opening.workers start.workers start.stock opened.lines.items (commands_of lines) store.entries ts
+    c.in_ok-opened.ensures.new.0 whole.2 came.3 in (
       opens.0,
       opens.1,
       race_told c.tell-told.result g.T.RaceTelling.race_text start shared bytes before opens.0 lines store ts (s.taken c.tell-told.new.sink) whole.1 new (came.2 ∙ whole.3) same
           (c.tell-told.ensures.told before (keeps_known (s.taken c.args.sink.now) (s.taken c.open_race.new.sink) before taken c.in_ok-opened.ensures.silent.keeps)),
     )
 
-pub returns-in_err-blanks-clause-output : goal.returns-in_err-blanks-clause-output
-returns-in_err-blanks-clause-output g c = λ bytes before known taken.
-    let start = start_with c.args.settings c.args.workers.items c.args.stock.items in
-    let s = g.K.Sink in
-    let opens = c.in_ok-opened.ensures.output bytes known in
-    let given = err_from_is_err_and c.from_residual-in_err-blanks.result c.from_residual-in_err-blanks.ensures.1 in (
-      opens.0,
-      opens.1,
-      unshared c.from_residual-in_err-blanks.result g.T.RaceTelling.race_text start bytes before opens.0 opens.2.0 (s.taken c.open_race.new.sink) (given.1 ∙ ap Err given.2) opens.2.1
-          (keeps_known (s.taken c.args.sink.now) (s.taken c.open_race.new.sink) before taken c.in_ok-opened.ensures.silent.keeps),
-    )
-
 pub returns-clause-due : goal.returns-clause-due
 returns-clause-due g c =
-    let start = start_with c.args.settings c.args.workers.items c.args.stock.items in
+    let start = start_of_setup c.args.setup in
     telling_due start c.tell-told.result c.tell-told.ensures.fault
 
 pub returns-in_err-opened-clause-due : goal.returns-in_err-opened-clause-due
 returns-in_err-opened-clause-due g c =
     let given = err_from_is_err_and c.from_residual.result c.from_residual.ensures.1 in
-    rw (given.1, given.2) (c.in_err-opened.ensures.due c.args.stock.items)
+    rw (given.1, given.2) (c.in_err-opened.ensures.due c.args.setup.stock.items)
 
-pub share-requires-clause-raceable : goal.share-requires-clause-raceable
-share-requires-clause-raceable g c κs within = record {
+pub race_opened-requires-clause-raceable : goal.race_opened-requires-clause-raceable
+race_opened-requires-clause-raceable g c κs within = record {
   new = (omega (arith, c.in_ok-opened.ensures.new.0, c.requires.startable.number.0), c.in_ok-opened.ensures.new.1);
-  commands = subst (λ (lines : List Line). All IsCommand lines) (sym c.as_slice.ensures.value) c.in_ok-opened.ensures.commands;
+  commands = c.in_ok-opened.ensures.commands;
 }

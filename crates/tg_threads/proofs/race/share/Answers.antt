@@ -7,7 +7,7 @@ use Rattle.tg_threads.proofs.race.share.Goals as goal
 
 pub run_shared-requires-clause-fresh : goal.run_shared-requires-clause-fresh
 run_shared-requires-clause-fresh g c = λ lifetimes outlive.
-    let start = start_of c.args.store.opening in
+    let start = start_of c.args.opened.store.opening in
     let sessions = c.in_ok-shared.shared.sessions.items in
     subst (λ n. AreFresh (range_with_len 0 n) sessions) (ap (λ (s : SharedStart). s.opening.workers) c.requires.shareable.start)
     (c.in_ok-shared.ensures.sessions start (ap (λ es. graph_after start es) c.requires.raceable.new.1))

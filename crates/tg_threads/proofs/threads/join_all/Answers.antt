@@ -1,8 +1,8 @@
 use Rattle.std.proofs.Common.{◌≡◌, ◌++◌, ◌∷◌, [], ℕ, List, ◌∙◌, map, sym, subst}
 use Rattle.tg_shared.specs.Sessions.{SessionState}
-use Rattle.tg_weave.specs.declared.work.Finished.{Finished}
-use Rattle.tg_weave.specs.Boxes.{Boxed}
-use Rattle.tg_weave.proofs.ShareLaws.{all_came, map_push, one_more}
+use Rattle.tg_threads.specs.declared.work.Finished.{Finished}
+use Rattle.tg_threads.specs.Boxes.{Boxed}
+use Rattle.tg_threads.proofs.ShareLaws.{all_came, map_push, one_more}
 use Rattle.tg_threads.specs.Tasks.{AllBring, Brings, arena_seen, promised_by}
 use Rattle.tg_threads.proofs.RunLaws.{all_next}
 use Rattle.tg_threads.proofs.BringLaws.{brings_more}

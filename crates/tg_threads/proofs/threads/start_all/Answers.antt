@@ -1,7 +1,7 @@
 use Rattle.std.proofs.Common.{◌≡◌, ◌++◌, ◌∷◌, [], map, sym, ap, ◌∙◌, subst}
 use Rattle.std.specs.List.{All}
 use Rattle.std.proofs.lemmas.List.Elements.{All-push}
-use Rattle.tg_weave.proofs.ShareLaws.{all_came, map_push, one_more}
+use Rattle.tg_threads.proofs.ShareLaws.{all_came, map_push, one_more}
 use Rattle.tg_threads.specs.Tasks.{HadNone, assigned_of, promised_by}
 use Rattle.tg_threads.proofs.RunLaws.{all_next}
 use Rattle.tg_threads.proofs.threads.start_all.Goals as goal
@@ -14,8 +14,8 @@ loop-work-preserved g c =
       left = one_more c.loop-work.yielded c.next.new.self.rest.items c.loop-work.work-iterator.rest.items c.args.works.items work c.in-Some.ensures.steps.0 c.loop-work.invariant.left;
       promises = ap (map promised_by) c.in_ok-push.ensures.items ∙ map_push promised_by c.loop-work.handles.items handle
           ∙ (λ i. c.loop-work.invariant.promises i ++ c.in_ok-handle.ensures.promise i ∷ []) ∙ sym (map_push assigned_of c.loop-work.yielded work);
-      helpers = subst (All (λ h. h.promise.helpers ≡ c.args.helpers)) (sym c.in_ok-push.ensures.items)
-          (All-push (λ h. h.promise.helpers ≡ c.args.helpers) c.loop-work.handles.items handle c.loop-work.invariant.helpers c.in_ok-handle.ensures.helpers);
+      helpers = subst (All (λ h. h.promise.helpers ≡ c.args.context.now.helpers)) (sym c.in_ok-push.ensures.items)
+          (All-push (λ h. h.promise.helpers ≡ c.args.context.now.helpers) c.loop-work.handles.items handle c.loop-work.invariant.helpers c.in_ok-handle.ensures.helpers);
     }
 
 pub start-requires-clause-fresh : goal.start-requires-clause-fresh

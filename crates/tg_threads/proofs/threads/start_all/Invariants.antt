@@ -7,5 +7,5 @@ abbrev pub invariant-loop-work : goal.invariant-loop-work
 invariant-loop-work g l = record {
   left : l.yielded ++ l.work-iterator.rest.items ≡ l.fn.works.items;
   promises : map promised_by l.handles.items ≡ map assigned_of l.yielded;
-  helpers : All (λ h. h.promise.helpers ≡ l.fn.helpers) l.handles.items;
+  helpers : All (λ h. h.promise.helpers ≡ l.fn.context.helpers) l.handles.items;
 }

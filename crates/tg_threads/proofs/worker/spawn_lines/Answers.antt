@@ -1,7 +1,7 @@
 use Rattle.std.proofs.Common.{List, ap, ◌∙◌}
 use Rattle.std.specs.List.{count_by}
 use Rattle.std.proofs.lemmas.List.{take_all}
-use Rattle.tg_weave.specs.declared.task.Task.{Task}
+use Rattle.tg_threads.specs.declared.task.Task.{Task}
 use Rattle.tg_threads.specs.Tasks.{may_make_subject}
 use Rattle.tg_threads.proofs.worker.spawn_lines.Goals as goal
 

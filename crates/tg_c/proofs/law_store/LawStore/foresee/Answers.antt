@@ -19,10 +19,10 @@ pub returns : goal.returns
 returns c =
     let g : ProtectionGraph = graph_of_store c.args.self.now.store in
     let scene = c.in_ok-scene.ensures.told in
-    let both = subst (λ (es : List Edge). JoinReached g es × IsToldOf c.args.silent.now (with_edges g es) c.args.x c.args.right c.args.y c.in_ok-told.told)
+    let both = subst (λ (es : List Edge). JoinReached g es × IsToldOf c.args.silent.now (with_edges g es) c.args.question.x c.args.question.right c.args.question.y c.in_ok-told.told)
     (c.as_slice.ensures.value ∙ scene.edges) (c.in_ok-told.ensures.told g scene.sound scene.picture) in
     record {
-      told = subst (λ t. IsForeseenOn g c.args.silent.now c.args.as_if.now c.args.x c.args.right c.args.y t) (sym (ap (λ o. o.told) c.in_ok-new.ensures.ok))
+      told = subst (λ t. IsForeseenOn g c.args.silent.now c.args.as_if.now c.args.question.x c.args.question.right c.args.question.y t) (sym (ap (λ o. o.told) c.in_ok-new.ensures.ok))
           (record { active = scene.active; joined = both.0; told_of = both.1 });
       refused = tt;
     }

@@ -47,38 +47,40 @@ has_room c = record {
 full : (p q : PlainGraph) → p ≡ q → (n : ℕ) → n ≡ length q.values → p.limit ≤ n → q.limit ≤ length q.values
 full p q view n made high = omega (arith, ap (λ (p : PlainGraph). p.limit) view, made, high)
 
-pub returns-then-name-self-clause-reply : goal.returns-then-name-self-clause-reply
-returns-then-name-self-clause-reply c =
-    sym (answer-vertices (graph_of c.args.self.now) c.args.worker c.args.label _ c.args.making (full _ _ c.self.view_is c.made-name.result c.made-name.ensures c.if-name-self.true))
+pub returns-then-name-self : goal.returns-then-name-self
+returns-then-name-self c =
+    let g = graph_of c.args.self.now in
+    let met = full _ _ c.self.view_is c.made-name.result c.made-name.ensures c.if-name-self.true in
+    record {
+      reply = sym (answer-vertices g c.args.worker c.args.label _ c.args.making met);
+      step = sym (step-full g c.args.worker c.args.label _ c.args.making (λ room. omega (arith, met, room.made)));
+      err = tt;
+    }
 
-pub returns-then-name-self-clause-step : goal.returns-then-name-self-clause-step
-returns-then-name-self-clause-step c =
-    sym (step-full (graph_of c.args.self.now) c.args.worker c.args.label _ c.args.making
-    (λ room. let met = full _ _ c.self.view_is c.made-name.result c.made-name.ensures c.if-name-self.true in omega (arith, met, room.made)))
-
-pub returns-then-is_one_too_many-clause-reply : goal.returns-then-is_one_too_many-clause-reply
-returns-then-is_one_too_many-clause-reply c =
+pub returns-then-is_one_too_many : goal.returns-then-is_one_too_many
+returns-then-is_one_too_many c =
+    let g = graph_of c.args.self.now in
     let (is, many) = c.is_one_too_many.ensures.0 c.if-is_one_too_many.true in
-    sym (answer-subjects (graph_of c.args.self.now) c.args.worker c.args.label _ c.args.making
-    (omega (arith, c.made-name.ensures, c.if-name-self.false, ap (λ (p : PlainGraph). p.limit) c.self.view_is))
-    (is, omega (arith, many, c.len.ensures, ap (λ (p : PlainGraph). length p.subjects) c.self.view_is)))
+    let subjects = ap (λ (p : PlainGraph). length p.subjects) c.self.view_is in
+    record {
+      reply = sym (answer-subjects g c.args.worker c.args.label _ c.args.making
+          (omega (arith, c.made-name.ensures, c.if-name-self.false, ap (λ (p : PlainGraph). p.limit) c.self.view_is))
+          (is, omega (arith, many, c.len.ensures, subjects)));
+      step = sym (step-full g c.args.worker c.args.label _ c.args.making (λ room. room.subjects (is, omega (arith, many, c.len.ensures, subjects))));
+      err = tt;
+    }
 
-pub returns-then-is_one_too_many-clause-step : goal.returns-then-is_one_too_many-clause-step
-returns-then-is_one_too_many-clause-step c =
-    let (is, many) = c.is_one_too_many.ensures.0 c.if-is_one_too_many.true in
-    sym (step-full (graph_of c.args.self.now) c.args.worker c.args.label _ c.args.making
-    (λ room. room.subjects (is, omega (arith, many, c.len.ensures, ap (λ (p : PlainGraph). length p.subjects) c.self.view_is))))
-
-pub returns-clause-step : goal.returns-clause-step
-returns-clause-step c =
-    let all = (goal.at.returns-clause-step c).After-enlist in
-    ap graph_of (parts_are all)
-    ∙ made c.args.making c.self.inside.subjects.items c.self.inside.max_vertices c.self.inside.rows.items c.self.inside.values.items c.args.worker c.made-name.result c.args.label c.add.new.self (record { law = c.args.law; state = c.args.state.now })
-    (has_row all) (row_is all) c.args.self.now c.self.view_is c.made-name.ensures (has_room all)
-
-pub returns-clause-reply : goal.returns-clause-reply
-returns-clause-reply c =
-    ap Name c.made-name.ensures ∙ sym (answer-made (graph_of c.args.self.now) c.args.worker c.args.label _ c.args.making (has_room (goal.at.returns-clause-reply c).After-enlist))
+pub returns : goal.returns
+returns c =
+    let all = (goal.at.returns c).After-enlist in
+    record {
+      reply = ap Name c.made-name.ensures ∙ sym (answer-made (graph_of c.args.self.now) c.args.worker c.args.label _ c.args.making (has_room all));
+      step =
+          ap graph_of (parts_are all)
+          ∙ made c.args.making c.self.inside.subjects.items c.self.inside.max_vertices c.self.inside.rows.items c.self.inside.values.items c.args.worker c.made-name.result c.args.label c.add.new.self (record { law = c.args.law; state = c.args.state.now })
+          (has_row all) (row_is all) c.args.self.now c.self.view_is c.made-name.ensures (has_room all);
+      err = tt;
+    }
 
 -- there was no memory for the edge
 pub invariant_of-self-in_err-add : goal.invariant_of-self-in_err-add

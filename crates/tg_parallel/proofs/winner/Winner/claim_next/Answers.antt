@@ -16,17 +16,17 @@ byte_of : (aged : Bool) → bool_byte aged ≡ space_of_age aged
 byte_of true = refl
 byte_of false = refl
 
-pub claim_word-found-requires-clause-forward : goal.claim_word-found-requires-clause-forward
+pub claim_word-found-requires : goal.claim_word-found-requires
 unfolding place_of place_word
-claim_word-found-requires-clause-forward c =
+claim_word-found-requires c =
     let b = c.args.blocks.now in let used = cells_used b.aged c.args.self.now.done in
-    (subst IsPlace (sym (next_read used b c.requires.ready)) (next_inside used b c.requires.ready), sym (next_link used b c.requires.ready))
-
-pub claim_word-found-requires-clause-allowed : goal.claim_word-found-requires-clause-allowed
-unfolding place_of
-claim_word-found-requires-clause-allowed c =
-    subst (λ (s : Seated). can_use s.done (place_in c.args.blocks.now.next) ≡ true) (sym c.self.view_is)
-    (may_use c.args.table.now c.args.at.cell c.args.blocks.now c.args.self.now c.requires.held c.requires.ready c.requires.some)
+    record {
+      own = ap (λ (s : Seated). s.table) c.self.view_is ∙ c.requires.held.own;
+      word = c.requires.word;
+      forward = (subst IsPlace (sym (next_read used b c.requires.ready)) (next_inside used b c.requires.ready), sym (next_link used b c.requires.ready));
+      allowed = subst (λ (s : Seated). can_use s.done (place_in b.next) ≡ true) (sym c.self.view_is)
+          (may_use c.args.table.now c.args.at.cell b c.args.self.now c.requires.held c.requires.ready c.requires.some);
+    }
 
 pub returns-then-found-ne0 : goal.returns-then-found-ne0
 unfolding place_of place_word

@@ -6,12 +6,13 @@ use Rattle.tg_race.specs.Words.{IsForward, place_of}
 use Rattle.tg_race.proofs.PlaceWords.{place_of-word_of, word_of-forward}
 use Rattle.tg_race.proofs.helper.Helper.claim_cell.Goals as goal
 
-pub claim_word-found-requires-clause-forward : goal.claim_word-found-requires-clause-forward
-claim_word-found-requires-clause-forward c = subst IsForward (sym c.word_to.ensures) (word_of-forward c.args.place c.requires.place)
-
-pub claim_word-found-requires-clause-allowed : goal.claim_word-found-requires-clause-allowed
-claim_word-found-requires-clause-allowed c =
-    subst (λ (p : Place). can_use c.args.self.now.done p ≡ true) (sym (ap place_of c.word_to.ensures ∙ place_of-word_of c.args.place c.requires.place)) c.requires.allowed
+pub claim_word-found-requires : goal.claim_word-found-requires
+claim_word-found-requires c = record {
+  own = c.requires.own;
+  word = c.word_of.ensures.word;
+  forward = subst IsForward (sym c.word_to.ensures) (word_of-forward c.args.place c.requires.place);
+  allowed = subst (λ (p : Place). can_use c.args.self.now.done p ≡ true) (sym (ap place_of c.word_to.ensures ∙ place_of-word_of c.args.place c.requires.place)) c.requires.allowed;
+}
 
 pub returns-then-found-eq0-clause-done : goal.returns-then-found-eq0-clause-done
 returns-then-found-eq0-clause-done c =

@@ -29,7 +29,7 @@ follow-requires g c =
       indexed = c.way_to_change.ensures.rows.indexed;
       looked = c.in-Ok.ensures.ready;
       put = subst (λ (o : Option Place). IsRowPut t new places later c.args.from c.name_of-name.result spot o) (sym (c.note-note.ensures ∙ ap (note_for spot) c.moves.ensures))
-          (subst (λ n. IsRowPut t new places later c.args.from n spot (note_for spot (young_spaces c.args.to.space))) (sym c.name_of-name.ensures) c.in_ok-put_edge.ensures.put);
+          (subst (λ n. IsRowPut t new places later c.args.from n spot (note_for spot (young_spaces c.args.gift.to.space))) (sym c.name_of-name.ensures) c.in_ok-put_edge.ensures.put);
     }
 
 pub spot-spot-requires : goal.spot-spot-requires

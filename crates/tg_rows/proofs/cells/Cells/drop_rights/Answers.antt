@@ -12,6 +12,8 @@ use Rattle.tg_rows.specs.Rows.{name_at}
 use Rattle.tg_rows.specs.Spots.{narrowed, word_put}
 use Rattle.tg_rows.specs.declared.rows.Spot.TheVariants.{Reference}
 use Rattle.tg_rows.specs.Steps.{ChangesTo}
+use Rattle.tg_rows.specs.Inner.Following.{IsNarrowed}
+use Rattle.tg_rows.proofs.Following.{narrowed_held, narrowed_inside}
 use Rattle.tg_rows.proofs.Layouts.{present_place}
 use Rattle.tg_rows.proofs.Finding.{found_refers, reference_found}
 use Rattle.tg_rows.proofs.Growing.{changes, nothing_dropped, untouched}
@@ -19,9 +21,25 @@ use Rattle.tg_rows.proofs.Remembering.{narrowed_remembered}
 use Rattle.tg_rows.proofs.Putting.{can_write, narrowed_becomes}
 use Rattle.tg_rows.proofs.cells.Cells.drop_rights.Goals as goal
 
+pub read-word-requires : goal.read-word-requires
+read-word-requires g c =
+    let taken : IsNarrowed c.args.self.now.spaces c.narrow.new.spaces c.args.from c.args.name c.in-Reference.cell c.in-Reference.index = record {
+      payloads = c.args.self.now.payloads;
+      rights = c.args.rights;
+      table = c.spot.ensures.table;
+      graph = c.requires.graph;
+      object = c.requires.from;
+      found = c.in-Reference.ensures.spot;
+      written = c.narrow.ensures;
+    } in
+    record { held = narrowed_held taken; inside = narrowed_inside taken }
+
 pub forget-requires : goal.forget-requires
 forget-requires g c = record {
   old = c.args.self.now.spaces;
+  from = c.args.from;
+  cell = c.in-Reference.cell;
+  index = c.in-Reference.index;
   narrowed = record {
     payloads = c.args.self.now.payloads;
     rights = c.args.rights;
@@ -31,6 +49,7 @@ forget-requires g c = record {
     found = c.in-Reference.ensures.spot;
     written = c.narrow.ensures;
   };
+  left = c.read-word.ensures;
   indexed = c.requires.indexed;
   looked = c.way-way.ensures;
 }

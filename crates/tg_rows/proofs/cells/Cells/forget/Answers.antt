@@ -9,7 +9,7 @@ use Rattle.tg_rows.specs.Rows.{name_at}
 use Rattle.tg_rows.specs.declared.indexed_row.IndexedRow.{IndexedRow}
 use Rattle.tg_rows.specs.declared.indexes.Way.{Way}
 use Rattle.tg_rows.proofs.Ages.{aged_at, old_or_behind, row_there, same_row, written_aged}
-use Rattle.tg_rows.proofs.Following.{index_narrowed, narrowed_held, narrowed_inside, narrowed_number, narrowed_others, narrowed_vertices, way_none}
+use Rattle.tg_rows.proofs.Following.{index_narrowed, narrowed_number, narrowed_others, narrowed_vertices, way_none}
 use Rattle.tg_rows.proofs.IndexedRows.{index_at, indexes_kept, indexes_written, written_indexed}
 use Rattle.tg_rows.proofs.Marked.{aged_by, marked_by, others_marked_same}
 use Rattle.std.proofs.lemmas.Bool.{false≢true}
@@ -22,34 +22,31 @@ returns-in_default g c =
     let taken = c.requires.narrowed in
     let rows = c.args.rows.now.entries in
     record {
-      indexed = indexes_kept old c.args.self.now.spaces.spaces (narrowed_vertices taken) c.args.from taken.object (narrowed_others taken) places places (others_marked_same old places places c.args.from refl) rows c.requires.indexed
-          (name_at old c.args.from) refl rows refl (way_none old rows c.args.from c.args.way c.requires.looked c.in_default.not-Index);
+      indexed = indexes_kept old c.args.self.now.spaces.spaces (narrowed_vertices taken) c.requires.from taken.object (narrowed_others taken) places places (others_marked_same old places places c.requires.from refl) rows c.requires.indexed
+          (name_at old c.requires.from) refl rows refl (way_none old rows c.requires.from c.args.way c.requires.looked c.in_default.not-Index);
       kept = λ x. refl;
     }
-
-pub read-word-requires : goal.read-word-requires
-read-word-requires g c = record { held = narrowed_held c.requires.narrowed; inside = narrowed_inside c.requires.narrowed }
 
 pub forget_if_empty-requires : goal.forget_if_empty-requires
 forget_if_empty-requires g c =
     let old = c.requires.old.spaces in
-    let own = name_at old c.args.from in
+    let own = name_at old c.requires.from in
     let es = c.rows.inside.indexes.entries in
     let places = c.args.self.now.remembered.places in
     let taken = c.requires.narrowed in
-    let here : HasIndexAt c.args.rows.now.entries own c.in-Index.at = subst (λ (w : Way). IsWay old c.args.rows.now.entries c.args.from w) c.in-Index.is c.requires.looked in
+    let here : HasIndexAt c.args.rows.now.entries own c.in-Index.at = subst (λ (w : Way). IsWay old c.args.rows.now.entries c.requires.from w) c.in-Index.is c.requires.looked in
     let was : HasIndexAt es own c.in-Index.at = subst (λ (s : Indexes). HasIndexAt s.entries own c.in-Index.at) (sym c.rows.view_is) here in
     let indexed : AreIndexed old places es = subst (λ (s : Indexes). AreIndexed old places s.entries) (sym c.rows.view_is) c.requires.indexed in
     let row = c.in-Some.row.now in
     narrowed_number taken row.names row.cells.items
-    (index_at old taken.payloads taken.graph places es indexed c.args.from taken.object own refl row (row_there es own c.in-Index.at was row c.in-Some.ensures.value)).0
+    (index_at old taken.payloads taken.graph places es indexed c.requires.from taken.object own refl row (row_there es own c.in-Index.at was row c.in-Some.ensures.value)).0
 
 pub unreachable-requires : goal.unreachable-requires
 unreachable-requires g c =
     let old = c.requires.old.spaces in
-    let own = name_at old c.args.from in
+    let own = name_at old c.requires.from in
     let es = c.rows.inside.indexes.entries in
-    let here : HasIndexAt c.args.rows.now.entries own c.in-Index.at = subst (λ (w : Way). IsWay old c.args.rows.now.entries c.args.from w) c.in-Index.is c.requires.looked in
+    let here : HasIndexAt c.args.rows.now.entries own c.in-Index.at = subst (λ (w : Way). IsWay old c.args.rows.now.entries c.requires.from w) c.in-Index.is c.requires.looked in
     let was : HasIndexAt es own c.in-Index.at = subst (λ (s : Indexes). HasIndexAt s.entries own c.in-Index.at) (sym c.rows.view_is) here in
     let low : c.in-Index.at < length es = slice_get_within es c.in-Index.at (own, was.row) was.here in
     false≢true (rw c.in-None.is at (c.get_index_mut.ensures.found.1 low))
@@ -57,9 +54,9 @@ unreachable-requires g c =
 pub invariant_of-rows : goal.invariant_of-rows
 invariant_of-rows g c =
     let old = c.requires.old.spaces in
-    let own = name_at old c.args.from in
+    let own = name_at old c.requires.from in
     let es = c.rows.inside.indexes.entries in
-    let here : HasIndexAt c.args.rows.now.entries own c.in-Index.at = subst (λ (w : Way). IsWay old c.args.rows.now.entries c.args.from w) c.in-Index.is c.requires.looked in
+    let here : HasIndexAt c.args.rows.now.entries own c.in-Index.at = subst (λ (w : Way). IsWay old c.args.rows.now.entries c.requires.from w) c.in-Index.is c.requires.looked in
     let was : HasIndexAt es own c.in-Index.at = subst (λ (s : Indexes). HasIndexAt s.entries own c.in-Index.at) (sym c.rows.view_is) here in
     let low : c.in-Index.at < length es = slice_get_within es c.in-Index.at (own, was.row) was.here in
     let row = c.in-Some.row.now in
@@ -71,22 +68,22 @@ invariant_of-rows g c =
 pub returns : goal.returns
 returns g c =
     let old = c.requires.old.spaces in
-    let own = name_at old c.args.from in
+    let own = name_at old c.requires.from in
     let es = c.rows.inside.indexes.entries in
     let places = c.args.self.now.remembered.places in
     let taken = c.requires.narrowed in
-    let here : HasIndexAt c.args.rows.now.entries own c.in-Index.at = subst (λ (w : Way). IsWay old c.args.rows.now.entries c.args.from w) c.in-Index.is c.requires.looked in
+    let here : HasIndexAt c.args.rows.now.entries own c.in-Index.at = subst (λ (w : Way). IsWay old c.args.rows.now.entries c.requires.from w) c.in-Index.is c.requires.looked in
     let was : HasIndexAt es own c.in-Index.at = subst (λ (s : Indexes). HasIndexAt s.entries own c.in-Index.at) (sym c.rows.view_is) here in
     let indexed : AreIndexed old places es = subst (λ (s : Indexes). AreIndexed old places s.entries) (sym c.rows.view_is) c.requires.indexed in
     let row = c.in-Some.row.now in
     let new : IndexedRow = record { names = c.forget_if_empty.new.names; cells = row.cells; old_cells = row.old_cells; noted = row.noted } in
-    let is = index_at old taken.payloads taken.graph places es indexed c.args.from taken.object own refl row (row_there es own c.in-Index.at was row c.in-Some.ensures.value) in
-    let index = index_narrowed taken row.names row.cells.items is.0 c.read-word.result c.read-word.ensures new.names c.forget_if_empty.ensures.len c.forget_if_empty.ensures.gone c.forget_if_empty.ensures.kept in
+    let is = index_at old taken.payloads taken.graph places es indexed c.requires.from taken.object own refl row (row_there es own c.in-Index.at was row c.in-Some.ensures.value) in
+    let index = index_narrowed taken row.names row.cells.items is.0 c.args.word c.requires.left new.names c.forget_if_empty.ensures.len (λ empty. (c.forget_if_empty.ensures.gone empty).rows) c.forget_if_empty.ensures.kept in
     let written = updates-with_value_at c.rows.inside.indexes c.in-Index.at new nat_eq_equiv c.get_index_mut.ensures.unique own was.row was.here in
     let rows = c.args.rows.now.entries in
     let first : SameIndexed rows es = subst (λ (s : Indexes). SameIndexed rows s.entries) (sym c.rows.view_is) (λ x. refl) in
     record {
-      indexed = indexes_written old c.args.self.now.spaces.spaces (narrowed_vertices taken) c.args.from taken.object (narrowed_others taken) places places (others_marked_same old places places c.args.from refl) es indexed own refl
+      indexed = indexes_written old c.args.self.now.spaces.spaces (narrowed_vertices taken) c.requires.from taken.object (narrowed_others taken) places places (others_marked_same old places places c.requires.from refl) es indexed own refl
           (set_value_at es c.in-Index.at new) new written.0 index
           (marked_by places row new refl refl (λ n. refl) is.1);
       kept = written_indexed rows es c.in-Index.at new first;

@@ -25,7 +25,7 @@ follow-requires g c =
       object = c.requires.row.from;
       indexed = c.way_to_change.ensures.rows.indexed;
       looked = c.in-Ok.ensures.ready;
-      put = subst (λ (o : Option Place). IsRowPut t new places later c.args.from c.args.name spot o) (sym c.note.ensures) c.in_ok-to.ensures.put;
+      put = subst (λ (o : Option Place). IsRowPut t new places later c.args.from c.args.vertex.name spot o) (sym c.note-note.ensures) c.in_ok-to.ensures.put;
     }
 
 pub spot_for_new-spot-requires : goal.spot_for_new-spot-requires

@@ -25,7 +25,7 @@ returns-in_err-make_room-clause-had_room g c =
     λ left none.
     let t = c.args.self.now.spaces in
     let few = cells_few c.args.spot in
-    let nothing = nothing_noted t c.requires.row.table c.args.self.now.payloads c.requires.row.graph c.args.from c.requires.row.from none (name_at c.args.self.now.spaces.spaces c.args.to) c.args.spot c.moves.result c.requires.row.spot in
+    let nothing = nothing_noted t c.requires.row.table c.args.self.now.payloads c.requires.row.graph c.args.from c.requires.row.from none (name_at c.args.self.now.spaces.spaces c.args.gift.to) c.args.spot c.moves.result c.requires.row.spot in
     let ok : false ≡ true = c.in_err-make_room.ensures.had_room (omega (arith, left, few, c.cells.ensures)) (c.note-note.ensures ∙ nothing) in
     absurd (false≢true ok)
 
@@ -41,7 +41,7 @@ returns g c =
     let row = c.requires.row in
     let gift = c.requires.gift in
     let from = c.args.from in
-    let to = c.args.to in
+    let to = c.args.gift.to in
     let name = name_at t.spaces to in
     let spot = c.args.spot in
     let space = nursery_space c.args.nursery in
@@ -52,14 +52,14 @@ returns g c =
     let can = added_can t grown payloads row.table made.table row.graph space c.cells.result gift.nursery made.spaces from row.from name spot row.spot made.left c.cells.ensures in
     record {
       edge = record {
-        added = added_changes t grown payloads row.table made.table row.graph space c.cells.result gift.nursery made.spaces from row.from name spot row.spot made.left c.cells.ensures to gift.to refl c.args.rights gift.some (omega arith) c.put.new.spaces c.put.ensures;
+        added = added_changes t grown payloads row.table made.table row.graph space c.cells.result gift.nursery made.spaces from row.from name spot row.spot made.left c.cells.ensures to gift.to refl c.args.gift.rights gift.some (omega arith) c.put.new.spaces c.put.ensures;
         payloads = c.make_room.ensures.payloads;
         refused = tt;
         full = λ is. absurd (ok_or_err _ _ is);
         placed = record {
           spot = spot;
           found = row.spot;
-          put = c.put.ensures ∙ ap (λ (x : SpaceTable). table_put x space spot c.args.rights to) made_now;
+          put = c.put.ensures ∙ ap (λ (x : SpaceTable). table_put x space spot c.args.gift.rights to) made_now;
           noted = c.remember.ensures.noted ∙ ap (λ (ps : List Place). with_note ps c.note-note.result) c.make_room.ensures.room.remembered
               ∙ ap (with_note places) (c.note-note.ensures ∙ ap (note_for spot) c.moves.ensures);
         };
@@ -67,7 +67,7 @@ returns g c =
             let tells : to.space ≢ 0 → c.moves.result ≡ true = λ far. c.moves.ensures ∙ is_young to.space far in
             let noted = subst (λ (o : Option Place). AreNoted places later o) c.note-note.ensures (subst (λ (ps : List Place). AreNoted ps later c.note-note.result) c.make_room.ensures.room.remembered c.remember.ensures.members) in
             added_remembered t grown payloads row.table made.table row.graph space c.cells.result gift.nursery made.spaces from row.from name spot row.spot made.left c.cells.ensures
-            (omega arith) to gift.to c.args.rights c.moves.result tells places later noted c.put.new.spaces c.put.ensures before;
+            (omega arith) to gift.to c.args.gift.rights c.moves.result tells places later noted c.put.new.spaces c.put.ensures before;
         places = tt;
       };
       had_room = λ _ _. refl;
@@ -77,16 +77,16 @@ returns g c =
         put = record {
           payloads = payloads;
           space = space;
-          to = c.args.to;
-          rights = c.args.rights;
-          young = young_spaces c.args.to.space;
+          to = c.args.gift.to;
+          rights = c.args.gift.rights;
+          young = young_spaces c.args.gift.to.space;
           table = made.table;
           graph = wider.becomes.graph;
           object = wider.rows.objects c.args.from c.requires.row.from;
           found = there t grown payloads c.requires.row.table made.table c.requires.row.graph space c.cells.result c.requires.gift.nursery made.spaces c.args.from c.requires.row.from name c.args.spot c.requires.row.spot made.left c.cells.ensures;
           nursery = (omega arith, subst (λ n. space < n) (sym wider.spaces) c.requires.gift.nursery);
           left = left t grown payloads c.requires.row.table made.table c.requires.row.graph space c.cells.result c.requires.gift.nursery made.spaces c.args.from c.requires.row.from name c.args.spot c.requires.row.spot made.left c.cells.ensures;
-          target = record { object = wider.rows.objects c.args.to c.requires.gift.to; named = wider.rows.names c.args.to c.requires.gift.to };
+          target = record { object = wider.rows.objects c.args.gift.to c.requires.gift.to; named = wider.rows.names c.args.gift.to c.requires.gift.to };
           some = c.requires.gift.some;
           put = c.put.ensures;
           noted = refl;
@@ -94,7 +94,7 @@ returns g c =
         remembered = c.remember.ensures.noted ∙ ap (λ (ps : List Place). with_note ps c.note-note.result) c.make_room.ensures.room.remembered
             ∙ ap (with_note c.args.self.now.remembered.places) (c.note-note.ensures ∙ ap (note_for c.args.spot) c.moves.ensures);
       };
-      one_cell = subst (λ (x : SpaceTable). TakesOneCell t x space) (sym c.put.ensures) (takes_one_cell t grown space c.cells.result spot c.args.rights to gift.nursery (omega (arith, cells_few spot, c.cells.ensures)) made.spaces made.table can);
+      one_cell = subst (λ (x : SpaceTable). TakesOneCell t x space) (sym c.put.ensures) (takes_one_cell t grown space c.cells.result spot c.args.gift.rights to gift.nursery (omega (arith, cells_few spot, c.cells.ensures)) made.spaces made.table can);
     }
 
 pub returns-in_err-make_room-clause-edge : goal.returns-in_err-make_room-clause-edge
@@ -129,7 +129,7 @@ put-requires g c =
     let made = c.in_ok-make_room.ensures.room in
     record {
       few = let few = c.requires.row.table.few in omega (arith, few, c.requires.gift.nursery);
-      nursery = subst (λ m. nursery_space c.args.nursery < m) (sym (room c.args.self.now.spaces c.make_room.new.self.spaces c.args.self.now.payloads c.requires.row.table made.table c.requires.row.graph (nursery_space c.args.nursery) c.cells.result c.requires.gift.nursery made.spaces c.args.from c.requires.row.from (name_at c.args.self.now.spaces.spaces c.args.to) c.args.spot c.requires.row.spot made.left c.cells.ensures).spaces) c.requires.gift.nursery;
-      can = added_can c.args.self.now.spaces c.make_room.new.self.spaces c.args.self.now.payloads c.requires.row.table made.table c.requires.row.graph (nursery_space c.args.nursery) c.cells.result c.requires.gift.nursery made.spaces c.args.from c.requires.row.from (name_at c.args.self.now.spaces.spaces c.args.to) c.args.spot c.requires.row.spot made.left c.cells.ensures;
-      place = held_place c.args.self.now.spaces.spaces (table_list c.args.self.now.spaces c.requires.row.table) c.args.to c.requires.gift.to.held;
+      nursery = subst (λ m. nursery_space c.args.nursery < m) (sym (room c.args.self.now.spaces c.make_room.new.self.spaces c.args.self.now.payloads c.requires.row.table made.table c.requires.row.graph (nursery_space c.args.nursery) c.cells.result c.requires.gift.nursery made.spaces c.args.from c.requires.row.from (name_at c.args.self.now.spaces.spaces c.args.gift.to) c.args.spot c.requires.row.spot made.left c.cells.ensures).spaces) c.requires.gift.nursery;
+      can = added_can c.args.self.now.spaces c.make_room.new.self.spaces c.args.self.now.payloads c.requires.row.table made.table c.requires.row.graph (nursery_space c.args.nursery) c.cells.result c.requires.gift.nursery made.spaces c.args.from c.requires.row.from (name_at c.args.self.now.spaces.spaces c.args.gift.to) c.args.spot c.requires.row.spot made.left c.cells.ensures;
+      place = held_place c.args.self.now.spaces.spaces (table_list c.args.self.now.spaces c.requires.row.table) c.args.gift.to c.requires.gift.to.held;
     }

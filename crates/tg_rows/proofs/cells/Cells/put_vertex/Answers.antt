@@ -23,13 +23,13 @@ place_vertex-to-requires g c =
     let made = c.in_default.ensures in
     let grown = c.make_vertex_room.new.self in
     let space = nursery_space c.args.nursery in
-    let room = made_room t grown.spaces grown.spaces payloads grown.payloads grown.payloads row.table made.room.table made.room.table row.graph space (1 + c.cells.result) vertex.nursery made.room.spaces made.payloads c.args.from row.from c.args.name c.args.spot row.spot in
+    let room = made_room t grown.spaces grown.spaces payloads grown.payloads grown.payloads row.table made.room.table made.room.table row.graph space (1 + c.cells.result) vertex.nursery made.room.spaces made.payloads c.args.from row.from c.args.vertex.name c.args.spot row.spot in
     record {
       few = let few = row.table.few in omega (arith, few, vertex.nursery);
       nursery = subst (λ (n : ℕ). space < n) (sym room.spaces) vertex.nursery;
       table = made.room.table;
-      graph = grown_graph t grown.spaces grown.spaces payloads grown.payloads grown.payloads row.table made.room.table made.room.table row.graph space (1 + c.cells.result) vertex.nursery made.room.spaces made.payloads c.args.from row.from c.args.name c.args.spot row.spot;
-      fresh = still_fresh t grown.spaces grown.spaces payloads grown.payloads grown.payloads row.table made.room.table made.room.table row.graph space (1 + c.cells.result) vertex.nursery made.room.spaces made.payloads c.args.from row.from c.args.name c.args.spot row.spot vertex.fresh;
+      graph = grown_graph t grown.spaces grown.spaces payloads grown.payloads grown.payloads row.table made.room.table made.room.table row.graph space (1 + c.cells.result) vertex.nursery made.room.spaces made.payloads c.args.from row.from c.args.vertex.name c.args.spot row.spot;
+      fresh = still_fresh t grown.spaces grown.spaces payloads grown.payloads grown.payloads row.table made.room.table made.room.table row.graph space (1 + c.cells.result) vertex.nursery made.room.spaces made.payloads c.args.from row.from c.args.vertex.name c.args.spot row.spot vertex.fresh;
       spare = made.spare;
       left = let left = made.room.left in omega (arith, left);
     }
@@ -80,7 +80,7 @@ returns g c =
     let placed = c.place_vertex-to.new.self in
     let step = c.place_vertex-to.ensures in
     let from = c.args.from in
-    let name = c.args.name in
+    let name = c.args.vertex.name in
     let spot = c.args.spot in
     let space = nursery_space c.args.nursery in
     let places = c.args.self.now.remembered.places in
@@ -88,15 +88,15 @@ returns g c =
     let cells = ap (λ n. 1 + n) c.cells.ensures in
     let kept : placed.remembered.places ≡ places = ap (λ (r : Notes). r.places) step.notes ∙ made.room.remembered in
     let room = made_room t grown.spaces placed.spaces payloads grown.payloads placed.payloads row.table made.room.table step.table row.graph space (1 + c.cells.result) vertex.nursery made.room.spaces made.payloads from row.from name spot row.spot in
-    let object = object_placed t grown.spaces placed.spaces payloads grown.payloads placed.payloads row.table made.room.table step.table row.graph space (1 + c.cells.result) vertex.nursery made.room.spaces made.payloads from row.from name spot row.spot c.args.draft step.placed step.rows c.place_vertex-to.result step.vertex step.used (step.blocks space) made.room.left cells in
-    let there = found_placed t grown.spaces placed.spaces payloads grown.payloads placed.payloads row.table made.room.table step.table row.graph space (1 + c.cells.result) vertex.nursery made.room.spaces made.payloads from row.from name spot row.spot c.args.draft step.placed step.rows c.place_vertex-to.result step.vertex step.used (step.blocks space) made.room.left cells in
-    let left = left_over t grown.spaces placed.spaces payloads grown.payloads placed.payloads row.table made.room.table step.table row.graph space (1 + c.cells.result) vertex.nursery made.room.spaces made.payloads from row.from name spot row.spot c.args.draft step.placed step.rows c.place_vertex-to.result step.vertex step.used (step.blocks space) made.room.left cells in
+    let object = object_placed t grown.spaces placed.spaces payloads grown.payloads placed.payloads row.table made.room.table step.table row.graph space (1 + c.cells.result) vertex.nursery made.room.spaces made.payloads from row.from name spot row.spot c.args.vertex.draft step.placed step.rows c.place_vertex-to.result step.vertex step.used (step.blocks space) made.room.left cells in
+    let there = found_placed t grown.spaces placed.spaces payloads grown.payloads placed.payloads row.table made.room.table step.table row.graph space (1 + c.cells.result) vertex.nursery made.room.spaces made.payloads from row.from name spot row.spot c.args.vertex.draft step.placed step.rows c.place_vertex-to.result step.vertex step.used (step.blocks space) made.room.left cells in
+    let left = left_over t grown.spaces placed.spaces payloads grown.payloads placed.payloads row.table made.room.table step.table row.graph space (1 + c.cells.result) vertex.nursery made.room.spaces made.payloads from row.from name spot row.spot c.args.vertex.draft step.placed step.rows c.place_vertex-to.result step.vertex step.used (step.blocks space) made.room.left cells in
     record {
       vertex = record {
         made = vertex_made t grown.spaces placed.spaces payloads grown.payloads placed.payloads row.table made.room.table step.table row.graph space (1 + c.cells.result) vertex.nursery made.room.spaces made.payloads from row.from name spot row.spot
-            c.args.draft step.placed step.rows c.place_vertex-to.result step.vertex step.used (step.blocks space) made.room.left cells c.args.rights vertex.some (omega arith) c.put.new.spaces c.put.ensures;
+            c.args.vertex.draft step.placed step.rows c.place_vertex-to.result step.vertex step.used (step.blocks space) made.room.left cells c.args.vertex.rights vertex.some (omega arith) c.put.new.spaces c.put.ensures;
         vertex = vertex_there t grown.spaces placed.spaces payloads grown.payloads placed.payloads row.table made.room.table step.table row.graph space (1 + c.cells.result) vertex.nursery made.room.spaces made.payloads from row.from name spot row.spot
-            c.args.draft step.placed step.rows c.place_vertex-to.result step.vertex step.used (step.blocks space) made.room.left cells c.args.rights vertex.some (omega arith) c.put.new.spaces c.put.ensures;
+            c.args.vertex.draft step.placed step.rows c.place_vertex-to.result step.vertex step.used (step.blocks space) made.room.left cells c.args.vertex.rights vertex.some (omega arith) c.put.new.spaces c.put.ensures;
         handed_back = tt;
         spaces = tt;
         payloads = tt;
@@ -104,8 +104,8 @@ returns g c =
         remembered = λ before.
             let noted = subst (λ (o : Option Place). AreNoted places later o) c.note-note.ensures (subst (λ (ps : List Place). AreNoted ps later c.note-note.result) kept c.remember.ensures.members) in
             vertex_remembered t grown.spaces placed.spaces payloads grown.payloads placed.payloads row.table made.room.table step.table row.graph space (1 + c.cells.result) vertex.nursery made.room.spaces made.payloads from row.from name spot row.spot
-            c.args.draft step.placed step.rows c.place_vertex-to.result step.vertex step.used (step.blocks space) made.room.left cells (omega arith) c.args.rights places later noted (step.remembered places) c.put.new.spaces c.put.ensures before;
-        placed = made_in_row t grown.spaces placed.spaces c.put.new.spaces places later space c.cells.result from row.from name c.args.rights spot row.spot c.cells.ensures made.room.spaces step.written c.place_vertex-to.result step.next c.put.ensures
+            c.args.vertex.draft step.placed step.rows c.place_vertex-to.result step.vertex step.used (step.blocks space) made.room.left cells (omega arith) c.args.vertex.rights places later noted (step.remembered places) c.put.new.spaces c.put.ensures before;
+        placed = made_in_row t grown.spaces placed.spaces c.put.new.spaces places later space c.cells.result from row.from name c.args.vertex.rights spot row.spot c.cells.ensures made.room.spaces step.written c.place_vertex-to.result step.next c.put.ensures
             (c.remember.ensures.noted ∙ ap (λ (ps : List Place). with_note ps c.note-note.result) kept ∙ ap (with_note places) c.note-note.ensures);
         full = tt;
       };
@@ -116,7 +116,7 @@ returns g c =
           payloads = placed.payloads;
           space = space;
           to = c.place_vertex-to.result;
-          rights = c.args.rights;
+          rights = c.args.vertex.rights;
           young = true;
           table = step.table;
           graph = step.placed.graph;
@@ -140,11 +140,11 @@ put-requires g c =
     let grown = c.make_vertex_room.new.self in
     let placed = c.place_vertex-to.new.self in
     let step = c.place_vertex-to.ensures in
-    let room = made_room c.args.self.now.spaces grown.spaces placed.spaces c.args.self.now.payloads grown.payloads placed.payloads c.requires.row.table made.room.table step.table c.requires.row.graph (nursery_space c.args.nursery) (1 + c.cells.result) c.requires.vertex.nursery made.room.spaces made.payloads c.args.from c.requires.row.from c.args.name c.args.spot c.requires.row.spot in
+    let room = made_room c.args.self.now.spaces grown.spaces placed.spaces c.args.self.now.payloads grown.payloads placed.payloads c.requires.row.table made.room.table step.table c.requires.row.graph (nursery_space c.args.nursery) (1 + c.cells.result) c.requires.vertex.nursery made.room.spaces made.payloads c.args.from c.requires.row.from c.args.vertex.name c.args.spot c.requires.row.spot in
     record {
       few = let few = c.requires.row.table.few in omega (arith, few, c.requires.vertex.nursery);
       nursery = omega (arith, c.requires.vertex.nursery, room.spaces, step.placed.spaces);
-      can = placed_can c.args.self.now.spaces grown.spaces placed.spaces c.args.self.now.payloads grown.payloads placed.payloads c.requires.row.table made.room.table step.table c.requires.row.graph (nursery_space c.args.nursery) (1 + c.cells.result) c.requires.vertex.nursery made.room.spaces made.payloads c.args.from c.requires.row.from c.args.name c.args.spot c.requires.row.spot c.args.draft step.placed step.rows c.place_vertex-to.result step.vertex step.used (step.blocks (nursery_space c.args.nursery)) made.room.left (ap (λ n. 1 + n) c.cells.ensures);
+      can = placed_can c.args.self.now.spaces grown.spaces placed.spaces c.args.self.now.payloads grown.payloads placed.payloads c.requires.row.table made.room.table step.table c.requires.row.graph (nursery_space c.args.nursery) (1 + c.cells.result) c.requires.vertex.nursery made.room.spaces made.payloads c.args.from c.requires.row.from c.args.vertex.name c.args.spot c.requires.row.spot c.args.vertex.draft step.placed step.rows c.place_vertex-to.result step.vertex step.used (step.blocks (nursery_space c.args.nursery)) made.room.left (ap (λ n. 1 + n) c.cells.ensures);
       place = held_place placed.spaces.spaces (table_list placed.spaces step.table) c.place_vertex-to.result step.vertex.object.held;
     }
 

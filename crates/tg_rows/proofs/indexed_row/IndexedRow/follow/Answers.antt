@@ -19,13 +19,13 @@ put-requires c = record { room = rw c.mark.ensures.names c.requires.room.names; 
 
 pub returns-in-Empty-clause-index : goal.returns-in-Empty-clause-index
 returns-in-Empty-clause-index c =
-    rw c.mark.ensures.cells (index_filled c.requires.put _ _ c.in-Empty.is c.put.new.self (rw c.mark.ensures.names at c.put.ensures.len) (rw c.mark.ensures.names at c.put.ensures.put))
+    rw c.mark.ensures.cells (index_filled c.requires.put _ _ c.in-Empty.is c.put.new.self (rw c.mark.ensures.names at c.put.ensures.len) (rw c.mark.ensures.names at c.put.ensures.rows))
 
 pub grow-requires : goal.grow-requires
 grow-requires c = rw c.mark.ensures.names (behind_short c.requires.put)
 
 pub put-requires-in-Full : goal.put-requires-in-Full
-put-requires-in-Full c = record { room = c.grow.ensures.room (rw c.mark.ensures.names c.requires.room.names); absent = ap (λ (es : List (ℕ × ℕ)). lookup (nat_eq c.args.name) es) c.grow.ensures.entries ∙ rw c.mark.ensures.names (full_lacks c.requires.put c.in-Full.last c.in-Full.is); vacant = c.grow.ensures.vacant (omega arith) }
+put-requires-in-Full c = record { room = c.grow.ensures.room (rw c.mark.ensures.names c.requires.room.names); absent = ap (λ (es : List (ℕ × ℕ)). lookup (nat_eq c.args.put.name) es) c.grow.ensures.entries ∙ rw c.mark.ensures.names (full_lacks c.requires.put c.in-Full.last c.in-Full.is); vacant = c.grow.ensures.vacant (omega arith) }
 
 pub push-requires : goal.push-requires
 push-requires c = rw c.mark.ensures.cells c.requires.room.cells
@@ -37,7 +37,7 @@ pub returns-in-Full-clause-index : goal.returns-in-Full-clause-index
 returns-in-Full-clause-index c =
     let cells = c.args.self.now.cells.items in
     index_extended c.requires.put c.in-Full.last c.in-Full.is c.put-in-Full.new.self c.push.new.self.items (rw c.mark.ensures.names at (c.put-in-Full.ensures.len ∙ c.grow.ensures.len))
-    (λ slots later n of first puts. c.put-in-Full.ensures.put slots later n (c.grow.ensures.grown slots (rw c.mark.ensures.names of)) (subst (λ l. IsFirstVacant slots l (Some n)) (sym (rw c.mark.ensures.names at c.grow.ensures.len)) first) puts)
+    (λ slots later n of first puts. c.put-in-Full.ensures.rows slots later n (c.grow.ensures.grown slots (rw c.mark.ensures.names of)) (subst (λ l. IsFirstVacant slots l (Some n)) (sym (rw c.mark.ensures.names at c.grow.ensures.len)) first) puts)
     (c.push.ensures ∙ rw c.mark.ensures.cells (ap (λ word. cells ++ place_in word ∷ []) c.read.ensures))
 
 pub returns-in-Empty-clause-marks : goal.returns-in-Empty-clause-marks
@@ -46,7 +46,7 @@ returns-in-Empty-clause-marks c =
     let later : IndexedRow = record { names = c.put.new.self; cells = m.cells; old_cells = m.old_cells; noted = m.noted } in
     record {
       aged = λ aged. aged_by m later refl refl (λ n. refl) (c.mark.ensures.marks.aged aged);
-      marked = λ places marked. marked_by (with_note places c.args.note) m later refl refl (λ n. refl) (c.mark.ensures.marks.marked places marked);
+      marked = λ places marked. marked_by (with_note places c.args.put.note) m later refl refl (λ n. refl) (c.mark.ensures.marks.marked places marked);
     }
 
 pub returns-in-Full-clause-marks : goal.returns-in-Full-clause-marks
@@ -55,5 +55,5 @@ returns-in-Full-clause-marks c =
     let later : IndexedRow = record { names = c.put-in-Full.new.self; cells = c.push.new.self; old_cells = m.old_cells; noted = m.noted } in
     record {
       aged = λ aged. aged_grown m later (place_in c.read.result) c.push.ensures refl refl (c.mark.ensures.marks.aged aged);
-      marked = λ places marked. marked_grown (with_note places c.args.note) m later (place_in c.read.result) c.push.ensures refl refl (c.mark.ensures.marks.marked places marked);
+      marked = λ places marked. marked_grown (with_note places c.args.put.note) m later (place_in c.read.result) c.push.ensures refl refl (c.mark.ensures.marks.marked places marked);
     }

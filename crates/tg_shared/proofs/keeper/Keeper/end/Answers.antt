@@ -1,8 +1,8 @@
 -- The worker has left a store that may have been behind the lock, and what it left may have been there too.
 use Rattle.std.proofs.Common.{◌∙◌, refl, sym}
 use Rattle.tg_store.specs.Store.{graph_of_store}
-use Rattle.tg_shared.specs.Sessions.{HasEnded, LockedState}
-use Rattle.tg_shared.proofs.Calls.{Held, both_told, found}
+use Rattle.tg_shared.specs.Sessions.{HasEnded, HoldsWhenFree, LockedState}
+use Rattle.tg_shared.proofs.Calls.{both_told, found}
 use Rattle.tg_shared.proofs.Ending.{counted_more, has_ended, none_ended, none_looked}
 use Rattle.tg_shared.proofs.keeper.Keeper.end.Goals as goal
 
@@ -13,8 +13,8 @@ returns g c =
     let noted = c.end-ended.ensures.signed in
     let v : LockedState = c.deref_mut.result.now in
     let w : LockedState = c.end-ended.new.self in
-    let held : Held start v = found start c.deref.result.now v (c.deref.ensures ∙ sym c.deref_mut.ensures.value) c.store.ensures.gone_on c.store.ensures.faithful c.store.ensures.grown_by in
-    let after : Held start w = found start c.deref-2.result.now w c.deref-2.ensures c.store-2.ensures.gone_on c.store-2.ensures.faithful c.store-2.ensures.grown_by in
+    let held : HoldsWhenFree start v = found start c.deref.result.now v (c.deref.ensures ∙ sym c.deref_mut.ensures.value) c.store.ensures.held in
+    let after : HoldsWhenFree start w = found start c.deref-2.result.now w c.deref-2.ensures c.store-2.ensures.held in
     record {
       ended = both_told c.end-ended.result _ _ _ (HasEnded start c.args.worker c.args.self.now c.end-ended.new.keeper)
           (λ left _ number count. has_ended start v w c.args.self.now c.end-ended.new.keeper c.args.worker number held after c.end-ended.ensures.sees noted left count) told.left told.left (told.count (graph_of_store v.store) refl);

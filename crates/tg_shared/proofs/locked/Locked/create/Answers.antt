@@ -2,7 +2,6 @@ use Rattle.std.proofs.Common.{ap, refl, subst}
 use Rattle.std.specs.Prelude.{IfOk}
 use Rattle.std.proofs.lemmas.Result.{IfErr-weaker}
 use Rattle.tg_model.specs.declared.command.Deed.{Deed}
-use Rattle.tg_store.specs.Store.{graph_of_store}
 use Rattle.tg_shared.specs.Serving.{HasNoted, IsMadeAndNoted, NotesRefusal}
 use Rattle.tg_shared.specs.Sessions.{LockedState, reply_made}
 use Rattle.tg_shared.proofs.Balances.{locked_as}
@@ -50,4 +49,4 @@ returns-clause-noted g c =
 
 pub returns-clause-no_workers_full : goal.returns-clause-no_workers_full
 returns-clause-no_workers_full g c =
-    IfErr-weaker c.make.result _ _ (λ refused told why. object_not_subject (told why).0) (c.make.ensures.too_many (graph_of_store c.self.inside.store) refl)
+    IfErr-weaker c.make.result _ _ (λ refused told why. object_not_subject (told why)) c.make.ensures.too_many

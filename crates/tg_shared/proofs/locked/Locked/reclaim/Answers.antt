@@ -116,16 +116,14 @@ returns-then-are_refused g c =
         gone_on = subst (λ (b : LockedState). GoesOn g.L.Round.start b.store) c.self.view_is c.self.invariant.0.3;
         store = tt;
         matching = tt;
+        single = tt;
+        signed = tt;
         handed_back = (c.self.view_is, moved);
       };
       adds_up = tt;
       shared_out = λ _. tt;
-      none_handed = λ _. tt;
-      whole = λ _ _. tt;
       mismatch = ((λ _. none), (λ _. refl));
       only = refl;
-      single = tt;
-      signed = tt;
       counted = (made_since c.entries_since-entries.result (length c.journal-journal.result.now.entries) here c.self.inside.start start c.self.inside.entered c.args.self.entered (count_of items) c.entries_since-entries.ensures (ap (λ (es : List Entry). length es) entries) c.self.invariant.0.1 entered within).0 few;
     }
 
@@ -239,6 +237,8 @@ returns g c =
         gone_on = subst (λ (b : LockedState). GoesOn g.L.Round.start b.store) c.self.view_is c.self.invariant.0.3;
         store = ap (λ (b : LockedState). b.store) c.self.view_is;
         matching = may;
+        single = singles g.L.Round.start c.args.self.store c.args.self.signed sorted items grew (IsPermutation-sym items sorted moved_to) each;
+        signed = record { grown = grew; sees = all_see c.args.self.signed sorted items (IsPermutation-sym items sorted moved_to) each };
         handed_back = tt;
       };
       adds_up = record {
@@ -246,13 +246,13 @@ returns g c =
         least = least;
         count = count;
       };
-      shared_out = out_to;
-      none_handed = from_start;
-      whole = λ is none as_many.
-          let held = from_start none as_many (none_out is) in
-          subst (λ (n : ℕ). AreSharedOut (drop n c.args.self.store.entries) items) held (out_to none as_many (gone_none start (handed_of items) since_then (none_out is) held));
-      single = singles g.L.Round.start c.args.self.store c.args.self.signed sorted items grew (IsPermutation-sym items sorted moved_to) each;
-      signed = record { grown = grew; sees = all_see c.args.self.signed sorted items (IsPermutation-sym items sorted moved_to) each };
+      shared_out = λ none as_many. record {
+        shared_out = out_to none as_many;
+        none_handed = from_start none as_many;
+        whole = λ is.
+            let held = from_start none as_many (none_out is) in
+            subst (λ (n : ℕ). AreSharedOut (drop n c.args.self.store.entries) items) held (out_to none as_many (gone_none start (handed_of items) since_then (none_out is) held));
+      };
       mismatch = ((λ none. absurd (not_both false none refl)), (λ no. absurd (no may)));
       only = tt;
       counted = tt;

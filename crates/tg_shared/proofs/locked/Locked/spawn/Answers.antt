@@ -2,11 +2,10 @@ use Rattle.std.proofs.Common.{◌≡◌, ◌≢◌, ◌<◌, ◌≤◌, ◌∙�
 use Rattle.std.proofs.lemmas.Result.{err_from_is_err_and}
 use Rattle.tg_model.specs.declared.command.Deed.{Deed}
 use Rattle.tg_model.specs.declared.reply.Reply.{Reply}
-use Rattle.tg_store.specs.declared.fault.CreateRefused.{CreateRefused}
 use Rattle.tg_store.specs.Made.{MayRefuse}
 use Rattle.tg_store.specs.Store.{Enters, StoreState, graph_of_store}
 use Rattle.tg_shared.specs.declared.session.Session.{Session}
-use Rattle.tg_shared.specs.Serving.{HasNoted, IsMadeAndNoted, NotesRefusal}
+use Rattle.tg_shared.specs.Serving.{HasNoted, IsMadeAndNoted, NotesRefusal, RefusesCrowd}
 use Rattle.tg_shared.specs.Sessions.{LockedState, made_subject}
 use Rattle.tg_journal.specs.declared.entry.Entry.{Entry}
 use Rattle.tg_journal.proofs.HistoryLaws.{IsSound-opened}
@@ -16,10 +15,9 @@ use Rattle.tg_passes.specs.declared.signed.Signed.{Signed}
 use Rattle.tg_passes.specs.Passes.{PassState, RollState, entries_by, sign}
 use Rattle.tg_passes.proofs.Signing.{by_append, by_other}
 use Rattle.tg_shared.proofs.Balances.{balanced_spawned, goes_on_more, grown, locked_as, made_more, made_named, named_next, part_left, parts_left, within_word}
-use Rattle.tg_shared.proofs.Calls.{err_here}
 use Rattle.tg_shared.proofs.Knowing.{none_named, noted_as, one_own, rolled_issued, rolled_more, stays_gone}
 use Rattle.tg_shared.proofs.Makings.{entered_as, locked_noted, refused_noted, rolled_noted, signed_noted}
-use Rattle.tg_shared.proofs.Replies.{refusals_made, refusals_none, refusals_same}
+use Rattle.tg_shared.proofs.Replies.{crowd_none, refusals_made, refusals_none, refusals_same}
 use Rattle.tg_shared.proofs.locked.Locked.spawn.Goals as goal
 
 bound_next : (now before name made : ℕ) → now ≡ before → before ≤ made → name ≡ made → now ≤ name
@@ -147,13 +145,17 @@ returns-clause-entered g c = ap (λ (b : LockedState). b.entered) c.self.view_is
 pub returns-clause-one_more : goal.returns-clause-one_more
 returns-clause-one_more g c = ap (λ (b : LockedState). b.sessions + 1) c.self.view_is
 
-pub returns-in_err-name-clause-too_many : goal.returns-in_err-name-clause-too_many
-returns-in_err-name-clause-too_many g c =
+pub returns-clause-crowded : goal.returns-clause-crowded
+returns-clause-crowded g c = record {
+  too_many = λ _ _. tt;
+  crowded = λ graph stands. (c.in_ok-name.ensures.crowded refl).crowded graph (ap (λ (b : LockedState). graph_of_store b.store) c.self.view_is ∙ stands);
+}
+
+pub returns-in_err-name-clause-crowded : goal.returns-in_err-name-clause-crowded
+returns-in_err-name-clause-crowded g c =
     let given = err_from_is_err_and c.from_residual.result c.from_residual.ensures.1 in
-    λ graph stands.
-    err_here c.from_residual.result given.0 _ given.1 (λ why.
-    let all = c.in_err-name.ensures.too_many graph (ap (λ (b : LockedState). graph_of_store b.store) c.self.view_is ∙ stands) (ap (λ (r : CreateRefused g.row.P.Denot). r.why) (sym given.2) ∙ why) in
-    (all.1, all.2, all.3))
+    subst (RefusesCrowd {P = g.row.P.Denot} {T = Session g.row.L.Denot} c.args.session.now.worker c.args.self.now.store) (sym (given.1 ∙ ap Err given.2))
+    (subst (λ (b : LockedState). RefusesCrowd {P = g.row.P.Denot} {T = Session g.row.L.Denot} c.args.session.now.worker b.store (Err c.in_err-name.field-0.0)) c.self.view_is (crowd_none _ _ _ (c.in_err-name.ensures.crowded refl)))
 
 pub returns-in_err-name-clause-refusals : goal.returns-in_err-name-clause-refusals
 returns-in_err-name-clause-refusals g c =

@@ -7,7 +7,7 @@ use Rattle.tg_graph.specs.Heap.{nursery_of}
 use Rattle.tg_rules.specs.Effect.{AddsEdge, LacksCellsToServe}
 use Rattle.tg_store.specs.Store.{StoreState, IsFaithful, graph_of_store}
 use Rattle.tg_shared.specs.Sessions.{LockedState, SessionState}
-use Rattle.tg_shared.proofs.Calls.{found, found_with, refused_as, refused_here, some_more, still, worker_not_full}
+use Rattle.tg_shared.proofs.Calls.{found_with, refused_as, refused_here, some_more, still, worker_not_full}
 use Rattle.tg_shared.proofs.Knowing.{kept_all, looked_none}
 use Rattle.tg_shared.proofs.Replies.{IsReady, answered, is_ready, refused_ready}
 use Rattle.tg_shared.proofs.session.Session.call.Goals as goal
@@ -41,9 +41,8 @@ returns g c =
     let w : LockedState = c.apply.new.self in
     let records = c.in_ok-apply.ensures.served.entry (graph_of_store v.store) refl in
     let shown = c.last_reply.ensures _ _ records.receipt.1 in
-    let is_so : IsReady start v old ready = is_ready start c.deref_mut.result.now v old c.make_room.new.self ready (c.deref_mut-2.ensures.value ∙ c.look.ensures.same)
-    (found start c.deref.result.now v (c.deref.ensures ∙ sym c.deref_mut-2.ensures.value) c.store.ensures.gone_on c.store.ensures.faithful c.store.ensures.grown_by) c.in_ok-make_room.ensures.room.receipts c.look.ensures.sees c.look.ensures.session in
-    let after : IsFaithful w.store = subst (λ (b : LockedState). IsFaithful b.store) c.deref-2.ensures c.store-2.ensures.faithful in (
+    let is_so : IsReady start v old ready = is_ready start c.deref_mut.result.now v old c.make_room.new.self ready (c.deref_mut-2.ensures.value ∙ c.look.ensures.looks.same) c.look.ensures.looks c.in_ok-make_room.ensures.room.receipts c.look.ensures.session in
+    let after : IsFaithful w.store = subst (λ (b : LockedState). IsFaithful b.store) c.deref.ensures c.store.ensures.held.faithful in (
       (refl, (λ _. tt), answered start v w old ready c.apply.new.session (Plain c.args.command) _ c.last_reply.result.now is_so c.apply.ensures.signed records c.apply.ensures.kept.opening after shown),
       record { receipt = tt; retired = still c.retired.result old.retired c.retired.ensures.is c.if-retired.false },
     )
@@ -57,8 +56,7 @@ returns-in_err-apply g c =
     let v : LockedState = c.deref_mut-2.result.now in
     let s : StoreState = v.store in
     let served = c.in_err-apply.ensures.served in
-    let is_so : IsReady start v old ready = is_ready start c.deref_mut.result.now v old c.make_room.new.self ready (c.deref_mut-2.ensures.value ∙ c.look.ensures.same)
-    (found start c.deref.result.now v (c.deref.ensures ∙ sym c.deref_mut-2.ensures.value) c.store.ensures.gone_on c.store.ensures.faithful c.store.ensures.grown_by) c.in_ok-make_room.ensures.room.receipts c.look.ensures.sees c.look.ensures.session in
+    let is_so : IsReady start v old ready = is_ready start c.deref_mut.result.now v old c.make_room.new.self ready (c.deref_mut-2.ensures.value ∙ c.look.ensures.looks.same) c.look.ensures.looks c.in_ok-make_room.ensures.room.receipts c.look.ensures.session in
     let looks = refused_ready start v old ready c.apply.new.session is_so served.refused.1 in
     let named : ready.worker ≡ old.worker = is_so.looked.kept.0 in
     let answer = c.from_residual-in_err-apply.result in (

@@ -2,7 +2,6 @@ use Rattle.std.proofs.Common.{◌≡◌, ◌∙◌, refl, rules, sym, subst}
 use Rattle.std.proofs.lemmas.Result.{IfOk-weaker}
 use Rattle.tg_store.specs.Store.{IsFaithful}
 use Rattle.tg_shared.specs.Sessions.{LockedState, MayNote, SessionState}
-use Rattle.tg_shared.proofs.Calls.{found}
 use Rattle.tg_shared.proofs.Knowing.{looked_none}
 use Rattle.tg_shared.proofs.Replies.{IsReady, answered, is_ready, looked_unless, refusals_at_seen, refusals_unasked, without_workers}
 use Rattle.tg_shared.proofs.session.Session.create.Goals as goal
@@ -29,9 +28,8 @@ returns g c =
     let ready : SessionState = c.look.new.session in
     let told = c.create-created.ensures in
     let opening = told.refusals.opening in
-    let is_so : IsReady start v old ready = is_ready start c.deref_mut.result.now v old c.make_ready.new.self ready (c.deref_mut-2.ensures.value ∙ c.look.ensures.same)
-    (found start c.deref.result.now v (c.deref.ensures ∙ sym c.deref_mut-2.ensures.value) c.store.ensures.gone_on c.store.ensures.faithful c.store.ensures.grown_by) c.make_ready.ensures.receipts c.look.ensures.sees c.look.ensures.session in
-    let after : IsFaithful w.store = subst (λ (b : LockedState). IsFaithful b.store) c.deref-2.ensures c.store-2.ensures.faithful in
+    let is_so : IsReady start v old ready = is_ready start c.deref_mut.result.now v old c.make_ready.new.self ready (c.deref_mut-2.ensures.value ∙ c.look.ensures.looks.same) c.look.ensures.looks c.make_ready.ensures.receipts c.look.ensures.session in
+    let after : IsFaithful w.store = subst (λ (b : LockedState). IsFaithful b.store) c.deref.ensures c.store.ensures.held.faithful in
     record {
       receipt = IfOk-weaker c.create-created.result _ _ (λ name made. answered start v w old ready c.create-created.new.session _ _ _ is_so told.signed made.entry opening after refl) told.served;
       refusals = refusals_at_seen start v w old ready c.create-created.new.session _ _ c.create-created.result is_so told.signed after told.noted told.refusals;

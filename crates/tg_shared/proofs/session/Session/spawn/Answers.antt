@@ -2,7 +2,6 @@ use Rattle.std.proofs.Common.{◌≡◌, ◌∙◌, refl, rules, sym, subst}
 use Rattle.std.proofs.lemmas.Result.{IfErr-weaker, IfOk-weaker}
 use Rattle.tg_store.specs.Store.{IsFaithful}
 use Rattle.tg_shared.specs.Sessions.{LockedState, MayNote, SessionState}
-use Rattle.tg_shared.proofs.Calls.{found}
 use Rattle.tg_shared.proofs.Knowing.{looked_none}
 use Rattle.tg_shared.proofs.Replies.{IsReady, answered, few_workers, fresh_sees, is_ready, looked_unless, refusals_at_seen, refusals_unasked}
 use Rattle.tg_shared.proofs.session.Session.spawn.Goals as goal
@@ -32,9 +31,8 @@ returns g c =
     let ready : SessionState = c.look.new.session in
     let told = c.spawn-spawned.ensures in
     let opening = told.refusals.opening in
-    let is_so : IsReady start v old ready = is_ready start c.deref_mut.result.now v old c.make_ready.new.self ready (c.deref_mut-2.ensures.value ∙ c.look.ensures.same)
-    (found start c.deref.result.now v (c.deref.ensures ∙ sym c.deref_mut-2.ensures.value) c.store.ensures.gone_on c.store.ensures.faithful c.store.ensures.grown_by) c.make_ready.ensures.receipts c.look.ensures.sees c.look.ensures.session in
-    let after : IsFaithful w.store = subst (λ (b : LockedState). IsFaithful b.store) c.deref-2.ensures c.store-2.ensures.faithful in
+    let is_so : IsReady start v old ready = is_ready start c.deref_mut.result.now v old c.make_ready.new.self ready (c.deref_mut-2.ensures.value ∙ c.look.ensures.looks.same) c.look.ensures.looks c.make_ready.ensures.receipts c.look.ensures.session in
+    let after : IsFaithful w.store = subst (λ (b : LockedState). IsFaithful b.store) c.deref.ensures c.store.ensures.held.faithful in
     record {
       receipt = IfOk-weaker c.spawn-spawned.result _ _ (λ fresh made. answered start v w old ready c.spawn-spawned.new.session _ _ _ is_so told.signed made.1.entry opening after refl) told.served;
       fresh_seen = fresh_sees c.spawn-spawned.result v w ready c.spawn-spawned.new.session _ told.signed (IfOk-weaker c.spawn-spawned.result _ _ (λ fresh made. made.1.entry.receipt.5) told.served) told.fresh_seen;

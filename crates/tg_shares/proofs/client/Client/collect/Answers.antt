@@ -1,8 +1,8 @@
 use Rattle.std.proofs.Common.{◌≡◌, ◌∙◌, ap, sym}
 use Rattle.std.proofs.lemmas.Result.{IfOk-weaker}
-use Rattle.tg_shared.specs.Sessions.{LeavesAtSeen, LockedState, SessionState}
-use Rattle.tg_shared.proofs.Calls.{Held, err_told, found, found_with}
-use Rattle.tg_shared.proofs.Knowing.{looked_all, seen_only}
+use Rattle.tg_shared.specs.Sessions.{HoldsWhenFree, LeavesAtSeen, LockedState, SessionState}
+use Rattle.tg_shared.proofs.Calls.{err_told, found, found_with}
+use Rattle.tg_shared.proofs.Knowing.{only_looked}
 use Rattle.tg_shares.proofs.client.Client.collect.Goals as goal
 
 pub returns-clause-number : goal.returns-clause-number
@@ -12,9 +12,9 @@ returns-clause-number g c =
     let looks = c.look.ensures in
     let v : LockedState = c.deref_mut-2.result.now.locked in
     let w : LockedState = c.collect-left.new.self.locked in
-    let held : Held start v = found start c.deref.result.now.locked v (λ i. ((c.deref.ensures ∙ sym c.deref_mut-2.ensures.value) i).locked) c.store.ensures.gone_on c.store.ensures.faithful c.store.ensures.grown_by in
-    let after : Held start w = found start c.deref-2.result.now.locked w (λ i. (c.deref-2.ensures i).locked) c.store-2.ensures.gone_on c.store-2.ensures.faithful c.store-2.ensures.grown_by in
-    let seen : c.look.new.client.session.seen ≡ v.signed = ap (λ (s : SessionState). s.seen) looks.session ∙ ap (λ (b : LockedState). b.signed) (sym ((λ i. (c.deref_mut-2.ensures.value i).locked) ∙ looks.same)) in
+    let held : HoldsWhenFree start v = found start c.deref_mut.result.now.locked v (sym ((λ i. (c.deref_mut-2.ensures.value i).locked) ∙ looks.looks.same)) looks.looks.held in
+    let after : HoldsWhenFree start w = found start c.deref.result.now.locked w (λ i. (c.deref.ensures i).locked) c.store.ensures.held in
+    let seen : c.look.new.client.session.seen ≡ v.signed = ap (λ (s : SessionState). s.seen) looks.session ∙ ap (λ (b : LockedState). b.signed) (sym ((λ i. (c.deref_mut-2.ensures.value i).locked) ∙ looks.looks.same)) in
     IfOk-weaker c.collect-left.result _ (LeavesAtSeen start c.look.new.client.session.seen c.args.kind)
     (λ n swept. found_with start c.look.new.client.session.seen _ v held seen (found_with start c.look.new.client.session.seen _ w after (seen ∙ sym told.collected.signed) swept)) told.collected.swept
 
@@ -23,15 +23,9 @@ returns-clause-full g c =
     let start = g.L.Round.start in
     let looks = c.look.ensures in
     let v : LockedState = c.deref_mut-2.result.now.locked in
-    let held : Held start v = found start c.deref.result.now.locked v (λ i. ((c.deref.ensures ∙ sym c.deref_mut-2.ensures.value) i).locked) c.store.ensures.gone_on c.store.ensures.faithful c.store.ensures.grown_by in
-    let seen : c.look.new.client.session.seen ≡ v.signed = ap (λ (s : SessionState). s.seen) looks.session ∙ ap (λ (b : LockedState). b.signed) (sym ((λ i. (c.deref_mut-2.ensures.value i).locked) ∙ looks.same)) in
+    let held : HoldsWhenFree start v = found start c.deref_mut.result.now.locked v (sym ((λ i. (c.deref_mut-2.ensures.value i).locked) ∙ looks.looks.same)) looks.looks.held in
+    let seen : c.look.new.client.session.seen ≡ v.signed = ap (λ (s : SessionState). s.seen) looks.session ∙ ap (λ (b : LockedState). b.signed) (sym ((λ i. (c.deref_mut-2.ensures.value i).locked) ∙ looks.looks.same)) in
     err_told c.collect-left.result _ _ (λ is. found_with start c.look.new.client.session.seen _ v held seen (c.collect-left.ensures.full is))
 
 pub returns-clause-looked : goal.returns-clause-looked
-returns-clause-looked g c = looked_all c.args.self.now.session c.look.new.client.session c.deref_mut.result.now.locked.signed c.look.ensures.session c.look.ensures.sees
-
-pub returns-clause-same : goal.returns-clause-same
-returns-clause-same g c = λ i. record {
-  session = seen_only c.args.self.now.session c.look.new.client.session c.deref_mut.result.now.locked.signed c.look.ensures.session i;
-  purse = c.look.ensures.same_purse i;
-}
+returns-clause-looked g c = only_looked c.args.self.now.session c.look.new.client.session c.deref_mut.result.now.locked.signed c.look.ensures.session c.look.ensures.looks.sees

@@ -1,4 +1,4 @@
-use Rattle.tg_weave.specs.Telling.{text_of_told}
+use Rattle.tg_threads.specs.Telling.{text_of_told}
 use Rattle.tg_threads.proofs.RaceLaws.{own_audit_fault, unaudited, unaudited_fault}
 use Rattle.tg_threads.proofs.race.Raced.tell.Goals as goal
 

@@ -1,6 +1,6 @@
 use Rattle.std.proofs.Common.{ℕ, ◌++◌, subst}
 use Rattle.tg_text.specs.Sinks.{Writes}
-use Rattle.tg_weave.specs.Telling.{end_text, text_of_told}
+use Rattle.tg_threads.specs.Telling.{end_text, text_of_told}
 use Rattle.tg_threads.proofs.telling.RepliesRaceTelling.tell.Goals as goal
 
 pub returns : goal.returns

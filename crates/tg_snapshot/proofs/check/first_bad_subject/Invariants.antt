@@ -1,0 +1,7 @@
+use Rattle.std.proofs.Common.{ℕ, ◌<◌}
+use Rattle.tg_snapshot.specs.Snapshot.{IsSubjectLine}
+use Rattle.tg_snapshot.proofs.check.first_bad_subject.Given as goal
+
+-- all before this place are as asked
+abbrev pub invariant-loop-at : goal.invariant-loop-at
+invariant-loop-at l = (k : ℕ) → k < l.at → IsSubjectLine l.vertices l.subjects k

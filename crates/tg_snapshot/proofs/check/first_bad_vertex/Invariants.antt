@@ -1,0 +1,7 @@
+use Rattle.std.proofs.Common.{ℕ, ◌<◌}
+use Rattle.tg_snapshot.specs.Snapshot.{IsVertexLine}
+use Rattle.tg_snapshot.proofs.check.first_bad_vertex.Given as goal
+
+-- all before this place are as asked
+abbrev pub invariant-loop-at : goal.invariant-loop-at
+invariant-loop-at l = (k : ℕ) → k < l.at → IsVertexLine l.made l.vertices k

@@ -1,0 +1,23 @@
+//! What the threads of a race have in common.
+
+use std::alloc::Global;
+use tg_payload::Payload;
+use tg_script::Helpers;
+use tg_shared::{Round, SharedStore};
+
+/// What a race asks of the machine: the runtime that starts its threads, the allocator, and the turnstile that each
+/// thread passes.
+#[derive_where(Clone, Copy)]
+pub struct RaceHost<'a, G, R> {
+    pub rt: &'a R,
+    pub alloc: Global,
+    pub turnstile: &'a G,
+}
+
+/// What each worker's thread is given beside its lines: the host, the store, and how many helpers a collection has.
+#[derive_where(Clone, Copy)]
+pub struct RaceContext<'a, L: Round, P: Payload, G, R> {
+    pub host: &'a RaceHost<'a, G, R>,
+    pub store: &'a SharedStore<L, P>,
+    pub helpers: Helpers,
+}

@@ -1,0 +1,43 @@
+//! What the lines of a script ask of the sessions, and what they come to.
+ghost use Rattle.std.specs.Prelude.{◌≡◌};
+ghost use Rattle.tg_threads.specs.Shares.{runner_of};
+
+use tg_payload::{Draft, Payload};
+use tg_text::{Line, Refusal};
+
+/// A line, with the payload for the vertex that it makes.
+#[derive(Drop)]
+pub struct Task<P: Payload> {
+    /// One that is no edge line, of the session's worker; or a collection, where the session is worker 0's.
+    pub line: Line,
+    /// For the vertex, where the line makes one and there is a payload for it.
+    pub draft: Option<Draft<P>>,
+}
+
+/// What a line came to.
+#[derive(Clone, Copy, PartialEq, Eq, Debug)]
+pub enum Told {
+    /// The entry at this place of the journal.
+    Entered { at: u64 },
+    /// A collection was made. A full one answers how many vertices it kept.
+    Collected(Option<u64>),
+    /// The line was refused, and there is no entry of it.
+    Refused(Refusal),
+}
+
+/// The worker whose session runs the line: its own worker, or worker 0 for a collection.
+pub fn runner(workers: u64, line: &Line) -> Option<u64>
+    ensures { result ≡ runner_of workers line.now }
+{
+    match line {
+        Line::Create { worker, .. } | Line::Spawn { worker, .. } | Line::Plain { worker, .. } => {
+            if *worker < workers {
+                Some(*worker)
+            } else {
+                None
+            }
+        }
+        Line::Full | Line::Minor => Some(0),
+        Line::Edge(_) => None,
+    }
+}

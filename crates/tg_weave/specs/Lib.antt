@@ -1,3 +1,0 @@
-pub mod Boxes
-pub mod Shares
-pub mod Telling
