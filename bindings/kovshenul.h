@@ -8,7 +8,8 @@
    Each call returns a status. The library's exports have contracts, which are proved (crates/tg_c/specs). They say what a
    status below 16 means, and when each other status comes, with two exceptions. TG_OUT_OF_MEMORY may come from any call
    that needs memory. TG_HEAP_FULL comes only where the limits may leave no room; that it comes then is proved of tg_open alone.
-   What stands before the exports (kovshenul.c) is tested and not proved: NULL where it may stand, the texts and tg_version.
+   What stands before the exports (kovshenul.c) is tested and not proved: NULL where it may stand, tg_resume, which asks proved calls
+   and compares their entries, the texts and tg_version.
    Nothing checks what this header asks of its caller.
 
    What C owes:
@@ -73,8 +74,8 @@ enum {
     TG_FREE_V = 128
 };
 
-/* From 16 on the call was refused. It wrote to none of its out parameters, and the store is as it was, with two exceptions
-   (TG_VERTICES_FULL and TG_WORKERS_FULL). Numbers that aren't named are kept for later editions. */
+/* From 16 on the call was refused. It wrote to none of its out parameters, and the store is as it was, with three exceptions
+   (TG_VERTICES_FULL, TG_WORKERS_FULL, and TG_BAD_ENTRY of tg_resume). Numbers that aren't named are kept for later editions. */
 typedef uint32_t tg_status;
 enum {
     TG_DONE = 0,
@@ -97,10 +98,10 @@ enum {
     TG_BAD_WORKERS = 80,      /* tg_open: not from 1 to 64 workers */
     TG_BAD_LIMITS = 81,       /* tg_open: a limit is out of its range */
     TG_BAD_EDGE = 82,         /* an edge from a vertex to itself; tg_open: with an end that is no worker; as_if: that none reaches */
-    TG_BAD_VALUES = 83,       /* tg_open: kept; no value that a tg_value can say gives it */
+    TG_BAD_VALUES = 83,       /* tg_resume: exactly where tg_entry writes no entry so; tg_open: kept; no value that a tg_value can say gives it */
 
-    TG_BAD_ENTRY = 96,        /* tg_auditor_feed: the entry at its place isn't legal; tg_audit: never, if no other wrote to its memory */
-    TG_BAD_PLACE = 97,        /* tg_entry, tg_forget, tg_auditor_feed: no such entry is held; tg_answer_turn: it has no such turn */
+    TG_BAD_ENTRY = 96,        /* tg_auditor_feed, tg_resume: the entry at its place isn't legal; tg_audit: never, if no other wrote to its memory */
+    TG_BAD_PLACE = 97,        /* tg_entry, tg_forget, tg_auditor_feed: no such entry is held; tg_resume: it isn't the next; tg_answer_turn: no such turn */
     TG_NOT_WHOLE = 98,        /* tg_audit: exactly where the store is open, and entries of it were given up */
     TG_NOT_AUDITED = 99       /* tg_auditor_forget: exactly where the auditor is open, and hasn't come to the place */
 };
@@ -128,7 +129,8 @@ typedef struct tg_edge {
 /* 24 bytes. */
 typedef struct tg_limits {
     uint64_t max_vertices;        /* that may ever be made, workers included: from those of the opening to 2^48 */
-    uint64_t max_blocks;          /* of 64 cells of 64 bytes, in all: from 1 to 65,536, and one a worker at least */
+    uint64_t max_blocks;          /* of 64 cells of 64 bytes, in all: from 1 to 2^20, and one a worker at least. It bounds how many
+                                     vertices live at once: 65,536 blocks held 3,595,117 of one row */
     uint64_t max_space_blocks;    /* in one space: from 1 to 2^20 */
 } tg_limits;
 
@@ -310,7 +312,7 @@ tg_status tg_read(tg_store *store, uint64_t worker, uint64_t target, uint64_t *n
 /* The worker's edges by rising name: the first `room` of them go to edges, and how many there are to *count. The journal
    gets the whole list each time: where there was too little room, read it from its entry (tg_entry), and don't list
    again. Never denied. So a worker that may only list can fill its host's memory: limit how often one that you don't
-   trust may (docs/EMBEDDING.md has the numbers). */
+   trust may (docs/LIMITS.md has the numbers). */
 tg_status tg_list(tg_store *store, uint64_t worker, tg_target *edges, size_t room, uint64_t *count);
 
 /* The target's edges by rising name, by the worker's l over it: the first `room` of them go to edges, and how many there are to *count.
@@ -331,7 +333,7 @@ tg_status tg_census(tg_store *store, tg_counts *counts);
 
 /* The names of the vertices that the heap has, each once, in an order that the next collection may change: the first `room` of them
    go to names, and how many there are to *count. Those that nobody reaches are among them until a full collection. So a host finds
-   what it keeps beside vertices that are gone (docs/EMBEDDING.md). The journal gets no entry, and no memory is taken. */
+   what it keeps beside vertices that are gone (docs/RECIPES.md). The journal gets no entry, and no memory is taken. */
 tg_status tg_names(tg_store *store, uint64_t *names, size_t room, uint64_t *count);
 
 /* Counts the entries that the journal ever had, those that were given up (tg_forget) included. The next one gets this place. */
@@ -352,6 +354,24 @@ tg_status tg_entry(tg_store *store, uint64_t at, tg_record *out, uint64_t *numbe
    (tg_entries); then nothing is given up. Where it is that of the first, nothing happens. No memory is taken, and what was taken for
    entries is kept for the next ones: so a host that gives entries up as it goes bounds what a journal takes. */
 tg_status tg_forget(tg_store *store, uint64_t upto);
+
+/* Resumes a store from an entry that another store has made, mostly in a process that ended. A host that kept the entries opens a
+   store by the words by which the first one was opened: the same values, edges and max_vertices. Then it hands in each entry in turn, as
+   tg_entry wrote it: the record with all of its numbers and edges. `at` is the entry's place. The store does the deed of the entry again,
+   and compares the reply with that of the entry. So nobody has to believe what was kept: after TG_DONE the entries are a legal history
+   of the opening, and the store has exactly this entry more. It gives each later reply that the first store would have given. Any open
+   store may be resumed, one that has taken commands too. Entries don't say when the store collected: if the heap is full for a deed, a
+   full collection is made, and the deed is tried once more.
+
+   It is refused in this order. The first four come exactly where they say:
+   - TG_BAD_VALUES where tg_entry writes no entry so. What a deed or a reply hasn't must be 0, and the counts must be the record's.
+   - TG_NOT_OPEN where the store is closed.
+   - TG_BAD_PLACE where the place isn't that of the next entry (tg_entries). So no entry is left out or taken twice.
+   - TG_BAD_ENTRY where the entry isn't legal: it was altered, or is of another opening. *store is closed then, and nothing of it is kept.
+   - TG_OUT_OF_MEMORY, TG_HEAP_FULL: there is no room for the entry. The store has all entries before it, and goes on if it is
+     handed this entry again. A heap that is full after a full collection needs greater limits: open another store. */
+tg_status tg_resume(tg_store *store, uint64_t at, const tg_record *record, const uint64_t *numbers, size_t number_count,
+                    const tg_target *edges, size_t edge_count);
 
 /* Replays the journal from the opening, on a plain graph that was never collected, and counts its entries. It is TG_NOT_WHOLE exactly
    where the store is open and entries of it were given up: an auditor replays those before they are. */

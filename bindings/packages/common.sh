@@ -8,6 +8,7 @@ version=$(cat "$top/VERSION")
 abi=$(sed -n 's/^#define TG_ABI //p' "$here/kovshenul.h")
 shared=libkovshenul.so.$abi
 archive=$top/crates/tg_c/out/libtg_c.a
+extension=$here/python/kovshenul/_extension.abi3.so
 
 say() {
     echo "bindings: $1"
@@ -120,11 +121,44 @@ is_library_of() {
     test $# = 0 || test "$of_text" = "$1"
 }
 
-# Ends the run where there is no library that fits the header, the modules and the crate which lie here.
+# Ends the run where there is no library that fits the header, the modules and the crate which lie here, or an extension module that
+# doesn't fit.
 wants_library() {
     test -e "$out/libkovshenul.a" || stop "nothing is built: no $out/libkovshenul.a. Run bindings/build first"
     is_library_of ||
         stop "the library in $out is of another header or version, or changed since it was built: run bindings/build first"
+    test "$(cat "$out/built_extension" 2>/dev/null)" = "$(sum_of_extension)" ||
+        stop "Python's extension module changed since it was built, or its sources did: run bindings/build first"
+}
+
+# ---- Python's extension module
+
+# The folder with the headers of Python, or nothing where they aren't there, or are those of a Python before 3.11.
+headers_of_python() {
+    python3 - <<'TEXT'
+import pathlib, sys, sysconfig
+folder = pathlib.Path(sysconfig.get_paths()["include"])
+print(folder if sys.version_info >= (3, 11) and (folder / "Python.h").exists() else "")
+TEXT
+}
+
+# A sum over the sources of the extension module, and over the module where it is there.
+sum_of_extension() {
+    {
+        cat "$here"/python/extension/*.[ch] "$here/kovshenul.h"
+        test ! -e "$extension" || cat "$extension"
+    } | sum
+}
+
+# Compiles the extension module: the file that it goes to, and further words for the compiler.
+compile_extension() {
+    (
+        file=$1
+        shift
+        cd "$here/python/extension"
+        export LC_ALL=C
+        "$cc" $warnings -O2 -fPIC -fvisibility=hidden -shared "$@" -I"$here" -isystem "$(headers_of_python)" -o "$file" *.c
+    )
 }
 
 # ---- what is put into an installation or a release

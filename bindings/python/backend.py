@@ -1,4 +1,4 @@
-"""Makes the wheel, with the shared object that bindings/build has made: python3 backend.py FOLDER [NOTE ..]
+"""Makes the wheel, with the shared object and the extension module that bindings/build has made: python3 backend.py FOLDER [NOTE ..]
 
 pip calls build_wheel too, for 'pip wheel' and 'pip install' of this folder. The library is bindings/out's, or the one
 that KOVSHENUL_LIBRARY names. The same files make the same bytes: their times are SOURCE_DATE_EPOCH, or that of 1980
@@ -41,21 +41,27 @@ def library():
     return found[0]
 
 
+def extensions():
+    """The extension module, where there is one."""
+    return [*(HERE / "kovshenul").glob("*.abi3.so")]
+
+
 def least_glibc():
-    """The least glibc that has all that the shared object wants, as its table of names says."""
-    wanted = re.findall(rb"(?<=\0)GLIBC_(\d+)\.(\d+)(?:\.\d+)?(?=\0)", library().read_bytes())
+    """The least glibc that has all that the shared object and the extension module want, as their tables of names say."""
+    tables = b"".join(path.read_bytes() for path in [library(), *extensions()])
+    wanted = re.findall(rb"(?<=\0)GLIBC_(\d+)\.(\d+)(?:\.\d+)?(?=\0)", tables)
     return max([LEAST_GLIBC, *((int(major), int(minor)) for major, minor in wanted)])
 
 
 def tag():
-    """For each Python 3 on Linux with that glibc: no code in the wheel was built for one of them."""
+    """For each Python 3 on Linux with that glibc. One that can't load the extension module leaves it alone, and has ctypes."""
     return "py3-none-manylinux_{}_{}_x86_64".format(*least_glibc())
 
 
 def modules():
     """The files of the package, by their place in the wheel."""
     of_package = [path for path in (HERE / "kovshenul").iterdir() if path.suffix in (".py", ".pyi", ".typed")]
-    return {f"kovshenul/{path.name}": path.read_bytes() for path in [*of_package, library()]}
+    return {f"kovshenul/{path.name}": path.read_bytes() for path in [*of_package, *extensions(), library()]}
 
 
 def metadata(files, notes):
@@ -91,7 +97,7 @@ def make(folder, notes=()):
         for place, data in files.items():
             entry = zipfile.ZipInfo(place, when)
             entry.compress_type, entry.create_system = zipfile.ZIP_DEFLATED, 3
-            entry.external_attr = (0o100755 if ".so." in place else 0o100644) << 16
+            entry.external_attr = (0o100755 if ".so" in Path(place).suffixes else 0o100644) << 16
             wheel.writestr(entry, data)
     return name
 

@@ -67,6 +67,21 @@ static void read_entries(tg_store *store, uint64_t entries) {
             stop(__LINE__, 0);
 }
 
+/* Another store goes on from the entries, each of which is handed in again where memory was refused. */
+static void resume_from(tg_store *store, uint64_t entries, const tg_value *workers, const tg_edge *edges, const tg_limits *limits) {
+    tg_store second = TG_STORE_INIT;
+    tg_record entry;
+    tg_target row[64];
+    uint64_t numbers[64], count;
+    CALL(tg_open(&second, workers, 2, edges, 2, limits));
+    for (uint64_t at = 0; at < entries; at++) {
+        CALL(tg_entry(store, at, &entry, numbers, 64, row, 64));
+        CALL(tg_resume(&second, at, &entry, numbers, entry.number_count, row, entry.edge_count));
+    }
+    if (tg_entries(&second, &count) != TG_DONE || count != entries || tg_close(&second) != TG_DONE)
+        stop(__LINE__, 0);
+}
+
 static uint64_t tell_story(void) {
     static const tg_value workers[2] = { { TG_CELL, 0, 0 }, { TG_LOG, 3, 0 } };
     /* One of each dies: a max and a log in a full collection, a sum and a log in one of the nurseries. */
@@ -123,6 +138,7 @@ static uint64_t tell_story(void) {
     CALL(tg_collect(&store, TG_NURSERY, &count));
     CALL(tg_entries(&store, &entries));
     read_entries(&store, entries);
+    resume_from(&store, entries, workers, edges, &limits);
     CALL(tg_audit(&store, &count));
     if (count != entries)
         stop(__LINE__, 0);

@@ -7,8 +7,8 @@
    What could come about is asked now and then, of the store and of a view, and again behind a collection; each question is written with what
    was told to FOLDER/0.questions, and is asked of the plain graph too.
    The journal is written as a script with the replies that it has, FOLDER/0.journal.script and FOLDER/0.journal.replies: at the end, but of
-   each second store part after part, as an auditor has replayed entries and they are given up. All is audited, and each block of memory has
-   to have been given back. It is linked with --wrap=malloc,--wrap=realloc,--wrap=free. */
+   each second store part after part, as an auditor has replayed entries and they are given up. Another store goes on from each entry that is
+   written, and has to have its reply. All is audited, and each block of memory has to have been given back. It is linked with --wrap=malloc,--wrap=realloc,--wrap=free. */
 #include "kovshenul.h"
 #include <inttypes.h>
 #include <pthread.h>
@@ -59,6 +59,7 @@ struct run {
     tg_denial why;
     long answered, refused_memory, refused_heap;
     uint64_t denied, vertices_full, workers_full, nursery_collections, full_collections;
+    tg_store heir;    /* goes on from the entries that are written */
 };
 
 static uint64_t seed, commands;
@@ -310,6 +311,18 @@ static void put_reply(struct run *run, const tg_record *entry, const uint64_t nu
     }
 }
 
+/* The heir goes on from an entry. Where memory is refused it is handed in again. */
+static void hand_on(struct run *run, uint64_t at, const tg_record *entry, const uint64_t numbers[NUMBERS]) {
+    tg_status status;
+    long before;
+    do {
+        before = refused;
+        status = tg_resume(&run->heir, at, entry, numbers, entry->number_count, listed, entry->edge_count);
+    } while (status == TG_OUT_OF_MEMORY && refused > before);
+    if (status != TG_DONE)
+        stop(run, "an entry that is handed on", status);
+}
+
 /* Writes the entries from one place on up to another as a script with their replies. */
 static void write_entries(struct run *run, tg_store *store, uint64_t from, uint64_t upto) {
     FILE *script = run->script, *replies = run->replies;
@@ -323,6 +336,7 @@ static void write_entries(struct run *run, tg_store *store, uint64_t from, uint6
         want(run, entry.number_count <= NUMBERS && entry.edge_count <= ROW, "an entry's counts");
         say_entry(run, &entry);
         put_reply(run, &entry, numbers);
+        hand_on(run, at, &entry, numbers);
         memset(listed, 0xbb, entry.edge_count * sizeof *listed);
     }
     run->script = script;
@@ -693,6 +707,12 @@ static void open_store(struct run *run) {
     while (status == TG_OUT_OF_MEMORY);
     if (status != TG_DONE)
         stop(run, "an auditor", status);
+    const tg_limits wide = { MAX_VERTICES, 65536, 1048576 };
+    do
+        status = tg_open(&run->heir, workers, WORKERS, edges, WORKERS, &wide);
+    while (status == TG_OUT_OF_MEMORY);
+    if (status != TG_DONE)
+        stop(run, "an heir", status);
     for (uint64_t i = 0; i < WORKERS; i++)
         run->workers[i] = (struct worker){ i, (i + 1) % WORKERS };
     run->active = WORKERS;
@@ -720,6 +740,8 @@ static void audit_and_close(struct run *run) {
         want(run, status == TG_NOT_WHOLE && audited == UNTOUCHED, "an audit of what isn't whole");
     else
         want(run, status == TG_DONE && audited == next_entry(run, store), "an audit");
+    want(run, tg_audit(&run->heir, &audited) == TG_DONE && audited == next_entry(run, store), "an heir's audit");
+    want(run, tg_close(&run->heir) == TG_DONE && !run->heir.is_open, "an heir's end");
     want(run, tg_auditor_close(auditor_of(run)) == TG_DONE && !auditor_of(run)->is_open, "an auditor's end");
     want(run, tg_close(store) == TG_DONE && !store->is_open && held == 0, "memory is held by a closed store");
     want(run, fclose(run->script) == 0 && fclose(run->replies) == 0, "files");

@@ -237,11 +237,27 @@ static void openings(void) {
     refused(TG_BAD_WORKERS, workers, 0, edge, limits);
     refused(TG_BAD_WORKERS, many, 65, edge, (tg_limits){ 100, 100, 100 });
     refused(TG_BAD_LIMITS, workers, 2, edge, (tg_limits){ 1, 8, 4 });
-    refused(TG_BAD_LIMITS, workers, 2, edge, (tg_limits){ 12, 65537, 4 });
+    refused(TG_BAD_LIMITS, workers, 2, edge, (tg_limits){ 12, 0, 4 });
+    refused(TG_BAD_LIMITS, workers, 2, edge, (tg_limits){ 12, 1048577, 4 });
     refused(TG_BAD_LIMITS, workers, 2, edge, (tg_limits){ 12, 8, 0 });
+    refused(TG_BAD_LIMITS, workers, 2, edge, (tg_limits){ 12, 8, 1048577 });
     refused(TG_BAD_EDGE, workers, 2, (tg_edge){ 0, 0, TG_READ }, limits);
     refused(TG_BAD_EDGE, workers, 2, (tg_edge){ 0, 2, TG_READ }, limits);
     refused(TG_HEAP_FULL, workers, 2, edge, (tg_limits){ 12, 1, 4 });
+}
+
+/* As many names and blocks as may be: none of them takes memory before it is used. */
+static void greatest_limits(void) {
+    static const tg_limits greatest = { (uint64_t)1 << 48, 1048576, 1048576 };
+    const tg_edge edge = { 0, 1, TG_GRANT };
+    tg_store store = TG_STORE_INIT;
+    tg_auditor auditor = TG_AUDITOR_INIT;
+    uint64_t document = UNTOUCHED, left = UNTOUCHED;
+    WANT(tg_open(&store, workers, 2, &edge, 1, &greatest) == TG_DONE);
+    WANT(tg_auditor_open(&auditor, workers, 2, &edge, 1, &greatest) == TG_DONE);
+    WANT(tg_create(&store, 1, TG_READ, &workers[0], &document) == TG_DONE && document == 2);
+    WANT(tg_collect(&store, TG_FULL, &left) == TG_DONE && left == 3);
+    WANT(tg_close(&store) == TG_DONE && tg_auditor_close(&auditor) == TG_DONE);
 }
 
 /* Where there are several faults, the first is told: each of these has the next one too. */
@@ -1028,6 +1044,210 @@ static void names_wanting(void) {
     WANT(made == names && tg_close(&store) == TG_DONE && tg_answer_close(&answer) == TG_DONE);
 }
 
+/* ---- a store that is resumed from entries */
+
+/* An entry as tg_entry writes it, with all of its numbers and edges. */
+struct kept {
+    tg_record entry;
+    uint64_t numbers[64];
+    tg_target edges[64];
+};
+
+enum { MOST_KEPT = 40 };
+
+static struct kept kept[MOST_KEPT];
+
+/* Keeps all entries of a store, and returns how many there are. */
+static uint64_t keep(tg_store *store) {
+    uint64_t count;
+    WANT(tg_entries(store, &count) == TG_DONE && count <= MOST_KEPT);
+    for (uint64_t at = 0; at < count; at++)
+        WANT(tg_entry(store, at, &kept[at].entry, kept[at].numbers, 64, kept[at].edges, 64) == TG_DONE);
+    return count;
+}
+
+static tg_status hand_in(tg_store *store, uint64_t at, const struct kept *it) {
+    return tg_resume(store, at, &it->entry, it->numbers, it->entry.number_count, it->edges, it->entry.edge_count);
+}
+
+/* Opens a store that has the first so many of the kept entries. */
+static void resume_upto(tg_store *store, uint64_t count) {
+    WANT(tg_open(store, workers, 2, edges, 2, &limits) == TG_DONE);
+    for (uint64_t at = 0; at < count; at++)
+        WANT(hand_in(store, at, &kept[at]) == TG_DONE);
+}
+
+/* Whether the store has exactly the first so many of the kept entries. */
+static int has_kept(tg_store *store, uint64_t count) {
+    struct kept own;
+    uint64_t entries;
+    if (tg_entries(store, &entries) != TG_DONE || entries != count)
+        return 0;
+    for (uint64_t at = 0; at < count; at++) {
+        memset(&own, 0, sizeof own);
+        WANT(tg_entry(store, at, &own.entry, own.numbers, 64, own.edges, 64) == TG_DONE);
+        if (memcmp(&own, &kept[at], sizeof own) != 0)
+            return 0;
+    }
+    return 1;
+}
+
+/* A store that asks for each deed, is answered by each reply, and then by 12 vertices has no name left. */
+static void tell_of_each(tg_store *store) {
+    static const tg_value values[4] = { { TG_CELL, 0, 7 }, { TG_SUM, 0, 40 }, { TG_MAX, 0, 5 }, { TG_LOG, 2, 0 } };
+    uint64_t name, count;
+    tg_target row[8];
+    tg_denial denial;
+    for (int i = 0; i < 4; i++)
+        WANT(tg_create(store, 0, TG_READ | TG_WRITE | TG_APPEND | TG_INSPECT, &values[i], &name) == TG_DONE);
+    WANT(tg_grant(store, 0, 1, 2, TG_READ, &denial) == TG_DONE);
+    WANT(tg_take(store, 0, 1, 2, TG_READ, &denial) == TG_DONE);
+    WANT(tg_write(store, 0, 3, 2, &denial) == TG_DONE && tg_append(store, 0, 5, 9, &denial) == TG_DONE);
+    WANT(tg_append(store, 0, 5, 8, &denial) == TG_DONE && tg_append(store, 0, 2, 8, &denial) == TG_DENIED);
+    WANT(tg_read(store, 0, 5, numbers, 64, &count, &denial) == TG_DONE && count == 2);
+    WANT(tg_read(store, 1, 3, numbers, 64, &count, &denial) == TG_DENIED && tg_take(store, 0, 0, 2, TG_READ, &denial) == TG_DENIED);
+    WANT(tg_list(store, 0, row, 8, &count) == TG_DONE && count == 5);
+    WANT(tg_inspect(store, 0, 2, row, 8, &count, &denial) == TG_DONE && count == 0);
+    WANT(tg_spawn(store, 0, TG_GRANT, &cell, &name) == TG_DONE && name == 6);
+    WANT(tg_remove(store, 0, 6, TG_GRANT, &denial) == TG_DONE && tg_retire(store, 6) == TG_DONE);
+    while (tg_create(store, 1, TG_READ, &cell, &name) == TG_DONE)
+        continue;
+    WANT(tg_spawn(store, 0, TG_GRANT, &cell, &name) == TG_VERTICES_FULL);
+}
+
+/* The entry is refused by this status after the first `at` of them. After TG_BAD_ENTRY nothing is left, else the store is as it was. */
+static void is_refused(uint64_t at, const struct kept *it, tg_status status) {
+    tg_store store = TG_STORE_INIT;
+    resume_upto(&store, at);
+    WANT(hand_in(&store, at, it) == status);
+    WANT(store.is_open == (status != TG_BAD_ENTRY));
+    if (status == TG_BAD_ENTRY)
+        WANT(store.handle.at == NULL && tg_close(&store) == TG_NOT_OPEN);
+    else
+        WANT(has_kept(&store, at) && hand_in(&store, at, &kept[at]) == TG_DONE && tg_close(&store) == TG_DONE);
+}
+
+/* Each field of each entry is altered in turn. What comes is another entry, which isn't legal, or none. */
+static void each_field_altered(uint64_t count) {
+    uint64_t bad = 0, none = 0;
+    for (uint64_t at = 0; at < count; at++)
+        for (size_t byte = 0; byte < sizeof(tg_record); byte += 4) {
+            struct kept it = kept[at];
+            tg_store store = TG_STORE_INIT;
+            const size_t number_count = it.entry.number_count, edge_count = it.entry.edge_count;
+            ((unsigned char *)&it.entry)[byte] ^= 1;
+            resume_upto(&store, at);
+            tg_status status = tg_resume(&store, at, &it.entry, it.numbers, number_count, it.edges, edge_count);
+            /* Another vertex may be named by a deed that is answered in the same way: then the entry is legal. */
+            WANT(status == TG_BAD_ENTRY || status == TG_BAD_VALUES || status == TG_DONE);
+            WANT(status != TG_DONE || kept[at].entry.deed <= TG_DEED_INSPECT || kept[at].entry.deed >= TG_DEED_CREATE);
+            bad += status == TG_BAD_ENTRY;
+            none += status == TG_BAD_VALUES;
+            tg_close(&store);
+        }
+    WANT(bad > count && none > 10 * count);
+}
+
+/* The numbers that were read and the edges that were listed are compared too. */
+static void lists_altered(uint64_t count) {
+    for (uint64_t at = 0; at < count; at++) {
+        struct kept it = kept[at];
+        if (it.entry.reply == TG_REPLY_VALUES) {
+            it.numbers[1] ^= 1;
+            is_refused(at, &it, TG_BAD_ENTRY);
+            it.entry.number_count--;
+            is_refused(at, &it, TG_BAD_ENTRY);
+        }
+        if (it.entry.reply == TG_REPLY_EDGES && it.entry.edge_count > 0) {
+            it.edges[1].to ^= 1;
+            is_refused(at, &it, TG_BAD_ENTRY);
+            it.edges[1].rights = 0;
+            is_refused(at, &it, TG_BAD_VALUES);
+            it.edges[1].rights = 256;
+            is_refused(at, &it, TG_BAD_VALUES);
+        }
+        it = kept[at];
+        it.entry.worker = 2;
+        is_refused(at, &it, TG_BAD_ENTRY);
+    }
+}
+
+/* Whether the entry with other counts than its record's is none. */
+static void bad_counts(uint64_t count) {
+    tg_store store = TG_STORE_INIT;
+    resume_upto(&store, 0);
+    for (uint64_t at = 0; at < count; at++) {
+        const struct kept *it = &kept[at];
+        const size_t number_count = it->entry.number_count, edge_count = it->entry.edge_count;
+        WANT(tg_resume(&store, at, &it->entry, it->numbers, number_count + 1, it->edges, edge_count) == TG_BAD_VALUES);
+        WANT(edge_count >= 64 || tg_resume(&store, at, &it->entry, it->numbers, number_count, it->edges, edge_count + 1) == TG_BAD_VALUES);
+    }
+    WANT(has_kept(&store, 0) && tg_close(&store) == TG_DONE);
+    WANT(tg_resume(&store, 0, &kept[0].entry, NULL, 0, NULL, 0) == TG_BAD_VALUES);
+    WANT(hand_in(&store, 0, &kept[0]) == TG_NOT_OPEN && !store.is_open && store.handle.at == NULL);
+}
+
+/* A store whose entries were kept goes on in another place, and is told what the first one is told. */
+static void resumed(void) {
+    tg_store first = TG_STORE_INIT, second = TG_STORE_INIT;
+    const tg_edge other[2] = { { 0, 1, TG_TAKE | TG_GRANT }, { 1, 0, TG_INSPECT } };
+    uint64_t count, left;
+    memset(kept, 0, sizeof kept);
+    WANT(tg_open(&first, workers, 2, edges, 2, &limits) == TG_DONE);
+    tell_of_each(&first);
+    count = keep(&first);
+    resume_upto(&second, count);
+    WANT(has_kept(&second, count) && tg_audit(&second, &left) == TG_DONE && left == count);
+    for (uint64_t at = 0; at < count; at++)
+        WANT(hand_in(&second, at, &kept[at]) == TG_BAD_PLACE);
+    WANT(hand_in(&second, count + 1, &kept[0]) == TG_BAD_PLACE && has_kept(&second, count));
+    WANT(tg_write(&first, 0, 3, 5, &why) == TG_DONE && tg_write(&second, 0, 3, 5, &why) == TG_DONE);
+    WANT(tg_collect(&second, TG_FULL, &left) == TG_DONE && keep(&first) == count + 1 && has_kept(&second, count + 1));
+    WANT(tg_close(&first) == TG_DONE && tg_close(&second) == TG_DONE);
+    each_field_altered(count);
+    lists_altered(count);
+    bad_counts(count);
+    WANT(tg_open(&second, workers, 2, other, 2, &limits) == TG_DONE);
+    for (uint64_t at = 0; at < 4; at++)
+        WANT(hand_in(&second, at, &kept[at]) == TG_DONE);
+    WANT(tg_close(&second) == TG_DONE);
+}
+
+/* A heap that is full of what nobody reaches is collected on the way. With too few blocks for what is reached the store says so, keeps
+   what it has, and another one with more goes on. */
+static void resumed_in_a_full_heap(void) {
+    static const tg_limits lasting = { 1000, 3, 1 };
+    tg_store first = TG_STORE_INIT, second = TG_STORE_INIT;
+    uint64_t name, left, entries = 0, none[1];
+    struct kept it;
+    tg_counts census;
+    memset(&it, 0, sizeof it);
+    WANT(tg_open(&first, workers, 1, edges, 0, &lasting) == TG_DONE);
+    WANT(tg_open(&second, workers, 1, edges, 0, &lasting) == TG_DONE);
+    for (int i = 0; i < 500; i++) {
+        if (tg_create(&first, 0, TG_READ, &cell, &name) == TG_HEAP_FULL)
+            WANT(tg_collect(&first, TG_FULL, &left) == TG_DONE && tg_create(&first, 0, TG_READ, &cell, &name) == TG_DONE);
+        WANT(tg_remove(&first, 0, name, TG_READ, NULL) == TG_DONE);
+    }
+    WANT(tg_entries(&first, &entries) == TG_DONE && entries == 1000);
+    for (uint64_t at = 0; at < entries; at++) {
+        WANT(tg_entry(&first, at, &it.entry, it.numbers, 64, it.edges, 64) == TG_DONE);
+        WANT(hand_in(&second, at, &it) == TG_DONE && tg_forget(&second, at + 1) == TG_DONE);
+    }
+    WANT(tg_census(&second, &census) == TG_DONE && census.full_collections > 0 && census.entries == entries && census.held == 0);
+    WANT(tg_close(&first) == TG_DONE && tg_close(&second) == TG_DONE);
+    WANT(tg_open(&first, workers, 1, edges, 0, &(tg_limits){ 1000, 64, 64 }) == TG_DONE);
+    WANT(tg_open(&second, workers, 1, edges, 0, &lasting) == TG_DONE);
+    tg_status status = TG_DONE;
+    for (entries = 0; status == TG_DONE; entries++) {
+        WANT(tg_create(&first, 0, TG_READ, &cell, &name) == TG_DONE && tg_entry(&first, entries, &it.entry, it.numbers, 64, it.edges, 64) == TG_DONE);
+        status = hand_in(&second, entries, &it);
+    }
+    WANT(status == TG_HEAP_FULL && tg_entries(&second, none) == TG_DONE && none[0] == entries - 1);
+    WANT(hand_in(&second, entries - 1, &it) == TG_HEAP_FULL && tg_remove(&second, 0, 1, TG_READ, NULL) == TG_DONE);
+    WANT(tg_close(&first) == TG_DONE && tg_close(&second) == TG_DONE);
+}
+
 int main(void) {
     tg_store store = TG_STORE_INIT;
     WANT(tg_abi() == TG_ABI);
@@ -1041,6 +1261,7 @@ int main(void) {
     closed_views();
     closed_auditors();
     openings();
+    greatest_limits();
     first_faults();
     WANT(tg_open(&store, workers, 2, edges, 2, &limits) == TG_DONE && store.is_open && store.handle.at != NULL);
     bad_requests(&store);
@@ -1068,6 +1289,8 @@ int main(void) {
     entries_forgotten();
     parts_audited();
     auditors_stopped();
+    resumed();
+    resumed_in_a_full_heap();
     puts("statuses ok");
     return 0;
 }

@@ -10,6 +10,7 @@ a Refused. Both are an Error. A number that isn't from 0 to 2^64 - 1 raises Over
 TypeError: nothing happened then.
 
 A store's journal is read by `entry` and `journal`, and given up by `forget`. An Auditor replays it before that, part after part.
+`Store.resume` opens a store that goes on from the entries of another process.
 The types of what an entry says are those of `kovshenul.journal`, and those of what could come about, which `could` answers,
 those of `kovshenul.outlook`. A View, which `view` opens, tells of all questions at once. The module `kovshenul.plain` is a model of the
 store in plain Python, to test a host against.
@@ -17,9 +18,13 @@ store in plain Python, to test a host against.
 Any thread may call, a finalizer and a signal's handler too. The module has one lock, which makes all calls come one after the
 other, those on different stores too. The library is the one that the
 variable KOVSHENUL_LIBRARY names, else the one beside this module, else the one that the system finds.
+
+The library is called by an extension module, if one was built for this Python, and else by ctypes. All calls do the same either way.
+`BACKEND` says which it is, `extension` or `ctypes`. The variable KOVSHENUL_CTYPES=1 has the package take ctypes.
 """
 from . import journal, outlook
 from ._auditor import Auditor
+from ._backend import BACKEND
 from ._library import version as _version
 from ._refusals import (
     CAUSES,
@@ -59,6 +64,7 @@ __all__ = [
     "APPEND",
     "AlreadyOpen",
     "Auditor",
+    "BACKEND",
     "BadEdge",
     "BadEntry",
     "BadKind",

@@ -4,9 +4,10 @@ from __future__ import annotations
 from typing import Iterable, List, Tuple
 
 from ._library import BITS, number_in
-from ._refusals import BadEdge, BadLaw, BadLimits, BadRights, BadWorkers, refusal
+from ._refusals import BadEdge, BadLaw, BadLimits, BadRights, BadValues, BadWorkers, refusal
 from ._rules import ALL_RIGHTS, MOST_SUBJECTS, Graph, Stored
 from ._values import Cell, Log, Max, Rights, Sum, Value
+from .journal import Denied, Entry
 
 MOST_VERTICES = 2**48
 LAWS = {Cell: "cell", Sum: "sum", Max: "max"}
@@ -40,6 +41,17 @@ def must_be_rights(*sets: int) -> None:
     """Each is a set of rights, and not the empty one."""
     if not all(0 < rights <= ALL_RIGHTS for rights in sets):
         raise BadRights
+
+
+def must_be_written(entry: Entry) -> None:
+    """A store makes such entries: each set of rights has one, and a denial says no more than its cause does."""
+    named = [entry.deed, *getattr(entry.reply, "edges", ())]
+    if not all(0 < it.rights <= ALL_RIGHTS for it in named if hasattr(it, "rights")):
+        raise BadValues
+    if isinstance(entry.reply, Denied):
+        missing = entry.reply.cause == "missing"
+        if not 0 <= entry.reply.rights <= (ALL_RIGHTS if missing else 0) or not (missing or entry.reply.edge in (None, (0, 0))):
+            raise BadValues
 
 
 def must_be_one(right: int) -> None:

@@ -1,14 +1,12 @@
 """An auditor: it replays a store's journal part after part."""
 from __future__ import annotations
 
-from ctypes import byref
 from typing import Iterable, Tuple
 
-from . import _library
-from ._library import BITS, library, number_in, short
-from ._held import LOCK, Held, place_of
-from ._refusals import refusal
-from ._store import Store, opening_in
+from ._backend import back_end
+from ._held import Held, place_of
+from ._packed import opening_in
+from ._store import Store
 from ._values import Limits, Value
 
 
@@ -21,7 +19,7 @@ class Auditor(Held):
 
     __slots__ = ()
     _named = "an auditor"
-    _give_back = staticmethod(library.tg_auditor_close)
+    _kind = back_end.Auditor
 
     def __init__(
         self,
@@ -29,11 +27,7 @@ class Auditor(Held):
         edges: Iterable[Tuple[int, int, int]] = (),
         limits: Tuple[int, int, int] = Limits(),
     ) -> None:
-        asked = opening_in(workers, edges, limits)
-        with LOCK:
-            status = library.tg_auditor_open(self._at, *asked)
-        if status:
-            raise refusal(status)
+        self._place.open(*opening_in(workers, edges, limits))
 
     def feed(self, store: Store) -> int:
         """Replays what the store holds from the auditor's place on, and answers how many entries passed in all.
@@ -42,38 +36,20 @@ class Auditor(Held):
         and BadEntry those that passed stay so, and `at` is the place of the entry at which it stopped. It goes on from there when memory
         is back; after a bad entry each later feed raises that again.
         """
-        passed, store_at = _library.Number(), place_of("store", store)
-        with LOCK:
-            status = library.tg_auditor_feed(self._at, store_at, byref(passed))
-        if status:
-            raise refusal(status)
-        return passed.value
+        return self._place.feed(place_of("store", store))
 
     @property
     def at(self) -> int:
         """How many entries passed: the place of the next one."""
-        at = _library.Number()
-        with LOCK:
-            status = short.tg_auditor_at(self._at, byref(at))
-        if status:
-            raise refusal(status)
-        return at.value
+        return self._place.at()
 
     def forget(self, store: Store, upto: int) -> None:
         """Gives up the store's entries before this place, as `Store.forget` does. It raises NotAudited where the auditor hasn't come as
         far, and nothing is given up then."""
-        upto_in, store_at = _library.Number(number_in(BITS, upto)), place_of("store", store)
-        with LOCK:
-            store._read_rows()
-            status = library.tg_auditor_forget(self._at, store_at, upto_in)
-        if status:
-            raise refusal(status)
+        self._place.forget(place_of("store", store), upto)
 
     def sweep(self) -> None:
         """Gives back what it keeps of vertices that no worker reaches any more. An auditor looks by itself whether to sweep, each time
         that it keeps a quarter as many vertices again as at its last look, and 65,536 at the least. It sweeps then if rights were given
         up or a worker retired since its last sweep."""
-        with LOCK:
-            status = library.tg_auditor_sweep(self._at)
-        if status:
-            raise refusal(status)
+        self._place.sweep()

@@ -4,7 +4,7 @@ from __future__ import annotations
 from operator import index
 from typing import Optional, Tuple
 
-from ._library import Denial, text_of
+from ._library import text_of
 from ._values import RIGHTS, Rights
 
 RULES = ("take", "grant", "remove", "read", "write", "append", "inspect")
@@ -16,11 +16,15 @@ MISSING = CAUSES.index("missing")
 SENTENCES = {"not distinct": "two vertices that must differ are one", "not log": "the target stores no log"}
 
 
-def told_by(denial: Denial) -> Tuple[str, str, Optional[Tuple[int, int]], Rights]:
-    """What the library says of a denial: the rule, the cause, and where rights are missing the edge and those."""
-    rule, cause = RULES[denial.rule], CAUSES[denial.cause]
-    edge = (denial.source, denial.target) if denial.cause == MISSING else None
-    return rule, cause, edge, RIGHTS[denial.rights]
+# What the library says of a denial in numbers: rule, cause, edge from and to, and rights.
+Numbers = Tuple[int, int, int, int, int]
+
+
+def told_by(denial: Numbers) -> Tuple[str, str, Optional[Tuple[int, int]], Rights]:
+    """What the numbers of a denial say: the rule, the cause, and where rights are missing the edge and those."""
+    rule, cause, source, target, rights = denial
+    edge = (source, target) if cause == MISSING else None
+    return RULES[rule], CAUSES[cause], edge, RIGHTS[rights]
 
 
 class Error(Exception):
@@ -54,6 +58,11 @@ class Denied(Error, PermissionError):
         return f"{self.rule}: {SENTENCES.get(self.cause, self.cause)}{named}"
 
 
+def denied(denial: Numbers, vertices: Tuple[int, ...]) -> Denied:
+    """The denial of a command that named these vertices."""
+    return Denied(*told_by(denial), vertices)
+
+
 class Refused(Error):
     """A call was refused. The store is as it was, but that VerticesFull and WorkersFull have an entry in the journal.
 
@@ -61,6 +70,8 @@ class Refused(Error):
     """
 
     status: int = 0
+    at: Optional[int] = None
+    """The place of the entry from which a store didn't go on (`Store.resume`, `Store.go_on`); else None."""
 
     def __init__(self, status: Optional[int] = None, text: str = "") -> None:
         if status is not None:
@@ -69,7 +80,7 @@ class Refused(Error):
         super().__init__(self.status, text)
 
     def __str__(self) -> str:
-        return self.text
+        return self.text if self.at is None else f"entry {self.at}: {self.text}"
 
 
 class NotOpen(Refused, ValueError):
@@ -152,20 +163,20 @@ class BadEdge(Refused, ValueError):
 
 
 class BadValues(Refused, ValueError):
-    """Kept: no value gives it."""
+    """An entry to go on from that no store makes, as one with an empty set of rights. Of an opening it is kept: no value gives it."""
 
     status = 83
 
 
 class BadEntry(Refused):
-    """An entry isn't one of a legal history of the auditor's opening. The usual cause is that the store was opened by other workers,
-    edges or limits. An audit of the store's own journal never answers it."""
+    """An entry isn't legal after the opening of the auditor, or of the store that goes on from it. It was altered, or the other store was
+    opened by other workers, edges or limits. An audit of the store's own journal never answers it."""
 
     status = 96
 
 
 class BadPlace(Refused, IndexError):
-    """The journal holds no entry at the place: it wasn't made yet, or it was given up."""
+    """The journal holds no entry at the place: it wasn't made yet, or it was given up. An entry to go on from isn't the next."""
 
     status = 97
 

@@ -1,12 +1,11 @@
 """The numbers that a call takes and answers, under names."""
 from __future__ import annotations
 
-from ctypes import byref
 from dataclasses import astuple, dataclass
 from enum import IntEnum, IntFlag
+from struct import Struct
 from typing import NamedTuple, Tuple
 
-from . import _library
 from ._library import number_in
 
 MOST_NUMBERS = 64
@@ -54,20 +53,21 @@ class Kind(IntEnum):
     NURSERY = 1
 
 
+# A value: the number of its law, the most numbers of a log, and the first number.
+VALUE = Struct("=IIQ")
+
+
 class Value:
     """What a vertex stores at first, and the law by which a write changes it: a Cell, Sum, Max or Log."""
 
-    _asked: _library.Value
-    _value_at: object
+    _packed: bytes
 
-    def _ask(self, law: int, most: int, first: int) -> None:
-        """Keeps it as the library takes it, and where that stands."""
-        asked = _library.Value(law, most, first)
-        object.__setattr__(self, "_asked", asked)
-        object.__setattr__(self, "_value_at", byref(asked))
+    def _pack(self, law: int, most: int, first: int) -> None:
+        """Keeps it as the library reads it."""
+        object.__setattr__(self, "_packed", VALUE.pack(law, most, first))
 
     def __reduce__(self) -> Tuple[type, Tuple[int, ...]]:
-        # A copy is made anew, with a place of its own.
+        # A copy is made anew, and looks at its number again.
         return type(self), astuple(self)
 
 
@@ -78,7 +78,7 @@ class Cell(Value):
     number: int
 
     def __post_init__(self) -> None:
-        self._ask(0, 0, number_in(64, self.number))
+        self._pack(0, 0, number_in(64, self.number))
 
 
 @dataclass(frozen=True)
@@ -88,7 +88,7 @@ class Sum(Value):
     number: int
 
     def __post_init__(self) -> None:
-        self._ask(1, 0, number_in(64, self.number))
+        self._pack(1, 0, number_in(64, self.number))
 
 
 @dataclass(frozen=True)
@@ -98,7 +98,7 @@ class Max(Value):
     number: int
 
     def __post_init__(self) -> None:
-        self._ask(2, 0, number_in(64, self.number))
+        self._pack(2, 0, number_in(64, self.number))
 
 
 @dataclass(frozen=True)
@@ -108,7 +108,7 @@ class Log(Value):
     most: int
 
     def __post_init__(self) -> None:
-        self._ask(3, number_in(32, self.most), 0)
+        self._pack(3, number_in(32, self.most), 0)
 
 
 class Edge(NamedTuple):
@@ -120,8 +120,8 @@ class Edge(NamedTuple):
 
 
 class Limits(NamedTuple):
-    """How many vertices may ever be made (to 2^48), and how many blocks of 64 cells the heap (to 65,536) and one space
-    of it (to 2^20) may have."""
+    """How many vertices may ever be made (to 2^48), and how many blocks of 64 cells the heap and one space of it may have
+    (to 2^20 each). `max_blocks` bounds how many vertices live at once: 65,536 blocks held 3,595,117 of one row."""
 
     max_vertices: int = 2**20
     max_blocks: int = 4096

@@ -1,25 +1,15 @@
 """A view: what could come about, of all questions at once."""
 from __future__ import annotations
 
-from ctypes import byref, c_size_t
 from typing import TYPE_CHECKING, Iterable, Tuple
 
-from . import _library
-from ._held import LOCK, Held, place_of
-from ._library import BITS, library, number_in, short
-from ._refusals import refusal
+from ._backend import back_end
+from ._held import Held, place_of
+from ._packed import scene_in
 from .outlook import OUTLOOKS, Chance
 
 if TYPE_CHECKING:
     from ._store import Store
-
-
-def scene_in(silent: Iterable[int], as_if: Iterable[Tuple[int, int, int]]) -> Tuple[object, ...]:
-    """Who is silent and which edges are supposed, as the library takes them. Each number must be in its range."""
-    names = [number_in(BITS, name) for name in silent]
-    edges = [[number_in(BITS, it) for it in (source, target, rights)] for source, target, rights in as_if]
-    names_in, edges_in = (_library.Number * len(names))(*names), (_library.Edge * len(edges))(*map(tuple, edges))
-    return byref(names_in), c_size_t(len(names)), byref(edges_in), c_size_t(len(edges))
 
 
 class View(Held):
@@ -36,22 +26,13 @@ class View(Held):
 
     __slots__ = ()
     _named = "a view"
-    _give_back = staticmethod(library.tg_view_close)
+    _kind = back_end.View
 
     def __init__(self, store: Store, silent: Iterable[int] = (), as_if: Iterable[Tuple[int, int, int]] = ()) -> None:
-        scene, store_at = scene_in(silent, as_if), place_of("store", store)
-        with LOCK:
-            status = library.tg_view_open(store_at, *scene, self._at)
-        if status:
-            raise refusal(status)
+        scene = scene_in(silent, as_if)
+        self._place.open(place_of("store", store), *scene)
 
     def could(self, x: int, right: int, y: int) -> Chance:
         """What it tells of the question whether x could ever come to hold the right over y: that it never does, whatever those
         who act do; that no worker reached x; or Perhaps, which says nothing. BadRights where it isn't one right."""
-        asked = [_library.Number(number_in(BITS, it)) for it in (x, right, y)]
-        kind = _library.Number()
-        with LOCK:
-            status = short.tg_view_could(self._at, *asked, byref(kind))
-        if status:
-            raise refusal(status, right=right)
-        return OUTLOOKS[kind.value]()
+        return OUTLOOKS[self._place.could(x, right, y)]()

@@ -9,16 +9,17 @@ They are values: they compare, print and can be kept, also when the store is clo
 """
 from __future__ import annotations
 
-from ctypes import Array
 from dataclasses import dataclass
-from typing import Optional, Tuple, Union
+from typing import NamedTuple, Optional, Sequence, Tuple, Union
 
-from . import _library
-from ._refusals import told_by
+from ._refusals import CAUSES, RULES, Numbers, told_by
 from ._values import RIGHTS, Cell, Log, Max, Rights, Sum, Target, Value
 
 # By their numbers. A log begins with none.
 LAWS = (Cell, Sum, Max, Log)
+
+# What is no entry.
+NO_ENTRY = "an entry is a journal.Entry of a deed and a reply of kovshenul.journal"
 
 
 @dataclass(frozen=True)
@@ -167,12 +168,28 @@ DEEDS = {0: Take, 1: Grant, 2: Remove, 3: Read, 4: Write, 5: Append, 6: Inspect,
 REPLIES = {0: Done, 1: Denied, 2: Name, 3: Values, 4: Edges, 16: VerticesFull, 17: WorkersFull}
 
 
-def entry_of(record: _library.Record, numbers: Array, edges: Array) -> Entry:
-    """The entry that the library wrote, with its numbers, and its edges as pairs of numbers."""
+class Record(NamedTuple):
+    """An entry in numbers, without those of its value and its edges. What a deed or a reply hasn't is 0."""
+
+    worker: int
+    deed: int
+    reply: int
+    law: int
+    most: int
+    via: int
+    target: int
+    rights: int
+    value: int
+    name: int
+    denial: Numbers
+
+
+def entry_of(record: Record, numbers: Sequence[int], edges: Sequence[Target]) -> Entry:
+    """The entry with this record: with the numbers that were stored or read, and the edges that were shown."""
     return Entry(record.worker, deed_of(record, numbers), _reply_of(record, numbers, edges))
 
 
-def deed_of(record: _library.Record, numbers: Array) -> Deed:
+def deed_of(record: Record, numbers: Sequence[int]) -> Deed:
     """What the record says that was asked for, with the numbers that a vertex stores at first."""
     kind, rights = DEEDS[record.deed], RIGHTS[record.rights]
     if kind in (Take, Grant):
@@ -189,15 +206,54 @@ def deed_of(record: _library.Record, numbers: Array) -> Deed:
     return kind(rights, law(record.most if law is Log else numbers[0]))
 
 
-def _reply_of(record: _library.Record, numbers: Array, edges: Array) -> Reply:
+def _reply_of(record: Record, numbers: Sequence[int], edges: Sequence[Target]) -> Reply:
     kind = REPLIES[record.reply]
     if kind is Denied:
         return Denied(*told_by(record.denial))
     if kind is Name:
         return Name(record.name)
     if kind is Values:
-        return Values(tuple(numbers[: record.number_count]))
+        return Values(tuple(numbers))
     if kind is Edges:
-        each = iter(edges[: 2 * record.edge_count])
-        return Edges(tuple(Target(to, RIGHTS[rights]) for to, rights in zip(each, each)))
+        return Edges(tuple(edges))
     return kind()
+
+
+# ---- the other way
+
+NO_DENIAL: Numbers = (0, 0, 0, 0, 0)
+
+
+def record_of(entry: Entry) -> Tuple[Record, Sequence[int], Sequence[Target]]:
+    """The record of an entry, with the numbers that were stored or read, and the edges that were shown."""
+    if not isinstance(entry, Entry) or type(entry.deed) not in _DEED_NUMBERS or type(entry.reply) not in _REPLY_NUMBERS:
+        raise TypeError(NO_ENTRY)
+    deed, reply = entry.deed, entry.reply
+    law, most, numbers = 0, 0, getattr(reply, "numbers", ())
+    if isinstance(deed, (Create, Spawn)):
+        law, most, numbers = _value_of(deed.value)
+    denial = _denial_of(reply) if isinstance(reply, Denied) else NO_DENIAL
+    value = deed.value if isinstance(deed, (Write, Append)) else 0
+    words = (getattr(deed, name, 0) for name in ("via", "target", "rights"))
+    kinds = _DEED_NUMBERS[type(deed)], _REPLY_NUMBERS[type(reply)]
+    record = Record(entry.worker, *kinds, law, most, *words, value, getattr(reply, "name", 0), denial)
+    return record, numbers, getattr(reply, "edges", ())
+
+
+_DEED_NUMBERS = {kind: number for number, kind in DEEDS.items()}
+_REPLY_NUMBERS = {kind: number for number, kind in REPLIES.items()}
+
+
+def _value_of(value: Value) -> Tuple[int, int, Tuple[int, ...]]:
+    """Its law, the most numbers of a log, and the first numbers."""
+    if type(value) not in LAWS:
+        raise TypeError(NO_ENTRY)
+    law = LAWS.index(type(value))
+    return (law, value.most, ()) if isinstance(value, Log) else (law, 0, (value.number,))
+
+
+def _denial_of(denial: Denied) -> Numbers:
+    if denial.rule not in RULES or denial.cause not in CAUSES:
+        raise ValueError(f"a rule is one of {', '.join(RULES)}, and a cause one of {', '.join(CAUSES)}")
+    source, target = denial.edge or (0, 0)
+    return RULES.index(denial.rule), CAUSES.index(denial.cause), source, target, denial.rights

@@ -12,15 +12,10 @@ They are values: they compare, print and can be kept, also when the store is clo
 """
 from __future__ import annotations
 
-from ctypes import byref
 from dataclasses import dataclass
-from typing import Callable, Tuple, Union
+from typing import Sequence, Tuple, Union
 
-from . import _library
-from ._library import Number, short
-from ._refusals import refusal
-from ._values import MOST_NUMBERS
-from .journal import Deed, deed_of
+from .journal import Deed, Record, deed_of
 
 
 @dataclass(frozen=True)
@@ -86,32 +81,10 @@ Chance = Union[Never, Unreached, Perhaps]
 OUTLOOKS = {0: Never, 1: Now, 2: Could, 3: WantsNames, 4: Unreached, 5: Open, 6: Perhaps}
 
 
-def outlook_of(answer_at: object) -> Outlook:
-    """What an open answer of the library says."""
-    kind = OUTLOOKS[_told(short.tg_answer_kind, answer_at)]
-    if kind is Could:
-        return Could(_turns(answer_at))
-    if kind is WantsNames:
-        return WantsNames(_turns(answer_at), _told(short.tg_answer_names, answer_at))
-    return kind()
-
-
-def _told(function: Callable[..., int], answer_at: object) -> int:
-    """The number that a call answers of an open answer."""
-    number = Number()
-    status = function(answer_at, byref(number))
-    if status:
-        raise refusal(status)
-    return number.value
-
-
-def _turns(answer_at: object) -> Tuple[Turn, ...]:
-    return tuple(_turn(answer_at, at) for at in range(_told(short.tg_answer_turns, answer_at)))
-
-
-def _turn(answer_at: object, at: int) -> Turn:
-    record, numbers = _library.Record(), (Number * MOST_NUMBERS)()
-    status = short.tg_answer_turn(answer_at, Number(at), byref(record), byref(numbers), _library.Size(MOST_NUMBERS))
-    if status:
-        raise refusal(status)
-    return Turn(record.worker, deed_of(record, numbers))
+def outlook_of(number: int, names: int, turns: Sequence[Tuple[Record, Sequence[int]]]) -> Outlook:
+    """The answer with this number: with the names that are lacking, and a record and a value's numbers of each turn."""
+    kind = OUTLOOKS[number]
+    if kind not in (Could, WantsNames):
+        return kind()
+    told = tuple(Turn(record.worker, deed_of(record, numbers)) for record, numbers in turns)
+    return Could(told) if kind is Could else WantsNames(told, names)

@@ -27,12 +27,13 @@ The other names of this module are those of `kovshenul`.
 """
 from __future__ import annotations
 
-from typing import Callable, Iterable, Iterator, List, Optional, Set, Tuple, TypeVar
+from typing import Callable, Iterable, Iterator, List, Optional, Set, Tuple, Type, TypeVar
 
 from . import journal, outlook
-from ._asked import Pair, edges_in, must_be_one, must_be_rights, must_fit, numbers_in, opened, stored_in
+from ._asked import Pair, edges_in, must_be_one, must_be_rights, must_be_written, must_fit, numbers_in, opened, stored_in
 from ._foresight import Foresight
 from ._library import number_in, short_of
+from ._packed import entry_in
 from ._refusals import CAUSES, RULES, BadEntry, BadLaw, BadLimits, BadValues, BadWorkers, Error, HeapFull, NotAudited, OutOfMemory, Refused
 from ._refusals import (
     AlreadyOpen,
@@ -158,6 +159,37 @@ class Store(_Held):
         """The worker retires, and asks for nothing more."""
         (worker,) = numbers_in(worker)
         self._ask(worker, journal.Retire())
+
+    @classmethod
+    def resume(cls: Type[Own], workers: Iterable[Value], edges: Iterable[Pair], limits: Tuple[int, int, int], entries: Iterable[Entry]) -> Own:
+        """Opens a store that goes on from the entries of another one. They begin at the first entry."""
+        store = cls(workers, edges, limits)
+        store.go_on(0, entries)
+        return store
+
+    def go_on(self, at: int, entries: Iterable[Entry]) -> None:
+        """Goes on from the entries of another store, of which the first has this place. After a bad entry it is closed."""
+        for place, entry in enumerate(entries, at):
+            entry_in(entry)
+            try:
+                self._replay(place, entry)
+            except Refused as refused:
+                refused.at = place
+                raise
+
+    def _replay(self, at: int, entry: Entry) -> None:
+        """Does the deed of an entry again, and compares the replies."""
+        must_be_written(entry)
+        if at != self.entries():
+            raise BadPlace
+        try:
+            getattr(self, type(entry.deed).__name__.lower())(entry.worker, *vars(entry.deed).values())
+        except Error:
+            # The entry says so too, or there is none of it.
+            pass
+        if self._entries[at:] != [entry]:
+            self.close()
+            raise BadEntry
 
     def leave(self, worker: int) -> int:
         """The worker gives up each edge that it has, by rising name, and retires. Returns how many edges these were."""

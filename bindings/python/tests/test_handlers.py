@@ -12,8 +12,8 @@ from pathlib import Path
 from unittest import mock
 
 import kovshenul
-from kovshenul import GRANT, INSPECT, READ, WRITE, Auditor, Cell, Denied, Limits, NotOpen, Store, Target, journal
-from kovshenul import _auditor, _store, _view
+from back_ends import IS_CTYPES
+from kovshenul import GRANT, INSPECT, READ, WRITE, Auditor, Cell, Denied, Limits, NotOpen, Store, Target, _backend, journal
 
 # Where the module's own functions are.
 FOLDER = str(Path(kovshenul.__file__).parent)
@@ -50,16 +50,24 @@ def interrupted(call):
 
 
 class Meeting:
-    """A library. A thread that has something to do in the middle of a call does it when it looks for the library's function."""
+    """A library, or a number. A thread that has something to do in the middle of a call does it when it looks for the library's function,
+    and when it asks for the number."""
 
-    def __init__(self, library, deeds):
-        self.library, self.deeds = library, deeds
+    def __init__(self, library, deeds, number=0):
+        self.library, self.deeds, self.number = library, deeds, number
 
-    def __getattr__(self, name):
+    def act(self):
         deed = self.deeds.pop(threading.get_ident(), None)
         if deed is not None:
             deed()
+
+    def __getattr__(self, name):
+        self.act()
         return getattr(self.library, name)
+
+    def __index__(self):
+        self.act()
+        return self.number
 
 
 def interrupted_at(step, call, act):
@@ -156,6 +164,7 @@ class Handlers(unittest.TestCase):
                 names = store.names()
                 gc.set_threshold(700)
                 self.assertNotIn(0, names)
+            gc.collect()
 
     def test_names_made_in_between(self):
         with Store([Cell(0)], [], LIMITS) as store, interrupted(lambda: store.create(0, READ, Cell(0))) as made:
@@ -210,8 +219,58 @@ class Handlers(unittest.TestCase):
                 thread.join()
             self.assertEqual(lists_in(store), 12)
 
-    # How many edges the row has that is shown at each step.
+    def test_a_finalizer_amid_a_long_row(self):
+        """The row is made of what the call was answered, also if its finalizers list, give entries up and close the store."""
+        for at in range(1, 40):
+            with Store([Cell(0)] * 2, [(1, 0, INSPECT)], LIMITS) as store:
+                before = [Target(store.create(0, READ, Cell(0)), READ) for _ in range(self.LONG)]
+
+                def act():
+                    store.list(1)
+                    store.forget(store.entries())
+                    store.close()
+
+                class Node:
+                    def __init__(self):
+                        self.itself = self
+
+                    def __del__(self):
+                        act()
+
+                gc.collect()
+                Node()
+                gc.set_threshold(at)
+                try:
+                    row = store.inspect(1, 0)
+                except NotOpen:
+                    row = before
+                finally:
+                    gc.set_threshold(700)
+                self.assertEqual(row, before)
+
+    def test_what_is_open_never_looks_closed(self):
+        """The library takes a store out of its place for as long as a call lasts."""
+        with Store([Cell(0)], [], LIMITS) as store:
+            for _ in range(5000):
+                store.create(0, READ, Cell(0))
+            ended = threading.Event()
+
+            def call():
+                while not ended.is_set():
+                    store.audit()
+
+            thread = threading.Thread(target=call)
+            thread.start()
+            try:
+                self.assertEqual(sum(store.closed for _ in rounds()), 0)
+            finally:
+                ended.set()
+                thread.join()
+
+    # How many edges the row has that is shown at each step, and how many steps of the package's functions a list or an inspect has at
+    # the least. In the extension it has none.
     LONG = 70
+    STEPS = 100 if IS_CTYPES else 5
 
     def at_each_step(self, inspects, prepare):
         """A list or an inspect of a long row, with an act in the middle of it, once for each of its steps. What `prepare` is given is the
@@ -226,7 +285,7 @@ class Handlers(unittest.TestCase):
             except NotOpen:
                 continue
             if not was_reached:
-                self.assertGreater(step, 100)
+                self.assertGreater(step, self.STEPS)
                 return
             yield store, before, row
 
@@ -266,7 +325,11 @@ class Handlers(unittest.TestCase):
                 self.assertEqual(row, before if is_shown_first else after)
 
     def test_two_threads_are_interrupted_at_once(self):
-        """Each is in the middle of a call, and makes the other's call there. With a lock for each object both would wait for ever."""
+        """Each is in the middle of a call, and makes the other's call there. With a lock for each object both would wait for ever.
+
+        While the extension is in the library no code of Python runs. So a call over it is interrupted when it asks for a number."""
+        deeds = {}
+        number = Meeting(None, deeds)
         edges, workers = [(1, 0, INSPECT)], [Cell(0)] * 2
         store, other, auditor = Store(workers, edges, LIMITS), Store(workers, edges, LIMITS), Auditor(workers, edges, LIMITS)
         view = store.view()
@@ -275,20 +338,21 @@ class Handlers(unittest.TestCase):
             return auditor.feed(store)
 
         def forget():
-            auditor.forget(store, 0)
+            auditor.forget(store, number)
 
         def could():
-            return view.could(0, READ, 1)
+            return view.could(number, READ, 1)
 
         def lists(it):
-            return lambda: it.list(0)
+            return lambda: it.list(number)
 
         calls = [(feed, lists(store)), (forget, lists(store)), (lambda: auditor.at, feed), (auditor.sweep, forget)]
         calls += [(could, lists(store)), (lists(store), lists(other))]
-        deeds = {}
         with ExitStack() as stack:
-            for part, name in ((_store, "library"), (_store, "short"), (_auditor, "library"), (_auditor, "short"), (_view, "short")):
-                stack.enter_context(mock.patch.object(part, name, Meeting(getattr(part, name), deeds)))
+            if IS_CTYPES:
+                for name in ("library", "short"):
+                    meeting = Meeting(getattr(_backend.back_end, name), deeds)
+                    stack.enter_context(mock.patch.object(_backend.back_end, name, meeting))
             for one, two in calls:
                 for _ in range(5):
                     self.assert_both_end(deeds, one, two)
@@ -306,6 +370,7 @@ class Handlers(unittest.TestCase):
 
             deeds[threading.get_ident()] = meet
             call()
+            number.act()
 
         threads = [threading.Thread(target=make, args=calls, daemon=True) for calls in ((one, two), (two, one))]
         for thread in threads:

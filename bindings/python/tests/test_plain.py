@@ -343,7 +343,7 @@ class Surface(unittest.TestCase):
     """The model has the names of the module, and the calls of its store."""
 
     def test_names(self):
-        own = {"Store", "View", "Auditor"}
+        own = {"Store", "View", "Auditor", "BACKEND"}
         for name in set(kovshenul.__all__) - own:
             self.assertIs(getattr(plain, name), getattr(kovshenul, name), name)
 
@@ -370,7 +370,7 @@ class Surface(unittest.TestCase):
         self.assertRaises(NotOpen, view.could, 0, READ, 1)
         calls = [("read", 0, 1), ("list", 0), ("create", 0, READ, Cell(0)), ("leave", 0), ("label", 0, 1), ("subjects",)]
         calls += [("who_holds", READ, 1), ("could", 0, READ, 1), ("view",), ("collect",), ("names",), ("census",)]
-        calls += [("entries",), ("entry", 0), ("forget", 0), ("audit",)]
+        calls += [("entries",), ("entry", 0), ("forget", 0), ("audit",), ("go_on", 0, [kovshenul.journal.Entry(0, kovshenul.journal.List(), kovshenul.journal.Done())])]
         for call, *arguments in calls:
             self.assertRaises(NotOpen, getattr(model, call), *arguments)
         self.assertRaises(BadRights, model.take, 0, 1, 2, 0)

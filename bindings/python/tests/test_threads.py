@@ -2,6 +2,7 @@
 import random
 import sys
 import threading
+import time
 import unittest
 
 from kovshenul import INSPECT, READ, WRITE, Cell, Denied, Limits, NotOpen, Store, Sum, Target
@@ -9,8 +10,8 @@ from kovshenul import INSPECT, READ, WRITE, Cell, Denied, Limits, NotOpen, Store
 THREADS = 8
 ROUNDS = 2_000
 
-# How many vertices a thread holds that looks at its row.
-ROW = 70
+# How many vertices a thread holds that looks at its row, and how many entries the audit has in the middle of which others run.
+ROW, ENTRIES = 70, 100_000
 
 
 def add_up(store, worker, rounds, wrong):
@@ -88,6 +89,12 @@ class Threads(unittest.TestCase):
             store.collect()
             self.assertEqual(len(store.names()), THREADS + sum(len(store.list(i)) - 1 for i in range(THREADS)))
 
+    def test_others_run_amid_a_long_call(self):
+        with Store([Cell(0)], [], Limits(2**20, 4096)) as store:
+            for _ in range(ENTRIES):
+                store.create(0, READ, Cell(0))
+            self.assertTrue(any(runs_amid(store.audit) for _ in range(50)))
+
     def test_one_closes_while_others_call(self):
         for _ in range(20):
             store = Store([Cell(0)] * THREADS, [], Limits(100000, 64, 64))
@@ -99,6 +106,24 @@ class Threads(unittest.TestCase):
             for thread in threads:
                 thread.join()
             self.assertEqual(seen, [])
+
+
+def runs_amid(call):
+    """Whether this thread runs in the middle third of a call that another one makes. What lies before and after the call itself is
+    shorter than a third of it."""
+    times, seen = [], []
+
+    def make():
+        times.append(time.monotonic())
+        call()
+        times.append(time.monotonic())
+
+    thread = threading.Thread(target=make)
+    thread.start()
+    while thread.is_alive():
+        seen.append(time.monotonic())
+    start, end = times
+    return any(start + (end - start) / 3 < at < end - (end - start) / 3 for at in seen)
 
 
 def create_until_closed(store, worker, seen):

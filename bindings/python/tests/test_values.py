@@ -2,20 +2,23 @@
 import copy
 import ctypes
 import gc
+import importlib.util
 import inspect
 import os
 import pickle
 import re
+import shutil
 import subprocess
 import sys
+import tempfile
 import threading
 import tracemalloc
 import typing
 import unittest
 from pathlib import Path
-from unittest import mock
 
 import kovshenul
+from back_ends import IS_CTYPES, WHO_HOLDS, answering, counted
 from kovshenul import (
     APPEND,
     FREE_U,
@@ -44,10 +47,10 @@ from kovshenul import (
     Sum,
     Target,
     View,
+    _backend,
     _library,
-    _store,
 )
-from kovshenul._held import LOCK
+from kovshenul._lock import LOCK
 
 LIMITS = Limits(10, 8, 4)
 
@@ -121,6 +124,80 @@ class Values(unittest.TestCase):
         self.assertRaisesRegex(ImportError, f"has interface {_library.ABI - 1}, and", _library._loaded, Older)
 
 
+class BackEnds(unittest.TestCase):
+    """The package has two back ends. All other tests run over the one that the variable KOVSHENUL_CTYPES leaves."""
+
+    def told_by(self, folder, **variables):
+        """What another process writes that imports the package of the folder, and says which back end it took."""
+        environment = {**os.environ, "PYTHONPATH": str(folder), "KOVSHENUL_LIBRARY": _library.library._name, **variables}
+        words = [sys.executable, "-c", "import kovshenul; print(kovshenul.BACKEND)"]
+        ran = subprocess.run(words, env=environment, capture_output=True, text=True, check=True)
+        return ran.stdout.strip(), ran.stderr
+
+    def test_ctypes_may_be_chosen(self):
+        folder = Path(kovshenul.__file__).parents[1]
+        usual = self.told_by(folder, KOVSHENUL_CTYPES="0")[0]
+        for value, name in (("1", "ctypes"), ("yes", "ctypes"), ("", usual)):
+            self.assertEqual(self.told_by(folder, KOVSHENUL_CTYPES=value), (name, ""))
+        self.assertTrue(IS_CTYPES or usual == "extension")
+
+    def test_without_an_extension(self):
+        """Nothing is said if there is none. One that can't be loaded is warned of."""
+        with tempfile.TemporaryDirectory() as folder:
+            package = Path(shutil.copytree(Path(kovshenul.__file__).parent, Path(folder) / "kovshenul"))
+            module = package / "_extension.abi3.so"
+            module.unlink(missing_ok=True)
+            self.assertEqual(self.told_by(folder, KOVSHENUL_CTYPES=""), ("ctypes", ""))
+            module.write_bytes(b"no module")
+            name, warned = self.told_by(folder, KOVSHENUL_CTYPES="")
+            self.assertEqual(name, "ctypes")
+            self.assertRegex(warned, "RuntimeWarning: Kovshenul calls its library by ctypes, which is slower: .*_extension")
+
+    def test_each_status_of_each_call_is_raised(self):
+        """Memory that is refused too, which no test here can bring about."""
+        with opened() as store, Auditor([Cell(0)] * 2, [(0, 1, GRANT)], LIMITS) as auditor, store.view() as view:
+            calls = [(store.take, 0, 1, 2, 1), (store.grant, 0, 1, 2, 1), (store.remove, 0, 1, 1), (store.read, 0, 1)]
+            calls += [(store.write, 0, 1, 1), (store.append, 0, 1, 1), (store.create, 0, 1, Cell(0)), (store.spawn, 0, 1, Cell(0))]
+            calls += [(store.list, 0), (store.inspect, 0, 1), (store.retire, 0), (store.leave, 0), (store.label, 0, 1)]
+            calls += [(store.who_holds, 1, 1), (store.could, 0, 1, 1), (store.view,), (store.collect,), (store.census,)]
+            calls += [(it,) for it in (store.names, store.subjects, store.entries, store.first, store.audit)]
+            calls += [(store.entry, 0), (store.forget, 0), (auditor.feed, store), (auditor.forget, store, 0), (auditor.sweep,)]
+            calls += [(view.could, 0, 1, 1), (lambda: auditor.at,), (Store, [Cell(0)]), (Auditor, [Cell(0)])]
+            for kind in Refused.__subclasses__():
+                with answering(kind.status):
+                    for call, *words in calls:
+                        self.assertRaises(kind, call, *words)
+            self.assertEqual((store.entries(), auditor.at), (0, 0))
+
+    @unittest.skipIf(IS_CTYPES, "the extension alone")
+    def test_the_extension_looks_at_what_it_is_given(self):
+        places = _backend.back_end.Store(), _backend.back_end.Auditor(), _backend.back_end.View()
+        store, auditor, view = places
+        for place in places:
+            self.assertRaises(TypeError, place.open)
+        calls = [(store.take, 1, 2, 3), (store.read,), (store.list, 1), (store.could, b"", b"", 1, 2), (auditor.feed, None)]
+        calls += [(auditor.forget, store), (view.could, 1, 2), (view.open, auditor, b"", b""), (view.open, store, b"", "")]
+        for call, *words in calls:
+            self.assertRaises(TypeError, call, *words)
+        for call, *words in [(store.open, b"", b"", b""), (store.open, b"1", b"", bytes(24)), (store.create, 0, 1, bytes(32))]:
+            with self.assertRaises(ValueError) as caught:
+                call(*words)
+            # NotOpen is a ValueError too.
+            self.assertIs(type(caught.exception), ValueError)
+        for module in (_backend.back_end, self.other_extension()):
+            self.assertRaises(TypeError, module.ready)
+            self.assertRaises(TypeError, module.ready, *[()] * 9)
+        self.assertRaises(RuntimeError, self.other_extension().Store)
+        self.assertRaises(NotOpen, store.read, 0, 1)
+
+    def other_extension(self):
+        """The same module once more, to which nothing was given."""
+        spec = importlib.util.spec_from_file_location("kovshenul._extension", _backend.back_end.__file__)
+        module = importlib.util.module_from_spec(spec)
+        spec.loader.exec_module(module)
+        return module
+
+
 class Refusals(unittest.TestCase):
     def test_classes(self):
         self.assertTrue(issubclass(OutOfMemory, MemoryError))
@@ -132,6 +209,7 @@ class Refusals(unittest.TestCase):
             self.assertRaises(kovshenul.BadKind, store.collect, 2)
         self.assertRaises(kovshenul.BadWorkers, Store, [])
         self.assertRaises(kovshenul.BadLimits, Store, [Cell(0)], [], (0, 8, 4))
+        self.assertRaises(kovshenul.BadLimits, Store, [Cell(0)], [], (10, 2**20 + 1, 4))
         self.assertRaises(kovshenul.BadEdge, Store, [Cell(0)], [(0, 1, READ)], LIMITS)
         self.assertRaises(kovshenul.BadRights, Store, [Cell(0)] * 2, [(0, 1, 0)], LIMITS)
         self.assertRaises(HeapFull, Store, [Cell(0)] * 2, [], (10, 1, 4))
@@ -355,21 +433,15 @@ class Stores(unittest.TestCase):
             self.assertEqual(store.collect(), 4)
             self.assertEqual(store.audit(), store.entries())
 
-    def test_who_holds_is_asked_once_of_a_few(self):
-        asked = []
-
-        def counted(*words):
-            asked.append(words)
-            return _library.library.tg_who_holds(*words)
-
-        with Store([Cell(0)], [], Limits(200, 64, 64)) as store:
+    def test_who_holds_is_asked_once(self):
+        with Store([Cell(0)], [], Limits(400, 64, 64)) as store:
             document = store.create(0, READ, Cell(0))
-            for made in range(1, 71):
-                with mock.patch.object(_store, "library", mock.Mock(wraps=_store.library, tg_who_holds=counted)):
+            with counted("tg_who_holds", WHO_HOLDS) as asked:
+                for made in range(1, 140):
                     self.assertEqual(len(store.who_holds(READ, document)), made)
-                folder = store.create(0, GRANT, Cell(0))
-                store.grant(0, folder, document, READ)
-            self.assertEqual(len(asked), 64 + 2 * 6)
+                    folder = store.create(0, GRANT, Cell(0))
+                    store.grant(0, folder, document, READ)
+                self.assertEqual(len(asked), made)
 
     def test_three_who_know_each_other_leave_empty_rows(self):
         with opened() as store:
@@ -434,6 +506,11 @@ class Stores(unittest.TestCase):
         header = Path(__file__).parents[2].joinpath("kovshenul.h").read_text()
         told = re.search(r"^#define TG_LIMITS_INIT \{ (\d+), (\d+), (\d+) \}$", header, re.MULTILINE)
         self.assertEqual(Limits(), tuple(map(int, told.groups())))
+
+    def test_a_large_heap(self):
+        with Store([Cell(0)], [], Limits(2**48, 2**20, 2**20)) as store:
+            self.assertEqual(store.create(0, READ, Cell(0)), 1)
+            self.assertEqual(store.collect(Kind.FULL), 2)
 
     def test_what_the_heap_has(self):
         with opened() as store:

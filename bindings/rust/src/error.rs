@@ -120,6 +120,18 @@ impl From<&RawDenial> for Denial {
     }
 }
 
+impl From<&Denial> for RawDenial {
+    fn from(denial: &Denial) -> RawDenial {
+        let (cause, from, to, rights) = match *denial {
+            Denial::NotDistinct { .. } => (raw::NOT_DISTINCT, 0, 0, 0),
+            Denial::Missing { from, to, rights, .. } => (raw::MISSING, from, to, rights.bits()),
+            Denial::NotLog { .. } => (raw::NOT_LOG, 0, 0, 0),
+        };
+        let rule = RULES.iter().position(|rule| *rule == denial.rule()).unwrap_or(RULES.len()) as u32;
+        RawDenial { rule, cause, from, to, rights }
+    }
+}
+
 /// Why a call was not served. `Denied` has its entry in the journal, and changed nothing else; of the others the store is as it
 /// was, but that `VerticesFull` and `WorkersFull` have an entry.
 #[derive(Clone, Copy, PartialEq, Eq, Hash, Debug)]
@@ -147,10 +159,12 @@ pub enum Error {
     BadLimits,
     /// An edge from a worker to itself, or with an end that is no worker; one that is supposed, and no worker reaches an end.
     BadEdge,
-    /// An entry isn't one of a legal history of the auditor's opening. The usual cause is that the store was opened by other
-    /// workers, edges or limits.
+    /// An entry to go on from that no store makes, as one with an empty set of rights.
+    BadValues,
+    /// An entry isn't legal after the opening of the auditor, or of the store that goes on from it. It was altered, or the other
+    /// store was opened by other workers, edges or limits.
     BadEntry,
-    /// The journal holds no entry at the place: it wasn't made yet, or it was given up.
+    /// The journal holds no entry at the place: it wasn't made yet, or it was given up. An entry to go on from isn't the next.
     BadPlace,
     /// Entries of the journal were given up, so that an audit of all isn't possible any more.
     NotWhole,
@@ -161,7 +175,7 @@ pub enum Error {
 }
 
 // The errors with a status of their own.
-const REFUSALS: [(Error, u32); 14] = [
+const REFUSALS: [(Error, u32); 15] = [
     (Error::OutOfMemory, 32),
     (Error::HeapFull, 33),
     (Error::VerticesFull, 34),
@@ -172,6 +186,7 @@ const REFUSALS: [(Error, u32); 14] = [
     (Error::BadWorkers, 80),
     (Error::BadLimits, 81),
     (Error::BadEdge, 82),
+    (Error::BadValues, 83),
     (Error::BadEntry, 96),
     (Error::BadPlace, 97),
     (Error::NotWhole, 98),

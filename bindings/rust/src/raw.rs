@@ -79,13 +79,20 @@ pub struct RawValue {
 
 impl From<&Value> for RawValue {
     fn from(value: &Value) -> RawValue {
-        let (law, most, number) = match *value {
+        let (law, most, number) = value.parts();
+        RawValue { law, most, number }
+    }
+}
+
+impl Value {
+    /// Its law, the most numbers of a log, and the first number.
+    pub fn parts(&self) -> (u32, u32, u64) {
+        match *self {
             Value::Cell(number) => (CELL, 0, number),
             Value::Sum(number) => (SUM, 0, number),
             Value::Max(number) => (MAX, 0, number),
             Value::Log(most) => (LOG, most, 0),
-        };
-        RawValue { law, most, number }
+        }
     }
 }
 
@@ -213,6 +220,15 @@ extern "C" {
         edge_room: usize,
     ) -> u32;
     pub fn tg_forget(store: *mut RawStore, upto: u64) -> u32;
+    pub fn tg_resume(
+        store: *mut RawStore,
+        at: u64,
+        record: &RawRecord,
+        numbers: *const u64,
+        number_count: usize,
+        edges: *const RawTarget,
+        edge_count: usize,
+    ) -> u32;
     pub fn tg_audit(store: *mut RawStore, count: &mut u64) -> u32;
     pub fn tg_could(
         store: *mut RawStore,

@@ -196,14 +196,17 @@ impl Store {
     /// Who holds the right over the vertex with a name, by rising name: workers, objects and those who retired, of all
     /// that a worker reaches. The journal gets no entry of it. `BadRights` where it isn't one right.
     pub fn who_holds(&self, right: Rights, name: u64) -> Result<Vec<u64>, Error> {
-        let (mut names, mut count) = (vec![0; SHORT_ROW], 0);
+        // Whoever holds it is a vertex of the heap, so one walk of the graph finds room for all. The room isn't cleared.
+        let (mut names, mut count) = (Vec::with_capacity(self.census()?.vertices as usize), 0);
         loop {
-            let room = names.len();
+            let room = names.capacity();
             served(unsafe { raw::tg_who_holds(self.at(), right.bits(), name, names.as_mut_ptr(), room, &mut count) })?;
-            names.resize(count as usize, 0);
-            if names.len() <= room {
+            if count as usize <= room {
+                unsafe { names.set_len(count as usize) };
+                names.shrink_to_fit();
                 return Ok(names);
             }
+            names.reserve_exact(count as usize);
         }
     }
 

@@ -39,7 +39,8 @@ pub struct Edge {
 pub struct Limits {
     /// How many vertices may ever be made, workers included: from those of the opening to 2^48.
     pub max_vertices: u64,
-    /// How many blocks of 64 cells of 64 bytes there may be in all: from 1 to 65,536, and one a worker at least.
+    /// How many blocks of 64 cells of 64 bytes there may be in all: from 1 to 2^20, and one a worker at least. It bounds
+    /// how many vertices live at once: 65,536 blocks held 3,595,117 of one row.
     pub max_blocks: u64,
     /// How many of them in one space: from 1 to 2^20.
     pub max_space_blocks: u64,
@@ -80,6 +81,15 @@ impl From<&RawTarget> for Target {
         Target {
             to: target.to,
             rights: Rights::told(target.rights),
+        }
+    }
+}
+
+impl From<&Target> for RawTarget {
+    fn from(target: &Target) -> RawTarget {
+        RawTarget {
+            to: target.to,
+            rights: target.rights.bits(),
         }
     }
 }

@@ -1,5 +1,5 @@
 //! The journal of a store, read back: it says what was called and what was answered.
-use kovshenul::{Auditor, Deed, Denial, Edge, Entry, Error, Limits, Reply, Rights, Rule, Store, Target, Value};
+use kovshenul::{Auditor, Deed, Denial, Edge, Entry, Error, Limits, Reply, Rights, Rule, Stopped, Store, Target, Value};
 
 const WORKERS: [Value; 2] = [Value::Cell(0); 2];
 
@@ -224,4 +224,61 @@ fn long_rows_are_whole() {
     let last = store.entries().unwrap() - 1;
     assert_eq!(store.entry(last).unwrap().reply, Reply::Edges(shown.clone()));
     assert_eq!(shown.last(), Some(&Target { to: names[299], rights: Rights::READ }));
+}
+
+// The entries of a store that was asked for so much.
+fn told(seed: u64, count: u64) -> (Store, Vec<Entry>) {
+    let (mut store, mut dice) = (opened(20), Dice(seed));
+    for _ in 0..count {
+        let worker = dice.below(2);
+        call(&mut store, worker, dice.deed());
+    }
+    let entries = store.journal().collect();
+    (store, entries)
+}
+
+fn resumed(max_vertices: u64, entries: &[Entry]) -> Result<Store, Stopped> {
+    Store::resume(&WORKERS, &edges(), &limits(max_vertices), entries)
+}
+
+#[test]
+fn a_store_goes_on_from_entries() {
+    let (mut first, entries) = told(5, 3000);
+    let mut second = resumed(20, &entries).unwrap();
+    assert!(second.journal().eq(entries.iter().cloned()));
+    second = (0..30).fold(opened(20), |store, part| {
+        let mut store = store.go_on(part * 100, &entries[part as usize * 100..][..100]).unwrap();
+        store.forget((part + 1) * 100).unwrap();
+        store
+    });
+    let mut dice = Dice(6);
+    for _ in 0..1000 {
+        let (worker, deed) = (dice.below(2), dice.deed());
+        assert_eq!(call(&mut second, worker, deed), call(&mut first, worker, deed));
+    }
+}
+
+#[test]
+fn what_stops_a_resume() {
+    let (_, entries) = told(7, 200);
+    for (at, entry) in entries.iter().enumerate() {
+        let mut altered = entries[..=at].to_vec();
+        altered[at].reply = Reply::Name(1 << 40);
+        let stopped = resumed(20, &altered).unwrap_err();
+        assert_eq!((stopped.at, stopped.why, stopped.store.is_none()), (at as u64, Error::BadEntry, true));
+        assert!(stopped.to_string().starts_with(&format!("entry {at}: an entry is not legal")));
+        altered[at] = entry.clone();
+        assert_eq!(resumed(20, &altered).unwrap().entries(), Ok(at as u64 + 1));
+    }
+    let stopped = opened(20).go_on(1, &entries).unwrap_err();
+    assert_eq!((stopped.at, stopped.why), (1, Error::BadPlace));
+    let store = stopped.store.unwrap().go_on(0, &entries).unwrap();
+    let twice = store.go_on(10, &entries[10..]).unwrap_err();
+    assert_eq!((twice.at, twice.why, twice.store.unwrap().entries()), (10, Error::BadPlace, Ok(200)));
+    let empty = Deed::Remove { target: 1, rights: Rights::NONE };
+    let none = Entry { worker: 0, deed: empty, reply: Reply::Done };
+    let stopped = opened(20).go_on(0, [none]).unwrap_err();
+    assert_eq!((stopped.why, stopped.why.status(), stopped.store.is_some()), (Error::BadValues, 83, true));
+    assert_eq!(resumed(1, &entries).unwrap_err().why, Error::BadLimits);
+    assert_eq!(resumed(3, &entries).unwrap_err().why, Error::BadEntry);
 }

@@ -158,6 +158,19 @@ fn who_leaves_holds_nothing() {
 }
 
 #[test]
+fn all_who_hold_are_named() {
+    let mut store = opened(1);
+    let document = store.create(0, Rights::READ, Value::Cell(0)).unwrap();
+    let mut holders = vec![0];
+    for _ in 0..100 {
+        assert_eq!(store.who_holds(Rights::READ, document), Ok(holders.clone()));
+        let folder = store.create(0, Rights::GRANT, Value::Cell(0)).unwrap();
+        store.grant(0, folder, document, Rights::READ).unwrap();
+        holders.push(folder);
+    }
+}
+
+#[test]
 fn three_who_know_each_other_leave_empty_rows() {
     let mut store = opened(1);
     let know = Rights::TAKE | Rights::GRANT;
@@ -219,6 +232,9 @@ fn openings_are_looked_at() {
     assert_eq!(open(&two, &[edge(1, Rights::NONE)], LIMITS), Some(Error::BadRights));
     assert_eq!(open(&two, &[], Limits { max_blocks: 1, ..LIMITS }), Some(Error::HeapFull));
     assert_eq!(open(&two, &[], Limits { max_vertices: 1, ..LIMITS }), Some(Error::BadLimits));
+    assert_eq!(open(&two, &[], Limits { max_blocks: 0, ..LIMITS }), Some(Error::BadLimits));
+    assert_eq!(open(&two, &[], Limits { max_blocks: 1 << 20, ..LIMITS }), None);
+    assert_eq!(open(&two, &[], Limits { max_blocks: (1 << 20) + 1, ..LIMITS }), Some(Error::BadLimits));
 }
 
 #[test]

@@ -1,0 +1,1 @@
+Lua is how bytecode begins

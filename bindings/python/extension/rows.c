@@ -1,0 +1,108 @@
+/* Calls whose answer may be long: rows, entries, names and holders. */
+#include <stdlib.h>
+
+#include "extension.h"
+
+/* Room for so many items, and at least for one; or NULL with a MemoryError. */
+static void *room_for(uint64_t count, size_t size) {
+    void *room = count > SIZE_MAX / size ? NULL : PyMem_Malloc(count == 0 ? size : (size_t)count * size);
+    if (room == NULL)
+        PyErr_NoMemory();
+    return room;
+}
+
+/* The entry at a place with all of its edges, of which there are so many. */
+static PyObject *long_row_told(struct store *self, uint64_t at, uint64_t count, tg_record *record, uint64_t *numbers) {
+    tg_target *edges = room_for(count, sizeof *edges);
+    if (edges == NULL)
+        return NULL;
+    tg_status status = self->state->library.entry(&self->place, at, record, numbers, MOST_NUMBERS, edges, (size_t)count);
+    PyObject *told = status == TG_DONE ? targets_told(self->state, edges, count) : refused(self->state, status, NULL, NULL);
+    PyMem_Free(edges);
+    return told;
+}
+
+PyObject *row_told(struct store *self, const tg_target *edges, uint64_t count) {
+    tg_record record;
+    uint64_t numbers[MOST_NUMBERS], entries;
+    if (count <= SHORT_ROW)
+        return targets_told(self->state, edges, count);
+    tg_status status = self->state->library.entries(&self->place, &entries);
+    if (status != TG_DONE)
+        return refused(self->state, status, NULL, NULL);
+    return long_row_told(self, entries - 1, count, &record, numbers);
+}
+
+PyObject *store_entry(PyObject *it, PyObject *const *words, Py_ssize_t count) {
+    struct store *self = (struct store *)it;
+    struct state *state = self->state;
+    uint64_t at, numbers[MOST_NUMBERS];
+    tg_target edges[SHORT_ROW];
+    tg_record record;
+    if (!numbers_of(state, words, count, &at, 1) || !wait_for_others(state))
+        return NULL;
+    tg_status status = state->library.entry(&self->place, at, &record, numbers, MOST_NUMBERS, edges, SHORT_ROW);
+    if (status != TG_DONE)
+        return refused(state, status, NULL, NULL);
+    PyObject *row = record.edge_count <= SHORT_ROW ? targets_told(state, edges, record.edge_count)
+                                                   : long_row_told(self, at, record.edge_count, &record, numbers);
+    PyObject *told_numbers = row == NULL ? NULL : numbers_told(numbers, record.number_count);
+    PyObject *told_record = told_numbers == NULL ? NULL : record_told(state, &record);
+    PyObject *told = told_record == NULL ? NULL : PyTuple_Pack(3, told_record, told_numbers, row);
+    Py_XDECREF(told_record);
+    Py_XDECREF(told_numbers);
+    Py_XDECREF(row);
+    return told;
+}
+
+PyObject *store_names(PyObject *it, PyObject *unused) {
+    struct store *self = (struct store *)it;
+    struct state *state = self->state;
+    tg_counts counts;
+    uint64_t count = 0;
+    (void)unused;
+    if (!wait_for_others(state))
+        return NULL;
+    tg_status status = state->library.census(&self->place, &counts);
+    if (status != TG_DONE)
+        return refused(state, status, NULL, NULL);
+    uint64_t *names = room_for(counts.vertices, sizeof *names);
+    if (names == NULL)
+        return NULL;
+    status = state->library.names(&self->place, names, (size_t)counts.vertices, &count);
+    PyObject *told = status == TG_DONE ? set_told(names, count) : refused(state, status, NULL, NULL);
+    PyMem_Free(names);
+    return told;
+}
+
+/* Asks who holds a right, with room for each vertex of the heap: one walk of the graph finds all of them. It runs without the
+   interpreter. The names are the caller's to free. */
+static tg_status ask_holders(struct store *self, const uint64_t *asked, uint64_t **names, uint64_t *count) {
+    const struct library *library = &self->state->library;
+    tg_counts counts;
+    uint64_t room = library->census(&self->place, &counts) == TG_DONE ? counts.vertices : 0;
+    for (;;) {
+        free(*names);
+        *names = room < SIZE_MAX / sizeof **names ? malloc((size_t)(room + 1) * sizeof **names) : NULL;
+        if (*names == NULL)
+            return TG_OUT_OF_MEMORY;
+        tg_status status = library->who_holds(&self->place, asked[0], asked[1], *names, (size_t)room, count);
+        if (status != TG_DONE || *count <= room)
+            return status;
+        room = *count;
+    }
+}
+
+PyObject *store_who_holds(PyObject *it, PyObject *const *words, Py_ssize_t count) {
+    struct store *self = (struct store *)it;
+    struct state *state = self->state;
+    uint64_t asked[2], held = 0, *names = NULL;
+    if (!numbers_of(state, words, count, asked, 2) || !begin_long(state))
+        return NULL;
+    tg_status status = ask_holders(self, asked, &names, &held);
+    PyObject *told = NULL;
+    if (end_long(state))
+        told = status == TG_DONE ? numbers_told(names, held) : refused(state, status, NULL, &asked[0]);
+    free(names);
+    return told;
+}

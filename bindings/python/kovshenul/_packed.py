@@ -1,0 +1,62 @@
+"""What a call is given as bytes: numbers that lie one after the other, as the library reads them. Each must be in its range."""
+from __future__ import annotations
+
+from array import array
+from struct import Struct
+from typing import Iterable, List, Tuple
+
+from ._library import BITS, number_in
+from ._values import Value
+from .journal import Entry, record_of
+
+NO_VALUE = "a value is a Cell, a Sum, a Max or a Log"
+
+
+def bytes_of(numbers: Iterable[int]) -> bytes:
+    """Numbers of 64 bits."""
+    return array("Q", [number_in(BITS, it) for it in numbers]).tobytes()
+
+
+def edges_in(edges: Iterable[Tuple[int, int, int]]) -> bytes:
+    """Edges, each of which is three numbers."""
+    return b"".join([bytes_of((source, target, rights)) for source, target, rights in edges])
+
+
+def value_in(value: Value) -> bytes:
+    """What a vertex stores at first."""
+    try:
+        return value._packed
+    except AttributeError:
+        raise TypeError(NO_VALUE) from None
+
+
+def opening_in(
+    workers: Iterable[Value], edges: Iterable[Tuple[int, int, int]], limits: Tuple[int, int, int]
+) -> Tuple[bytes, bytes, bytes]:
+    """What an opening asks for: values, edges and limits."""
+    values_in = b"".join([value_in(value) for value in workers])
+    pairs_in = edges_in(edges)
+    max_vertices, max_blocks, max_space_blocks = limits
+    return values_in, pairs_in, bytes_of((max_vertices, max_blocks, max_space_blocks))
+
+
+def scene_in(silent: Iterable[int], as_if: Iterable[Tuple[int, int, int]]) -> Tuple[bytes, bytes]:
+    """Who is silent, and which edges are supposed."""
+    return bytes_of(silent), edges_in(as_if)
+
+
+# A record: an entry's numbers, those of its denial, and how many numbers and edges come beside it.
+RECORD = Struct("=QIIIIQQQQQIIQQQQQ")
+
+
+def entry_in(entry: Entry) -> Tuple[bytes, bytes, bytes]:
+    """An entry, as the library writes one: its record, the numbers that were stored or read, and the edges that were shown."""
+    record, numbers, edges = record_of(entry)
+    *plain, (rule, cause, source, target, rights) = record
+    words = [*map(_word, plain), rule, cause, *map(_word, (source, target, rights)), len(numbers), len(edges)]
+    pairs: List[int] = [number for edge in edges for number in edge]
+    return RECORD.pack(*words), bytes_of(numbers), bytes_of(pairs)
+
+
+def _word(number: int) -> int:
+    return number_in(BITS, number)
