@@ -1,8 +1,9 @@
 #!/usr/bin/env python3
 """instructions.py [FOLDER]: how many instructions a call from Python takes, through the library that bindings/check has built.
 
-They are counted by callgrind over the whole interpreter, so other work on the machine doesn't matter. FOLDER has another module
-kovshenul, as an older one, whose numbers stand beside. It wants valgrind with its headers, and a C compiler.
+They are counted by callgrind over the whole interpreter, so other work on the machine doesn't matter. The rows are the calls by ctypes,
+and those by the extension module where it was built. FOLDER has another module kovshenul, as an older one, whose numbers stand beside.
+It wants valgrind with its headers, and a C compiler.
 """
 import argparse
 import os
@@ -17,7 +18,7 @@ BINDINGS = HERE.parent.parent / "bindings"
 CALLS = 1000
 
 
-def counted(module, marks, room):
+def counted(module, marks, room, by_ctypes=False):
     """The instructions of a call, by its kind."""
     environment = {
         **os.environ,
@@ -25,6 +26,7 @@ def counted(module, marks, room):
         "PYTHONHASHSEED": "0",
         "PYTHONDONTWRITEBYTECODE": "1",
         "KOVSHENUL_LIBRARY": str(next((BINDINGS / "out").glob("libkovshenul.so.*"))),
+        "KOVSHENUL_CTYPES": str(int(by_ctypes)),
     }
     room.mkdir()
     words = ["valgrind", "--tool=callgrind", f"--callgrind-out-file={room}/counts", sys.executable]
@@ -45,10 +47,12 @@ def main():
         marks = Path(name) / "marks.so"
         command = [os.environ.get("CC", "cc"), "-O2", "-fPIC", "-shared", "-o", marks, HERE / "mark.c"]
         subprocess.run(command, check=True)
-        rows = {"Python": counted(BINDINGS / "python", marks, Path(name) / "this")}
+        rows = {"Python by ctypes": counted(BINDINGS / "python", marks, Path(name) / "ctypes", by_ctypes=True)}
+        if list((BINDINGS / "python" / "kovshenul").glob("_extension.*.so")):
+            rows["Python"] = counted(BINDINGS / "python", marks, Path(name) / "this")
         if asked.folder:
             rows["Python, other"] = counted(asked.folder, marks, Path(name) / "other")
-    kinds = list(rows["Python"])
+    kinds = list(rows["Python by ctypes"])
     print(f"| | {' | '.join(kinds)} |\n|{'---|' * (len(kinds) + 1)}")
     for language, counts in rows.items():
         print(f"| {language} | {' | '.join(f'{counts[kind]:,.0f}' for kind in kinds)} |")

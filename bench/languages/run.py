@@ -1,8 +1,9 @@
 #!/usr/bin/env python3
 """run.py [FOLDER]: commands a second from C, Rust and Python, through the library that bindings/check has built.
 
-Five runs of each in turn; the medians are printed as a table, in millions a second. FOLDER has another module kovshenul for Python, as
-an older one, whose speed is then beside that of this one. It wants a C compiler, and leaves out Rust where there is no cargo.
+Five runs of each in turn; the medians are printed as a table, in millions a second, and how many times as many the extension module of
+Python makes as ctypes. FOLDER has another module kovshenul for Python, as an older one, whose speed is then beside that of this one. It
+wants a C compiler, and leaves out Rust where there is no cargo, and the extension module where it wasn't built.
 """
 import argparse
 import os
@@ -17,7 +18,9 @@ HERE = Path(__file__).resolve().parent
 BINDINGS = HERE.parent.parent / "bindings"
 OUT = BINDINGS / "out"
 ROUNDS = 5
-CALLS = {"C": 1_000_000, "Rust": 1_000_000, "Python": 100_000, "Python, other": 100_000}
+CALLS = {"C": 1_000_000, "Rust": 1_000_000}
+CALLS_OF_PYTHON = 100_000
+EXTENSION, CTYPES, OTHER = "Python", "Python by ctypes", "Python, other"
 MANIFEST = """[package]
 name = "speed"
 version = "0.0.0"
@@ -55,8 +58,9 @@ def run(language, command, module):
         "PYTHONPATH": str(module),
         "PYTHONDONTWRITEBYTECODE": "1",
         "KOVSHENUL_LIBRARY": str(next(OUT.glob("libkovshenul.so.*"))),
+        "KOVSHENUL_CTYPES": "1" if language == CTYPES else "0",
     }
-    words = [*command, str(CALLS[language])]
+    words = [*command, str(CALLS.get(language, CALLS_OF_PYTHON))]
     told = subprocess.run(words, env=environment, check=True, capture_output=True, text=True).stdout
     return {kind: float(speed) for kind, speed in (line.split() for line in told.splitlines())}
 
@@ -69,22 +73,26 @@ def main():
         commands = {"C": build_c(Path(name))}
         if shutil.which("cargo"):
             commands["Rust"] = build_rust(Path(name))
-        commands["Python"] = [sys.executable, HERE / "speed.py"]
-        if asked.folder:
-            commands["Python, other"] = commands["Python"]
+        for language in (EXTENSION, CTYPES, OTHER):
+            commands[language] = [sys.executable, HERE / "speed.py"]
+        if not list((BINDINGS / "python" / "kovshenul").glob("_extension.*.so")):
+            del commands[EXTENSION]
+        if not asked.folder:
+            del commands[OTHER]
         runs = {language: [] for language in commands}
         for _ in range(ROUNDS):
             for language, command in commands.items():
-                module = asked.folder if language == "Python, other" else BINDINGS / "python"
+                module = asked.folder if language == OTHER else BINDINGS / "python"
                 runs[language].append(run(language, command, module))
     kinds = list(runs["C"][0])
     print(f"| | {' | '.join(kinds)} |\n|{'---|' * (len(kinds) + 1)}")
     medians = {language: [median(one[kind] for one in its) for kind in kinds] for language, its in runs.items()}
     for language, speeds in medians.items():
         print(f"| {language} | {' | '.join(f'{speed:.2f}' for speed in speeds)} |")
-    if "Python, other" in medians:
-        ratios = [new / old for new, old in zip(medians["Python"], medians["Python, other"])]
-        print(f"| Python, of the other | {' | '.join(f'{ratio:.2f}' for ratio in ratios)} |")
+    for language in (CTYPES, OTHER):
+        if language in medians and EXTENSION in medians:
+            ratios = [median(one[kind] / two[kind] for one, two in zip(runs[EXTENSION], runs[language])) for kind in kinds]
+            print(f"| {EXTENSION}, times {language} | {' | '.join(f'{ratio:.2f}' for ratio in ratios)} |")
 
 
 if __name__ == "__main__":

@@ -97,7 +97,7 @@ static tg_status apply(struct step it) {
 static void open_store(uint32_t workers, uint32_t count) {
     tg_edge *edges = calloc(count, sizeof *edges);
     tg_value *values = calloc(workers, sizeof *values);
-    tg_limits limits = {1 << 24, 65536, 1 << 20};
+    tg_limits limits = {1 << 24, 1 << 20, 1 << 20};
     want(edges && values);
     for (uint32_t i = 0; i < count; i++) {
         uint32_t from = number(), to = number();

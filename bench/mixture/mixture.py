@@ -1,6 +1,7 @@
 """mixture.py: the commands of a server of capabilities, made at random from a seed: 60 of 100 are reads that are served, 15 reads
 that are denied, 5 looks at a row of five edges, 10 grants, 5 creates and 5 removes, by 16 workers. A nursery collection comes after
 each 10,000, and a full one after each 200,000."""
+import itertools
 import random
 import struct
 from typing import NamedTuple
@@ -25,6 +26,10 @@ class Step(NamedTuple):
     first: int = 0
     second: int = 0
     rights: int = 0
+
+
+# The create of each worker. A mixture of many vertices has each of these many times.
+CREATES = [Step(CREATE, worker, rights=MAKERS) for worker in range(WORKERS)]
 
 
 class Held:
@@ -70,7 +75,7 @@ class Mixture:
     def create(self, worker):
         self.held[worker].add(self.next_name, MAKERS)
         self.next_name += 1
-        return Step(CREATE, worker, rights=MAKERS)
+        return CREATES[worker]
 
     def folder(self, i):
         """A vertex of a worker gets edges to five others of its."""
@@ -110,10 +115,13 @@ class Mixture:
 
     def bytes(self):
         """What mixture.c reads: how many steps there are, how many of them make the vertices, how many workers and edges, and these."""
-        whole = self.setup + self.steps
-        head = struct.pack("<IIII", len(whole), len(self.setup), WORKERS, len(edges()))
-        body = b"".join(struct.pack("<BBBBII", it.kind, it.worker, it.rights, 0, it.first, it.second) for it in whole)
-        return head + b"".join(struct.pack("<II", a, b) for a, b in edges()) + body
+        count = len(self.setup) + len(self.steps)
+        packed = bytearray(struct.pack("<IIII", count, len(self.setup), WORKERS, len(edges())))
+        for edge in edges():
+            packed += struct.pack("<II", *edge)
+        for it in itertools.chain(self.setup, self.steps):
+            packed += struct.pack("<BBBBII", it.kind, it.worker, it.rights, 0, it.first, it.second)
+        return packed
 
 
 def letters(rights):

@@ -55,7 +55,7 @@ fn main() {
     let words: Vec<String> = std::env::args().collect();
     let mut steps = Steps { bytes: std::fs::read(&words[1]).expect("a file of steps"), at: 0 };
     let [all, setup, workers, edges] = [0; 4].map(|_| steps.number());
-    let options = Options { workers, vertices: 1 << 24, blocks: 65_536, stock: vec![], journal: true };
+    let options = Options { workers, vertices: 1 << 24, blocks: 1 << 20, stock: vec![], journal: true };
     let mut store = Store::open(options);
     for _ in 0..edges {
         let (from, to) = (steps.number(), steps.number());

@@ -6,6 +6,7 @@ What a mixture of commands (mixture.py) costs through the library for C that bin
 prints, of the whole and of the making of the vertices alone, whose sums over all answers have to be the same; with --instructions the
 millions of instructions, under valgrind. It wants a C compiler and rustc. bench/run.py runs mixtures as scripts."""
 import argparse
+import multiprocessing
 import os
 import re
 import subprocess
@@ -49,6 +50,19 @@ def told(words, is_counted):
     return run.stdout.strip()
 
 
+def write_steps(path, live, commands):
+    path.write_bytes(Mixture(live, commands).bytes())
+
+
+def make_steps(path, live, commands):
+    """Writes a mixture in a process of its own, whose memory is then given back."""
+    maker = multiprocessing.Process(target=write_steps, args=(path, live, commands))
+    maker.start()
+    maker.join()
+    if maker.exitcode:
+        sys.exit(f"mixture: the steps weren't made: status {maker.exitcode}")
+
+
 def main():
     words = argparse.ArgumentParser(usage=__doc__)
     words.add_argument("live", type=int, nargs="?", default=500_000)
@@ -57,7 +71,7 @@ def main():
     asked = words.parse_args()
     with tempfile.TemporaryDirectory() as folder:
         programs, steps = [built(Path(folder)), rival(Path(folder))], Path(folder) / "steps"
-        steps.write_bytes(Mixture(asked.live, asked.commands).bytes())
+        make_steps(steps, asked.live, asked.commands)
         for name, more in (("the vertices alone", ["setup"]), ("all", [])):
             texts = [told([program, steps, *more], asked.instructions) for program in programs]
             print(f"{name}: {texts[0]}; plain: {texts[1]}", flush=True)

@@ -106,7 +106,7 @@ NAMED = {
     ("tg_rows/src/indexed_row.rt", "reserve", "self.old_cells"):
         "how many of the row's cells lie in Old: no more than it has",
     ("tg_rows/src/followed.rt", "follow_row", "old"): "how many of the row's cells lie in Old now",
-    ("tg_threads/src/worker.rt", "run_tasks", "spawn_lines(tasks.as_slice())"):
+    ("tg_threads/src/worker.rt", "room_for", "spawn_lines(tasks)"):
         "how many of the lines may make a subject: a clause",
     ("tg_text/src/stock.rt", "gather_boxes", "count"):
         "how many boxes the text names, and each of its items: at most 100,000, a clause",

@@ -12,6 +12,7 @@ Module      | What it has
 `unproved`  | `build_program` and `fails_test`: builds a program of a tree without its proof, or runs a test so
 `counted`   | `counted` and `instructions`: how many instructions a program executes, under valgrind; `run_check` for a
             | script that does nothing else
+`prose`     | `Prose`: the sentences of a page, and whether they keep the limits
 `processor` | processor seconds of a process and of children, as the kernel counts them
 
 `tools/crates` prints what `tree` knows, for scripts of the shell. The tests are in `tests`. They take less than a
