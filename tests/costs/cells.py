@@ -13,9 +13,10 @@ Two scripts are run, with 5 collections and with 25; their difference over 20 ti
 helpers work, all that both do is counted, so it is a helper's walk that is seen, and not how they share it; since they wait for
 each other, each script is run three times then, and the least counts.
 
---write makes the figures anew, beside the kit that built the program: with another kit they are to be. PROGRAM is
-crates/tgstore/out/tgstore unless it is given. Exit status 1 where a collection takes more, or a run ended otherwise than it is to.
-Where valgrind isn't here, nothing is run."""
+--write makes the figures anew, beside the kit that built the program. Each kit has a compiler of its own, whose code differs a little.
+Therefore a program that another kit built may take up to 1.08 times the stored figure. A walk that lost its layout took 1.11 to 1.19
+times. PROGRAM is crates/tgstore/out/tgstore unless it is given. Exit status 1 if a collection takes more, or if a run ended otherwise
+than it is to. Where valgrind isn't here, nothing is run."""
 import sys
 from argparse import Namespace
 from collections.abc import Callable
@@ -32,7 +33,8 @@ FIGURES = Path(__file__).resolve().parent / "cells.figures"
 # How many workers there are, how many objects, and the lines that make them.
 Shape = tuple[int, int, list[str]]
 FEW, MANY = 5, 25
-MOST_TIMES = 1.02
+# The limit for a program of the kit that made the figures, and for one of another kit.
+MOST_TIMES, MOST_TIMES_ELSEWHERE = 1.02, 1.08
 HELPERS = (1, 2)
 TIMES = {1: 1, 2: 3}
 WORKERS, OBJECTS = 64, 546
@@ -98,13 +100,14 @@ def write_figures(program: str) -> int:
 def check(program: str) -> int:
     """Compares with the stored figures; returns the status."""
     made_by, known = read_figures()
+    most = MOST_TIMES
     if made_by != version():
-        print(f"cells: the figures are of another kit, {made_by}: tests/costs/cells.py --write makes them anew")
-        return 1
+        most = MOST_TIMES_ELSEWHERE
+        print(f"cells: this is {version()}, and the figures are of {made_by}: up to {most} times is allowed. --write makes them anew")
     failed = 0
     for (shape, helpers), figure in known.items():
         now = of_a_vertex(program, shape, helpers)
-        is_more = now > MOST_TIMES * figure
+        is_more = now > most * figure
         failed += is_more
         told = f"{now:.1f} instructions a vertex; {figure} is stored: {now / figure:.3f} times"
         print(f"cells: {shape} by {helpers}: {told}{', FAILED' * is_more}", flush=True)
