@@ -3,7 +3,8 @@ from __future__ import annotations
 
 import re
 from dataclasses import dataclass
-from typing import Iterator
+from functools import cached_property
+from typing import ClassVar, Iterator
 
 # The most words of a sentence, and the share of the sentences of a page that may have more.
 LONG, LONG_SHARE = 25, 0.25
@@ -53,31 +54,63 @@ class Prose:
         """All sentences of the page, of three words and more."""
         return [sentence for paragraph in self.paragraphs for sentence in paragraph]
 
+    HEADS: ClassVar[str] = f"{'page':28} sentences  words  over {LONG}  longest  marks  negations  rows  words of {FAVOURITES}"
+
+    @cached_property
+    def lengths(self) -> list[int]:
+        """How many words each sentence has."""
+        return [len(sentence.split()) for sentence in self.sentences]
+
+    @property
+    def long(self) -> float:
+        """The share of the sentences that are long."""
+        return sum(length > LONG for length in self.lengths) / len(self.lengths)
+
+    @property
+    def marks(self) -> float:
+        """Colons and semicolons for each sentence."""
+        return sum(sentence.count(":") + sentence.count(";") for sentence in self.sentences) / len(self.lengths)
+
+    @property
+    def negations(self) -> float:
+        """Negations in 100 words."""
+        return 100 * len(NEGATION.findall(" ".join(self.sentences))) / sum(self.lengths)
+
+    @property
+    def rows(self) -> int:
+        """How many rows of short sentences there are."""
+        return sum(self.short_rows(paragraph) for paragraph in self.paragraphs)
+
+    @property
+    def favourites(self) -> list[str]:
+        """The words that we use too often, as often as they come."""
+        return FAVOURITE.findall(" ".join(self.sentences))
+
+    def row(self, name: str, most_negations: float = NEGATIONS) -> str:
+        """The line of a page in a table with HEADS: its measures, and at last whether it has a fault."""
+        if not self.sentences:
+            return f"{name:28} {0:9}"
+        mean = sum(self.lengths) / len(self.lengths)
+        measures = f"{len(self.lengths):9} {mean:6.1f} {self.long:8.1%} {max(self.lengths):8} {self.marks:6.2f} {self.negations:10.2f}"
+        return f"{name:28} {measures} {self.rows:5} {len(self.favourites):11}{' x' if any(self.faults(most_negations)) else ''}"
+
     def faults(self, most_negations: float = NEGATIONS) -> Iterator[str]:
         """What is above its limit."""
-        sentences = self.sentences
-        lengths = [len(sentence.split()) for sentence in sentences]
-        if not sentences:
+        if not self.sentences:
             return
-        long = sum(length > LONG for length in lengths) / len(lengths)
-        if long > LONG_SHARE:
-            yield f"{long:.0%} of the sentences have over {LONG} words, and at most {LONG_SHARE:.0%} may"
-        for sentence, length in zip(sentences, lengths):
+        if self.long > LONG_SHARE:
+            yield f"{self.long:.0%} of the sentences have over {LONG} words, and at most {LONG_SHARE:.0%} may"
+        for sentence, length in zip(self.sentences, self.lengths):
             if length > LONGEST:
                 yield f"a sentence of {length} words, and at most {LONGEST}: {sentence[:60]} .."
-        marks = sum(sentence.count(":") + sentence.count(";") for sentence in sentences) / len(sentences)
-        if marks > MARKS:
-            yield f"{marks:.2f} colons and semicolons a sentence, and at most {MARKS}"
-        text = " ".join(sentences)
-        negations = 100 * len(NEGATION.findall(text)) / sum(lengths)
-        if negations > most_negations:
-            yield f"{negations:.2f} negations in 100 words, and at most {most_negations}"
-        rows = sum(self.short_rows(paragraph) for paragraph in self.paragraphs)
-        if rows > 1:
-            yield f"{IN_A_ROW} sentences under {SHORT} words come in a row {rows} times, and at most once"
-        favourites = FAVOURITE.findall(text)
-        if len(favourites) > FAVOURITES:
-            yield f"{', '.join(favourites)}: at most {FAVOURITES} of these words"
+        if self.marks > MARKS:
+            yield f"{self.marks:.2f} colons and semicolons a sentence, and at most {MARKS}"
+        if self.negations > most_negations:
+            yield f"{self.negations:.2f} negations in 100 words, and at most {most_negations}"
+        if self.rows > 1:
+            yield f"{IN_A_ROW} sentences under {SHORT} words come in a row {self.rows} times, and at most once"
+        if len(self.favourites) > FAVOURITES:
+            yield f"{', '.join(self.favourites)}: at most {FAVOURITES} of these words"
 
     @staticmethod
     def short_rows(paragraph: tuple[str, ...]) -> int:

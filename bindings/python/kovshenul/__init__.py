@@ -5,22 +5,21 @@
         store.grant(0, 1, document, READ)
         print(store.read(1, document))
 
-A command that the rules don't allow raises Denied, which says by its cause which check failed. Any other refusal raises
-a Refused. Both are an Error. A number that isn't from 0 to 2^64 - 1 raises OverflowError, and what is no number
-TypeError: nothing happened then.
+A command that the rules don't allow raises Denied, whose cause says which check failed. Any other refusal raises a Refused. Both
+are an Error. A number that isn't from 0 to 2^64 - 1 raises OverflowError, and an argument that is no number raises TypeError.
+Nothing happened then.
 
-A store's journal is read by `entry` and `journal`, and given up by `forget`. An Auditor replays it before that, part after part.
-`Store.resume` opens a store that goes on from the entries of another process.
-The types of what an entry says are those of `kovshenul.journal`, and those of what could come about, which `could` answers,
-those of `kovshenul.outlook`. A View, which `view` opens, tells of all questions at once. The module `kovshenul.plain` is a model of the
-store in plain Python, to test a host against.
+`entry` and `journal` read a store's journal, and `forget` gives it up. An Auditor replays it before that, part after part.
+`Store.resume` opens a store that goes on from the entries of another process. `kovshenul.journal` has the types of what an entry
+says. `kovshenul.outlook` has the types of what `could` answers about the future. A View, which `view` opens, answers many such
+questions. The module `kovshenul.plain` is a model of the store in plain Python, to test a host against.
 
-Any thread may call, a finalizer and a signal's handler too. The module has one lock, which makes all calls come one after the
-other, those on different stores too. The library is the one that the
-variable KOVSHENUL_LIBRARY names, else the one beside this module, else the one that the system finds.
+Any thread may call, and so may a finalizer and a signal's handler. The module has one lock, so all calls come one after the
+other, also those on different stores. The library is the one that the variable KOVSHENUL_LIBRARY names. Otherwise it is the one
+beside this module, or the one that the system finds.
 
-The library is called by an extension module, if one was built for this Python, and else by ctypes. All calls do the same either way.
-`BACKEND` says which it is, `extension` or `ctypes`. The variable KOVSHENUL_CTYPES=1 has the package take ctypes.
+An extension module calls the library, if one was built for this Python. Otherwise ctypes does. All calls do the same either way.
+`BACKEND` says which it is, `extension` or `ctypes`. The variable KOVSHENUL_CTYPES=1 makes the package use ctypes.
 """
 from . import journal, outlook
 from ._auditor import Auditor

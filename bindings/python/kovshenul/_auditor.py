@@ -11,8 +11,8 @@ from ._values import Limits, Value
 
 
 class Auditor(Held):
-    """An auditor of a store's journal, by which the store may give up what was audited. `close`, or leaving its `with`, gives its
-    memory back, which is as much as the store's workers reach.
+    """An auditor of a store's journal, with which the store may give up what was audited. `close`, or leaving its `with`, gives
+    its memory back. The memory follows what the store's workers reach.
 
     Open it with the workers, edges and limits with which the store was opened. It begins at the first entry. Any thread may call.
     """
@@ -30,11 +30,11 @@ class Auditor(Held):
         self._place.open(*opening_in(workers, edges, limits))
 
     def feed(self, store: Store) -> int:
-        """Replays what the store holds from the auditor's place on, and answers how many entries passed in all.
+        """Replays the entries that the store holds, from the auditor's place on, and returns how many entries passed in all.
 
-        It raises BadPlace where entries that it hasn't seen were given up, or the store has made fewer than it has seen. By OutOfMemory
-        and BadEntry those that passed stay so, and `at` is the place of the entry at which it stopped. It goes on from there when memory
-        is back; after a bad entry each later feed raises that again.
+        It raises BadPlace if entries that it hasn't seen were given up, or if the store has made fewer than it has seen. After
+        OutOfMemory and BadEntry the entries that passed stay passed, and `at` is the place of the entry at which it stopped. If
+        memory ran out, feed it again. After a bad entry each later feed raises BadEntry again.
         """
         return self._place.feed(place_of("store", store))
 
@@ -44,12 +44,12 @@ class Auditor(Held):
         return self._place.at()
 
     def forget(self, store: Store, upto: int) -> None:
-        """Gives up the store's entries before this place, as `Store.forget` does. It raises NotAudited where the auditor hasn't come as
-        far, and nothing is given up then."""
+        """Gives up the store's entries before this place, as `Store.forget` does. It raises NotAudited if the auditor hasn't come
+        as far, and nothing is given up then."""
         self._place.forget(place_of("store", store), upto)
 
     def sweep(self) -> None:
-        """Gives back what it keeps of vertices that no worker reaches any more. An auditor looks by itself whether to sweep, each time
-        that it keeps a quarter as many vertices again as at its last look, and 65,536 at the least. It sweeps then if rights were given
-        up or a worker retired since its last sweep."""
+        """Gives back what it keeps of vertices that no worker reaches any more. An auditor sweeps by itself too. It looks each
+        time that it keeps a quarter as many vertices again as at its last look, and 65,536 at the least. It then sweeps if rights
+        were given up or a worker retired since its last sweep."""
         self._place.sweep()

@@ -6,7 +6,7 @@ is (`_by_ctypes`), and also where the variable KOVSHENUL_CTYPES is set, to anyth
 A back end is a module with three classes, Store, Auditor and View. An object of one is a place of the library, closed at first.
 It has a method for each call of the class of that name in the package, with the same name and the same numbers, and `is_open`.
 A method looks at its numbers, keeps the calls apart, and raises what wasn't served. What is not a number is packed before (`_packed`).
-What is answered is told in numbers, lists of numbers and tuples of these:
+An answer is given in numbers, lists of numbers and tuples of these:
 
 - a command as its call does, with the edges of a row as Targets;
 - an entry as a Record, the numbers that were stored or read, and the edges that were shown; one to go on from is packed so;

@@ -211,7 +211,7 @@ def _numbers(*numbers: int) -> Tuple[int, ...]:
 
 
 def _targets(numbers: Sequence[int]) -> List[Target]:
-    """The edges that stand in a row as numbers."""
+    """The edges of a row of numbers."""
     each = iter(numbers)
     return list_of(map(target_of, zip(each, map(rights_of, each))))
 
@@ -234,7 +234,7 @@ def _raise(status: int, numbers: Numbers, vertices: Tuple[int, ...]) -> NoReturn
 
 
 class _Place:
-    """What stands in a place of the library."""
+    """What is in a place of the library."""
 
     __slots__ = ("_place", "_at")
     _give_back: ClassVar[Function]

@@ -1,4 +1,4 @@
-"""What the library holds for its caller: it is open or closed, stays where it is, and is given back once."""
+"""What the library holds for its caller. It is open or closed, stays where it is, and is given back once."""
 from __future__ import annotations
 
 from typing import ClassVar, NoReturn, Type, TypeVar
@@ -11,7 +11,7 @@ Own = TypeVar("Own", bound="Held")
 
 
 class Held:
-    """What stands in a place of the library. `close`, or leaving its `with`, gives its memory back. Any thread may call."""
+    """What is in a place of the library. `close`, or leaving its `with`, gives its memory back. Any thread may call."""
 
     __slots__ = ("_place", "__weakref__")
 

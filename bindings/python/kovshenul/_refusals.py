@@ -1,4 +1,4 @@
-"""What a call raises that wasn't served."""
+"""The exceptions of a call that wasn't served."""
 from __future__ import annotations
 
 from operator import index
@@ -32,10 +32,10 @@ class Error(Exception):
 
 
 class Denied(Error, PermissionError):
-    """The rules don't allow a command. Nothing changed but that the journal has it.
+    """The rules don't allow a command. Only the journal changed, which has the entry.
 
-    `rule` and `cause` are words of RULES and CAUSES. Where the cause is `missing`, `rights` are those that are, on the
-    edge from `edge[0]` to `edge[1]`; else there is no edge. It is `not log` where the target of an append stores no log.
+    `rule` and `cause` are words of RULES and CAUSES. If the cause is `missing`, `rights` are the missing rights, on the edge from
+    `edge[0]` to `edge[1]`. Otherwise there is no edge. The cause is `not log` if the target of an append stores no log.
     `vertices` are those that the command named: the worker, for a take or a grant the one between, and the target.
     """
 
@@ -64,7 +64,7 @@ def denied(denial: Numbers, vertices: Tuple[int, ...]) -> Denied:
 
 
 class Refused(Error):
-    """A call was refused. The store is as it was, but that VerticesFull and WorkersFull have an entry in the journal.
+    """A call was refused. The store is as it was, except that VerticesFull and WorkersFull have an entry in the journal.
 
     `status` is the library's number for it, and `text` says what was wrong.
     """
@@ -96,25 +96,25 @@ class AlreadyOpen(Refused, ValueError):
 
 
 class OutOfMemory(Refused, MemoryError):
-    """There was no memory. The same call may be made again."""
+    """Memory ran out. Make the same call again."""
 
     status = 32
 
 
 class HeapFull(Refused):
-    """No cell or block is left, by the limits. After a collection there may be. An opening needs a block for each worker."""
+    """The limits leave no cell or block. Collect, and try again. An opening needs a block for each worker."""
 
     status = 33
 
 
 class VerticesFull(Refused):
-    """As many vertices were made as may be."""
+    """`max_vertices` were made."""
 
     status = 34
 
 
 class WorkersFull(Refused):
-    """As many workers are active as may be, which is 64."""
+    """64 workers are active."""
 
     status = 35
 
@@ -126,7 +126,7 @@ class NoSuchWorker(Refused, LookupError):
 
 
 class BadRights(Refused, ValueError):
-    """No right, or a bit that is none; several rights, where one is asked about."""
+    """No right, or a bit that is no right; several rights, where one is asked about."""
 
     status = 64
 
@@ -182,7 +182,7 @@ class BadPlace(Refused, IndexError):
 
 
 class NotWhole(Refused):
-    """Entries of the journal were given up, so that an audit of all isn't possible any more."""
+    """Entries of the journal were given up, so that they can't all be audited any more."""
 
     status = 98
 

@@ -1,4 +1,4 @@
-"""A store: each call goes to the back end, which looks at its numbers and keeps it apart from other calls."""
+"""A store. Each call goes to the back end, which checks its numbers and keeps it apart from other calls."""
 from __future__ import annotations
 
 from itertools import count as from_on
@@ -23,8 +23,8 @@ Own = TypeVar("Own", bound="Store")
 class Store(Held):
     """An open store. `close`, or leaving its `with`, gives its memory back.
 
-    Any thread may call: the module's lock makes the calls come one after the other. A call whose number is out of its range
-    raises OverflowError, and nothing happened; what isn't served raises Denied or a Refused.
+    Any thread may call. The module's lock makes the calls come one after the other. If a number is out of its range, the call
+    raises OverflowError, and nothing happened. A call that isn't served raises Denied or a Refused.
     """
 
     __slots__ = ()
@@ -95,58 +95,59 @@ class Store(Held):
         self._place.write(worker, target, value)
 
     def append(self, worker: int, target: int, value: int) -> None:
-        """The worker adds to the log of the target, by its right to append. What stores no log is left to `write`."""
+        """The worker adds to the log of the target, by its right to append. To a target that stores no log, write by `write`."""
         self._place.append(worker, target, value)
 
     def create(self, worker: int, rights: int, value: Value) -> int:
-        """Makes a vertex over which the worker has the rights, and answers its name."""
+        """Makes a vertex over which the worker has the rights, and returns its name."""
         return self._place.create(worker, rights, value_in(value))
 
     def spawn(self, worker: int, rights: int, value: Value) -> int:
-        """Makes a worker over which the one who asks has the rights, and answers its name.
+        """Makes a worker over which the asking worker has the rights, and returns its name.
 
-        It holds nothing until it is granted something. At most 64 workers are active at a time, and no name is used again.
+        The new worker holds nothing until it is granted something. At most 64 workers are active at a time, and no name is used
+        again.
         """
         return self._place.spawn(worker, rights, value_in(value))
 
     def retire(self, worker: int) -> None:
-        """The worker retires, and asks for nothing more. Its vertex and its edges stay for as long as a worker reaches
-        them: whoever has an edge to it, as its spawner has, keeps all that it held. Give that edge up, or remove the
-        edges of the one who goes before it retires: `leave` does both."""
+        """The worker retires. Each later call in its name is refused. Its vertex and its edges stay while a worker reaches them.
+        So a worker with an edge to it, as its spawner has, keeps all that it held alive. Give that edge up, or remove the edges
+        of the worker before it retires: `leave` does both."""
         self._place.retire(worker)
 
     def leave(self, worker: int) -> int:
-        """The worker leaves: it gives up each edge that it has, by rising name, and retires. Answers how many edges these
-        were. Each is an entry, and so is the retire. It is done whole, or refused for want of memory."""
+        """The worker leaves: it gives up each of its edges, by rising name, and retires. Returns how many edges these were. Each
+        remove, and the retire, has an entry. The call is done whole, or refused because memory ran out."""
         return self._place.leave(worker)
 
     def who_holds(self, right: int, name: int) -> List[int]:
-        """Who holds the right over the vertex with a name, by rising name: workers, objects and those who retired, of all
-        that a worker reaches. The journal gets no entry of it. BadRights where it isn't one right."""
+        """Returns who holds the right over the vertex with this name, by rising name: workers, objects, and workers that retired,
+        of all that a worker reaches. The journal gets no entry. It raises BadRights if it isn't one right."""
         return self._place.who_holds(right, name)
 
     def subjects(self) -> List[int]:
-        """The names of the active workers, rising. The journal gets no entry of it."""
+        """Returns the names of the active workers, rising. The journal gets no entry."""
         return self._place.subjects()
 
     def read(self, worker: int, target: int) -> List[int]:
-        """The state of the target."""
+        """Returns the state of the target."""
         return self._place.read(worker, target)
 
     def list(self, worker: int, room: int = ROOM) -> List[Target]:
-        """The worker's edges by rising name. The journal gets one entry with all of them, however many there are.
+        """Returns the worker's edges by rising name. The journal gets one entry with all of them, however many there are.
 
         `room` has no effect. It must be a number.
         """
         return self._place.list(worker, room)
 
     def inspect(self, worker: int, target: int, room: int = ROOM) -> List[Target]:
-        """The target's edges by rising name, by the worker's right to inspect it. The journal gets one entry with all of them.
-        `room` has no effect, as in `list`."""
+        """Returns the target's edges by rising name, by the worker's right to inspect it. The journal gets one entry with all of
+        them. `room` has no effect, as in `list`."""
         return self._place.inspect(worker, target, room)
 
     def label(self, worker: int, target: int) -> Rights:
-        """The rights that the worker holds over the target, which may be none. The journal gets no entry of it."""
+        """Returns the rights that the worker holds over the target, which may be none. The journal gets no entry."""
         return RIGHTS[self._place.label(worker, target)]
 
     def could(
@@ -157,10 +158,10 @@ class Store(Held):
         silent: Iterable[int] = (),
         as_if: Iterable[Tuple[int, int, int]] = (),
     ) -> Outlook:
-        """Whether x could ever come to hold the right over y, by any turns of the workers but the silent ones. Whoever is spawned
-        on the way acts too. A name that isn't made yet stands for a vertex that those who act may make.
+        """Returns whether x could ever come to hold the right over y, by any turns of the workers that aren't silent. A worker
+        that is spawned on the way acts too. A name that isn't made yet represents a vertex that those who act may make.
 
-        The edges of `as_if` are supposed to be there too: so a host asks about a grant before it makes it. Their ends may be any
+        The edges of `as_if` are supposed to be there too, so a host asks about a grant before it makes it. Their ends may be any
         vertices that a worker reaches.
 
         A collection changes no answer, and the journal gets no entry. It raises BadRights if `right` isn't one right,
@@ -170,45 +171,46 @@ class Store(Held):
         return outlook_of(*self._place.could(*scene_in(silent, as_if), x, right, y))
 
     def view(self, silent: Iterable[int] = (), as_if: Iterable[Tuple[int, int, int]] = ()) -> View:
-        """A view of what the workers reach, in which the silent ones take no turns, as if these edges were there too. The
-        journal gets no entry. It is refused as `could` is, where that is for what is silent or supposed."""
+        """Opens a view of what the workers reach, in which the silent ones take no turns, as if these edges were there too. The
+        journal gets no entry. It is refused as `could` is for a silent one or a supposed edge."""
         return View(self, silent, as_if)
 
     def collect(self, kind: int = Kind.FULL) -> int:
-        """Collects, and answers how many vertices the heap then has."""
+        """Collects, and returns how many vertices the heap then has."""
         return self._place.collect(number_in(32, kind))
 
     def census(self) -> Counts:
-        """What the heap has, and how many entries and collections were made."""
+        """Counts what the heap has, and how many entries and collections were made."""
         return Counts(*self._place.census())
 
     def names(self) -> Set[int]:
-        """The names of the vertices that the heap has. Those that nobody reaches are among them until a full collection."""
+        """Returns the names of the vertices that the heap has. Vertices that nobody reaches are among them until a full
+        collection."""
         return self._place.names()
 
     def entries(self) -> int:
-        """How many entries the journal ever had, those that were given up included. The next one gets this place."""
+        """Returns how many entries the journal ever had, with those that were given up. The next entry gets this place."""
         return self._place.entries()
 
     def first(self) -> int:
-        """The place of the first entry that the journal holds: 0 until entries are given up."""
+        """Returns the place of the first entry that the journal holds. It is 0 until entries are given up."""
         return self._place.first()
 
     def forget(self, upto: int) -> None:
-        """Gives up the entries before this place. No reply, right or name changes by it, and it takes no memory.
+        """Gives up the entries before this place. No reply, right or name changes, and no memory is taken.
 
-        It raises BadPlace where the place lies before the first entry that is held, or behind that of the next.
+        It raises BadPlace if the place is before the first entry that is held, or after that of the next.
         """
         self._place.forget(upto)
 
     def entry(self, at: int) -> Entry:
-        """The journal's entry at this place, counted from 0. It never changes, and to read it makes none."""
+        """Returns the journal's entry at this place, counted from 0. An entry never changes, and to read one makes none."""
         return entry_of(*self._place.entry(at))
 
     def journal(self) -> Iterator[Entry]:
-        """The entries that the journal holds, one after the other. What is called in between has its entries among them.
+        """Yields the entries that the journal holds, one after the other. Calls in between have their entries among them.
 
-        It raises BadPlace where the next one was given up in between.
+        It raises BadPlace if the next one was given up in between.
         """
         for at in from_on(self.first()):
             try:
@@ -220,5 +222,5 @@ class Store(Held):
             yield entry
 
     def audit(self) -> int:
-        """Replays the journal, and answers how many entries it has. Where some were given up it raises NotWhole."""
+        """Replays the journal, and returns how many entries it has. It raises NotWhole if entries were given up."""
         return self._place.audit()

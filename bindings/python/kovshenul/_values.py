@@ -1,4 +1,4 @@
-"""The numbers that a call takes and answers, under names."""
+"""The numbers that a call takes and returns, under names."""
 from __future__ import annotations
 
 from dataclasses import astuple, dataclass
@@ -12,8 +12,8 @@ MOST_NUMBERS = 64
 
 
 class Rights(IntFlag):
-    """A set of rights over a vertex. APPEND adds to a log, INSPECT shows the vertex's edges. FREE_U and FREE_V are for the host
-    to use: they are taken, granted and removed like all others, and no command asks for them."""
+    """A set of rights over a vertex. APPEND adds to a log, INSPECT lists the vertex's edges. FREE_U and FREE_V are for the host
+    to use. They are taken, granted and removed as all others, and no command asks for them."""
 
     READ = 1
     WRITE = 2
@@ -47,7 +47,7 @@ RIGHTS = [Rights(bits) for bits in range(1 << len(BY_LETTER))]
 
 
 class Kind(IntEnum):
-    """A kind of collection: FULL keeps exactly what can be reached, NURSERY looks at the young cells alone."""
+    """A kind of collection. FULL keeps exactly what can be reached, and NURSERY looks at the young cells only."""
 
     FULL = 0
     NURSERY = 1
@@ -103,7 +103,7 @@ class Max(Value):
 
 @dataclass(frozen=True)
 class Log(Value):
-    """Keeps the last few numbers, from 1 to 64 of them. It begins with none."""
+    """Keeps the last few numbers, from 1 to 64 of them. It begins empty."""
 
     most: int
 
@@ -136,9 +136,9 @@ class Target(NamedTuple):
 
 
 class Counts(NamedTuple):
-    """What the heap has, those that nobody reaches included until a full collection; and how many entries were made, how many of
-    these weren't given up, and how many tell of a denial and of each limit. What is refused without an entry is in no number.
-    At last, how many collections of each kind were done since the store was opened, those that moved nothing too."""
+    """What the heap has, with the vertices that nobody reaches until a full collection frees them. Then how many entries were
+    made, how many of these are held, and how many are denials or found a limit reached. A refusal without an entry is in none of
+    these numbers. At last, how many collections of each kind were done since the store was opened, also if they moved nothing."""
 
     vertices: int
     payloads: int

@@ -1,4 +1,4 @@
-"""A view: what could come about, of all questions at once."""
+"""A view, which answers many questions about the future."""
 from __future__ import annotations
 
 from typing import TYPE_CHECKING, Iterable, Tuple
@@ -13,7 +13,7 @@ if TYPE_CHECKING:
 
 
 class View(Held):
-    """What could come about on a store, of all questions at once, as of the moment of `Store.view`. A question takes the time of
+    """A view of a store, made for many questions about the future, as of the moment of `Store.view`. A question takes the time of
     the edges to y. `close`, or leaving its `with`, gives its memory back. It outlives the store. Any thread may call.
 
         with store.view(silent=[host]) as view:
@@ -21,7 +21,7 @@ class View(Held):
                 if view.could(plugin, WRITE, document) == outlook.Never():
                     print(f"{plugin} never holds w over {document}")
 
-    A plugin that never holds w may still append by `a`, or have another one write for it.
+    A plugin that never holds w may still append by `a`, or have another subject write for it.
     """
 
     __slots__ = ()
@@ -33,6 +33,7 @@ class View(Held):
         self._place.open(place_of("store", store), *scene)
 
     def could(self, x: int, right: int, y: int) -> Chance:
-        """What it tells of the question whether x could ever come to hold the right over y: that it never does, whatever those
-        who act do; that no worker reached x; or Perhaps, which says nothing. BadRights where it isn't one right."""
+        """Returns what is known of the question whether x could ever come to hold the right over y. The answers are that it never
+        does, whatever those who act do, that no worker reached x, and Perhaps, which says nothing. It raises BadRights if it
+        isn't one right."""
         return OUTLOOKS[self._place.could(x, right, y)]()

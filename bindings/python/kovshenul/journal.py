@@ -5,7 +5,7 @@
             case journal.Entry(worker, journal.Write(target, value), journal.Denied(edge=edge)):
                 print(f"{at}: {worker} may not write {value} to {target}: {edge}")
 
-They are values: they compare, print and can be kept, also when the store is closed.
+Entries are values: they compare, print and can be kept, also after the store is closed.
 """
 from __future__ import annotations
 
@@ -50,7 +50,7 @@ class Remove:
 
 @dataclass(frozen=True)
 class Read:
-    """To be shown what the target stores."""
+    """To read what the target stores."""
 
     target: int
 
@@ -73,19 +73,19 @@ class Append:
 
 @dataclass(frozen=True)
 class Inspect:
-    """To be shown the target's edges."""
+    """To list the target's edges."""
 
     target: int
 
 
 @dataclass(frozen=True)
 class List:
-    """To be shown one's own edges."""
+    """To list its own edges."""
 
 
 @dataclass(frozen=True)
 class Retire:
-    """To be a worker no more."""
+    """To retire."""
 
 
 @dataclass(frozen=True)
@@ -111,7 +111,7 @@ class Done:
 
 @dataclass(frozen=True)
 class Denied:
-    """The rules didn't allow it. What it says is what the exception of this name says."""
+    """The rules denied it. It says what the exception of this name says."""
 
     rule: str
     cause: str
@@ -142,12 +142,12 @@ class Edges:
 
 @dataclass(frozen=True)
 class VerticesFull:
-    """None was made, since as many vertices were made as may be."""
+    """No vertex was made, because `max_vertices` were made before."""
 
 
 @dataclass(frozen=True)
 class WorkersFull:
-    """No worker was made, since as many are active as may be."""
+    """No worker was made, because 64 were active."""
 
 
 Deed = Union[Take, Grant, Remove, Read, Write, Append, Inspect, List, Retire, Create, Spawn]

@@ -1,4 +1,4 @@
-"""What is answered to the question whether x could ever come to hold a right over y (`Store.could`, `View.could`).
+"""The answers to the question whether x could ever come to hold a right over y (`Store.could`, `View.could`).
 
     match store.could(plugin, WRITE, document, silent=[host]):
         case outlook.Never():
@@ -6,9 +6,9 @@
         case outlook.Could(turns):
             print(f"it could hold w, after {turns}")
 
-An answer speaks of rights alone. A plugin that never holds w may still append by `a`, or have another one write for it.
+An answer is about rights only. A plugin that never holds w may still append by `a`, or have another subject write for it.
 
-They are values: they compare, print and can be kept, also when the store is closed.
+Answers are values: they compare, print and can be kept, also after the store is closed.
 """
 from __future__ import annotations
 
@@ -20,7 +20,7 @@ from .journal import Deed, Record, deed_of
 
 @dataclass(frozen=True)
 class Turn:
-    """A command of one who acts. A create or a spawn makes the next name."""
+    """A command of a worker that acts. A create or a spawn makes the next name."""
 
     worker: int
     deed: Deed
@@ -28,8 +28,8 @@ class Turn:
 
 @dataclass(frozen=True)
 class Never:
-    """x doesn't hold it now, and comes to hold it by no list of turns of those who act. This stays so until a silent worker acts, as a
-    host that is silent does by each grant."""
+    """x never holds it, whatever those who act do. This stays so until a silent worker acts. A host that is silent acts by each
+    grant."""
 
 
 @dataclass(frozen=True)
@@ -39,15 +39,15 @@ class Now:
 
 @dataclass(frozen=True)
 class Could:
-    """x holds it after these turns, each of which is allowed when it comes. They needn't be the fewest."""
+    """x holds it after these turns, each of which the rules allow when it comes. There may be a shorter list."""
 
     turns: Tuple[Turn, ...]
 
 
 @dataclass(frozen=True)
 class WantsNames:
-    """So it is where so many more vertices may be made. It comes only if y was made and fewer than 64 names are left besides
-    x."""
+    """x could hold it if so many more vertices may be made. This comes only if y was made and fewer than 64 names are left
+    besides x."""
 
     turns: Tuple[Turn, ...]
     names: int
@@ -55,26 +55,26 @@ class WantsNames:
 
 @dataclass(frozen=True)
 class Unreached:
-    """No worker reaches x, which was made: it holds what it holds, for good."""
+    """x was made, and no worker reaches it. What it holds stays for good."""
 
 
 @dataclass(frozen=True)
 class Open:
     """It is not decided whether x could hold it. A policy has to treat this as `Could`.
 
-    It comes of a name that isn't made yet, if more than 65,536 other names come before it, because the turns would have to make all
-    of these. Ask about the next name in its place. Of other names it isn't known to come. If it does, x could hold the right, and the
-    turns aren't known."""
+    It comes for a name that isn't made yet, if more than 65,536 other names come before it. The turns would have to make all of
+    these. Ask about the next name in its place. For other names it isn't known to come. If it does, x could hold the right, and
+    the turns aren't known."""
 
 
 @dataclass(frozen=True)
 class Perhaps:
-    """A view says nothing of the right. `Store.could` tells more."""
+    """The view says nothing of the right. Ask `Store.could`."""
 
 
 Outlook = Union[Never, Now, Could, WantsNames, Unreached, Open]
 
-# What a view tells.
+# What a view answers.
 Chance = Union[Never, Unreached, Perhaps]
 
 # By their numbers.

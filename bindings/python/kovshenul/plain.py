@@ -235,7 +235,7 @@ class Store(_Held):
         return Rights(self._graph.label(worker, target))
 
     def who_holds(self, right: int, name: int) -> List[int]:
-        """Who holds the right over the vertex with a name, of all that a worker reaches, by rising name."""
+        """Returns who holds the right over the vertex with this name, of all that a worker reaches, by rising name."""
         right, name = numbers_in(right, name)
         must_be_one(right)
         self._must_be_open()
@@ -347,7 +347,7 @@ def _reply(deed: Deed, answer: object) -> Reply:
 
 
 class View(_Held):
-    """What could come about, as of the moment of `Store.view`."""
+    """A view, which answers many questions about the future, as of the moment of `Store.view`."""
 
     def __init__(self, store: Store, silent: Iterable[int] = (), as_if: Iterable[Pair] = ()) -> None:
         names, edges = numbers_in(*silent), edges_in(as_if)

@@ -7,8 +7,8 @@ use std::fmt;
 use std::panic::RefUnwindSafe;
 use std::ptr::null_mut;
 
-/// An auditor of a store's journal, which it replays part after part, so that the store may give up what was audited. It
-/// takes memory by what the store's workers reach. Dropping it closes it.
+/// An auditor of a store's journal. It replays the journal part after part, so that the store may give up what was audited.
+/// Its memory follows what the store's workers reach. Dropping it closes it.
 ///
 /// Any thread may have an auditor, and one at a time, as a [`Store`].
 ///
@@ -66,33 +66,33 @@ impl Auditor {
         })
     }
 
-    /// Replays what the store holds from the auditor's place on, and answers how many entries passed in all.
+    /// Replays the entries that the store holds, from the auditor's place on, and returns how many entries passed in all.
     ///
-    /// It is [`BadPlace`](Error::BadPlace) where entries that it hasn't seen were given up, or the store has made fewer than it has
-    /// seen. By [`OutOfMemory`](Error::OutOfMemory) and [`BadEntry`](Error::BadEntry) those that passed stay so, and
-    /// [`at`](Auditor::at) tells the place of the entry at which it stopped. It goes on from there when memory is back; after a bad
-    /// entry each later feed tells that again.
+    /// It is [`BadPlace`](Error::BadPlace) if entries that it hasn't seen were given up, or if the store has made fewer
+    /// than it has seen. After [`OutOfMemory`](Error::OutOfMemory) and [`BadEntry`](Error::BadEntry) the entries that
+    /// passed stay passed, and [`at`](Auditor::at) returns the place of the entry at which it stopped. If memory ran out,
+    /// feed it again. After a bad entry each later feed returns `BadEntry` again.
     pub fn feed(&mut self, store: &Store) -> Result<u64, Error> {
         let mut passed = 0;
         served(unsafe { raw::tg_auditor_feed(self.place.get(), store.at(), &mut passed) })?;
         Ok(passed)
     }
 
-    /// How many entries passed: the place of the next one.
+    /// Returns how many entries passed, which is the place of the next one.
     pub fn at(&self) -> Result<u64, Error> {
         let mut at = 0;
         served(unsafe { raw::tg_auditor_at(self.place.get(), &mut at) })?;
         Ok(at)
     }
 
-    /// Gives up the store's entries before this place, as [`Store::forget`] does. It is [`NotAudited`](Error::NotAudited) where the
-    /// auditor hasn't come as far, and nothing is given up then.
+    /// Gives up the store's entries before this place, as [`Store::forget`] does. It is [`NotAudited`](Error::NotAudited)
+    /// if the auditor hasn't come as far, and nothing is given up then.
     pub fn forget(&self, store: &mut Store, upto: u64) -> Result<(), Error> {
         served(unsafe { raw::tg_auditor_forget(self.place.get(), store.at(), upto) })
     }
 
-    /// Gives back what it keeps of vertices that no worker reaches any more. An auditor looks by itself whether to sweep, each
-    /// time that it keeps a quarter as many vertices again as at its last look, and 65,536 at the least. It sweeps then if
+    /// Gives back what it keeps of vertices that no worker reaches any more. An auditor sweeps by itself too. It looks each
+    /// time that it keeps a quarter as many vertices again as at its last look, and 65,536 at the least. It then sweeps if
     /// rights were given up or a worker retired since its last sweep.
     pub fn sweep(&mut self) -> Result<(), Error> {
         served(unsafe { raw::tg_auditor_sweep(self.place.get()) })

@@ -1,55 +1,55 @@
-//! What could ever come about.
+//! Questions about the future.
 use crate::error::served;
 use crate::raw::{self, RawAnswer, RawEdge, RawRecord};
 use crate::store::MOST_NUMBERS;
 use crate::{Deed, Edge, Error, Rights, Store};
 use std::ptr::null_mut;
 
-/// A command of one who acts.
+/// A command of a worker that acts.
 #[derive(Clone, Copy, PartialEq, Eq, Hash, Debug)]
 pub struct Turn {
-    /// Who asks.
+    /// The worker that asks.
     pub worker: u64,
-    /// What for. A create or a spawn makes the next name.
+    /// What it asks for. A create or a spawn makes the next name.
     pub deed: Deed,
 }
 
-/// What comes of the question whether x could ever come to hold a right over y ([`Store::could`]).
+/// The answer to the question whether x could ever come to hold a right over y ([`Store::could`]).
 #[derive(Clone, PartialEq, Eq, Hash, Debug)]
 #[non_exhaustive]
 pub enum Could {
-    /// x doesn't hold it now, and comes to hold it by no list of turns of those who act. This stays so until a silent worker
-    /// acts, as a host that is silent does by each grant.
+    /// x never holds it, whatever those who act do. This stays so until a silent worker acts. A host that is silent acts by
+    /// each grant.
     Never,
     /// x holds it.
     Now,
-    /// x holds it after these turns, each of which is allowed when it comes. They needn't be the fewest.
+    /// x holds it after these turns, each of which the rules allow when it comes. There may be a shorter list.
     After(Vec<Turn>),
-    /// So it is where so many more vertices may be made. It comes only if y was made and fewer than 64 names are left
+    /// x could hold it if so many more vertices may be made. This comes only if y was made and fewer than 64 names are left
     /// besides x.
     WantsNames {
         /// The turns.
         turns: Vec<Turn>,
-        /// How many names are wanting.
+        /// How many names are lacking.
         names: u64,
     },
-    /// No worker reaches x, which was made: it holds what it holds, for good.
+    /// x was made, and no worker reaches it. What it holds stays for good.
     Unreached,
     /// It is not decided whether x could hold it. A policy has to treat this as [`After`](Could::After).
     ///
-    /// It comes of a name that isn't made yet, if more than 65,536 other names come before it, because the turns would have
-    /// to make all of these. Ask about the next name in its place. Of other names it isn't known to come. If it does, x could
+    /// It comes for a name that isn't made yet, if more than 65,536 other names come before it. The turns would have to
+    /// make all of these. Ask about the next name in its place. For other names it isn't known to come. If it does, x could
     /// hold the right, and the turns aren't known.
     Open,
 }
 
 impl Could {
-    /// Whether it was shown that x never holds the right. Of one whom no worker reaches this isn't said.
+    /// Whether it was shown that x never holds the right. It is false for a vertex that no worker reaches.
     pub fn is_never(&self) -> bool {
         *self == Could::Never
     }
 
-    /// The commands that lead there, one after the other: none but for `After` and `WantsNames`.
+    /// The commands by which x comes to hold it, one after the other. There are none, except for `After` and `WantsNames`.
     pub fn turns(&self) -> std::slice::Iter<'_, Turn> {
         match self {
             Could::After(turns) | Could::WantsNames { turns, .. } => turns.iter(),
@@ -59,13 +59,13 @@ impl Could {
 }
 
 impl Store {
-    /// Whether x could ever come to hold the right over y, by any turns of the workers but the silent ones, as if these
-    /// edges were there too: so a grant is asked about before it is made. Whoever is spawned on the way acts too. A name
-    /// that isn't made yet stands for a vertex that those who act may make.
+    /// Returns whether x could ever come to hold the right over y, by any turns of the workers that aren't silent. These
+    /// edges are supposed to be there too, so a host asks about a grant before it makes it. A worker that is spawned on the
+    /// way acts too. A name that isn't made yet represents a vertex that those who act may make.
     ///
-    /// It is answered of the graph that was never collected, and the journal gets no entry. `BadRights` where it isn't
-    /// one right, `NoSuchWorker` where a silent one is no worker, `BadEdge` where an edge joins a vertex to itself, or
-    /// one that no worker reaches.
+    /// The answer is that of the graph that was never collected, and the journal gets no entry. It is `BadRights` if it
+    /// isn't one right, and `NoSuchWorker` if a silent one is no worker. It is `BadEdge` if an edge joins a vertex to
+    /// itself, or has an end that no worker reaches.
     ///
     /// ```
     /// # use kovshenul::{Could, Deed, Edge, Error, Limits, Rights, Store, Value};

@@ -1,4 +1,4 @@
-//! What a call answers that wasn't served.
+//! What a call returns that wasn't served.
 use crate::raw::{self, RawDenial};
 use crate::Rights;
 use std::ffi::CStr;
@@ -60,7 +60,7 @@ const RULES: [Rule; 7] = [
 #[derive(Clone, Copy, PartialEq, Eq, Hash, Debug)]
 #[non_exhaustive]
 pub enum Denial {
-    /// Two vertices that must differ are one.
+    /// Two vertices that must differ are the same.
     NotDistinct {
         /// What was asked for.
         rule: Rule,
@@ -93,7 +93,7 @@ impl Denial {
 }
 
 impl fmt::Display for Denial {
-    /// The sentence that `tg_denial_text` tells in C.
+    /// The sentence that `tg_denial_text` writes in C.
     fn fmt(&self, out: &mut fmt::Formatter<'_>) -> fmt::Result {
         match self {
             Denial::NotDistinct { rule } => write!(out, "{rule}: two vertices that must differ are one"),
@@ -132,20 +132,20 @@ impl From<&Denial> for RawDenial {
     }
 }
 
-/// Why a call was not served. `Denied` has its entry in the journal, and changed nothing else; of the others the store is as it
-/// was, but that `VerticesFull` and `WorkersFull` have an entry.
+/// Why a call was not served. `Denied` has an entry in the journal, and changed nothing else. After every other refusal the
+/// store is as it was, except that `VerticesFull` and `WorkersFull` have an entry.
 #[derive(Clone, Copy, PartialEq, Eq, Hash, Debug)]
 #[non_exhaustive]
 pub enum Error {
     /// The rules don't allow it.
     Denied(Denial),
-    /// There was no memory. The same call may be made again.
+    /// Memory ran out. Make the same call again.
     OutOfMemory,
-    /// No cell or block is left, by the limits. After a collection there may be.
+    /// The limits leave no cell or block. Collect, and try again.
     HeapFull,
-    /// As many vertices were made as may be.
+    /// `max_vertices` were made.
     VerticesFull,
-    /// As many workers are active as may be, which is 64.
+    /// 64 workers are active.
     WorkersFull,
     /// No active worker has the name: it was never spawned, it is an object, or it retired.
     NoSuchWorker,
@@ -157,7 +157,8 @@ pub enum Error {
     BadWorkers,
     /// A limit is out of its range.
     BadLimits,
-    /// An edge from a worker to itself, or with an end that is no worker; one that is supposed, and no worker reaches an end.
+    /// An edge from a worker to itself, or with an end that is no worker; a supposed edge with an end that no worker
+    /// reaches.
     BadEdge,
     /// An entry to go on from that no store makes, as one with an empty set of rights.
     BadValues,
@@ -166,7 +167,7 @@ pub enum Error {
     BadEntry,
     /// The journal holds no entry at the place: it wasn't made yet, or it was given up. An entry to go on from isn't the next.
     BadPlace,
-    /// Entries of the journal were given up, so that an audit of all isn't possible any more.
+    /// Entries of the journal were given up, so that they can't all be audited any more.
     NotWhole,
     /// Entries before the place weren't audited.
     NotAudited,

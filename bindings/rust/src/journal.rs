@@ -31,7 +31,7 @@ pub enum Deed {
         /// The rights that were to be given up.
         rights: Rights,
     },
-    /// To be shown what the target stores.
+    /// To read what the target stores.
     Read {
         /// The vertex that was to be read.
         target: u64,
@@ -50,14 +50,14 @@ pub enum Deed {
         /// The number.
         value: u64,
     },
-    /// To be shown the target's edges.
+    /// To list the target's edges.
     Inspect {
         /// The vertex whose edges were to be shown.
         target: u64,
     },
-    /// To be shown one's own edges.
+    /// To list its own edges.
     List,
-    /// To be a worker no more.
+    /// To retire.
     Retire,
     /// To make a vertex that stores the value at first, and to have rights over it.
     Create {
@@ -81,7 +81,7 @@ pub enum Deed {
 pub enum Reply {
     /// A take, grant, remove, write, append or retire was done.
     Done,
-    /// The rules didn't allow it.
+    /// The rules denied it.
     Denied(Denial),
     /// A vertex was made, of this name.
     Name(u64),
@@ -89,25 +89,25 @@ pub enum Reply {
     Values(Vec<u64>),
     /// The edges that a list or an inspect showed, by rising name.
     Edges(Vec<Target>),
-    /// None was made, since as many vertices were made as may be.
+    /// No vertex was made, because `max_vertices` were made before.
     VerticesFull,
-    /// No worker was made, since as many are active as may be.
+    /// No worker was made, because 64 were active.
     WorkersFull,
 }
 
 /// An entry of the journal.
 #[derive(Clone, PartialEq, Eq, Hash, Debug)]
 pub struct Entry {
-    /// Who asked.
+    /// The worker that asked.
     pub worker: u64,
-    /// What for.
+    /// What it asked for.
     pub deed: Deed,
     /// What was answered.
     pub reply: Reply,
 }
 
 impl Entry {
-    // What the library told, with all numbers and edges.
+    // What the library returned, with all numbers and edges.
     pub(crate) fn told(record: &RawRecord, numbers: &[u64], edges: &[RawTarget]) -> Entry {
         Entry {
             worker: record.worker,
@@ -118,7 +118,7 @@ impl Entry {
 }
 
 impl Deed {
-    // What the library told of it, with the numbers that a vertex stores at first.
+    // What the library returned of it, with the numbers that a vertex stores at first.
     pub(crate) fn told(record: &RawRecord, numbers: &[u64]) -> Deed {
         let rights = Rights::told(record.rights);
         let RawRecord { via, target, value, .. } = *record;

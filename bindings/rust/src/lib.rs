@@ -16,7 +16,7 @@
 //! # Ok::<(), Error>(())
 //! ```
 //!
-//! Where it is built, `KOVSHENUL_LIB_DIR` names the folder of `libkovshenul.a`, or pkg-config knows it.
+//! To build it, set `KOVSHENUL_LIB_DIR` to the folder of `libkovshenul.a`, or have pkg-config know the library.
 #![deny(missing_docs)]
 mod auditor;
 mod could;

@@ -40,15 +40,15 @@ impl Rights {
     pub const WRITE: Rights = Rights(2);
     /// `t`: takes what the vertex has.
     pub const TAKE: Rights = Rights(4);
-    /// `g`: grants to the vertex what one has.
+    /// `g`: grants to the vertex what its holder has.
     pub const GRANT: Rights = Rights(8);
     /// `a`: adds to a log.
     pub const APPEND: Rights = Rights(16);
-    /// `l`: is shown the edges of the vertex.
+    /// `l`: lists the edges of the vertex.
     pub const INSPECT: Rights = Rights(32);
-    /// `u`: for the host to use. It is taken, granted and removed like all others, and no command asks for it.
+    /// `u`: for the host to use. It is taken, granted and removed as all others, and no command asks for it.
     pub const FREE_U: Rights = Rights(64);
-    /// `v`: another such.
+    /// `v`: for the host to use, as `u`.
     pub const FREE_V: Rights = Rights(128);
 
     /// The set with these bits, where each is a right: a number below 256.
@@ -67,7 +67,7 @@ impl Rights {
         self.0
     }
 
-    /// Whether there is no right in it.
+    /// Whether the set is empty.
     pub fn is_empty(self) -> bool {
         self.0 == 0
     }

@@ -18,11 +18,11 @@ const SHORT_ROW: usize = 64;
 
 /// An open store. Dropping it closes it.
 ///
-/// What only looks takes `&self`: it makes no entry, and changes nothing. A read, a list and an inspect are commands,
-/// of which the journal gets an entry, so they take `&mut self`.
+/// A call that only looks takes `&self`. It makes no entry and changes nothing. A read, a list and an inspect are commands
+/// with an entry in the journal, so they take `&mut self`.
 ///
-/// Any thread may have a store, and one at a time: it is `Send`, and not `Sync`. Behind a lock many threads call it in
-/// turn.
+/// Any thread may have a store, and one at a time: it is `Send`, and not `Sync`. With a lock around it, many threads call
+/// it in turn.
 ///
 /// ```
 /// # use kovshenul::{Limits, Rights, Store, Value};
@@ -38,7 +38,7 @@ const SHORT_ROW: usize = 64;
 /// # Ok::<(), kovshenul::Error>(())
 /// ```
 ///
-/// Two threads at once don't compile, not even two that only look:
+/// Two threads at once don't compile, also if both only look:
 ///
 /// ```compile_fail,E0277
 /// fn look(store: &kovshenul::Store) {
@@ -49,7 +49,7 @@ const SHORT_ROW: usize = 64;
 /// }
 /// ```
 ///
-/// Nor does a copy, or a store that was handed on:
+/// A copy doesn't compile, and neither does a store that was handed on:
 ///
 /// ```compile_fail,E0382
 /// fn both(store: kovshenul::Store) {
@@ -129,22 +129,22 @@ impl Store {
         decided(status, &why)
     }
 
-    /// The worker adds to the log of the target, by its right to append. What stores no log is left to `write`.
+    /// The worker adds to the log of the target, by its right to append. To a target that stores no log, write by `write`.
     pub fn append(&mut self, worker: u64, target: u64, value: u64) -> Result<(), Error> {
         let mut why = RawDenial::default();
         let status = unsafe { raw::tg_append(self.at(), worker, target, value, &mut why) };
         decided(status, &why)
     }
 
-    /// Makes a vertex over which the worker has the rights, and answers its name.
+    /// Makes a vertex over which the worker has the rights, and returns its name.
     pub fn create(&mut self, worker: u64, rights: Rights, value: Value) -> Result<u64, Error> {
         let (value, mut name) = (RawValue::from(&value), 0);
         served(unsafe { raw::tg_create(self.at(), worker, rights.bits(), &value, &mut name) })?;
         Ok(name)
     }
 
-    /// Makes a worker over which the one who asks has the rights, and answers its name. It holds nothing until it is granted something.
-    /// At most 64 workers are active at a time, and no name is used again.
+    /// Makes a worker over which the asking worker has the rights, and returns its name. The new worker holds nothing until
+    /// it is granted something. At most 64 workers are active at a time, and no name is used again.
     ///
     /// ```
     /// # use kovshenul::{Error, Limits, Rights, Store, Value};
@@ -166,15 +166,15 @@ impl Store {
         Ok(name)
     }
 
-    /// The worker retires, and asks for nothing more. Its vertex and its edges stay for as long as a worker reaches them:
-    /// whoever has an edge to it, as its spawner has, keeps all that it held. Give that edge up, or remove the edges of
-    /// the one who goes before it retires ([`Store::leave`] does both). It is never denied.
+    /// The worker retires. Each later call in its name is refused. Its vertex and its edges stay while a worker reaches
+    /// them. So a worker with an edge to it, as its spawner has, keeps all that it held alive. Give that edge up, or remove
+    /// the edges of the worker before it retires ([`Store::leave`] does both). A retire is never denied.
     pub fn retire(&mut self, worker: u64) -> Result<(), Error> {
         served(unsafe { raw::tg_retire(self.at(), worker) })
     }
 
-    /// The worker leaves: it gives up each edge that it has, by rising name, and retires. Answers how many edges these
-    /// were. Each is an entry, and so is the retire. It is done whole, or refused for want of memory.
+    /// The worker leaves: it gives up each of its edges, by rising name, and retires. Returns how many edges these were.
+    /// Each remove, and the retire, has an entry. The call is done whole, or refused because memory ran out.
     ///
     /// ```
     /// # use kovshenul::{Error, Kind, Limits, Rights, Store, Value};
@@ -193,8 +193,8 @@ impl Store {
         Ok(count)
     }
 
-    /// Who holds the right over the vertex with a name, by rising name: workers, objects and those who retired, of all
-    /// that a worker reaches. The journal gets no entry of it. `BadRights` where it isn't one right.
+    /// Returns who holds the right over the vertex with this name, by rising name: workers, objects, and workers that
+    /// retired, of all that a worker reaches. The journal gets no entry. It is `BadRights` if it isn't one right.
     pub fn who_holds(&self, right: Rights, name: u64) -> Result<Vec<u64>, Error> {
         // Whoever holds it is a vertex of the heap, so one walk of the graph finds room for all. The room isn't cleared.
         let (mut names, mut count) = (Vec::with_capacity(self.census()?.vertices as usize), 0);
@@ -210,14 +210,14 @@ impl Store {
         }
     }
 
-    /// The names of the active workers, rising. The journal gets no entry of it.
+    /// Returns the names of the active workers, rising. The journal gets no entry.
     pub fn subjects(&self) -> Result<Vec<u64>, Error> {
         let (mut names, mut count) = ([0; MOST_WORKERS], 0);
         served(unsafe { raw::tg_subjects(self.at(), names.as_mut_ptr(), names.len(), &mut count) })?;
         Ok(names[..count as usize].to_vec())
     }
 
-    /// The state of the target.
+    /// Returns the state of the target.
     pub fn read(&mut self, worker: u64, target: u64) -> Result<Vec<u64>, Error> {
         let (mut numbers, mut count) = ([0; MOST_NUMBERS], 0);
         let mut why = RawDenial::default();
@@ -236,15 +236,15 @@ impl Store {
         Ok(numbers[..count as usize].to_vec())
     }
 
-    /// The worker's edges by rising name. The journal gets one entry with all of them, however many there are.
+    /// Returns the worker's edges by rising name. The journal gets one entry with all of them, however many there are.
     pub fn list(&mut self, worker: u64) -> Result<Vec<Target>, Error> {
         let (mut edges, mut count) = ([RawTarget::default(); SHORT_ROW], 0);
         served(unsafe { raw::tg_list(self.at(), worker, edges.as_mut_ptr(), edges.len(), &mut count) })?;
         self.row(&edges, count as usize)
     }
 
-    /// The target's edges by rising name, by the worker's right to inspect it. The journal gets one entry with all of
-    /// them.
+    /// Returns the target's edges by rising name, by the worker's right to inspect it. The journal gets one entry with all
+    /// of them.
     pub fn inspect(&mut self, worker: u64, target: u64) -> Result<Vec<Target>, Error> {
         let (mut edges, mut count) = ([RawTarget::default(); SHORT_ROW], 0);
         let mut why = RawDenial::default();
@@ -273,28 +273,29 @@ impl Store {
         Ok(edges.iter().map(Target::from).collect())
     }
 
-    /// The rights that the worker holds over the target, which may be none. The journal gets no entry of it.
+    /// Returns the rights that the worker holds over the target, which may be none. The journal gets no entry.
     pub fn label(&self, worker: u64, target: u64) -> Result<Rights, Error> {
         let mut rights = 0;
         served(unsafe { raw::tg_label(self.at(), worker, target, &mut rights) })?;
         Ok(Rights::told(rights))
     }
 
-    /// Collects, and answers how many vertices the heap then has.
+    /// Collects, and returns how many vertices the heap then has.
     pub fn collect(&mut self, kind: Kind) -> Result<u64, Error> {
         let mut left = 0;
         served(unsafe { raw::tg_collect(self.at(), kind as u32, &mut left) })?;
         Ok(left)
     }
 
-    /// What the heap has, and how many entries and collections were made.
+    /// Counts what the heap has, and how many entries and collections were made.
     pub fn census(&self) -> Result<Counts, Error> {
         let mut counts = Counts::default();
         served(unsafe { raw::tg_census(self.at(), &mut counts) })?;
         Ok(counts)
     }
 
-    /// The names of the vertices that the heap has, each once. Those that nobody reaches are among them until a full collection.
+    /// Returns the names of the vertices that the heap has, each once. Vertices that nobody reaches are among them until a
+    /// full collection.
     pub fn names(&self) -> Result<Vec<u64>, Error> {
         let mut names = vec![0; self.census()?.vertices as usize];
         let mut count = 0;
@@ -302,22 +303,23 @@ impl Store {
         Ok(names)
     }
 
-    /// How many entries the journal ever had, those that were given up included. The next one gets this place.
+    /// Returns how many entries the journal ever had, with those that were given up. The next entry gets this place.
     pub fn entries(&self) -> Result<u64, Error> {
         let mut count = 0;
         served(unsafe { raw::tg_entries(self.at(), &mut count) })?;
         Ok(count)
     }
 
-    /// The place of the first entry that the journal holds: 0 until entries are given up ([`forget`](Store::forget)).
+    /// Returns the place of the first entry that the journal holds. It is 0 until entries are given up
+    /// ([`forget`](Store::forget)).
     pub fn first(&self) -> Result<u64, Error> {
         let mut first = 0;
         served(unsafe { raw::tg_first(self.at(), &mut first) })?;
         Ok(first)
     }
 
-    /// Gives up the entries before this place. No reply, right or name changes by it, and it takes no memory. It is
-    /// [`BadPlace`](Error::BadPlace) where the place lies before the first entry that is held, or behind that of the next.
+    /// Gives up the entries before this place. No reply, right or name changes, and no memory is taken. It is
+    /// [`BadPlace`](Error::BadPlace) if the place is before the first entry that is held, or after that of the next.
     ///
     /// ```
     /// # use kovshenul::{Error, Limits, Rights, Store, Value};
@@ -335,7 +337,7 @@ impl Store {
         served(unsafe { raw::tg_forget(self.at(), upto) })
     }
 
-    /// The journal's entry at this place, counted from 0. It never changes, and to read it makes none.
+    /// Returns the journal's entry at this place, counted from 0. An entry never changes, and to read one makes none.
     ///
     /// ```
     /// # use kovshenul::{Deed, Denial, Error, Limits, Reply, Rights, Rule, Store, Value};
@@ -352,7 +354,7 @@ impl Store {
     pub fn entry(&self, at: u64) -> Result<Entry, Error> {
         let mut numbers = [0; MOST_NUMBERS];
         let mut record = self.record(at, &mut numbers, &mut [])?;
-        // Few entries have edges. How many these are was told.
+        // Few entries have edges. How many these are is known.
         let mut edges = vec![RawTarget::default(); record.edge_count as usize];
         if !edges.is_empty() {
             record = self.record(at, &mut numbers, &mut edges)?;
@@ -360,7 +362,7 @@ impl Store {
         Ok(Entry::told(&record, &numbers[..record.number_count as usize], &edges))
     }
 
-    // The same as the library tells it, with as many of its numbers and edges as there is room for.
+    // The same as the library returns it, with as many of its numbers and edges as there is room for.
     fn record(&self, at: u64, numbers: &mut [u64], edges: &mut [RawTarget]) -> Result<RawRecord, Error> {
         let mut record = RawRecord::default();
         let status = unsafe {
@@ -377,7 +379,7 @@ impl Store {
         served(status).map(|()| record)
     }
 
-    /// The entries that the journal holds, one after the other.
+    /// Returns the entries that the journal holds, one after the other.
     ///
     /// ```
     /// # use kovshenul::{Deed, Entry, Error, Limits, Reply, Rights, Store, Value};
@@ -394,8 +396,8 @@ impl Store {
         Journal::new(self)
     }
 
-    /// Replays the journal, and answers how many entries it has. Where entries were given up it is
-    /// [`NotWhole`](Error::NotWhole); an [`Auditor`](crate::Auditor) replays them before they are.
+    /// Replays the journal, and returns how many entries it has. It is [`NotWhole`](Error::NotWhole) if entries were given
+    /// up. An [`Auditor`](crate::Auditor) replays entries before they are given up.
     pub fn audit(&self) -> Result<u64, Error> {
         let mut count = 0;
         served(unsafe { raw::tg_audit(self.at(), &mut count) })?;

@@ -1,4 +1,4 @@
-//! What a call takes and answers, beside rights and refusals.
+//! What a call takes and returns, apart from rights and refusals.
 use crate::raw::RawTarget;
 use crate::Rights;
 
@@ -12,7 +12,7 @@ pub enum Value {
     Sum(u64),
     /// Keeps the greatest.
     Max(u64),
-    /// Keeps the last few, from 1 to 64 of them. It begins with none.
+    /// Keeps the last few, from 1 to 64 of them. It begins empty.
     Log(u32),
 }
 
@@ -37,17 +37,17 @@ pub struct Edge {
 #[repr(C)]
 #[derive(Clone, Copy, PartialEq, Eq, Hash, Debug)]
 pub struct Limits {
-    /// How many vertices may ever be made, workers included: from those of the opening to 2^48.
+    /// How many vertices may ever be made, with the workers: from those of the opening to 2^48.
     pub max_vertices: u64,
-    /// How many blocks of 64 cells of 64 bytes there may be in all: from 1 to 2^20, and one a worker at least. It bounds
-    /// how many vertices live at once: 65,536 blocks held 3,595,117 of one row.
+    /// How many blocks of 64 cells of 64 bytes there may be in all: from 1 to 2^20, and at least one for each worker. They
+    /// bound how many vertices live at once: 65,536 blocks held 3,595,117 of one row.
     pub max_blocks: u64,
     /// How many of them in one space: from 1 to 2^20.
     pub max_space_blocks: u64,
 }
 
 impl Default for Limits {
-    /// 2^20 vertices, 4,096 blocks in all (16 MiB of cells), and as many in one space as may be.
+    /// 2^20 vertices, 4,096 blocks in all (16 MiB of cells), and the most blocks in one space.
     fn default() -> Limits {
         Limits {
             max_vertices: 1 << 20,
@@ -63,7 +63,7 @@ impl Default for Limits {
 pub enum Kind {
     /// Keeps exactly the vertices that can be reached from a worker.
     Full = 0,
-    /// Looks at the young cells alone, and may keep vertices that nobody reaches.
+    /// Looks at the young cells only, and may keep vertices that nobody reaches.
     Nursery = 1,
 }
 
@@ -94,8 +94,8 @@ impl From<&Target> for RawTarget {
     }
 }
 
-/// What the heap has, those that nobody reaches included until a full collection, and how many entries and collections were
-/// made since the store was opened. What is refused without an entry is in no number.
+/// What the heap has, with the vertices that nobody reaches until a full collection frees them, and how many entries and
+/// collections were made since the store was opened. A refusal without an entry is in none of these numbers.
 #[repr(C)]
 #[derive(Clone, Copy, Default, PartialEq, Eq, Hash, Debug)]
 pub struct Counts {
@@ -107,15 +107,15 @@ pub struct Counts {
     pub blocks: u64,
     /// How many entries were made.
     pub entries: u64,
-    /// How many of these weren't given up.
+    /// How many of these are held.
     pub held: u64,
-    /// How many of those made tell of a denial.
+    /// How many of those made are denials.
     pub denied: u64,
-    /// How many tell that as many vertices as may be were made.
+    /// How many were refused because `max_vertices` were made.
     pub vertices_full: u64,
-    /// How many tell that as many workers as may be were there.
+    /// How many were refused because 64 workers were active.
     pub workers_full: u64,
-    /// How many nursery collections were done, those that moved nothing too.
+    /// How many nursery collections were done, also if they moved nothing.
     pub nursery_collections: u64,
     /// How many full collections were done.
     pub full_collections: u64,

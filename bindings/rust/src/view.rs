@@ -1,4 +1,4 @@
-//! What could ever come about, of all questions at once.
+//! Many questions about the future, of one moment.
 use crate::error::served;
 use crate::raw::{self, RawEdge, RawView};
 use crate::{Edge, Error, Rights, Store};
@@ -7,21 +7,20 @@ use std::fmt;
 use std::panic::RefUnwindSafe;
 use std::ptr::null_mut;
 
-/// What a [`View`] tells of the question whether x could ever come to hold a right over y.
+/// The answer of a [`View`] to the question whether x could ever come to hold a right over y.
 #[derive(Clone, Copy, PartialEq, Eq, Hash, Debug)]
 #[non_exhaustive]
 pub enum Chance {
-    /// After no list of turns of those who act does x hold it.
+    /// x never holds it, whatever those who act do.
     Never,
-    /// No worker reached x, which was made: it holds what it holds, for good.
+    /// x was made, and no worker reached it. What it holds stays for good.
     Unreached,
-    /// Nothing is told of the right. [`Store::could`] tells more.
+    /// The view says nothing of the right. Ask [`Store::could`].
     Perhaps,
 }
 
-/// A view of a store: what could come about, of all questions at once, as of the moment of [`Store::view`]. A question
-/// takes the time of the edges to y. `Never` stays so until something silent acts. It has nothing of the store, and
-/// outlives it. Dropping it closes it.
+/// A view of a store, made for many questions about the future, as of the moment of [`Store::view`]. A question takes the
+/// time of the edges to y. `Never` stays so until a silent worker acts. A view outlives its store. Dropping it closes it.
 ///
 /// Any thread may have a view, and one at a time, as a [`Store`].
 ///
@@ -51,7 +50,7 @@ impl RefUnwindSafe for View {}
 
 impl Store {
     /// Opens a view of what the workers reach, in which the silent ones take no turns, as if these edges were there too.
-    /// The journal gets no entry. Refused as [`Store::could`] is, where that is for what is silent or supposed.
+    /// The journal gets no entry. It is refused as [`Store::could`] is for a silent one or a supposed edge.
     pub fn view(&self, silent: &[u64], as_if: &[Edge]) -> Result<View, Error> {
         let edges: Vec<RawEdge> = as_if.iter().map(RawEdge::from).collect();
         let view = View {
@@ -75,8 +74,8 @@ impl Store {
 }
 
 impl View {
-    /// What it tells of the question whether x could ever come to hold the right over y. `BadRights` where it isn't one
-    /// right.
+    /// Returns what is known of the question whether x could ever come to hold the right over y. It is `BadRights` if it
+    /// isn't one right.
     pub fn could(&self, x: u64, right: Rights, y: u64) -> Result<Chance, Error> {
         let mut kind = 0;
         served(unsafe { raw::tg_view_could(self.place.get(), x, right.bits(), y, &mut kind) })?;

@@ -34,6 +34,11 @@ class ProseOfAPage(unittest.TestCase):
     def test_a_page_with_no_prose_has_no_fault(self):
         self.assertEqual(self.faults("| a | b |\n"), [])
 
+    def test_a_row_has_the_measures_and_a_sign_of_a_fault(self):
+        row = Prose.of("It is so here: and there; as it was. It is so.").row("PAGE").split()
+        self.assertEqual(row, ["PAGE", "2", "6.0", "0.0%", "9", "0.50", "0.00", "0", "0", "x"])
+        self.assertEqual(Prose.of("| a | b |").row("PAGE").split(), ["PAGE", "0"])
+
     def test_a_long_sentence_is_a_fault(self):
         others = "It is so here and it is also there today. " * 9
         self.assertEqual(self.faults(f"It {'is ' * 43}so. {others}"), [])
