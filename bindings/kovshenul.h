@@ -9,7 +9,7 @@
    status below 16 means, and when each other status comes, with two exceptions. TG_OUT_OF_MEMORY may come from any call
    that needs memory. TG_HEAP_FULL comes only where the limits may leave no room; that it comes then is proved of tg_open alone.
    What stands before the exports (kovshenul.c) is tested and not proved: NULL where it may stand, tg_resume, which asks proved calls
-   and compares their entries, the texts and tg_version.
+   and compares their entries, tg_apply_all, which asks proved calls one after the other, the texts and tg_version.
    Nothing checks what this header asks of its caller.
 
    What C owes:
@@ -93,10 +93,10 @@ enum {
 
     TG_BAD_RIGHTS = 64,       /* no right, or a bit that is none; several where one is asked about; tg_rights_read: other letters */
     TG_BAD_LAW = 65,          /* no such law, or a log of 0 or of more than 64 numbers */
-    TG_BAD_KIND = 66,         /* tg_collect: no such kind */
+    TG_BAD_KIND = 66,         /* tg_collect: no such kind; tg_apply_all: no such command */
 
     TG_BAD_WORKERS = 80,      /* tg_open: not from 1 to 64 workers */
-    TG_BAD_LIMITS = 81,       /* tg_open: a limit is out of its range */
+    TG_BAD_LIMITS = 81,       /* tg_open: a limit is out of its range; tg_apply_all: more than 1,024 commands */
     TG_BAD_EDGE = 82,         /* an edge from a vertex to itself; tg_open: with an end that is no worker; as_if: that none reaches */
     TG_BAD_VALUES = 83,       /* tg_resume: exactly where tg_entry writes no entry so; tg_open: kept; no value that a tg_value can say gives it */
 
@@ -319,6 +319,27 @@ tg_status tg_list(tg_store *store, uint64_t worker, tg_target *edges, size_t roo
    The journal gets the whole list each time, as it does of tg_list. */
 tg_status tg_inspect(tg_store *store, uint64_t worker, uint64_t target, tg_target *edges, size_t room, uint64_t *count,
                      tg_denial *denial);
+
+/* A command for tg_apply_all: 40 bytes. What its deed doesn't need isn't looked at. */
+typedef struct tg_command {
+    uint32_t deed;            /* TG_DEED_TAKE .. TG_DEED_RETIRE. A create and a spawn have calls of their own */
+    uint64_t via;             /* of a take or a grant */
+    uint64_t target;          /* of all but a list and a retire */
+    uint64_t rights;          /* of a take, grant or remove */
+    uint64_t value;           /* of a write or an append */
+} tg_command;
+
+/* Takes commands of the worker one after the other, at most 1,024, each as its own call does. Each has its own entry, at places that
+   follow one another, of which the first goes to *first. The first `room` answers go to answers, as tg_entry writes entries. The numbers
+   and edges of an answer are read from its entry. A denial is an answer, and the next command is taken after it. How many commands were
+   taken goes to *done, and TG_DONE says that all were.
+
+   Before the store is looked at, it is TG_BAD_LIMITS exactly where there are more than 1,024 commands, then TG_BAD_KIND or
+   TG_BAD_RIGHTS by the first command that names no deed or no set of rights. Then it is TG_NOT_OPEN exactly where the store is closed.
+   These write to no out parameter, and no command is taken. Any other status is that of the first command that is refused. The *done
+   commands before it stay taken, and those after it aren't asked for. */
+tg_status tg_apply_all(tg_store *store, uint64_t worker, const tg_command *commands, size_t count, tg_record *answers, size_t room,
+                       uint64_t *first, uint64_t *done);
 
 /* The rights that the worker holds over the target go to *rights: 0 for none, as over itself, over a name that was never made,
    and over one that was collected. The journal gets no entry, and no memory is taken: so a host asks by this what a worker may do,
