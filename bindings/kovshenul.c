@@ -1,5 +1,5 @@
 /* What stands before the proved calls: NULL for an array of no items and for a denial that isn't wanted, a store that goes on
-   from entries, the texts of statuses, denials and rights, and the library's version.
+   from entries, several commands in one call, the texts of statuses, denials and rights, and the library's version.
 
    It is tested, and nothing of it is proved. The build names each proved call below proved_.., and links this file with
    them. */
@@ -322,6 +322,67 @@ tg_status tg_resume(tg_store *store, uint64_t at, const tg_record *record, const
     return status;
 }
 
+/* ---- several commands in one call. Each is asked for by its proved call, and its answer is read from its entry. */
+
+enum { MOST_COMMANDS = 1024, MOST_BITS = 255 };
+
+/* What refuses a command before the store is looked at, or TG_DONE. */
+static tg_status fault_of(const tg_command *it) {
+    switch (it->deed) {
+    case TG_DEED_TAKE:
+    case TG_DEED_GRANT:
+    case TG_DEED_REMOVE: return it->rights == 0 || it->rights > MOST_BITS ? TG_BAD_RIGHTS : TG_DONE;
+    case TG_DEED_READ:
+    case TG_DEED_WRITE:
+    case TG_DEED_APPEND:
+    case TG_DEED_INSPECT:
+    case TG_DEED_LIST:
+    case TG_DEED_RETIRE: return TG_DONE;
+    default: return TG_BAD_KIND;
+    }
+}
+
+static tg_status ask_for(tg_store *store, uint64_t worker, const tg_command *it) {
+    tg_denial why;
+    tg_target edge;
+    uint64_t number, count;
+    switch (it->deed) {
+    case TG_DEED_TAKE: return proved_tg_take(store, worker, it->via, it->target, it->rights, &why);
+    case TG_DEED_GRANT: return proved_tg_grant(store, worker, it->via, it->target, it->rights, &why);
+    case TG_DEED_REMOVE: return proved_tg_remove(store, worker, it->target, it->rights, &why);
+    case TG_DEED_READ: return proved_tg_read(store, worker, it->target, &number, 0, &count, &why);
+    case TG_DEED_WRITE: return proved_tg_write(store, worker, it->target, it->value, &why);
+    case TG_DEED_APPEND: return proved_tg_append(store, worker, it->target, it->value, &why);
+    case TG_DEED_INSPECT: return proved_tg_inspect(store, worker, it->target, &edge, 0, &count, &why);
+    case TG_DEED_LIST: return proved_tg_list(store, worker, &edge, 0, &count);
+    default: return tg_retire(store, worker);
+    }
+}
+
+tg_status tg_apply_all(tg_store *store, uint64_t worker, const tg_command *commands, size_t count, tg_record *answers, size_t room,
+                       uint64_t *first, uint64_t *done) {
+    uint64_t number;
+    tg_target edge;
+    if (count > MOST_COMMANDS)
+        return TG_BAD_LIMITS;
+    for (size_t i = 0; i < count; i++) {
+        const tg_status fault = fault_of(commands + i);
+        if (fault != TG_DONE)
+            return fault;
+    }
+    tg_status status = tg_entries(store, first);
+    if (status != TG_DONE)
+        return status;
+    for (*done = 0; *done < count; (*done)++) {
+        status = ask_for(store, worker, commands + *done);
+        if (status != TG_DONE && status != TG_DENIED)
+            return status;
+        if (*done < room)
+            proved_tg_entry(store, *first + *done, answers + *done, &number, 0, &edge, 0);
+    }
+    return TG_DONE;
+}
+
 const char *tg_version(void) {
     return KOVSHENUL_VERSION;
 }
@@ -344,11 +405,11 @@ const char *tg_status_text(tg_status status) {
         return "bad rights: none, a bit that is no right, several where one is asked about, or letters "
                "that are not in the order rwtgaluv";
     case TG_BAD_LAW: return "no such law, or a log of 0 or of more than 64 numbers";
-    case TG_BAD_KIND: return "no such kind of collection";
+    case TG_BAD_KIND: return "no such kind of collection, or no such command of a batch";
     case TG_BAD_WORKERS: return "an opening has from 1 to 64 workers";
     case TG_BAD_LIMITS:
         return "a limit is out of its range: max_vertices is from the number of workers to 2^48, "
-               "max_blocks and max_space_blocks from 1 to 1048576";
+               "max_blocks and max_space_blocks from 1 to 1048576; a batch has at most 1024 commands";
     case TG_BAD_EDGE:
         return "an edge from a vertex to itself; an opening's edge with an end that is no worker; a "
                "supposed edge with an end that no worker reaches";

@@ -8,8 +8,8 @@
    Each call returns a status. The library's exports have contracts, which are proved (crates/tg_c/specs). They say what a
    status below 16 means, and when each other status comes, with two exceptions. TG_OUT_OF_MEMORY may come from each call that
    needs memory. TG_HEAP_FULL comes only where the limits may leave no room, and only of tg_open is it proved that it comes
-   then. The file kovshenul.c comes before the exports, and is tested and not proved. It has the use of NULL, tg_resume (which
-   asks proved calls and compares their entries), the texts and tg_version. Nothing checks what this header asks of its caller.
+   then. The file kovshenul.c comes before the exports, and is tested and not proved. It has the use of NULL, tg_apply_all
+   (which makes proved calls one after the other), the texts and tg_version. Nothing checks what this header asks of its caller.
 
    What the caller in C owes:
    - Each pointer is to memory of the stated type. No other argument of the call overlaps it, and nobody else uses it while the
@@ -94,10 +94,10 @@ enum {
 
     TG_BAD_RIGHTS = 64,       /* no right, or a bit that is no right; several rights where one is asked about; tg_rights_read: other letters */
     TG_BAD_LAW = 65,          /* no such law, or a log of 0 or of more than 64 numbers */
-    TG_BAD_KIND = 66,         /* tg_collect: no such kind */
+    TG_BAD_KIND = 66,         /* tg_collect: no such kind; tg_apply_all: no such command */
 
     TG_BAD_WORKERS = 80,      /* tg_open: not from 1 to 64 workers */
-    TG_BAD_LIMITS = 81,       /* tg_open: a limit is out of its range */
+    TG_BAD_LIMITS = 81,       /* tg_open: a limit is out of its range; tg_apply_all: more than 1,024 commands */
     TG_BAD_EDGE = 82,         /* an edge from a vertex to itself; tg_open: an end that is no worker; as_if: an end that no worker reaches */
     TG_BAD_VALUES = 83,       /* tg_resume: exactly where tg_entry writes no entry so; tg_open: kept; no value that a tg_value can say gives it */
 
@@ -323,6 +323,27 @@ tg_status tg_list(tg_store *store, uint64_t worker, tg_target *edges, size_t roo
    goes to *count. The journal gets the whole list each time, as it does for tg_list. */
 tg_status tg_inspect(tg_store *store, uint64_t worker, uint64_t target, tg_target *edges, size_t room, uint64_t *count,
                      tg_denial *denial);
+
+/* A command for tg_apply_all: 40 bytes. A field that the deed doesn't use is ignored. */
+typedef struct tg_command {
+    uint32_t deed;            /* TG_DEED_TAKE .. TG_DEED_RETIRE. A create and a spawn have calls of their own */
+    uint64_t via;             /* of a take or a grant */
+    uint64_t target;          /* of all but a list and a retire */
+    uint64_t rights;          /* of a take, grant or remove */
+    uint64_t value;           /* of a write or an append */
+} tg_command;
+
+/* Takes at most 1,024 commands of the worker one after the other, each as its own call does. Each has its own entry, at places
+   that follow one another. The place of the first entry goes to *first. The first `room` answers go to answers, in the form in
+   which tg_entry writes entries. Read the numbers and edges of an answer from its entry. A denial is an answer, and the next
+   command is taken after it. How many commands were taken goes to *done. TG_DONE says that all were taken.
+
+   Before the store is looked at, it is TG_BAD_LIMITS exactly where there are more than 1,024 commands. Then it is TG_BAD_KIND or
+   TG_BAD_RIGHTS by the first command that names no deed or no set of rights. Then it is TG_NOT_OPEN exactly where the store is
+   closed. These write to no out parameter, and no command is taken. Any other status is that of the first command that is
+   refused. The *done commands before it stay taken, and those after it aren't asked for. */
+tg_status tg_apply_all(tg_store *store, uint64_t worker, const tg_command *commands, size_t count, tg_record *answers, size_t room,
+                       uint64_t *first, uint64_t *done);
 
 /* Writes the rights that the worker holds over the target to *rights. They are 0 for no rights: over itself, over a name that
    was never made, and over a vertex that was collected. The journal gets no entry, and no memory is taken. So a host asks by
