@@ -85,7 +85,7 @@ enum {
     TG_NOT_OPEN = 16,         /* exactly where the store, auditor, answer or view is closed, and no argument is TG_BAD_.. or TG_NOT_AUDITED */
     TG_ALREADY_OPEN = 17,     /* tg_open, tg_auditor_open: exactly where it is open; tg_could, tg_view_open: where the answer or view is open, and no bits are bad */
 
-    TG_OUT_OF_MEMORY = 32,    /* malloc or realloc returned no memory. Make the same call again. Only TG_BAD_EDGE of a supposed edge is looked at later */
+    TG_OUT_OF_MEMORY = 32,    /* malloc or realloc returned no memory. Make the same call again. Only TG_BAD_ENTRY, and TG_BAD_EDGE of a supposed edge, are looked at later */
     TG_HEAP_FULL = 33,        /* the limits leave no cell or block. Call tg_collect, and try again */
     TG_VERTICES_FULL = 34,    /* tg_create, tg_spawn: max_vertices were made. The journal has an entry of it */
     TG_WORKERS_FULL = 35,     /* tg_spawn: 64 workers are active, and a vertex may be made. The journal has an entry of it */
@@ -390,13 +390,14 @@ tg_status tg_forget(tg_store *store, uint64_t upto);
    store may be resumed, one that has taken commands too. Entries don't say when the store collected: if the heap is full for a deed, a
    full collection is made, and the deed is tried once more.
 
-   It is refused in this order. The first four come exactly where they say:
+   It is refused in this order. The first three come exactly where they say:
    - TG_BAD_VALUES where tg_entry writes no entry so. What a deed or a reply hasn't must be 0, and the counts must be the record's.
    - TG_NOT_OPEN where the store is closed.
    - TG_BAD_PLACE where the place isn't that of the next entry (tg_entries). So no entry is left out or taken twice.
    - TG_BAD_ENTRY where the entry isn't legal: it was altered, or is of another opening. *store is closed then, and nothing of it is kept.
-   - TG_OUT_OF_MEMORY, TG_HEAP_FULL: there is no room for the entry. The store has all entries before it, and goes on if it is
-     handed this entry again. A heap that is full after a full collection needs greater limits: open another store. */
+   - TG_OUT_OF_MEMORY, TG_HEAP_FULL: there is no room for the entry, or no memory to read it. The store has all entries before it,
+     and goes on if it is handed this entry again. A heap that is full after a full collection needs greater limits: open another
+     store. */
 tg_status tg_resume(tg_store *store, uint64_t at, const tg_record *record, const uint64_t *numbers, size_t number_count,
                     const tg_target *edges, size_t edge_count);
 

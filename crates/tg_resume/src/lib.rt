@@ -31,5 +31,5 @@ mod part;
 mod stopped;
 
 pub use maker::{ByLaw, Maker};
-pub use part::{Part, resume};
+pub use part::{Halted, Part, replay_all, resume};
 pub use stopped::ResumeStopped;
