@@ -6,11 +6,11 @@ ghost use Rattle.tg_resume.specs.Inner.Replaying.{IsHalted};
 ghost use Rattle.tg_resume.specs.Resuming.{IsStopped, Resumes};
 
 use crate::entry::replay;
-use crate::maker::Maker;
 use crate::stopped::ResumeStopped;
 use std::alloc::Global;
 use tg_journal::{Entry, Journal};
 use tg_payload::Payload;
+use tg_rebuild::Maker;
 use tg_space::RoomFault;
 use tg_store::Store;
 
