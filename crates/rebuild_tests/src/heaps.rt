@@ -45,17 +45,19 @@ fn shown(alloc: Global, with_zero: bool) -> Option<Snapshot> {
     Snapshot::new(picture, vertices, 77).ok()
 }
 
-fn opened(alloc: Global, snapshot: &Snapshot, blocks: u64) -> Result<Heap<LawPayload>, RoomFault> {
-    match Limits::new(blocks, blocks) {
-        Ok(limits) => heap_of(alloc, snapshot, limits, &mut ByLaw { alloc }),
-        Err(_) => Err(RoomFault::OutOfMemory),
-    }
+fn opened(
+    alloc: Global,
+    snapshot: &Snapshot,
+    blocks: u64,
+) -> Option<Result<Heap<LawPayload>, RoomFault>> {
+    let limits = Limits::new(blocks, blocks).ok()?;
+    Some(heap_of(alloc, snapshot, limits, &mut ByLaw { alloc }))
 }
 
 // How many subjects and vertices there are, how many edges from 2 and, over 5, from 7, what 7 stores, and whether the
 // edge from there leads back.
 fn seen(alloc: Global, with_zero: bool) -> Option<[u64; 7]> {
-    let heap = opened(alloc, &shown(alloc, with_zero)?, 64).ok()?;
+    let heap = opened(alloc, &shown(alloc, with_zero)?, 64)?.ok()?;
     let two = heap.subject(2)?;
     let five = heap.subject(5)?;
     let seven = heap.find_edge(five.place, 7)?;
@@ -83,6 +85,14 @@ fn a_zero_that_is_not_shown_is_there(rt: HostRuntime) {
     assert_eq!(rt; seen(rt.alloc(), false), Some([2, 4, 1, 1, 2, 2, 1]));
 }
 
+// Adds an edge from a name to each after it.
+fn add_row(edges: &mut Vec<Edge>, name: u64, last: u64) -> Option<()> {
+    for to in name.saturating_add(1)..last {
+        add_edge(edges, name, to, b"rw")?;
+    }
+    Some(())
+}
+
 // Subjects with these names, each of which has an edge to all after it.
 fn crowd(alloc: Global, first: u64, last: u64) -> Option<Snapshot> {
     let mut subjects = Vec::new(alloc);
@@ -91,9 +101,7 @@ fn crowd(alloc: Global, first: u64, last: u64) -> Option<Snapshot> {
     for name in first..last {
         subjects.push(name).ok()?;
         add_vertex(alloc, &mut vertices, name, Law::Cell, &[name])?;
-        for to in name + 1..last {
-            add_edge(&mut edges, name, to, b"rw")?;
-        }
+        add_row(&mut edges, name, last)?;
     }
     let picture = Picture::new(subjects, edges, last.max(1), 1000);
     Snapshot::new(picture, vertices, 0).ok()
@@ -101,7 +109,7 @@ fn crowd(alloc: Global, first: u64, last: u64) -> Option<Snapshot> {
 
 // How many subjects and vertices there are, and how many edges the first subject has.
 fn counted(alloc: Global, snapshot: &Snapshot, blocks: u64) -> Option<[u64; 3]> {
-    let heap = opened(alloc, snapshot, blocks).ok()?;
+    let heap = opened(alloc, snapshot, blocks)?.ok()?;
     let mut edges = 0;
     if let Some(first) = heap.subjects().first() {
         edges = heap.row(first.place).ok()?.as_slice().len() as u64;
@@ -128,6 +136,11 @@ fn no_subject(rt: HostRuntime) {
     let alloc = rt.alloc();
     let snapshot = crowd(alloc, 0, 0).expect(&rt, "a snapshot");
     assert_eq!(rt; counted(alloc, &snapshot, 64), Some([0, 1, 0]));
+}
+
+// Why there is no heap of the snapshot in so many blocks.
+fn refused(alloc: Global, snapshot: &Snapshot, blocks: u64) -> Option<RoomFault> {
+    opened(alloc, snapshot, blocks)?.err()
 }
 
 #[test]
