@@ -5,11 +5,11 @@ ghost use Rattle.tg_store.specs.Store.{StoreState};
 ghost use Rattle.tg_resume.specs.Resuming.{IsHalted, IsStopped, Resumes};
 
 use crate::entry::replay;
-use crate::maker::Maker;
 use crate::stopped::ResumeStopped;
 use std::alloc::Global;
 use tg_journal::{Entry, Journal};
 use tg_payload::Payload;
+use tg_rebuild::Maker;
 use tg_space::RoomFault;
 use tg_store::Store;
 

@@ -8,12 +8,16 @@ use tg_payload::{LawPayload, Payload};
 
 /// Makes the payloads of vertices that are made again.
 pub trait Maker<P: Payload> {
-    /// A payload with this law and this state, which fits the law.
+    /// A payload with this law and this state, which fits the law. Fails only when out of memory.
     ///
-    /// `name` is the name that the entry gives its vertex. It is `None` if the entry says that no vertex was made; the
-    /// payload is then dropped. The entry isn't compared yet, so a host must not believe the name: the payload is
-    /// dropped too if the entry turns out bad, or if there is no room for the vertex. Each entry that makes a vertex
-    /// asks once in a call of [`resume`](crate::resume). Fails only when out of memory.
+    /// `name` is the name of the vertex that is to have the payload. A host must not believe it: whoever wrote the
+    /// snapshot or the entry wrote the name. The payload is dropped again if the entry turns out bad, or if there is no
+    /// room.
+    ///
+    /// - [`heap_of`](crate::heap_of) asks once for each vertex of its snapshot. It asks once without a name if the
+    ///   snapshot doesn't show the vertex 0: nobody reaches that vertex.
+    /// - `resume` of `tg_resume` asks once for each entry that makes a vertex. There is no name if the entry says that
+    ///   no vertex was made; the payload is then dropped.
     fn make(&mut self, name: Option<u64>, law: Law, state: &[u64]) -> Result<P, AllocError>
         requires { Fits law state.now }
         ensures { IfOk result (λ payload. P.value payload ≡ record { law = law; state = state.now }) };
