@@ -42,6 +42,10 @@ PLACES = {
         "the writer failed, or took no byte",
     ),
     ("tg_text/src/stream.rt", "take_byte"): (["reader.fill_buf"], "the reader failed"),
+    ("tg_c/src/refusal.rt", "from"): (
+        ["match fault ResumeFault::BadPlace ResumeFault::Unread"],
+        "a store that was to go on had no memory to read the entry: this is the value's meaning",
+    ),
     ("tg_shared/src/shared.rt", "new"): (
         ["match Locked::open Ok((locked, sessions, keeper)) Err(store)"],
         "there was no memory for the sessions: the store comes back alone",
