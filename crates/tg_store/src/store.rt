@@ -204,8 +204,7 @@ impl<P: Payload> Store<P> {
         self.journal.forget(upto);
     }
 
-    /// Lets the store go, with all that it holds, as `drop` does. But by `drop` a caller's crate proves anew how each
-    /// part of a store is dropped, and here that is proved already.
+    /// Lets the store go, with all that it holds, as `drop` does.
     pub fn let_go(self) {}
 
     /// How many vertices, payloads and blocks the heap has, how many entries were made, how many of them are held,
