@@ -8,9 +8,10 @@
 mod words;
 
 use std::env;
-use std::io::{self, BufReader, ErrorKind};
+use std::io::{self, BufReader, ErrorKind, Write};
 use std::process::ExitCode;
-use tg_entries::{TextFault, audit_text};
+use tg_entries::{TextFault, audit_text, audit_to_snapshot};
+use tg_saved::snapshot_bytes;
 use words::{HELP, MORE};
 
 // How many bytes are read at once.
@@ -26,27 +27,44 @@ fn main(rt: HostRuntime) -> ExitCode {
     }
 }
 
+// What the words of the command line ask for.
+enum Task {
+    // To say how many entries the text has.
+    Count,
+    // To print the snapshot after the last entry.
+    Snapshot,
+    // None: the words were answered, with this exit status.
+    Answered(u8),
+}
+
 // Does what the words of the command line ask for. The exit status.
 fn obey(rt: &HostRuntime) -> Result<u8, TextFault> {
-    match answer_words(rt)? {
-        Some(status) => Ok(status),
-        None => audit(rt),
+    match read_words(rt)? {
+        Task::Count => audit(rt),
+        Task::Snapshot => print_snapshot(rt),
+        Task::Answered(status) => Ok(status),
     }
 }
 
-// Answers the words of the command line, where there are any. The exit status.
-fn answer_words(rt: &HostRuntime) -> io::Result<Option<u8>> {
+// What the words of the command line ask for. Answers those that ask for no audit.
+fn read_words(rt: &HostRuntime) -> io::Result<Task> {
     let mut words = match env::args(rt) {
         Ok(words) => words,
         Err(error) if error.kind() == ErrorKind::InvalidData => {
             eprintln!(rt; "tgaudit: bad words")?;
-            return Ok(Some(2));
+            return Ok(Task::Answered(2));
         }
         Err(error) => return Err(error),
     };
-    match words.nth(1) {
-        Some(word) => Ok(Some(answer(rt, word.as_str())?)),
-        None => Ok(None),
+    let Some(first) = words.nth(1) else {
+        return Ok(Task::Count);
+    };
+    if first.as_str() != "--snapshot" {
+        return Ok(Task::Answered(answer(rt, first.as_str())?));
+    }
+    match words.next() {
+        Some(word) => Ok(Task::Answered(answer(rt, word.as_str())?)),
+        None => Ok(Task::Snapshot),
     }
 }
 
@@ -56,7 +74,9 @@ fn answer(rt: &HostRuntime, word: &str) -> io::Result<u8> {
         print!(rt; "{HELP}")?;
         return Ok(0);
     }
-    eprintln!(rt; "error: unexpected argument '{word}' found\n\nUsage: tgaudit\n\n{MORE}")?;
+    eprintln!(rt;
+        "error: unexpected argument '{word}' found\n\nUsage: tgaudit [--snapshot]\n\n{MORE}"
+    )?;
     Ok(2)
 }
 
@@ -65,5 +85,14 @@ fn audit(rt: &HostRuntime) -> Result<u8, TextFault> {
     let mut reader = BufReader::with_capacity(rt.alloc(), BLOCK, rt.stdin())?;
     let count = audit_text(rt.alloc(), &mut reader)?;
     println!(rt; "audit ok, {count} entries")?;
+    Ok(0)
+}
+
+// Audits the text on standard input, and prints the snapshot after its last entry. The exit status.
+fn print_snapshot(rt: &HostRuntime) -> Result<u8, TextFault> {
+    let mut reader = BufReader::with_capacity(rt.alloc(), BLOCK, rt.stdin())?;
+    let snapshot = audit_to_snapshot(rt.alloc(), &mut reader)?;
+    let text = snapshot_bytes(rt.alloc(), &snapshot).map_err(io::Error::from)?;
+    rt.stdout().write_all(text.as_slice())?;
     Ok(0)
 }

@@ -8,12 +8,18 @@ Reads from standard input which form the text has, an opening, a line for each e
 the entries on the plain graph of the opening, and compares each reply. Writes 'audit ok, N entries' where all is as the
 rules have it. Else standard error names the first line at fault, counted from 1; an entry by its place, from 0.
 
-It takes memory by what the subjects reach and by the edges of the opening, and not by the lines or the entries.
+A history can be cut into parts. A snapshot stands in the place of the opening then: it has what the active subjects
+reach after the entries before. With --snapshot, tgaudit prints the snapshot after the last entry. The next part begins
+with it. So each part is audited alone. The snapshot of a part is right if tgaudit printed it for the part before.
 
-Usage: tgaudit
+It takes memory by what the subjects reach, by the edges of the opening and by the lines of the snapshot, and not by the
+entries.
+
+Usage: tgaudit [--snapshot]
 
 Options:
-  -h, --help  Print help
+      --snapshot  Print the snapshot after the last entry, and not the number of entries
+  -h, --help      Print help
 
 The form:
   kovshenul entries 1         the first line
@@ -21,14 +27,24 @@ The form:
   worker c0                   for each worker: what it stores
   edge 0 1 rw                 for each edge between workers
   0 create r c0 = ok 5        for each entry: a line of a script, what a new vertex stores, and the reply
-  entries N                   the last line
+  entries N                   the last line: how many entries this text has
 
   A vertex stores a law's letter and its numbers: c7 a cell, s7 a sum, m7 a maximum, l4:1,2 a log of at most 4, and l4
   one that is empty.
 
+The form of a snapshot:
+  kovshenul picture 1         the first line
+  made MADE VERTICES ENTRIES  vertices made so far, vertices that may ever be made, and entries before
+  worker N                    for each active subject, by rising names: its name
+  vertex N c0                 for each vertex that these reach, by rising names: its name, and what it stores
+  edge N N rw                 for each edge of these, by rising ends
+  picture N                   the last line: how many lines of vertices and edges there are
+
 Faults:
-  line L: bad line            it is none of these, or may not stand there; or N isn't the number of entries
-  line L: bad entry N         its worker is no active subject, its value fits no law, or the reply isn't the rules'
+  line L: bad line            it is none of these, or may not stand there; or the last number is wrong
+  line L: vertex N needs ..   a line of a snapshot isn't as asked. Vertices, subjects and edges are counted from 0
+  line L: bad entry N         its worker is no active subject, its value fits no law, or the reply isn't the rules'. N
+                              counts the entries before the snapshot too
   line L: the end is cut off  the text ends within line L, or in front of it without the last line
 
 Exit status:
@@ -39,6 +55,9 @@ Exit status:
 Example:
   printf 'kovshenul entries 1\\nopening 1 9\\nworker c0\\n0 create r c5 = ok 1\\n0 read 1 = ok 5\\nentries 2\\n' | tgaudit
   writes 'audit ok, 2 entries'.
+
+  tgaudit --snapshot < part1.txt > part2.txt
+  makes the head of the next part, behind which its entries come.
 ";
 
 /// What stands behind a fault of the words.
