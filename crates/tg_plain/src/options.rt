@@ -69,8 +69,8 @@ pub struct PlainOptions<'a> {
     pub stock: Option<&'a str>,
 }
 
-/// What the words say of workers and vertices, or else their defaults, and of the stock. If they say nothing of it, boxes
-/// are cells without end.
+/// What the words say of workers and vertices, or else their defaults, and of the stock. If they say nothing of it,
+/// boxes are cells without end.
 pub fn read_options<'a>(matches: &ArgMatches<'a>) -> PlainOptions<'a>
     ensures stock { option_map (λ text. text.now) result.stock ≡ first_value (found_of matches.now) (codes "stock") }
 {

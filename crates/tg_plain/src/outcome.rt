@@ -11,8 +11,8 @@ use std::alloc::Global;
 use std::io::Read;
 use tg_model::Picture;
 
-/// What the lines of a script leave: the picture of their graph, how many boxes they didn't take, and which of them were
-/// denied or refused.
+/// What the lines of a script leave: the picture of their graph, how many boxes they didn't take, and which of them
+/// were denied or refused.
 #[derive(Drop)]
 pub struct Outcome {
     /// The picture of the graph.

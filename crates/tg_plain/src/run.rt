@@ -41,7 +41,8 @@ impl PlainRun {
         })
     }
 
-    /// The run of all of a script's lines, and those of them that are denied or refused. Fails as [`PlainRun::open`] does.
+    /// The run of all of a script's lines, and those of them that are denied or refused. Fails as [`PlainRun::open`]
+    /// does.
     pub fn of(script: &Script) -> Result<(PlainRun, Vec<RefusedLine>), PlainFault>
         ensures { IfOk result (λ done. RunsScript script.now done.1.items done.0) }
     {

@@ -43,8 +43,8 @@ fn main(rt: HostRuntime) -> ExitCode {
 struct Asking;
 
 impl<R: AllocGlobal + Print + Eprint + Input> Program<R> for Asking {
-    // The status is 2 if the words aren't accepted. If it is 0, all policies are kept. It is 3 exactly if there is a policy,
-    // no line may be denied, and a line of the script was denied or refused.
+    // The status is 2 if the words aren't accepted. If it is 0, all policies are kept. It is 3 exactly if there is a
+    // policy, no line may be denied, and a line of the script was denied or refused.
     fn run(&self, rt: &R, matches: &ArgMatches) -> Result<u8, PlainFault>
         ensures { IfOk result (λ status. (status ≡ 2) ⊎ ((options : PlainOptions) × (reader : R.Reader) × SaysStock matches.now options × IsVerdict options matches.now (R.Reader.remaining reader) status)) }
     {
