@@ -40,6 +40,7 @@ RUNS = [
     Runs("tgcould", [*OPTIONS, "--ask", "1 r 3", "--ask", "* r 2", "--never", "new w 2"], SCRIPT),
     Runs("tgcould", [*OPTIONS, "--as-if", "1 3 l", "--silent", "0", "--never", "1 * *"], SCRIPT),
     Runs("tgcould", [*OPTIONS, "--ask", "1 r 3"], SCRIPT + b"0 retired\n"),
+    Runs("tgcould", [*OPTIONS, "--never", "1 w 2"], SCRIPT + b"1 write 2 5\n7 list\n"),
     Runs("tgcould", ["--help"], b""),
     Runs("tgcould", ["--ask"], b""),
     Runs("tgdot", OPTIONS, SCRIPT),
@@ -56,11 +57,11 @@ def run(runs, path, environment, seconds):
 
 def is_right(runs, whole, ran):
     """Whether a run with a refused request is as one without, or out of memory, of which tgaudit tells the line too; a front of
-    the output may be there."""
+    the output may be there, and before it what tgcould reports of denied lines."""
     status, output, errors = ran
     if ran == whole:
         return True
-    told = re.fullmatch(rf"{runs.program}: (line \d+: )?out of memory\n".encode(), errors)
+    told = re.fullmatch(rf"(tgcould: (line \d+: '|--never: ).*\n)*{runs.program}: (line \d+: )?out of memory\n".encode(), errors)
     return status == 1 and told is not None and whole[1].startswith(output)
 
 

@@ -10,9 +10,9 @@ mod words;
 use std::env;
 use std::io::{self, BufReader, ErrorKind, Write};
 use std::process::ExitCode;
-use tg_entries::{TextFault, audit_text, audit_to_snapshot};
+use tg_entries::{LineFault, TextFault, audit_text, audit_to_snapshot};
 use tg_saved::snapshot_bytes;
-use words::{HELP, MORE};
+use words::{HELP, MORE, OF_A_LINE, OF_AN_ENTRY, OF_THE_END, OF_THE_FIRST_LINE, VERSION};
 
 // How many bytes are read at once.
 const BLOCK: usize = 65536;
@@ -22,8 +22,30 @@ fn main(rt: HostRuntime) -> ExitCode {
         Ok(status) => ExitCode::from(status),
         Err(fault) => {
             let _ = eprintln!(rt; "tgaudit: {fault}");
+            if let Some(advice) = advice_on(&fault) {
+                let _ = eprintln!(rt; "tgaudit: {advice}");
+            }
             ExitCode::from(1)
         }
+    }
+}
+
+// What a line at fault has to be, if the fault doesn't say so.
+fn advice_on(fault: &TextFault) -> Option<&'static str> {
+    match fault {
+        TextFault::Line { why, .. } => advice_on_line(why),
+        TextFault::CutOff { .. } => Some(OF_THE_END),
+        TextFault::Stream(_) => None,
+    }
+}
+
+// The same, of a line that is whole.
+fn advice_on_line(why: &LineFault) -> Option<&'static str> {
+    match why {
+        LineFault::OutOfMemory | LineFault::BadSnapshot { .. } => None,
+        LineFault::OtherVersion => Some(OF_THE_FIRST_LINE),
+        LineFault::BadLine => Some(OF_A_LINE),
+        LineFault::BadEntry { .. } => Some(OF_AN_ENTRY),
     }
 }
 
@@ -68,16 +90,19 @@ fn read_words(rt: &HostRuntime) -> io::Result<Task> {
     }
 }
 
-// Prints the help where the word asks for it, else that no other word is known. The exit status.
+// Prints the help or the version where the word asks for it, else that no other word is known. The exit status.
 fn answer(rt: &HostRuntime, word: &str) -> io::Result<u8> {
-    if word == "--help" || word == "-h" {
-        print!(rt; "{HELP}")?;
-        return Ok(0);
+    match word {
+        "--help" | "-h" => print!(rt; "{HELP}")?,
+        "--version" | "-V" => println!(rt; "tgaudit {VERSION}")?,
+        _ => {
+            eprintln!(rt;
+                "error: unexpected argument '{word}' found\n\nUsage: tgaudit [OPTIONS] <TEXT\n\n{MORE}"
+            )?;
+            return Ok(2);
+        }
     }
-    eprintln!(rt;
-        "error: unexpected argument '{word}' found\n\nUsage: tgaudit [--snapshot]\n\n{MORE}"
-    )?;
-    Ok(2)
+    Ok(0)
 }
 
 // Audits the text on standard input, and says how many entries it has. The exit status.

@@ -1,6 +1,9 @@
 //! The words of the command line.
 
-/// The help. No other word is known.
+/// The version of all that this repository has. The file `VERSION` says the same.
+pub const VERSION: &str = "0.3.0";
+
+/// The help.
 pub const HELP: &str =
     "Audits the text of a history: its opening, and a line for each entry with its reply
 
@@ -15,11 +18,12 @@ with it. So each part is audited alone. The snapshot of a part is right if tgaud
 It takes memory by what the subjects reach, by the edges of the opening and by the lines of the snapshot, and not by the
 entries.
 
-Usage: tgaudit [--snapshot]
+Usage: tgaudit [OPTIONS]
 
 Options:
       --snapshot  Print the snapshot after the last entry, and not the number of entries
   -h, --help      Print help
+  -V, --version   Print version
 
 The form:
   kovshenul entries 1         the first line
@@ -62,3 +66,19 @@ Example:
 
 /// What stands behind a fault of the words.
 pub const MORE: &str = "For more information, try '--help'.";
+
+/// What the first line has to be.
+pub const OF_THE_FIRST_LINE: &str =
+    "each line ends with a line feed alone, and has no carriage return before it";
+
+/// What another line has to be.
+pub const OF_A_LINE: &str =
+    "'opening WORKERS VERTICES' stands before WORKERS lines 'worker', then come edges, then entries, and last 'entries N' with their number; a line ends with a line feed alone";
+
+/// What an entry has to be. Entries are counted from 0.
+pub const OF_AN_ENTRY: &str =
+    "an entry is of an active subject, its value fits the law, and its reply is the answer of the rules after the entries before it";
+
+/// What the end has to be.
+pub const OF_THE_END: &str =
+    "the last line is 'entries N', with the number of entries and a line feed";
