@@ -1,10 +1,9 @@
-/* What stands before the proved calls: NULL for an array of no items and for a denial that isn't wanted, a store that goes on
-   from entries, the texts of statuses, denials and rights, and the library's version.
+/* What stands before the proved calls: NULL for an array of no items and for a denial that isn't wanted, several commands in one
+   call, the texts of statuses, denials and rights, and the library's version.
 
    It is tested, and nothing of it is proved. The build names each proved call below proved_.., and links this file with
    them. */
 #include "kovshenul.h"
-#include <stdlib.h>
 
 tg_status proved_tg_open(tg_store *store, const tg_value *workers, size_t worker_count, const tg_edge *edges, size_t edge_count,
                          const tg_limits *limits);
@@ -26,6 +25,8 @@ tg_status proved_tg_who_holds(tg_store *store, uint64_t right, uint64_t name, ui
 tg_status proved_tg_entry(tg_store *store, uint64_t at, tg_record *out, uint64_t *numbers, size_t number_room, tg_target *edges,
                           size_t edge_room);
 
+tg_status proved_tg_resume(tg_store *store, uint64_t at, const tg_record *record, const uint64_t *numbers, size_t number_count,
+                           const tg_target *edges, size_t edge_count);
 tg_status proved_tg_could(tg_store *store, const uint64_t *silent, size_t silent_count, const tg_edge *as_if, size_t as_if_count,
                           uint64_t x, uint64_t right, uint64_t y, tg_answer *answer);
 tg_status proved_tg_answer_turn(tg_answer *answer, uint64_t at, tg_record *out, uint64_t *numbers, size_t room);
@@ -170,156 +171,74 @@ tg_status tg_auditor_feed(tg_auditor *auditor, tg_store *store, uint64_t *count)
     return proved_tg_auditor_feed(auditor, store, count == NULL ? &unwanted : count);
 }
 
-/* ---- a store that goes on from entries. It asks for each deed by its proved call, and compares the entry that comes of it. */
-
-enum { NUMBERS = 64, SHORT_ROW = 64, ALL_RIGHTS = 255 };
-
-/* What a deed has of a record. */
-enum { HAS_VIA = 1, HAS_TARGET = 2, HAS_RIGHTS = 4, HAS_VALUE = 8, HAS_LAW = 16, IS_NONE = 32 };
-
-static int parts_of(uint32_t deed) {
-    switch (deed) {
-    case TG_DEED_TAKE:
-    case TG_DEED_GRANT: return HAS_VIA | HAS_TARGET | HAS_RIGHTS;
-    case TG_DEED_REMOVE: return HAS_TARGET | HAS_RIGHTS;
-    case TG_DEED_READ:
-    case TG_DEED_INSPECT: return HAS_TARGET;
-    case TG_DEED_WRITE:
-    case TG_DEED_APPEND: return HAS_TARGET | HAS_VALUE;
-    case TG_DEED_LIST:
-    case TG_DEED_RETIRE: return 0;
-    case TG_DEED_CREATE:
-    case TG_DEED_SPAWN: return HAS_LAW | HAS_RIGHTS;
-    default: return IS_NONE;
-    }
-}
-
-static int is_label(uint64_t rights) {
-    return rights > 0 && rights <= ALL_RIGHTS;
-}
-
-/* Whether the record has all parts of its deed, and of the others none. */
-static int is_deed(const tg_record *it) {
-    const int parts = parts_of(it->deed);
-    if (parts == IS_NONE || (parts & HAS_RIGHTS ? !is_label(it->rights) : it->rights != 0))
-        return 0;
-    if (parts & HAS_LAW ? it->law > TG_LOG || (it->law != TG_LOG && it->most != 0) : it->law != 0 || it->most != 0)
-        return 0;
-    return (parts & HAS_VIA || it->via == 0) && (parts & HAS_TARGET || it->target == 0) && (parts & HAS_VALUE || it->value == 0);
-}
-
-static int is_denial(const tg_denial *it) {
-    if (it->rule > TG_RULE_INSPECT || it->cause > TG_NOT_LOG)
-        return 0;
-    return it->cause == TG_MISSING ? it->rights <= ALL_RIGHTS : it->from == 0 && it->to == 0 && it->rights == 0;
-}
-
-/* Whether the record has all parts of its reply, and of the others none. */
-static int is_reply(const tg_record *it) {
-    static const uint32_t known[] = {
-        TG_REPLY_DONE, TG_REPLY_DENIED, TG_REPLY_NAME, TG_REPLY_VALUES, TG_REPLY_EDGES, TG_REPLY_VERTICES_FULL, TG_REPLY_WORKERS_FULL
-    };
-    const tg_denial *why = &it->denial;
-    int is_known = 0;
-    for (size_t i = 0; i < sizeof known / sizeof *known; i++)
-        is_known |= it->reply == known[i];
-    if (!is_known || (it->name != 0 && it->reply != TG_REPLY_NAME) || (it->edge_count != 0 && it->reply != TG_REPLY_EDGES))
-        return 0;
-    if (it->number_count != 0 && it->reply != TG_REPLY_VALUES && !(parts_of(it->deed) & HAS_LAW))
-        return 0;
-    if (it->reply == TG_REPLY_DENIED)
-        return is_denial(why);
-    return why->rule == 0 && why->cause == 0 && why->from == 0 && why->to == 0 && why->rights == 0;
-}
-
-/* Whether some entry is written so. */
-static int is_entry(const tg_record *it, size_t number_count, const tg_target *edges, size_t edge_count) {
-    if (!is_deed(it) || !is_reply(it) || it->number_count != number_count || it->edge_count != edge_count)
-        return 0;
-    for (size_t i = 0; i < edge_count; i++)
-        if (!is_label(edges[i].rights))
-            return 0;
-    return 1;
-}
-
-/* Asks for the deed of a record. */
-static tg_status ask_again(tg_store *store, const tg_record *it, const uint64_t *numbers, size_t number_count) {
-    const tg_value value = { it->law, it->most, number_count == 0 ? 0 : numbers[0] };
-    tg_target edge;
-    tg_denial why;
-    uint64_t number, count;
-    switch (it->deed) {
-    case TG_DEED_TAKE: return proved_tg_take(store, it->worker, it->via, it->target, it->rights, &why);
-    case TG_DEED_GRANT: return proved_tg_grant(store, it->worker, it->via, it->target, it->rights, &why);
-    case TG_DEED_REMOVE: return proved_tg_remove(store, it->worker, it->target, it->rights, &why);
-    case TG_DEED_READ: return proved_tg_read(store, it->worker, it->target, &number, 0, &count, &why);
-    case TG_DEED_WRITE: return proved_tg_write(store, it->worker, it->target, it->value, &why);
-    case TG_DEED_APPEND: return proved_tg_append(store, it->worker, it->target, it->value, &why);
-    case TG_DEED_INSPECT: return proved_tg_inspect(store, it->worker, it->target, &edge, 0, &count, &why);
-    case TG_DEED_LIST: return proved_tg_list(store, it->worker, &edge, 0, &count);
-    case TG_DEED_RETIRE: return tg_retire(store, it->worker);
-    case TG_DEED_CREATE: return tg_create(store, it->worker, it->rights, &value, &number);
-    default: return tg_spawn(store, it->worker, it->rights, &value, &number);
-    }
-}
-
-/* The same, after a full collection if the heap is full for it. */
-static tg_status ask_with_room(tg_store *store, const tg_record *it, const uint64_t *numbers, size_t number_count) {
-    uint64_t left;
-    tg_status status = ask_again(store, it, numbers, number_count);
-    if (status != TG_HEAP_FULL)
-        return status;
-    status = tg_collect(store, TG_FULL, &left);
-    return status == TG_DONE ? ask_again(store, it, numbers, number_count) : status;
-}
-
-static int are_same(const void *one, const void *other, size_t size) {
-    const unsigned char *left = one, *right = other;
-    for (size_t i = 0; i < size; i++)
-        if (left[i] != right[i])
-            return 0;
-    return 1;
-}
-
-/* Whether the store's entry at a place is this one. The room has as many edges as the entry. */
-static int has_entry(tg_store *store, uint64_t at, const tg_record *it, const uint64_t *numbers, const tg_target *edges, tg_target *room) {
-    uint64_t own_numbers[NUMBERS];
-    tg_record own;
-    if (proved_tg_entry(store, at, &own, own_numbers, NUMBERS, room, it->edge_count) != TG_DONE || !are_same(&own, it, sizeof own))
-        return 0;
-    return are_same(own_numbers, numbers, own.number_count * sizeof *numbers) && are_same(room, edges, own.edge_count * sizeof *edges);
-}
-
-/* Goes on from an entry that comes next, with room for its edges. */
-static tg_status go_on(tg_store *store, uint64_t at, const tg_record *it, const uint64_t *numbers, const tg_target *edges, tg_target *room) {
-    tg_status status = ask_with_room(store, it, numbers, it->number_count);
-    if (status == TG_OUT_OF_MEMORY || status == TG_HEAP_FULL)
-        return status;
-    if (status != TG_NO_SUCH_WORKER && status != TG_BAD_LAW && has_entry(store, at, it, numbers, edges, room))
-        return TG_DONE;
-    tg_close(store);
-    return TG_BAD_ENTRY;
-}
-
 tg_status tg_resume(tg_store *store, uint64_t at, const tg_record *record, const uint64_t *numbers, size_t number_count,
                     const tg_target *edges, size_t edge_count) {
-    tg_target few[SHORT_ROW], *room = few;
-    uint64_t next;
-    if (!is_entry(record, number_count, edges, edge_count))
-        return TG_BAD_VALUES;
-    tg_status status = tg_entries(store, &next);
+    if (numbers == NULL && number_count == 0)
+        numbers = nothing;
+    if (edges == NULL && edge_count == 0)
+        edges = (const tg_target *)nothing;
+    return proved_tg_resume(store, at, record, numbers, number_count, edges, edge_count);
+}
+
+/* ---- several commands in one call. Each is asked for by its proved call, and its answer is read from its entry. */
+
+enum { MOST_COMMANDS = 1024, MOST_BITS = 255 };
+
+/* What refuses a command before the store is looked at, or TG_DONE. */
+static tg_status fault_of(const tg_command *it) {
+    switch (it->deed) {
+    case TG_DEED_TAKE:
+    case TG_DEED_GRANT:
+    case TG_DEED_REMOVE: return it->rights == 0 || it->rights > MOST_BITS ? TG_BAD_RIGHTS : TG_DONE;
+    case TG_DEED_READ:
+    case TG_DEED_WRITE:
+    case TG_DEED_APPEND:
+    case TG_DEED_INSPECT:
+    case TG_DEED_LIST:
+    case TG_DEED_RETIRE: return TG_DONE;
+    default: return TG_BAD_KIND;
+    }
+}
+
+static tg_status ask_for(tg_store *store, uint64_t worker, const tg_command *it) {
+    tg_denial why;
+    tg_target edge;
+    uint64_t number, count;
+    switch (it->deed) {
+    case TG_DEED_TAKE: return proved_tg_take(store, worker, it->via, it->target, it->rights, &why);
+    case TG_DEED_GRANT: return proved_tg_grant(store, worker, it->via, it->target, it->rights, &why);
+    case TG_DEED_REMOVE: return proved_tg_remove(store, worker, it->target, it->rights, &why);
+    case TG_DEED_READ: return proved_tg_read(store, worker, it->target, &number, 0, &count, &why);
+    case TG_DEED_WRITE: return proved_tg_write(store, worker, it->target, it->value, &why);
+    case TG_DEED_APPEND: return proved_tg_append(store, worker, it->target, it->value, &why);
+    case TG_DEED_INSPECT: return proved_tg_inspect(store, worker, it->target, &edge, 0, &count, &why);
+    case TG_DEED_LIST: return proved_tg_list(store, worker, &edge, 0, &count);
+    default: return tg_retire(store, worker);
+    }
+}
+
+tg_status tg_apply_all(tg_store *store, uint64_t worker, const tg_command *commands, size_t count, tg_record *answers, size_t room,
+                       uint64_t *first, uint64_t *done) {
+    uint64_t number;
+    tg_target edge;
+    if (count > MOST_COMMANDS)
+        return TG_BAD_LIMITS;
+    for (size_t i = 0; i < count; i++) {
+        const tg_status fault = fault_of(commands + i);
+        if (fault != TG_DONE)
+            return fault;
+    }
+    tg_status status = tg_entries(store, first);
     if (status != TG_DONE)
         return status;
-    if (at != next)
-        return TG_BAD_PLACE;
-    if (edge_count > SHORT_ROW)
-        room = edge_count < SIZE_MAX / sizeof *room ? malloc(edge_count * sizeof *room) : NULL;
-    if (room == NULL)
-        return TG_OUT_OF_MEMORY;
-    status = go_on(store, at, record, numbers, edges, room);
-    if (room != few)
-        free(room);
-    return status;
+    for (*done = 0; *done < count; (*done)++) {
+        status = ask_for(store, worker, commands + *done);
+        if (status != TG_DONE && status != TG_DENIED)
+            return status;
+        if (*done < room)
+            proved_tg_entry(store, *first + *done, answers + *done, &number, 0, &edge, 0);
+    }
+    return TG_DONE;
 }
 
 const char *tg_version(void) {
@@ -344,11 +263,11 @@ const char *tg_status_text(tg_status status) {
         return "bad rights: none, a bit that is no right, several where one is asked about, or letters "
                "that are not in the order rwtgaluv";
     case TG_BAD_LAW: return "no such law, or a log of 0 or of more than 64 numbers";
-    case TG_BAD_KIND: return "no such kind of collection";
+    case TG_BAD_KIND: return "no such kind of collection, or no such command of a batch";
     case TG_BAD_WORKERS: return "an opening has from 1 to 64 workers";
     case TG_BAD_LIMITS:
         return "a limit is out of its range: max_vertices is from the number of workers to 2^48, "
-               "max_blocks and max_space_blocks from 1 to 1048576";
+               "max_blocks and max_space_blocks from 1 to 1048576; a batch has at most 1024 commands";
     case TG_BAD_EDGE:
         return "an edge from a vertex to itself; an opening's edge with an end that is no worker; a "
                "supposed edge with an end that no worker reaches";

@@ -8,8 +8,8 @@
    Each call returns a status. The library's exports have contracts, which are proved (crates/tg_c/specs). They say what a
    status below 16 means, and when each other status comes, with two exceptions. TG_OUT_OF_MEMORY may come from each call that
    needs memory. TG_HEAP_FULL comes only where the limits may leave no room, and only of tg_open is it proved that it comes
-   then. The file kovshenul.c comes before the exports, and is tested and not proved. It has the use of NULL, tg_resume (which
-   asks proved calls and compares their entries), the texts and tg_version. Nothing checks what this header asks of its caller.
+   then. The file kovshenul.c comes before the exports, and is tested and not proved. It has the use of NULL, tg_apply_all
+   (which makes proved calls one after the other), the texts and tg_version. Nothing checks what this header asks of its caller.
 
    What the caller in C owes:
    - Each pointer is to memory of the stated type. No other argument of the call overlaps it, and nobody else uses it while the
@@ -85,7 +85,7 @@ enum {
     TG_NOT_OPEN = 16,         /* exactly where the store, auditor, answer or view is closed, and no argument is TG_BAD_.. or TG_NOT_AUDITED */
     TG_ALREADY_OPEN = 17,     /* tg_open, tg_auditor_open: exactly where it is open; tg_could, tg_view_open: where the answer or view is open, and no bits are bad */
 
-    TG_OUT_OF_MEMORY = 32,    /* malloc or realloc returned no memory. Make the same call again. Only TG_BAD_EDGE of a supposed edge is looked at later */
+    TG_OUT_OF_MEMORY = 32,    /* malloc or realloc returned no memory. Make the same call again. Only TG_BAD_ENTRY, and TG_BAD_EDGE of a supposed edge, are looked at later */
     TG_HEAP_FULL = 33,        /* the limits leave no cell or block. Call tg_collect, and try again */
     TG_VERTICES_FULL = 34,    /* tg_create, tg_spawn: max_vertices were made. The journal has an entry of it */
     TG_WORKERS_FULL = 35,     /* tg_spawn: 64 workers are active, and a vertex may be made. The journal has an entry of it */
@@ -94,10 +94,10 @@ enum {
 
     TG_BAD_RIGHTS = 64,       /* no right, or a bit that is no right; several rights where one is asked about; tg_rights_read: other letters */
     TG_BAD_LAW = 65,          /* no such law, or a log of 0 or of more than 64 numbers */
-    TG_BAD_KIND = 66,         /* tg_collect: no such kind */
+    TG_BAD_KIND = 66,         /* tg_collect: no such kind; tg_apply_all: no such command */
 
     TG_BAD_WORKERS = 80,      /* tg_open: not from 1 to 64 workers */
-    TG_BAD_LIMITS = 81,       /* tg_open: a limit is out of its range */
+    TG_BAD_LIMITS = 81,       /* tg_open: a limit is out of its range; tg_apply_all: more than 1,024 commands */
     TG_BAD_EDGE = 82,         /* an edge from a vertex to itself; tg_open: an end that is no worker; as_if: an end that no worker reaches */
     TG_BAD_VALUES = 83,       /* tg_resume: exactly where tg_entry writes no entry so; tg_open: kept; no value that a tg_value can say gives it */
 
@@ -324,6 +324,27 @@ tg_status tg_list(tg_store *store, uint64_t worker, tg_target *edges, size_t roo
 tg_status tg_inspect(tg_store *store, uint64_t worker, uint64_t target, tg_target *edges, size_t room, uint64_t *count,
                      tg_denial *denial);
 
+/* A command for tg_apply_all: 40 bytes. A field that the deed doesn't use is ignored. */
+typedef struct tg_command {
+    uint32_t deed;            /* TG_DEED_TAKE .. TG_DEED_RETIRE. A create and a spawn have calls of their own */
+    uint64_t via;             /* of a take or a grant */
+    uint64_t target;          /* of all but a list and a retire */
+    uint64_t rights;          /* of a take, grant or remove */
+    uint64_t value;           /* of a write or an append */
+} tg_command;
+
+/* Takes at most 1,024 commands of the worker one after the other, each as its own call does. Each has its own entry, at places
+   that follow one another. The place of the first entry goes to *first. The first `room` answers go to answers, in the form in
+   which tg_entry writes entries. Read the numbers and edges of an answer from its entry. A denial is an answer, and the next
+   command is taken after it. How many commands were taken goes to *done. TG_DONE says that all were taken.
+
+   Before the store is looked at, it is TG_BAD_LIMITS exactly where there are more than 1,024 commands. Then it is TG_BAD_KIND or
+   TG_BAD_RIGHTS by the first command that names no deed or no set of rights. Then it is TG_NOT_OPEN exactly where the store is
+   closed. These write to no out parameter, and no command is taken. Any other status is that of the first command that is
+   refused. The *done commands before it stay taken, and those after it aren't asked for. */
+tg_status tg_apply_all(tg_store *store, uint64_t worker, const tg_command *commands, size_t count, tg_record *answers, size_t room,
+                       uint64_t *first, uint64_t *done);
+
 /* Writes the rights that the worker holds over the target to *rights. They are 0 for no rights: over itself, over a name that
    was never made, and over a vertex that was collected. The journal gets no entry, and no memory is taken. So a host asks by
    this call what a worker may do, and limits how often a worker that it doesn't trust may list. */
@@ -369,13 +390,14 @@ tg_status tg_forget(tg_store *store, uint64_t upto);
    store may be resumed, one that has taken commands too. Entries don't say when the store collected: if the heap is full for a deed, a
    full collection is made, and the deed is tried once more.
 
-   It is refused in this order. The first four come exactly where they say:
+   It is refused in this order. The first three come exactly where they say:
    - TG_BAD_VALUES where tg_entry writes no entry so. What a deed or a reply hasn't must be 0, and the counts must be the record's.
    - TG_NOT_OPEN where the store is closed.
    - TG_BAD_PLACE where the place isn't that of the next entry (tg_entries). So no entry is left out or taken twice.
    - TG_BAD_ENTRY where the entry isn't legal: it was altered, or is of another opening. *store is closed then, and nothing of it is kept.
-   - TG_OUT_OF_MEMORY, TG_HEAP_FULL: there is no room for the entry. The store has all entries before it, and goes on if it is
-     handed this entry again. A heap that is full after a full collection needs greater limits: open another store. */
+   - TG_OUT_OF_MEMORY, TG_HEAP_FULL: there is no room for the entry, or no memory to read it. The store has all entries before it,
+     and goes on if it is handed this entry again. A heap that is full after a full collection needs greater limits: open another
+     store. */
 tg_status tg_resume(tg_store *store, uint64_t at, const tg_record *record, const uint64_t *numbers, size_t number_count,
                     const tg_target *edges, size_t edge_count);
 

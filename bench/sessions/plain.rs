@@ -1,5 +1,6 @@
 //! The plain program that shared stores are measured against: a graph with a journal behind a `Mutex`, written in plain Rust
 //! with no proof in mind. A vertex is a struct with an ordered map of its edges. Each thread keeps what it was answered.
+//! Each line of standard input is a number of threads. Its answer is a line as that of `main.rt.in`.
 //!
 //! Build: rustc -O --edition 2021 plain.rs
 
@@ -116,7 +117,8 @@ fn rounds(store: &Mutex<Store>, worker: u64, workers: u64) -> Vec<(usize, Reply)
 }
 
 fn main() {
-    for threads in [1, 2, 4, 8] {
+    for line in std::io::stdin().lines() {
+        let threads: u64 = line.unwrap().trim().parse().unwrap();
         let workers = threads.max(2);
         let store = Mutex::new(Store::new(workers));
         let start = Instant::now();

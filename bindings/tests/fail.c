@@ -82,6 +82,25 @@ static void resume_from(tg_store *store, uint64_t entries, const tg_value *worke
         stop(__LINE__, 0);
 }
 
+/* A batch of the first worker, which goes on from the command at which memory was refused. Each command has one entry. */
+static void take_all(tg_store *store, const tg_command *commands, size_t count) {
+    uint64_t before, first, done = 0, after;
+    size_t at = 0;
+    CALL(tg_entries(store, &before));
+    while (at < count) {
+        tg_status status = tg_apply_all(store, 0, commands + at, count - at, NULL, 0, &first, &done);
+        if (status != TG_DONE && status != TG_OUT_OF_MEMORY)
+            stop(__LINE__, status);
+        if (first != before + at || (status == TG_DONE && at + done != count))
+            stop(__LINE__, status);
+        told += status == TG_OUT_OF_MEMORY;
+        at += done;
+    }
+    CALL(tg_entries(store, &after));
+    if (after != before + count)
+        stop(__LINE__, 0);
+}
+
 static uint64_t tell_story(void) {
     static const tg_value workers[2] = { { TG_CELL, 0, 0 }, { TG_LOG, 3, 0 } };
     /* One of each dies: a max and a log in a full collection, a sum and a log in one of the nurseries. */
@@ -131,6 +150,13 @@ static uint64_t tell_story(void) {
     CALL(tg_view_could(&view, 1, TG_WRITE, 2, &count));
     if (count != TG_PERHAPS || made != before || tg_view_close(&view) != TG_DONE)
         stop(__LINE__, 0);
+    /* Of a batch each list, and each growth of the journal, may be refused. */
+    const tg_command commands[5] = {
+        { TG_DEED_LIST, 0, 0, 0, 0 }, { TG_DEED_WRITE, 0, 3, 0, 9 }, { TG_DEED_LIST, 0, 0, 0, 0 },
+        { TG_DEED_GRANT, 1, 3, TG_READ, 0 }, { TG_DEED_INSPECT, 0, 1, 0, 0 }
+    };
+    for (uint32_t i = 0; i < 8; i++)
+        take_all(&store, commands, 5);
     /* The heap keeps the blocks that a full collection emptied. One of the nurseries that nothing outlives fills none of them. */
     CALL(tg_collect(&store, TG_FULL, &count));
     CALL(tg_create(&store, 0, TG_READ, &kinds[1], &name));

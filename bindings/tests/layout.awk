@@ -1,7 +1,7 @@
 # Writes a C file that compiles exactly where kovshenul.h fits the library's text: each struct of numbers has the same
 # fields at the same offsets, each export the same parameters, each constant the number that the contracts give it.
 #
-# It reads crates/tg_c/src/forms.rt, records.rt, place.rt, answer.rt, exports.rt, could.rt, those of its auditor and its view,
+# It reads crates/tg_c/src/forms.rt, records.rt, place.rt, answer.rt, exports.rt, could.rt, resuming.rt, those of its auditor and view,
 # crates/tg_c/specs/Forms.antt, Records.antt, Could.antt and View.antt, behind them crates/tg_model/specs/Commands.antt, and
 # crates/tg_rights/specs/RightSet.antt.
 

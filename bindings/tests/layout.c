@@ -50,6 +50,13 @@ SAME(sizeof(tg_target), 16);
 SAME(offsetof(tg_target, to), 0);
 SAME(offsetof(tg_target, rights), 8);
 
+SAME(sizeof(tg_command), 40);
+SAME(offsetof(tg_command, deed), 0);
+SAME(offsetof(tg_command, via), 8);
+SAME(offsetof(tg_command, target), 16);
+SAME(offsetof(tg_command, rights), 24);
+SAME(offsetof(tg_command, value), 32);
+
 SAME(sizeof(tg_record), 112);
 SAME(offsetof(tg_record, worker), 0);
 SAME(offsetof(tg_record, deed), 8);

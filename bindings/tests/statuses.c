@@ -61,6 +61,7 @@ static void closed(void) {
     WANT(tg_inspect(&store, 0, 1, row, 1, &number, &why) == TG_NOT_OPEN);
     WANT(tg_label(&store, 0, 1, &number) == TG_NOT_OPEN);
     WANT(tg_collect(&store, TG_FULL, &number) == TG_NOT_OPEN);
+    WANT(tg_apply_all(&store, 0, NULL, 0, NULL, 0, &number, &number) == TG_NOT_OPEN);
     WANT(tg_census(&store, &counts) == TG_NOT_OPEN);
     WANT(tg_names(&store, numbers, 64, &number) == TG_NOT_OPEN);
     WANT(tg_entries(&store, &number) == TG_NOT_OPEN);
@@ -1248,6 +1249,80 @@ static void resumed_in_a_full_heap(void) {
     WANT(tg_close(&first) == TG_DONE && tg_close(&second) == TG_DONE);
 }
 
+enum { MOST_COMMANDS = 1024 };
+
+/* Each command of a batch is done as its own call does it, and its answer is that of its entry. */
+static void batches(void) {
+    tg_store store = TG_STORE_INIT;
+    uint64_t name, done, first, count;
+    tg_record answers[8], entry;
+    WANT(tg_open(&store, workers, 2, edges, 2, &limits) == TG_DONE);
+    WANT(tg_create(&store, 0, TG_READ | TG_WRITE, &sum, &name) == TG_DONE);
+    const tg_command commands[8] = {
+        { TG_DEED_WRITE, 0, name, 0, 2 },
+        { TG_DEED_READ, 0, name, 0, 0 },
+        { TG_DEED_APPEND, 0, name, 0, 1 },                  /* denied */
+        { TG_DEED_GRANT, 1, name, TG_READ, 0 },
+        { TG_DEED_LIST, 0, 0, 0, 0 },
+        { TG_DEED_REMOVE, 0, name, TG_WRITE, 0 },
+        { TG_DEED_INSPECT, 0, name, 0, 0 },                 /* denied */
+        { TG_DEED_TAKE, 1, 0, TG_GRANT, 0 },                /* denied: the ends must differ */
+    };
+    WANT(tg_apply_all(&store, 0, commands, 8, answers, 8, &first, &done) == TG_DONE && done == 8 && first == 1);
+    WANT(tg_entries(&store, &count) == TG_DONE && count == first + 8);
+    for (size_t i = 0; i < 8; i++) {
+        WANT(tg_entry(&store, first + i, &entry, numbers, 64, NULL, 0) == TG_DONE);
+        WANT(memcmp(&entry, answers + i, sizeof entry) == 0 && entry.deed == commands[i].deed && entry.worker == 0);
+        WANT((entry.reply == TG_REPLY_DENIED) == (i == 2 || i == 6 || i == 7));
+        WANT(entry.deed != TG_DEED_READ || (entry.number_count == 1 && numbers[0] == 42));
+    }
+    WANT(tg_apply_all(&store, 0, NULL, 0, NULL, 0, &first, &done) == TG_DONE && done == 0);
+    WANT(tg_apply_all(&store, 0, commands, 2, NULL, 0, &first, &done) == TG_DONE && done == 2);
+    memset(answers, UNTOUCHED, sizeof answers);
+    entry = answers[1];
+    WANT(tg_apply_all(&store, 0, commands, 2, answers, 1, &first, &done) == TG_DONE && done == 2);
+    WANT(answers[0].deed == TG_DEED_WRITE && memcmp(answers + 1, &entry, sizeof entry) == 0);
+    WANT(first == 11 && tg_audit(&store, &count) == TG_DONE && count == 13);
+    WANT(tg_close(&store) == TG_DONE);
+}
+
+/* What stops a batch: what was done before stays, and what is refused first of all does nothing. */
+static void batches_stopped(void) {
+    static tg_command many[MOST_COMMANDS + 1];
+    static const tg_command retires[3] = {
+        { TG_DEED_LIST, 0, 0, 0, 0 }, { TG_DEED_RETIRE, 0, 0, 0, 0 }, { TG_DEED_LIST, 0, 0, 0, 0 }
+    };
+    static const tg_command no_kind[2] = { { TG_DEED_LIST, 0, 0, 0, 0 }, { 7, 0, 0, 0, 0 } };
+    static const tg_command no_rights[2] = { { TG_DEED_LIST, 0, 0, 0, 0 }, { TG_DEED_REMOVE, 0, 1, 256, 0 } };
+    tg_store store = TG_STORE_INIT;
+    uint64_t first = UNTOUCHED, done = UNTOUCHED, count;
+    tg_record answers[3], before;
+    memset(answers, UNTOUCHED, sizeof answers);
+    before = answers[0];
+    for (size_t i = 0; i <= MOST_COMMANDS; i++)
+        many[i].deed = TG_DEED_READ;
+    WANT(tg_apply_all(&store, 0, many, MOST_COMMANDS + 1, answers, 3, &first, &done) == TG_BAD_LIMITS);
+    WANT(tg_apply_all(&store, 0, no_kind, 2, answers, 3, &first, &done) == TG_BAD_KIND);
+    WANT(tg_apply_all(&store, 0, retires, 3, answers, 3, &first, &done) == TG_NOT_OPEN);
+    WANT(tg_open(&store, workers, 2, edges, 2, &limits) == TG_DONE);
+    WANT(tg_apply_all(&store, 0, many, MOST_COMMANDS + 1, answers, 3, &first, &done) == TG_BAD_LIMITS);
+    WANT(tg_apply_all(&store, 0, no_kind, 2, answers, 3, &first, &done) == TG_BAD_KIND);
+    WANT(tg_apply_all(&store, 0, no_rights, 2, answers, 3, &first, &done) == TG_BAD_RIGHTS);
+    for (uint32_t deed = TG_DEED_RETIRE + 1; deed < 32; deed++) {
+        const tg_command unknown = { deed, 0, 0, TG_READ, 0 };
+        WANT(tg_apply_all(&store, 0, &unknown, 1, answers, 3, &first, &done) == TG_BAD_KIND);
+    }
+    WANT(first == UNTOUCHED && done == UNTOUCHED && memcmp(answers, &before, sizeof before) == 0);
+    WANT(tg_entries(&store, &count) == TG_DONE && count == 0);
+    WANT(tg_apply_all(&store, 0, many, MOST_COMMANDS, NULL, 0, &first, &done) == TG_DONE && done == MOST_COMMANDS);
+    WANT(tg_apply_all(&store, 0, retires, 3, answers, 3, &first, &done) == TG_NO_SUCH_WORKER && done == 2);
+    WANT(answers[1].deed == TG_DEED_RETIRE && memcmp(answers + 2, &before, sizeof before) == 0);
+    WANT(tg_apply_all(&store, 0, retires, 3, answers, 3, &first, &done) == TG_NO_SUCH_WORKER && done == 0);
+    WANT(tg_apply_all(&store, 1, retires, 1, answers, 3, &first, &done) == TG_DONE && done == 1);
+    WANT(tg_audit(&store, &count) == TG_DONE && count == MOST_COMMANDS + 3);
+    WANT(tg_close(&store) == TG_DONE);
+}
+
 int main(void) {
     tg_store store = TG_STORE_INIT;
     WANT(tg_abi() == TG_ABI);
@@ -1289,6 +1364,8 @@ int main(void) {
     entries_forgotten();
     parts_audited();
     auditors_stopped();
+    batches();
+    batches_stopped();
     resumed();
     resumed_in_a_full_heap();
     puts("statuses ok");

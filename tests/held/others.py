@@ -6,6 +6,10 @@ from dataclasses import dataclass
 
 SCRIPT = b"edge 0 1 tg\n0 create rw\n0 grant 1 2 r\n0 list\n1 read 2\n0 create l\n"
 TEXT = b"kovshenul entries 1\nopening 1 9\nworker l4:1,2\n0 create rl c0 = ok 1\n0 list = ok 1:rl\n0 read 1 = ok 0\nentries 3\n"
+PART = (
+    b"kovshenul picture 1\nmade 9 99 7\nworker 2\nvertex 2 c1\nvertex 7 l4:1,2\nedge 2 7 rl\npicture 3\n"
+    b"2 append 7 3 = ok\n2 create r c0 = ok 9\nentries 2\n"
+)
 LISTED = 400
 LISTING = b"".join([
     b"kovshenul entries 1\nopening 1 900\nworker c0\n",
@@ -28,11 +32,15 @@ RUNS = [
     Runs("tgaudit", [], TEXT),
     Runs("tgaudit", [], LISTING),
     Runs("tgaudit", [], TEXT.replace(b"ok 0", b"ok 1")),
+    Runs("tgaudit", ["--snapshot"], TEXT),
+    Runs("tgaudit", ["--snapshot"], PART),
+    Runs("tgaudit", [], PART.replace(b"vertex 7", b"vertex 9")),
     Runs("tgaudit", ["--help"], b""),
     Runs("tgaudit", ["--unknown"], b""),
     Runs("tgcould", [*OPTIONS, "--ask", "1 r 3", "--ask", "* r 2", "--never", "new w 2"], SCRIPT),
     Runs("tgcould", [*OPTIONS, "--as-if", "1 3 l", "--silent", "0", "--never", "1 * *"], SCRIPT),
     Runs("tgcould", [*OPTIONS, "--ask", "1 r 3"], SCRIPT + b"0 retired\n"),
+    Runs("tgcould", [*OPTIONS, "--never", "1 w 2"], SCRIPT + b"1 write 2 5\n7 list\n"),
     Runs("tgcould", ["--help"], b""),
     Runs("tgcould", ["--ask"], b""),
     Runs("tgdot", OPTIONS, SCRIPT),
@@ -49,11 +57,11 @@ def run(runs, path, environment, seconds):
 
 def is_right(runs, whole, ran):
     """Whether a run with a refused request is as one without, or out of memory, of which tgaudit tells the line too; a front of
-    the output may be there."""
+    the output may be there, and before it what tgcould reports of denied lines."""
     status, output, errors = ran
     if ran == whole:
         return True
-    told = re.fullmatch(rf"{runs.program}: (line \d+: )?out of memory\n".encode(), errors)
+    told = re.fullmatch(rf"(tgcould: (line \d+: '|--never: ).*\n)*{runs.program}: (line \d+: )?out of memory\n".encode(), errors)
     return status == 1 and told is not None and whole[1].startswith(output)
 
 

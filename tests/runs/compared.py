@@ -136,7 +136,7 @@ def check_entries(row: Row, program: Path, auditor: Path) -> str | None:
         ("status", number(wanted.status), number(ran.status)),
         ("stderr", wanted.stderr, ran.stderr),
         ("entries", b"\n".join(entries), b"\n".join(written)),
-        ("audit", answer, audit.stdout),
+        ("audit", answer, audit.stdout.splitlines(keepends=True)[0]),
     )
 
 

@@ -42,6 +42,10 @@ PLACES = {
         "the writer failed, or took no byte",
     ),
     ("tg_text/src/stream.rt", "take_byte"): (["reader.fill_buf"], "the reader failed"),
+    ("tg_c/src/refusal.rt", "from"): (
+        ["match fault ResumeFault::BadPlace ResumeFault::Unread"],
+        "a store that was to go on had no memory to read the entry: this is the value's meaning",
+    ),
     ("tg_shared/src/shared.rt", "new"): (
         ["match Locked::open Ok((locked, sessions, keeper)) Err(store)"],
         "there was no memory for the sessions: the store comes back alone",
@@ -67,6 +71,15 @@ PLACES = {
         "the words of the command line, for which the system's error says so",
     ),
     ("tgcould/src/answers.rt", "print"): (["if self.notes.is_short"] * 2, "a growth was refused before, and noted"),
+    ("tgcould/src/refused.rt", "print"): (["if text.is_short"] * 2, "a growth was refused before, and noted"),
+    ("tg_saved/src/line.rt", "is_line"): (
+        ["match write_snapshot_line Ok(()) Err(_)"],
+        "what was read is written to memory, which fails for want of it alone",
+    ),
+    ("tg_saved/src/text.rt", "bytes_named"): (
+        ["match written Ok(()) Err(WriteFailed)"],
+        "what was written lies in memory, and writing fails for want of it alone",
+    ),
     **{
         (f"tg_entries/src/{file}", name): (
             [f"match {writer} Ok(()) Err(_)"],
@@ -124,6 +137,7 @@ NAMED = {
     ("tg_could/src/search.rt", "spread_along", "NONE"): "an edge of the vertex each",
     ("tg_could/src/view/walks.rt", "begin", "u64::MAX"): "an edge along a path each",
     ("tg_entries/src/piece.rt", "read_some", "u64::MAX"): "a piece of the line each",
+    ("tg_saved/src/text.rt", "read_lines", "u64::MAX"): "a line of the text each",
     ("tg_entries/src/stream.rt", "audit_lines", "u64::MAX"): "a line of the reader each",
     ("tg_entries/src/stream.rt", "skip_line", "u64::MAX"): "a piece of the line each",
     ("tg_plain/src/script.rt", "add_lines", "while let Some(line)=reading.next(source,&mut sink)?"): "a line of the reader each",

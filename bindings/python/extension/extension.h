@@ -20,7 +20,7 @@
 #define EACH_CALL(DO) \
     DO(open) DO(close) DO(take) DO(grant) DO(remove) DO(write) DO(append) DO(create) DO(spawn) DO(retire) DO(leave) \
     DO(who_holds) DO(subjects) DO(read) DO(list) DO(inspect) DO(label) DO(collect) DO(census) DO(names) DO(entries) \
-    DO(first) DO(entry) DO(forget) DO(resume) DO(audit) DO(auditor_open) DO(auditor_feed) DO(auditor_at) DO(auditor_forget) \
+    DO(first) DO(entry) DO(forget) DO(resume) DO(apply_all) DO(audit) DO(auditor_open) DO(auditor_feed) DO(auditor_at) DO(auditor_forget) \
     DO(auditor_sweep) DO(auditor_close) DO(could) DO(answer_kind) DO(answer_names) DO(answer_turns) DO(answer_turn) \
     DO(answer_close) DO(view_open) DO(view_could) DO(view_close)
 
@@ -153,6 +153,7 @@ PyObject *counts_told(const tg_counts *counts);
 PyObject *row_told(struct store *self, const tg_target *edges, uint64_t count);
 
 PyObject *store_entry(PyObject *it, PyObject *const *words, Py_ssize_t count);
+PyObject *store_apply_all(PyObject *it, PyObject *const *words, Py_ssize_t count);
 PyObject *store_names(PyObject *it, PyObject *unused);
 PyObject *store_who_holds(PyObject *it, PyObject *const *words, Py_ssize_t count);
 PyObject *store_could(PyObject *it, PyObject *const *words, Py_ssize_t count);

@@ -33,14 +33,12 @@ PyObject *row_told(struct store *self, const tg_target *edges, uint64_t count) {
     return long_row_told(self, entries - 1, count, &record, numbers);
 }
 
-PyObject *store_entry(PyObject *it, PyObject *const *words, Py_ssize_t count) {
-    struct store *self = (struct store *)it;
+/* The entry at a place. */
+static PyObject *entry_told(struct store *self, uint64_t at) {
     struct state *state = self->state;
-    uint64_t at, numbers[MOST_NUMBERS];
+    uint64_t numbers[MOST_NUMBERS];
     tg_target edges[SHORT_ROW];
     tg_record record;
-    if (!numbers_of(state, words, count, &at, 1) || !wait_for_others(state))
-        return NULL;
     tg_status status = state->library.entry(&self->place, at, &record, numbers, MOST_NUMBERS, edges, SHORT_ROW);
     if (status != TG_DONE)
         return refused(state, status, NULL, NULL);
@@ -52,6 +50,41 @@ PyObject *store_entry(PyObject *it, PyObject *const *words, Py_ssize_t count) {
     Py_XDECREF(told_record);
     Py_XDECREF(told_numbers);
     Py_XDECREF(row);
+    return told;
+}
+
+PyObject *store_entry(PyObject *it, PyObject *const *words, Py_ssize_t count) {
+    struct store *self = (struct store *)it;
+    uint64_t at;
+    if (!numbers_of(self->state, words, count, &at, 1) || !wait_for_others(self->state))
+        return NULL;
+    return entry_told(self, at);
+}
+
+/* The entries of a batch: so many from a place on. */
+static PyObject *batch_told(struct store *self, uint64_t first, uint64_t done) {
+    PyObject *entries = PyList_New((Py_ssize_t)done);
+    for (uint64_t at = 0; entries != NULL && at < done; at++) {
+        PyObject *entry = entry_told(self, first + at);
+        if (entry == NULL || PyList_SetItem(entries, (Py_ssize_t)at, entry) < 0)
+            Py_CLEAR(entries);
+    }
+    return entries;
+}
+
+PyObject *store_apply_all(PyObject *it, PyObject *const *words, Py_ssize_t count) {
+    struct store *self = (struct store *)it;
+    uint64_t worker, first = 0, done = 0;
+    const void *commands;
+    size_t command_count;
+    if (!has_words(count, 2) || !number_of(self->state, words[0], &worker) ||
+        !items_of(words[1], sizeof(tg_command), &commands, &command_count) || !wait_for_others(self->state))
+        return NULL;
+    tg_status status =
+        self->state->library.apply_all(&self->place, worker, commands, command_count, NULL, 0, &first, &done);
+    PyObject *entries = batch_told(self, first, done);
+    PyObject *told = entries == NULL ? NULL : Py_BuildValue("IO", status, entries);
+    Py_XDECREF(entries);
     return told;
 }
 

@@ -23,7 +23,7 @@ from .journal import List as Listed
 
 CALLS = (
     "abi open close take grant remove write append create spawn retire leave who_holds subjects read list inspect label collect census names entries "
-    "first entry forget resume audit auditor_open auditor_feed auditor_at auditor_forget auditor_sweep auditor_close "
+    "first entry forget resume apply_all audit auditor_open auditor_feed auditor_at auditor_forget auditor_sweep auditor_close "
     "could answer_kind answer_names answer_turns answer_turn answer_close view_open view_could view_close"
 ).split()
 
@@ -31,8 +31,8 @@ DENIED = 1
 MOST_WORKERS = 64
 MOST_ASKED = 4
 
-# How many bytes a value, an edge, a number and a target take.
-VALUE_SIZE, EDGE_SIZE, NUMBER_SIZE, TARGET_SIZE = 16, 24, 8, 16
+# How many bytes a value, an edge, a number, a target and a command take.
+VALUE_SIZE, EDGE_SIZE, NUMBER_SIZE, TARGET_SIZE, COMMAND_SIZE = 16, 24, 8, 16, 40
 
 # How many edges of a row are taken at once. A longer row is read from the journal, which has all of it.
 SHORT_ROW = 64
@@ -560,6 +560,16 @@ class Store(_Place):
             # After a bad entry there is no journal to read a row from.
             self.read_rows()
             self._ask(short.tg_resume, at_in, record, numbers, counts[0], edges, counts[1])
+
+    def apply_all(self, worker: int, commands: bytes) -> Tuple[int, List[Tuple[Record, List[int], List[Target]]]]:
+        worker_in, count = _number(worker), c_size_t(len(commands) // COMMAND_SIZE)
+        first, done = Number(), Number()
+        with LOCK:
+            self.read_rows()
+            status = library.tg_apply_all(
+                self._at, worker_in, commands, count, None, c_size_t(0), byref(first), byref(done)
+            )
+            return status, [self.entry(first.value + at) for at in range(done.value)]
 
     def audit(self) -> int:
         return self._count(library.tg_audit)

@@ -7,7 +7,7 @@ from typing import Iterable, List, Tuple
 
 from ._library import BITS, number_in
 from ._values import Value
-from .journal import Entry, record_of
+from .journal import Deed, Entry, command_of, record_of
 
 NO_VALUE = "a value is a Cell, a Sum, a Max or a Log"
 
@@ -56,6 +56,15 @@ def entry_in(entry: Entry) -> Tuple[bytes, bytes, bytes]:
     words = [*map(_word, plain), rule, cause, *map(_word, (source, target, rights)), len(numbers), len(edges)]
     pairs: List[int] = [number for edge in edges for number in edge]
     return RECORD.pack(*words), bytes_of(numbers), bytes_of(pairs)
+
+
+# A command: its number, the bytes that a struct of C leaves out, and what the command names.
+COMMAND = Struct("=IxxxxQQQQ")
+
+
+def commands_in(commands: Iterable[Deed]) -> bytes:
+    """Commands of a batch."""
+    return b"".join([COMMAND.pack(kind, *map(_word, words)) for kind, *words in map(command_of, commands)])
 
 
 def _word(number: int) -> int:

@@ -2,7 +2,7 @@
 from __future__ import annotations
 
 from operator import index
-from typing import Optional, Tuple
+from typing import Optional, Sequence, Tuple
 
 from ._library import text_of
 from ._values import RIGHTS, Rights
@@ -72,6 +72,8 @@ class Refused(Error):
     status: int = 0
     at: Optional[int] = None
     """The place of the entry from which a store didn't go on (`Store.resume`, `Store.go_on`); else None."""
+    replies: Optional[Sequence[object]] = None
+    """The replies to the commands of a batch that are done, where a later one was refused (`Store.apply_all`); else None."""
 
     def __init__(self, status: Optional[int] = None, text: str = "") -> None:
         if status is not None:
@@ -150,7 +152,7 @@ class BadWorkers(Refused, ValueError):
 
 
 class BadLimits(Refused, ValueError):
-    """A limit is out of its range, which `Limits` has."""
+    """A limit is out of its range, which `Limits` has. A batch has more than 1,024 commands."""
 
     status = 81
 

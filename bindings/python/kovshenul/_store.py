@@ -7,11 +7,11 @@ from typing import Iterable, Iterator, List, Set, Tuple, Type, TypeVar
 from ._backend import back_end
 from ._held import Held
 from ._library import number_in
-from ._packed import entry_in, opening_in, scene_in, value_in
-from ._refusals import BadPlace, Refused
+from ._packed import commands_in, entry_in, opening_in, scene_in, value_in
+from ._refusals import BadPlace, Refused, refusal
 from ._values import RIGHTS, Counts, Kind, Limits, Rights, Target, Value
 from ._view import View
-from .journal import Entry, entry_of
+from .journal import Deed, Entry, Reply, entry_of
 from .outlook import Outlook, outlook_of
 
 # The number of a list or an inspect that has no effect.
@@ -145,6 +145,22 @@ class Store(Held):
         """Returns the target's edges by rising name, by the worker's right to inspect it. The journal gets one entry with all of
         them. `room` has no effect, as in `list`."""
         return self._place.inspect(worker, target, room)
+
+    def apply_all(self, worker: int, commands: Iterable[Deed]) -> List[Reply]:
+        """Takes commands of the worker one after the other, at most 1,024, and answers their replies. Each is a deed of
+        `kovshenul.journal`, but no Create and no Spawn. Each has an entry of its own, at places that follow one another.
+
+        A denial is a reply, and the next command is taken after it. A batch of more commands raises BadLimits, and one with a
+        bad set of rights BadRights; nothing of it is done. Any other refusal is that of the first command that is refused. Its
+        `replies` are those of the commands before it, which are done, and those after it aren't asked for.
+        """
+        status, entries = self._place.apply_all(worker, commands_in(commands))
+        replies = [entry_of(*entry).reply for entry in entries]
+        if status:
+            refused = refusal(status, worker)
+            refused.replies = replies
+            raise refused
+        return replies
 
     def label(self, worker: int, target: int) -> Rights:
         """Returns the rights that the worker holds over the target, which may be none. The journal gets no entry."""

@@ -18,6 +18,9 @@ from ._values import RIGHTS, Cell, Log, Max, Rights, Sum, Target, Value
 # By their numbers. A log begins with none.
 LAWS = (Cell, Sum, Max, Log)
 
+# What is no command of a batch.
+NO_COMMAND = "a command is a deed of kovshenul.journal, but no Create and no Spawn"
+
 # What is no entry.
 NO_ENTRY = "an entry is a journal.Entry of a deed and a reply of kovshenul.journal"
 
@@ -222,6 +225,14 @@ def _reply_of(record: Record, numbers: Sequence[int], edges: Sequence[Target]) -
 # ---- the other way
 
 NO_DENIAL: Numbers = (0, 0, 0, 0, 0)
+
+
+def command_of(deed: Deed) -> Tuple[int, int, int, int, int]:
+    """The number of a command, and then its via, target, rights and value, or 0 for what it hasn't."""
+    if type(deed) not in _DEED_NUMBERS or isinstance(deed, (Create, Spawn)):
+        raise TypeError(NO_COMMAND)
+    via, target, rights, value = (getattr(deed, name, 0) for name in ("via", "target", "rights", "value"))
+    return _DEED_NUMBERS[type(deed)], via, target, rights, value
 
 
 def record_of(entry: Entry) -> Tuple[Record, Sequence[int], Sequence[Target]]:

@@ -33,7 +33,7 @@ from . import journal, outlook
 from ._asked import Pair, edges_in, must_be_one, must_be_rights, must_be_written, must_fit, numbers_in, opened, stored_in
 from ._foresight import Foresight
 from ._library import number_in, short_of
-from ._packed import entry_in
+from ._packed import commands_in, entry_in
 from ._refusals import CAUSES, RULES, BadEntry, BadLaw, BadLimits, BadValues, BadWorkers, Error, HeapFull, NotAudited, OutOfMemory, Refused
 from ._refusals import (
     AlreadyOpen,
@@ -56,6 +56,9 @@ from .outlook import Chance, Outlook
 
 READ, WRITE, TAKE, GRANT, APPEND, INSPECT, FREE_U, FREE_V = Rights
 FULL, NURSERY = Kind
+
+# The most commands that a batch may have.
+MOST_COMMANDS = 1024
 
 Own = TypeVar("Own", bound="_Held")
 
@@ -190,6 +193,28 @@ class Store(_Held):
         if self._entries[at:] != [entry]:
             self.close()
             raise BadEntry
+
+    def apply_all(self, worker: int, commands: Iterable[Deed]) -> List[Reply]:
+        """Takes commands of the worker one after the other, at most 1,024, and returns their replies. A denial is a reply."""
+        asked = [*commands]
+        commands_in(asked)
+        (worker,) = numbers_in(worker)
+        if len(asked) > MOST_COMMANDS:
+            raise BadLimits
+        for deed in asked:
+            if hasattr(deed, "rights"):
+                must_be_rights(deed.rights)
+        self._must_be_open()
+        first = self.entries()
+        for deed in asked:
+            try:
+                getattr(self, type(deed).__name__.lower())(worker, *vars(deed).values())
+            except Denied:
+                pass
+            except Refused as refused:
+                refused.replies = [entry.reply for entry in self._entries[first:]]
+                raise
+        return [entry.reply for entry in self._entries[first:]]
 
     def leave(self, worker: int) -> int:
         """The worker gives up each edge that it has, by rising name, and retires. Returns how many edges these were."""

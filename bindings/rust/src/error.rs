@@ -153,9 +153,11 @@ pub enum Error {
     BadRights,
     /// A log of 0 or of more than 64 numbers.
     BadLaw,
+    /// A batch has a create or a spawn.
+    BadKind,
     /// Not from 1 to 64 workers.
     BadWorkers,
-    /// A limit is out of its range.
+    /// A limit is out of its range. A batch has more than 1,024 commands.
     BadLimits,
     /// An edge from a worker to itself, or with an end that is no worker; a supposed edge with an end that no worker
     /// reaches.
@@ -176,7 +178,7 @@ pub enum Error {
 }
 
 // The errors with a status of their own.
-const REFUSALS: [(Error, u32); 15] = [
+const REFUSALS: [(Error, u32); 16] = [
     (Error::OutOfMemory, 32),
     (Error::HeapFull, 33),
     (Error::VerticesFull, 34),
@@ -184,6 +186,7 @@ const REFUSALS: [(Error, u32); 15] = [
     (Error::NoSuchWorker, 48),
     (Error::BadRights, 64),
     (Error::BadLaw, 65),
+    (Error::BadKind, 66),
     (Error::BadWorkers, 80),
     (Error::BadLimits, 81),
     (Error::BadEdge, 82),

@@ -19,6 +19,7 @@
 //! To build it, set `KOVSHENUL_LIB_DIR` to the folder of `libkovshenul.a`, or have pkg-config know the library.
 #![deny(missing_docs)]
 mod auditor;
+mod batch;
 mod could;
 mod error;
 mod journal;
@@ -30,6 +31,7 @@ mod value;
 mod view;
 
 pub use auditor::Auditor;
+pub use batch::BatchStopped;
 pub use could::{Could, Turn};
 pub use error::{Denial, Error, Rule};
 pub use journal::{Deed, Entry, Journal, Reply};

@@ -148,6 +148,15 @@ pub struct RawRecord {
     pub edge_count: u64,
 }
 
+#[repr(C)]
+pub struct RawCommand {
+    pub deed: u32,
+    pub via: u64,
+    pub target: u64,
+    pub rights: u64,
+    pub value: u64,
+}
+
 /// An answer, or none where all of it is zero.
 #[repr(C)]
 pub struct RawAnswer {
@@ -203,6 +212,16 @@ extern "C" {
         room: usize,
         count: &mut u64,
         why: &mut RawDenial,
+    ) -> u32;
+    pub fn tg_apply_all(
+        store: *mut RawStore,
+        worker: u64,
+        commands: *const RawCommand,
+        count: usize,
+        answers: *mut RawRecord,
+        room: usize,
+        first: &mut u64,
+        done: &mut u64,
     ) -> u32;
     pub fn tg_label(store: *mut RawStore, worker: u64, target: u64, rights: &mut u64) -> u32;
     pub fn tg_collect(store: *mut RawStore, kind: u32, left: &mut u64) -> u32;

@@ -1,5 +1,5 @@
 //! The journal of a store, read back: it says what was called and what was answered.
-use kovshenul::{Auditor, Deed, Denial, Edge, Entry, Error, Limits, Reply, Rights, Rule, Stopped, Store, Target, Value};
+use kovshenul::{Auditor, BatchStopped, Deed, Denial, Edge, Entry, Error, Limits, Reply, Rights, Rule, Stopped, Store, Target, Value};
 
 const WORKERS: [Value; 2] = [Value::Cell(0); 2];
 
@@ -281,4 +281,41 @@ fn what_stops_a_resume() {
     assert_eq!((stopped.why, stopped.why.status(), stopped.store.is_some()), (Error::BadValues, 83, true));
     assert_eq!(resumed(1, &entries).unwrap_err().why, Error::BadLimits);
     assert_eq!(resumed(3, &entries).unwrap_err().why, Error::BadEntry);
+}
+
+#[test]
+fn a_batch_is_answered_as_its_commands_alone() {
+    let (mut one, mut other, mut dice) = (opened(20), opened(20), Dice(11));
+    for size in [0, 1, 2, 64, 1024] {
+        let worker = dice.below(2);
+        let made = |deed: &Deed| matches!(deed, Deed::Create { .. });
+        for store in [&mut one, &mut other] {
+            store.create(worker, Rights::all(), Value::Sum(5)).unwrap();
+        }
+        let deeds: Vec<Deed> = std::iter::repeat_with(|| dice.deed()).filter(|deed| !made(deed)).take(size).collect();
+        let alone: Vec<Reply> = deeds.iter().map(|deed| call(&mut other, worker, *deed)).collect();
+        assert_eq!(one.apply_all(worker, &deeds), Ok(alone));
+    }
+    assert!(one.journal().eq(other.journal()));
+    assert_eq!(one.audit(), one.entries());
+}
+
+#[test]
+fn what_stops_a_batch() {
+    let mut store = opened(20);
+    let sum = store.create(1, Rights::READ, Value::Sum(5)).unwrap();
+    let read = Deed::Read { target: sum };
+    let stopped = store.apply_all(1, [read, Deed::Retire, read]).unwrap_err();
+    let replies = vec![Reply::Values(vec![5]), Reply::Done];
+    assert!(stopped.to_string().starts_with("command 2 of the batch: "));
+    assert_eq!(stopped, BatchStopped { replies, why: Error::NoSuchWorker });
+    assert_eq!(store.entries(), Ok(3));
+    let refused = |store: &mut Store, deeds: &[Deed]| store.apply_all(0, deeds).unwrap_err();
+    let whole = |why| BatchStopped { replies: Vec::new(), why };
+    let create = Deed::Create { rights: Rights::READ, value: Value::Cell(0) };
+    let empty = Deed::Remove { target: 1, rights: Rights::NONE };
+    assert_eq!(refused(&mut store, &[Deed::List; 1025]), whole(Error::BadLimits));
+    assert_eq!(refused(&mut store, &[Deed::List, create]), whole(Error::BadKind));
+    assert_eq!(refused(&mut store, &[Deed::List, empty]), whole(Error::BadRights));
+    assert_eq!(store.entries(), Ok(3));
 }

@@ -20,6 +20,8 @@ use Rattle.tg_store.specs.declared.fault.StoreAuditFault.{StoreAuditFault}
 use Rattle.tg_store.specs.declared.fault.StoreAuditFault.TheVariants as audit
 use Rattle.tg_c.specs.declared.refusal.CallRefusal.{CallRefusal}
 use Rattle.tg_c.specs.declared.refusal.CallRefusal.TheVariants as refusal
+use Rattle.tg_c.specs.declared.refusal.ResumeFault.{ResumeFault}
+use Rattle.tg_c.specs.declared.refusal.ResumeFault.TheVariants as resumed
 use Rattle.tg_c.specs.declared.forms.CensusOut.{CensusOut}
 use Rattle.tg_c.specs.declared.forms.DenialOut.{DenialOut}
 use Rattle.tg_c.specs.declared.forms.EdgeOut.{EdgeOut}
@@ -89,6 +91,12 @@ abbrev pub of_part : PartFault → CallRefusal
 of_part (part.BadPlace due start end) = refusal.BadPlace
 of_part (part.BadEntry at) = refusal.BadEntry
 of_part (part.OutOfMemory at) = refusal.OutOfMemory
+
+abbrev pub of_resume : ResumeFault → CallRefusal
+of_resume resumed.BadPlace = refusal.BadPlace
+of_resume resumed.Unread = refusal.OutOfMemory
+of_resume resumed.BadEntry = refusal.BadEntry
+of_resume (resumed.NoRoom why) = of_collect why
 
 -- the answer, with its refusal as C knows it
 abbrev pub refused_as : {T E : Type 0} → (E → CallRefusal) → Result T E → Result T CallRefusal

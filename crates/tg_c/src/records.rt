@@ -1,5 +1,5 @@
 //! The journal's entries for C: a struct of numbers, and beside it the lists that an entry has.
-ghost use Rattle.std.specs.Prelude.{◌≡◌};
+ghost use Rattle.std.specs.Prelude.{◌≡◌, ◌↔◌, IsTrue};
 ghost use Rattle.tg_c.specs.Records.{answered as answered_told, asked as asked_told, command_out as command_told, deed_out as deed_told, making_out as making_told, edges_entered as edges_told, law_out as law_told, numbers_entered as numbers_told, record_of, reply_out as reply_told};
 ghost use Rattle.tg_model.specs.declared.reply.Reply.TheVariants.{Done};
 ghost use Rattle.tg_c.specs.Records.{numbers_replied};
@@ -12,7 +12,7 @@ use tg_rights::Label;
 
 /// An entry of the journal. What its deed or its reply hasn't is 0. 112 bytes.
 #[repr(C)]
-#[derive(Clone, Copy, Drop)]
+#[derive(Clone, Copy, PartialEq, Eq, Drop)]
 pub struct RecordOut {
     /// The worker that asked.
     pub worker: u64,
@@ -42,6 +42,15 @@ pub struct RecordOut {
     pub number_count: u64,
     /// How many edges were listed.
     pub edge_count: u64,
+}
+
+impl RecordOut {
+    /// Whether two records have the same numbers.
+    pub fn same(&self, other: &RecordOut) -> bool
+        ensures { IsTrue result ↔ (self.now ≡ other.now) }
+    {
+        *self == *other
+    }
 }
 
 // What a deed says, in numbers.

@@ -1,3 +1,3 @@
-pub mod WriteLaws
+pub mod OpeningLaws
 pub mod PieceLaws
 pub mod ReadLaws

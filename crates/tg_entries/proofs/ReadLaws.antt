@@ -1,54 +1,28 @@
 -- What a line more comes to for an audit of a text.
-use Rattle.std.proofs.Common.{◌≡◌, ◌∙◌, ℕ, ◌+◌, List, [], ◌∷◌, ◌++◌, Option, Some, None, IfSome, OnSome, ap, sym, subst, refl, append-nil, append_assoc, length-append, arith}
+use Rattle.std.proofs.Common.{◌≡◌, ◌∙◌, ℕ, ◌+◌, List, [], ◌∷◌, ◌++◌, Option, Some, None, IfSome, OnSome, ap, sym, subst, append-nil, length-append, arith}
 use Rattle.std.proofs.KnownBytes.{Consumes-nil, Consumes-trans}
 use Rattle.std.proofs.lemmas.List.{flat_map_more}
 use Rattle.std.specs.Io.KnownBytes.{Consumes, IsAtEnd}
 use Rattle.std.specs.List.{flat_map}
-use Rattle.std.specs.Prelude.{codes, IfOk, Result, Ok, Err}
-use Rattle.tg_model.specs.declared.command.Deed.{Deed}
-use Rattle.tg_model.specs.declared.reply.Reply.{Reply}
+use Rattle.std.specs.Prelude.{IfOk, Result, Ok, Err}
 use Rattle.tg_model.specs.declared.edge.Edge.{Edge}
 use Rattle.tg_model.specs.declared.value.Value.{Value}
 use Rattle.tg_model.specs.Graph.{ProtectionGraph}
 use Rattle.tg_model.specs.Opened.{Plan, IsPlan, start_of}
 use Rattle.tg_journal.specs.declared.entry.Entry.{Entry}
-use Rattle.tg_journal.specs.Auditing.{Passes, StandsAt}
+use Rattle.tg_journal.specs.Auditing.{StandsAt}
 use Rattle.tg_journal.specs.History.{graph_after}
-use Rattle.tg_journal.specs.Live.{AuditState}
+use Rattle.tg_journal.specs.Saving.{CanBeSaved}
 use Rattle.tg_journal.proofs.HistoryLaws.{IsLegal-push, graph_after-push}
-use Rattle.tg_text.specs.declared.answer.Answer.TheVariants as answer
-use Rattle.tg_text.specs.Texts.{answer_text}
+use Rattle.tg_journal.proofs.SavingLaws.{CanBeSaved-after, CanBeSaved-opened, CanBeSaved-shown}
 use Rattle.tg_entries.specs.declared.stage.Entered.{Entered}
 use Rattle.tg_entries.specs.declared.stage.Stage.{Stage}
 use Rattle.tg_entries.specs.declared.stage.Stage.TheVariants as stage
-use Rattle.tg_entries.specs.Pieces.{FetchesPiece, Loses}
-use Rattle.tg_entries.specs.Read.{ReadsOn, HasEntered, HasRead, IsListedEntry, IsNext}
-use Rattle.tg_entries.specs.Texts.{IsAudited, deed_text, edge_line_text, end_text, entry_text, head_text, limits_text, opening_text, version_text, worker_text}
-
--- the limits, behind the first line
-pub limits_read : (text line : List ℕ) (workers limit : ℕ) (values : List Value) (edges : List Edge) → values ≡ [] → edges ≡ [] → text ≡ version_text → line ≡ limits_text workers limit →
-    text ++ line ≡ opening_text workers limit values edges
-limits_read text line workers limit values edges no_value no_edge before is =
-    let front = version_text ++ limits_text workers limit in
-    ap (λ (x : List ℕ). x ++ line) before ∙ ap (λ (x : List ℕ). version_text ++ x) is
-    ∙ sym (append-nil (front ++ []) ∙ append-nil front)
-    ∙ ap (λ (vs : List Value). opening_text workers limit vs []) (sym no_value) ∙ ap (λ (es : List Edge). opening_text workers limit values es) (sym no_edge)
-
-worker_more : (text line : List ℕ) (workers limit : ℕ) (values : List Value) (value : Value) →
-    text ≡ opening_text workers limit values [] → line ≡ worker_text value → text ++ line ≡ opening_text workers limit (values ++ value ∷ []) []
-worker_more text line workers limit values value before is =
-    let front = version_text ++ limits_text workers limit in
-    ap (λ (x : List ℕ). x ++ line) (before ∙ append-nil (front ++ flat_map worker_text values))
-    ∙ ap (λ (x : List ℕ). (front ++ flat_map worker_text values) ++ x) is
-    ∙ flat_map_more worker_text front values value ∙ sym (append-nil (front ++ flat_map worker_text (values ++ value ∷ [])))
-
--- a worker's value, where no edge came
-pub worker_read : (text line : List ℕ) (workers limit : ℕ) (values now : List Value) (edges : List Edge) (value : Value) → edges ≡ [] → now ≡ values ++ value ∷ [] →
-    text ≡ opening_text workers limit values edges → line ≡ worker_text value → text ++ line ≡ opening_text workers limit now edges
-worker_read text line workers limit values now edges value none more before is =
-    subst (λ (es : List Edge). text ++ line ≡ opening_text workers limit now es) (sym none)
-    (subst (λ (vs : List Value). text ++ line ≡ opening_text workers limit vs []) (sym more)
-    (worker_more text line workers limit values value (subst (λ (es : List Edge). text ≡ opening_text workers limit values es) none before) is))
+use Rattle.tg_entries.specs.Pieces.{FetchesPiece}
+use Rattle.tg_entries.specs.Read.{CanSave, EndsText, ReadsOn, HasEnded, HasEntered, HasRead, IsListedEntry, IsNext}
+use Rattle.tg_snapshot.specs.Snapshot.{Saved, IsSnapshot, IsSnapshotOf, graph_shown}
+use Rattle.tg_saved.specs.Texts.{edge_line_text, snapshot_text}
+use Rattle.tg_entries.specs.Texts.{Origin, Opened, Shown, IsAudited, IsHistory, IsOrigin, IsSavedAfter, end_text, entry_text, graph_of_origin, head_text, limits_text, opening_text, origin_text, version_text, worker_text}
 
 -- an edge
 pub edge_read : (text line : List ℕ) (workers limit : ℕ) (values : List Value) (edges now : List Edge) (edge : Edge) → now ≡ edges ++ edge ∷ [] →
@@ -60,97 +34,123 @@ edge_read text line workers limit values edges now edge more before is =
 
 -- the whole opening, before any entry
 pub opening_read : (text : List ℕ) (plan : Plan) (entered : Entered) → text ≡ head_text plan → IsPlan plan →
-    StandsAt (start_of plan) entered.auditor → entered.count ≡ 0 → HasEntered text entered
-opening_read text plan entered is opening come none = record {
-  plan = plan;
+    StandsAt (start_of plan) entered.auditor → entered.auditor.at ≡ 0 → entered.count ≡ 0 → HasEntered text entered
+opening_read text plan entered is opening come first none = record {
+  origin = Opened plan;
   entries = [];
-  opening = opening;
+  accepted = opening;
   passes = record { legal = tt; next = come };
+  place = first;
   number = none;
   text_is = is ∙ sym (append-nil (head_text plan));
 }
 
--- the entry of a deed that was written again
-pub next_read : (g : ProtectionGraph) (audit : AuditState) (x : ℕ) (deed : Deed) (reply : Reply) (written line : List ℕ) → written ≡ deed_text x deed →
-    line ≡ written ++ (codes " = " ++ answer_text (answer.Reply reply)) → Passes g (record { worker = x; deed = deed; reply = reply } ∷ []) audit → IsNext g line audit
-next_read g audit x deed reply written line same is passes = record {
-  entry = record { worker = x; deed = deed; reply = reply };
-  line_is = is ∙ ap (λ (t : List ℕ). t ++ (codes " = " ++ answer_text (answer.Reply reply))) same;
-  passes = passes;
+-- the whole snapshot, before any entry
+pub snapshot_read : (text : List ℕ) (p : Saved) (entered : Entered) → text ≡ snapshot_text p → IsSnapshot p →
+    StandsAt (graph_shown p) entered.auditor → entered.auditor.at ≡ p.entries → entered.count ≡ 0 → HasEntered text entered
+snapshot_read text p entered is accepted come first none = record {
+  origin = Shown p;
+  entries = [];
+  accepted = accepted;
+  passes = record { legal = tt; next = come };
+  place = omega (arith, first);
+  number = none;
+  text_is = is ∙ sym (append-nil (snapshot_text p));
 }
 
 -- an entry, which is next where the audit stands
 entry_at : (text line : List ℕ) (entered next : Entered) (was : HasEntered text entered) →
-    IsNext (graph_after (start_of was.plan) was.entries) line next.auditor → next.count ≡ entered.count + 1 → HasEntered (text ++ line) next
+    IsNext (graph_after (graph_of_origin was.origin) was.entries) entered.auditor.at line next.auditor → next.count ≡ entered.count + 1 → HasEntered (text ++ line) next
 entry_at text line entered next was this more =
-    let g = start_of was.plan in
-    let front = head_text was.plan ++ flat_map entry_text was.entries in
+    let g = graph_of_origin was.origin in
+    let front = origin_text was.origin ++ flat_map entry_text was.entries in
     let e : Entry = this.entry in record {
-      plan = was.plan;
+      origin = was.origin;
       entries = was.entries ++ e ∷ [];
-      opening = was.opening;
+      accepted = was.accepted;
       passes = record {
         legal = IsLegal-push g was.entries e was.passes.legal this.passes.legal.0;
         next = subst (λ (h : ProtectionGraph). StandsAt h next.auditor) (sym (graph_after-push g was.entries e)) this.passes.next;
       };
+      place = omega (arith, this.place, was.place, length-append was.entries (e ∷ []));
       number = omega (arith, more, was.number, length-append was.entries (e ∷ []));
       text_is =
           ap (λ (x : List ℕ). x ++ line) was.text_is ∙ ap (λ (x : List ℕ). front ++ x) this.line_is
-          ∙ flat_map_more entry_text (head_text was.plan) was.entries e;
+          ∙ flat_map_more entry_text (origin_text was.origin) was.entries e;
     }
 
 -- an entry
 pub entry_read : (text line : List ℕ) (entered next : Entered) → HasEntered text entered →
-    ((g : ProtectionGraph) → StandsAt g entered.auditor → IsNext g line next.auditor) →
+    ((g : ProtectionGraph) → StandsAt g entered.auditor → IsNext g entered.auditor.at line next.auditor) →
     next.count ≡ entered.count + 1 → HasEntered (text ++ line) next
 entry_read text line entered next was is_next more =
-    entry_at text line entered next was (is_next (graph_after (start_of was.plan) was.entries) was.passes.next) more
-
--- the entry of a deed that was written again, with a listing behind it
-pub next_listed : (g : ProtectionGraph) (audit : AuditState) (x : ℕ) (deed : Deed) (reply : Reply) (written held : List ℕ) (left left' : Option (List ℕ)) → written ≡ deed_text x deed →
-    Loses held left (written ++ (codes " = " ++ answer_text (answer.Reply reply))) [] left' →
-    Passes g (record { worker = x; deed = deed; reply = reply } ∷ []) audit → IsListedEntry g held left left' audit
-next_listed g audit x deed reply written held left left' same line passes = record {
-  rest = line.piece;
-  taken = line.taken;
-  next = next_read g audit x deed reply written (held ++ line.piece) same (line.same ∙ append-nil (written ++ (codes " = " ++ answer_text (answer.Reply reply)))) passes;
-}
+    entry_at text line entered next was (is_next (graph_after (graph_of_origin was.origin) was.entries) was.passes.next) more
 
 -- an entry, of which the line is read to its end
 pub listed_read : (text held : List ℕ) (left left' : Option (List ℕ)) (entered next : Entered) → HasEntered text entered →
-    ((g : ProtectionGraph) → StandsAt g entered.auditor → IsListedEntry g held left left' next.auditor) →
+    ((g : ProtectionGraph) → StandsAt g entered.auditor → IsListedEntry g entered.auditor.at held left left' next.auditor) →
     next.count ≡ entered.count + 1 → ReadsOn text held left left' (stage.Entries next)
 listed_read text held left left' entered next was is_listed more =
-    let this = is_listed (graph_after (start_of was.plan) was.entries) was.passes.next in record {
+    let this = is_listed (graph_after (graph_of_origin was.origin) was.entries) was.passes.next in record {
       rest = this.rest;
       taken = this.taken;
       read = entry_at text (held ++ this.rest) entered next was this.next more;
     }
 
--- the end
-pub end_read : (text line : List ℕ) (entered : Entered) → HasEntered text entered → line ≡ end_text entered.count → IsAudited (text ++ line) entered.count
-end_read text line entered was is =
-    let front = head_text was.plan ++ flat_map entry_text was.entries in record {
-      plan = was.plan;
-      entries = was.entries;
-      opening = was.opening;
-      legal = was.passes.legal;
-      number = was.number;
-      whole =
-          ap (λ (x : List ℕ). x ++ line) was.text_is ∙ ap (λ (x : List ℕ). front ++ x) (is ∙ ap end_text was.number);
+-- ---- a whole text
+
+-- it is that of a history
+history_ended : (text : List ℕ) (entered : Entered) (was : HasEnded text entered) → IsHistory text was.read.origin was.read.entries
+history_ended text entered was =
+    let read = was.read in
+    let front = origin_text read.origin ++ flat_map entry_text read.entries in record {
+      accepted = read.accepted;
+      legal = read.passes.legal;
+      whole = was.whole ∙ ap (λ (x : List ℕ). x ++ end_text entered.count) read.text_is ∙ ap (λ (n : ℕ). front ++ end_text n) read.number;
+    }
+
+-- it has so many entries
+pub audited_ended : (text : List ℕ) (entered : Entered) → HasEnded text entered → IsAudited text entered.count
+audited_ended text entered was = record {
+  origin = was.read.origin;
+  entries = was.read.entries;
+  history = history_ended text entered was;
+  number = was.read.number;
+}
+
+-- a snapshot of what the audit has come to is one of the graph after it
+pub saved_ended : (text : List ℕ) (entered : Entered) (p : Saved) → HasEnded text entered →
+    ((g : ProtectionGraph) → StandsAt g entered.auditor → IsSnapshotOf p g) → p.entries ≡ entered.auditor.at → IsSavedAfter text p
+saved_ended text entered p was of place =
+    let read = was.read in record {
+      origin = read.origin;
+      entries = read.entries;
+      history = history_ended text entered was;
+      of = of (graph_after (graph_of_origin read.origin) read.entries) read.passes.next;
+      place = place ∙ read.place;
+    }
+
+can_be_saved : (o : Origin) → IsOrigin o → CanBeSaved (graph_of_origin o)
+can_be_saved (Opened plan) is = CanBeSaved-opened plan is
+can_be_saved (Shown p) is = CanBeSaved-shown p is
+
+-- the audit has come to a graph of which it has a snapshot
+pub can_save_ended : (text : List ℕ) (entered : Entered) → HasEnded text entered → CanSave entered
+can_save_ended text entered was =
+    let read = was.read in
+    let first = graph_of_origin read.origin in record {
+      graph = graph_after first read.entries;
+      come = read.passes.next;
+      saved = CanBeSaved-after first read.entries (can_be_saved read.origin read.accepted) read.passes.legal;
     }
 
 -- ---- all lines of a reader
 
--- what was taken of the known bytes is what the audit has read
-abbrev pub IsAt : Option (List ℕ) → Option (List ℕ) → Stage → Type 0
-IsAt None now stage = Unit {0}
-IsAt (Some xs) None stage = ⊥
-IsAt (Some xs) (Some rest) stage = (front : List ℕ) × (xs ≡ front ++ rest) × HasRead front stage
-
-pub at_first : (known : Option (List ℕ)) (stage : Stage) → HasRead [] stage → IsAt known known stage
-at_first None stage read = tt
-at_first (Some xs) stage read = ([], refl, read)
+-- what was taken of the reader's bytes is what the audit has read
+pub record IsAt (known now : Option (List ℕ)) (stage : Stage) : Type 0 where
+  pub front : List ℕ
+  pub taken : Consumes known now front
+  pub read : HasRead front stage
 
 -- a line that is whole
 pub goes_on : (text line : List ℕ) (left : Option (List ℕ)) (next : Stage) → HasRead (text ++ line) next → ReadsOn text line left left next
@@ -160,35 +160,39 @@ goes_on text line left next read = record {
   read = subst (λ (x : List ℕ). HasRead (text ++ x) next) (sym (append-nil line)) read;
 }
 
--- a line was taken of the known bytes, and read
-at_read : (xs rest front line : List ℕ) (left : Option (List ℕ)) (next : Stage) → xs ≡ front ++ rest → Consumes (Some rest) left line → HasRead (front ++ line) next →
-    IsAt (Some xs) left next
-at_read xs rest front line None next before takes read = absurd takes
-at_read xs rest front line (Some left) next before takes read =
-    (front ++ line, before ∙ ap (λ (x : List ℕ). front ++ x) takes ∙ sym (append_assoc front line left), read)
-
 -- the front of a line was taken, and then its rest, and all was read
 pub at_next : (known now then left : Option (List ℕ)) (stage next : Stage) (line : List ℕ) → IsAt known now stage → FetchesPiece [] now line then →
     ((text : List ℕ) → HasRead text stage → ReadsOn text line then left next) → IsAt known left next
-at_next None now then left stage next line was taken reads = tt
-at_next (Some xs) None then left stage next line was taken reads = absurd was
-at_next (Some xs) (Some rest) then left stage next line was taken reads =
-    let goes = reads was.0 was.2 in
-    at_read xs rest was.0 (line ++ goes.rest) left next was.1
-    (subst (λ (x : List ℕ). Consumes (Some rest) left (x ++ goes.rest)) (sym taken.held_is) (Consumes-trans (Some rest) then left taken.piece goes.rest taken.taken goes.taken)) goes.read
+at_next known now then left stage next line was taken reads =
+    let goes = reads was.front was.read in record {
+      front = was.front ++ (line ++ goes.rest);
+      taken =
+          Consumes-trans known now left was.front (line ++ goes.rest) was.taken
+          (subst (λ (x : List ℕ). Consumes now left (x ++ goes.rest)) (sym taken.held_is)
+          (Consumes-trans now then left taken.piece goes.rest taken.taken goes.taken));
+      read = goes.read;
+    }
 
--- the text ends with these bytes of a line
-pub at_last : (known now then : Option (List ℕ)) (stage : Stage) (line : List ℕ) (count : ℕ) → IsAt known now stage → FetchesPiece [] now line then → OnSome now (IsAtEnd then) →
-    ((text : List ℕ) → HasRead text stage → IsAudited (text ++ line) count) → IfSome known (λ text. IsAudited text count)
-at_last None now then stage line count was taken none ends = tt
-at_last (Some xs) None then stage line count was taken none ends = absurd was
-at_last (Some xs) (Some rest) None stage line count was taken none ends = absurd taken.taken
-at_last (Some xs) (Some rest) (Some left) stage line count was taken none ends =
-    let all : rest ≡ line = taken.taken ∙ ap (λ (x : List ℕ). taken.piece ++ x) none ∙ append-nil taken.piece ∙ sym taken.held_is in
-    subst (λ (text : List ℕ). IsAudited text count) (sym (was.1 ∙ ap (λ (x : List ℕ). was.0 ++ x) all)) (ends was.0 was.2)
+-- these bytes were the last
+whole_taken : (known now then : Option (List ℕ)) (front piece line : List ℕ) → Consumes known now front → Consumes now then piece → OnSome now (IsAtEnd then) → line ≡ piece →
+    IfSome known (λ bytes. bytes ≡ front ++ line)
+whole_taken None now then front piece line before taken none is = tt
+whole_taken (Some xs) None then front piece line before taken none is = absurd before
+whole_taken (Some xs) (Some rest) None front piece line before taken none is = absurd taken
+whole_taken (Some xs) (Some rest) (Some left) front piece line before taken none is =
+    before ∙ ap (λ (x : List ℕ). front ++ x) (taken ∙ ap (λ (x : List ℕ). piece ++ x) none ∙ append-nil piece ∙ sym is)
 
 -- the text ends, and this is answered
-pub at_end : {E : Type 0} (known now then : Option (List ℕ)) (stage : Stage) (line : List ℕ) (r : Result ℕ E) → IsAt known now stage → FetchesPiece [] now line then →
-    OnSome now (IsAtEnd then) → ((text : List ℕ) → HasRead text stage → IfOk r (IsAudited (text ++ line))) → IfOk r (λ count. IfSome known (λ text. IsAudited text count))
-at_end known now then stage line (Ok count) was taken none ends = at_last known now then stage line count was taken none ends
+pub at_end : {E : Type 0} (known now then : Option (List ℕ)) (stage : Stage) (line : List ℕ) (r : Result Entered E) → IsAt known now stage → FetchesPiece [] now line then →
+    OnSome now (IsAtEnd then) → ((text : List ℕ) → HasRead text stage → IfOk r (HasEnded (text ++ line))) → IfOk r (EndsText known)
+at_end known now then stage line (Ok entered) was taken none ends = record {
+  text = was.front ++ line;
+  same = whole_taken known now then was.front taken.piece line was.taken taken.taken none taken.held_is;
+  ended = ends was.front was.read;
+}
 at_end known now then stage line (Err e) was taken none ends = tt
+
+-- what holds of each text with this end holds of the known one
+pub known_text : (known : Option (List ℕ)) (P : List ℕ → Type 0) (text : List ℕ) → IfSome known (λ bytes. bytes ≡ text) → P text → IfSome known P
+known_text None P text same here = tt
+known_text (Some bytes) P text same here = subst P (sym same) here

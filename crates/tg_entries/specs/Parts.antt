@@ -2,7 +2,8 @@
 use Rattle.std.specs.Prelude.{ℕ, List}
 use Rattle.tg_entries.specs.declared.part.Part.{Part}
 use Rattle.tg_entries.specs.declared.part.Part.TheVariants as part
-use Rattle.tg_entries.specs.Texts.{deed_text, edge_line_text, end_text, limits_text, worker_text}
+use Rattle.tg_saved.specs.Texts.{edge_line_text}
+use Rattle.tg_entries.specs.Texts.{deed_text, end_text, limits_text, worker_text}
 
 abbrev pub part_text : Part → List ℕ
 part_text (part.Limits workers limit) = limits_text workers limit

@@ -1,50 +1,73 @@
 -- What an audit of a text has read.
-use Rattle.std.specs.Prelude.{◌≡◌, ℕ, List, [], ◌∷◌, ◌++◌, length, Option}
+use Rattle.std.specs.Prelude.{◌≡◌, ℕ, ◌+◌, List, [], ◌∷◌, ◌++◌, length, Option, IfSome}
 use Rattle.std.specs.Io.KnownBytes.{Consumes}
 use Rattle.std.specs.List.{flat_map}
 use Rattle.tg_model.specs.Graph.{ProtectionGraph}
-use Rattle.tg_model.specs.Opened.{Plan, IsPlan, start_of}
 use Rattle.tg_journal.specs.declared.entry.Entry.{Entry}
-use Rattle.tg_journal.specs.Auditing.{Passes}
+use Rattle.tg_journal.specs.Auditing.{Passes, StandsAt}
 use Rattle.tg_journal.specs.Live.{AuditState}
+use Rattle.tg_journal.specs.Saving.{CanBeSaved}
 use Rattle.tg_entries.specs.declared.stage.Head.{Head}
 use Rattle.tg_entries.specs.declared.stage.Entered.{Entered}
 use Rattle.tg_entries.specs.declared.stage.Stage.{Stage}
 use Rattle.tg_entries.specs.declared.stage.Stage.TheVariants as stage
-use Rattle.tg_entries.specs.Texts.{IsAudited, entry_text, head_text, opening_text, version_text}
+use Rattle.tg_saved.specs.Read.{HasReadSnapshot}
+use Rattle.tg_entries.specs.Texts.{Origin, IsOrigin, end_text, entries_before, entry_text, graph_of_origin, opening_text, origin_text, version_text}
 
--- the text is an opening's and then that of so many entries, which are a legal history; and the audit has come to the graph after them
+-- The text is an origin's and then that of so many entries, which are a legal history. The audit has come to the graph and the place after
+-- them.
 pub record HasEntered (text : List ℕ) (entered : Entered) : Type 0 where
-  pub plan : Plan
+  pub origin : Origin
   pub entries : List Entry
-  pub opening : IsPlan plan
-  pub passes : Passes (start_of plan) entries entered.auditor
+  pub accepted : IsOrigin origin
+  pub passes : Passes (graph_of_origin origin) entries entered.auditor
+  pub place : entered.auditor.at ≡ entries_before origin + length entries
   pub number : entered.count ≡ length entries
-  pub text_is : text ≡ head_text plan ++ flat_map entry_text entries
+  pub text_is : text ≡ origin_text origin ++ flat_map entry_text entries
 
--- the line is that of an entry which is legal on the first graph, and the audit has come to the one after it
-pub record IsNext (g : ProtectionGraph) (line : List ℕ) (audit : AuditState) : Type 0 where
+-- the text is that of a whole history, and the audit has come to the graph and the place after it
+pub record HasEnded (text : List ℕ) (entered : Entered) : Type 0 where
+  pub front : List ℕ
+  pub read : HasEntered front entered
+  pub whole : text ≡ front ++ end_text entered.count
+
+-- the audit has come to a graph of which there is a snapshot
+pub record CanSave (entered : Entered) : Type 0 where
+  pub graph : ProtectionGraph
+  pub come : StandsAt graph entered.auditor
+  pub saved : CanBeSaved graph
+
+-- all that the reader had, if that is known, is such a text
+pub record EndsText (known : Option (List ℕ)) (entered : Entered) : Type 0 where
+  pub text : List ℕ
+  pub same : IfSome known (λ bytes. bytes ≡ text)
+  pub ended : HasEnded text entered
+
+-- the line is that of an entry which is legal on the first graph, and the audit has come to the one and to the place after it
+pub record IsNext (g : ProtectionGraph) (at : ℕ) (line : List ℕ) (audit : AuditState) : Type 0 where
   pub entry : Entry
   pub line_is : line ≡ entry_text entry
   pub passes : Passes g (entry ∷ []) audit
+  pub place : audit.at ≡ at + 1
 
 -- the line that begins with the bytes at hand, and goes on with those that were taken of the reader's, is one that is next
-pub record IsListedEntry (g : ProtectionGraph) (held : List ℕ) (left left' : Option (List ℕ)) (audit : AuditState) : Type 0 where
+pub record IsListedEntry (g : ProtectionGraph) (at : ℕ) (held : List ℕ) (left left' : Option (List ℕ)) (audit : AuditState) : Type 0 where
   pub rest : List ℕ
   pub taken : Consumes left left' rest
-  pub next : IsNext g (held ++ rest) audit
+  pub next : IsNext g at (held ++ rest) audit
 
 -- the text is the front of an opening's
 abbrev pub HasHead : List ℕ → Head → Type 0
 HasHead text head = text ≡ opening_text head.workers head.max_vertices head.values.items head.edges.items
 
--- the text that an audit has read where it stands: nothing, parts of an opening, entries, or a whole history
+-- the text that an audit has read where it stands: nothing, parts of an opening or of a snapshot, entries, or a whole history
 abbrev pub HasRead : List ℕ → Stage → Type 0
 HasRead text stage.Version = text ≡ []
 HasRead text stage.Limits = text ≡ version_text
 HasRead text (stage.Opening head) = HasHead text head
+HasRead text (stage.Saved lines) = HasReadSnapshot text lines
 HasRead text (stage.Entries entered) = HasEntered text entered
-HasRead text (stage.Ended count) = IsAudited text count
+HasRead text (stage.Ended entered) = HasEnded text entered
 HasRead text stage.Stopped = ⊥
 
 -- a line begins with the bytes at hand, and goes on with those that were taken of the reader's; the audit has read it behind the text

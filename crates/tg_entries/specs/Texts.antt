@@ -1,43 +1,22 @@
--- The text of a history: its opening, a line for each entry, and a last line with their number. Numbers are decimal without leading
--- zeros, and words have one space between two.
-use Rattle.std.specs.Prelude.{◌≡◌, ℕ, List, [], ◌∷◌, ◌++◌, length, codes, decimal}
+-- The text of a history: its opening, or the snapshot that it goes on from, a line for each entry, and a last line with their number.
+-- Numbers are decimal without leading zeros, and words have one space between two.
+use Rattle.std.specs.Prelude.{◌≡◌, ℕ, ◌+◌, List, ◌∷◌, ◌++◌, length, codes, decimal}
 use Rattle.std.specs.List.{flat_map}
 use Rattle.tg_model.specs.declared.command.Deed.{Deed}
 use Rattle.tg_model.specs.declared.command.Deed.TheVariants as deed
 use Rattle.tg_model.specs.declared.edge.Edge.{Edge}
-use Rattle.tg_model.specs.declared.law.Law.{Law}
-use Rattle.tg_model.specs.declared.law.Law.TheVariants.{Cell, Sum, Max, Log}
 use Rattle.tg_model.specs.declared.value.Value.{Value}
+use Rattle.tg_model.specs.Graph.{ProtectionGraph}
 use Rattle.tg_model.specs.Opened.{Plan, IsPlan, start_of}
+use Rattle.tg_snapshot.specs.Snapshot.{Saved, IsSnapshot, IsSnapshotOf, graph_shown}
 use Rattle.tg_journal.specs.declared.entry.Entry.{Entry}
-use Rattle.tg_journal.specs.History.{IsLegal}
+use Rattle.tg_journal.specs.History.{IsLegal, graph_after}
 use Rattle.tg_text.specs.declared.answer.Answer.TheVariants as answer
 use Rattle.tg_text.specs.declared.line.Line.TheVariants as line
 use Rattle.tg_text.specs.Grammar.{line_text}
 use Rattle.tg_text.specs.Texts.{answer_text}
-
--- ---- what a vertex stores
-
--- `,N` for each number
-abbrev pub more_text : ℕ → List ℕ
-more_text number = 44 ∷ decimal number
-
--- numbers with a comma between two
-abbrev pub numbers_text : List ℕ → List ℕ
-numbers_text [] = []
-numbers_text (number ∷ numbers) = decimal number ++ flat_map more_text numbers
-
--- the numbers of a log, behind a colon where it has any
-abbrev pub logged_text : List ℕ → List ℕ
-logged_text [] = []
-logged_text (number ∷ numbers) = codes ":" ++ numbers_text (number ∷ numbers)
-
--- the letter of a law and the numbers: `c0`, `s5`, `m7`, a log of four as `l4` or `l4:1,2`
-abbrev pub payload_text : Law → List ℕ → List ℕ
-payload_text Cell state = codes "c" ++ numbers_text state
-payload_text Sum state = codes "s" ++ numbers_text state
-payload_text Max state = codes "m" ++ numbers_text state
-payload_text (Log most) state = (codes "l" ++ decimal most) ++ logged_text state
+use Rattle.tg_saved.specs.Texts.{edge_line_text, snapshot_text}
+use Rattle.tg_saved.specs.Values.{payload_text}
 
 -- ---- entries
 
@@ -64,10 +43,6 @@ limits_text workers limit = codes "opening " ++ (decimal workers ++ (codes " " +
 abbrev pub worker_text : Value → List ℕ
 worker_text value = codes "worker " ++ (payload_text value.law value.state ++ codes "\n")
 
--- `edge 0 1 rw`, for each edge
-abbrev pub edge_line_text : Edge → List ℕ
-edge_line_text edge = line_text (line.Edge edge) ++ codes "\n"
-
 abbrev pub opening_text : ℕ → ℕ → List Value → List Edge → List ℕ
 opening_text workers limit values edges =
     ((version_text ++ limits_text workers limit) ++ flat_map worker_text values) ++ flat_map edge_line_text edges
@@ -87,11 +62,48 @@ end_text count = codes "entries " ++ (decimal count ++ codes "\n")
 abbrev pub history_text : Plan → List Entry → List ℕ
 history_text p es = (head_text p ++ flat_map entry_text es) ++ end_text (length es)
 
+-- where a history begins: at an opening, or at a snapshot of an earlier graph
+pub data Origin : Type 0 where
+  Opened : Plan → Origin
+  Shown : Saved → Origin
+
+-- an opening, or a snapshot, that may be one
+abbrev pub IsOrigin : Origin → Type 0
+IsOrigin (Opened plan) = IsPlan plan
+IsOrigin (Shown p) = IsSnapshot p
+
+-- the graph from which its entries go on
+abbrev pub graph_of_origin : Origin → ProtectionGraph
+graph_of_origin (Opened plan) = start_of plan
+graph_of_origin (Shown p) = graph_shown p
+
+-- how many entries were made before it
+abbrev pub entries_before : Origin → ℕ
+entries_before (Opened plan) = 0
+entries_before (Shown p) = p.entries
+
+-- the text in front of its entries
+abbrev pub origin_text : Origin → List ℕ
+origin_text (Opened plan) = head_text plan
+origin_text (Shown p) = snapshot_text p
+
+-- The text is that of these entries behind their origin, of which they are a legal history.
+pub record IsHistory (text : List ℕ) (origin : Origin) (entries : List Entry) : Type 0 where
+  pub accepted : IsOrigin origin
+  pub legal : IsLegal (graph_of_origin origin) entries
+  pub whole : text ≡ (origin_text origin ++ flat_map entry_text entries) ++ end_text (length entries)
+
 -- the text is that of a legal history of so many entries
 pub record IsAudited (text : List ℕ) (count : ℕ) : Type 0 where
-  pub plan : Plan
+  pub origin : Origin
   pub entries : List Entry
-  pub opening : IsPlan plan
-  pub legal : IsLegal (start_of plan) entries
+  pub history : IsHistory text origin entries
   pub number : count ≡ length entries
-  pub whole : text ≡ history_text plan entries
+
+-- the text is that of a legal history, and the snapshot is of the graph after its last entry
+pub record IsSavedAfter (text : List ℕ) (p : Saved) : Type 0 where
+  pub origin : Origin
+  pub entries : List Entry
+  pub history : IsHistory text origin entries
+  pub of : IsSnapshotOf p (graph_after (graph_of_origin origin) entries)
+  pub place : p.entries ≡ entries_before origin + length entries

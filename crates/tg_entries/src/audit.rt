@@ -1,15 +1,17 @@
 //! An audit of a text that comes line by line.
-ghost use Rattle.std.specs.Prelude.{◌≡◌, ◌++◌, [], List, ℕ, IfOk, IsTrue, OnOk};
+ghost use Rattle.std.specs.Prelude.{◌≡◌, ◌++◌, [], List, ℕ, IfOk, IfSome, IsTrue, OnOk};
 ghost use Rattle.tg_entries.specs.declared.stage.Stage.TheVariants as Stage;
 ghost use Rattle.tg_model.specs.Graph.{ProtectionGraph};
 ghost use Rattle.tg_journal.specs.Auditing.{StandsAt};
-ghost use Rattle.tg_entries.specs.Read.{ReadsOn, HasEntered, HasHead, HasRead, IsNext};
-ghost use Rattle.tg_entries.specs.Texts.{IsAudited, deed_text, edge_line_text, worker_text};
+ghost use Rattle.tg_saved.specs.Read.{HasReadSnapshot};
+ghost use Rattle.tg_entries.specs.Read.{ReadsOn, HasEnded, HasEntered, HasHead, HasRead, IsNext};
+ghost use Rattle.tg_saved.specs.Texts.{edge_line_text, snapshot_text};
+ghost use Rattle.tg_entries.specs.Texts.{IsAudited, deed_text, worker_text};
 
 use crate::fault::{LineFault, LongFault};
 use crate::long::long_stage;
 use crate::part::{Part, check_part, is_reply};
-use crate::read::{deed_part, read_deed, read_edge, read_limits, read_value, worker_part};
+use crate::read::{deed_part, read_deed, read_limits, worker_part};
 use crate::stage::{Entered, Head, Stage};
 use crate::write::VERSION;
 use std::alloc::{AllocError, Global};
@@ -19,6 +21,8 @@ use std::mem;
 use std::sync::ledger::Ledger;
 use tg_journal::Auditor;
 use tg_model::{Deed, Edge, MAX_LASTING_VERTICES, MAX_WORKERS, Opening, Value};
+use tg_saved::{SNAPSHOT_VERSION, SnapshotStage, read_edge, read_value};
+use tg_snapshot::Snapshot;
 use tg_text::{Count, Written};
 
 /// An audit of the text of a history, which is fed a line at a time. It keeps the line that it reads, and of the graph
@@ -79,10 +83,21 @@ impl<L: Ledger> TextAudit<L> {
 
     /// How many entries there are, where the last line of a text was read; `None` where it wasn't.
     pub fn ended(&self) -> Option<u64>
-        ensures { (text : List ℕ) (count : ℕ) → HasRead text self.now → result ≡ Some count → IsAudited text count }
+        ensures { (text : List ℕ) → HasRead text self.now → IfSome result (IsAudited text) }
     {
-        match self.stage {
-            Stage::Ended(count) => Some(count),
+        match &self.stage {
+            Stage::Ended(entered) => Some(entered.count),
+            _ => None,
+        }
+    }
+
+    /// The audit, where the last line of a text was read; `None` where it wasn't. Each later line is a bad line.
+    pub(crate) fn finish(&mut self) -> Option<Entered>
+        ensures { (text : List ℕ) → HasRead text self.old → IfSome result (HasEnded text) }
+    {
+        let stage = mem::replace(&mut self.stage, Stage::Stopped);
+        match stage {
+            Stage::Ended(entered) => Some(entered),
             _ => None,
         }
     }
@@ -101,6 +116,7 @@ fn next_stage<L: Ledger>(
         Stage::Version => version_line(line),
         Stage::Limits => limits_line(alloc, again, line),
         Stage::Opening(head) => opening_line(alloc, again, head, line),
+        Stage::Saved(lines) => snapshot_line(alloc, again, lines, line),
         Stage::Entries(entered) => entries_line(alloc, again, entered, line),
         Stage::Ended(_) | Stage::Stopped => Err(LineFault::BadLine),
     }
@@ -111,9 +127,38 @@ fn version_line(line: &[u8]) -> Result<Stage, LineFault>
 {
     if line == VERSION {
         Ok(Stage::Limits)
+    } else if line == SNAPSHOT_VERSION {
+        Ok(Stage::Saved(SnapshotStage::Counts))
     } else {
         Err(LineFault::OtherVersion)
     }
+}
+
+// A line of the snapshot that the history goes on from.
+fn snapshot_line<L: Ledger>(
+    alloc: Global,
+    again: &mut Written<L>,
+    lines: SnapshotStage,
+    line: &[u8],
+) -> Result<Stage, LineFault>
+    ensures { (text : List ℕ) → HasReadSnapshot text lines → IfOk result (HasRead (text ++ line.now)) }
+{
+    match lines.next(alloc, again, line)? {
+        SnapshotStage::Whole(snapshot) => Ok(Stage::Entries(reopen(alloc, &snapshot)?)),
+        next => Ok(Stage::Saved(next)),
+    }
+}
+
+// The audit of a history that goes on from the snapshot. Fails only when out of memory.
+fn reopen(alloc: Global, snapshot: &Snapshot) -> Result<Entered, AllocError>
+    ensures { (text : List ℕ) → text ≡ snapshot_text snapshot.now → IfOk result (HasEntered text) }
+{
+    // Its lists are a snapshot, as this call says.
+    let _ = snapshot.picture();
+    Ok(Entered {
+        auditor: Auditor::reopen(alloc, snapshot)?,
+        count: 0,
+    })
 }
 
 fn limits_line<L: Ledger>(
@@ -183,7 +228,9 @@ fn next_value<L: Ledger>(
     let Some(word) = worker_part(line) else {
         return Err(LineFault::BadLine);
     };
-    let value = read_value(alloc, word)?;
+    let Some(value) = read_value(alloc, word)? else {
+        return Err(LineFault::BadLine);
+    };
     check_part(again, &Part::Worker(&value), line)?;
     Ok(value)
 }
@@ -266,7 +313,7 @@ fn entries_line<L: Ledger>(
     ensures { (text : List ℕ) → HasEntered text entered → IfOk result (HasRead (text ++ line.now)) }
 {
     if line.starts_with(b"entries ") {
-        return end_line(again, &entered, line);
+        return end_line(again, entered, line);
     }
     let mut entered = entered;
     match entry_line(alloc, again, &mut entered, line) {
@@ -278,13 +325,13 @@ fn entries_line<L: Ledger>(
 // The line with the number of entries.
 fn end_line<L: Ledger>(
     again: &mut Written<L>,
-    entered: &Entered,
+    entered: Entered,
     line: &[u8],
 ) -> Result<Stage, LineFault>
-    ensures { (text : List ℕ) → HasEntered text entered.now → IfOk result (HasRead (text ++ line.now)) }
+    ensures { (text : List ℕ) → HasEntered text entered → IfOk result (HasRead (text ++ line.now)) }
 {
     check_part(again, &Part::End(entered.count), line)?;
-    Ok(Stage::Ended(entered.count))
+    Ok(Stage::Ended(entered))
 }
 
 // The next entry.
@@ -301,7 +348,9 @@ fn entry_line<L: Ledger>(
         return Err(LineFault::BadLine);
     };
     if !is_next(again, &mut entered.auditor, worker, &deed, line)? {
-        return Err(LineFault::BadEntry { at: entered.count });
+        return Err(LineFault::BadEntry {
+            at: entered.auditor.at(),
+        });
     }
     entered.count = next;
     Ok(())
@@ -337,7 +386,7 @@ fn is_next<L: Ledger>(
     line: &[u8],
 ) -> Result<bool, AllocError>
     requires { again.old.bytes.items ≡ deed_text worker deed.now }
-    ensures { (g : ProtectionGraph) → StandsAt g auditor.old → IfOk result (λ legal. IsTrue legal → IsNext g line.now auditor.new) }
+    ensures { (g : ProtectionGraph) → StandsAt g auditor.old → IfOk result (λ legal. IsTrue legal → IsNext g auditor.old.at line.now auditor.new) }
 {
     match auditor.answer(worker, deed)? {
         Some(reply) => is_reply(again, &reply, line),

@@ -3,6 +3,7 @@ ghost use Rattle.std.specs.Prelude.{◌≡◌};
 
 use std::alloc::AllocError;
 use std::io;
+use tg_saved::SnapshotLineFault;
 use thiserror::Error;
 
 /// Why a line doesn't go on with the lines before it.
@@ -11,13 +12,17 @@ pub enum LineFault {
     /// There was no memory for it, which says nothing of the line.
     #[error("out of memory")]
     OutOfMemory,
-    /// The first line is none of this form: 'kovshenul entries 1'.
-    #[error("not 'kovshenul entries 1', the one form that is read")]
+    /// The first line is neither 'kovshenul entries 1' nor 'kovshenul picture 1'.
+    #[error("not 'kovshenul entries 1' or 'kovshenul picture 1', the forms that are read")]
     OtherVersion,
     /// It is no line of this form, or none that may stand there; or the number of entries isn't theirs.
     #[error("bad line")]
     BadLine,
-    /// The entry of this place, counted from 0, isn't legal: its worker is no active subject, the value of a new vertex
+    /// A line of the snapshot that the history goes on from.
+    #[error("{why}")]
+    BadSnapshot { why: SnapshotLineFault },
+    /// The entry of this place isn't legal. Places are counted from 0 in the whole history, with the entries before a
+    /// snapshot. Its worker is no active subject, the value of a new vertex
     /// doesn't fit its law, or the reply isn't the answer of the rules.
     #[error("bad entry {at}")]
     BadEntry { at: u64 },
@@ -31,6 +36,25 @@ impl From<AllocError> for LineFault {
 
     fn from(_error: AllocError) -> LineFault {
         LineFault::OutOfMemory
+    }
+}
+
+impl LineFault {
+    /// Which line of the text is at fault, if the one of this number was the last that was read.
+    pub fn line(&self, last: u64) -> u64 {
+        match self {
+            LineFault::BadSnapshot { why } => why.line(last),
+            _ => last,
+        }
+    }
+}
+
+impl From<SnapshotLineFault> for LineFault {
+    fn from(why: SnapshotLineFault) -> LineFault {
+        match why {
+            SnapshotLineFault::OutOfMemory => LineFault::OutOfMemory,
+            why => LineFault::BadSnapshot { why },
+        }
     }
 }
 

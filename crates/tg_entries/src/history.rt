@@ -2,11 +2,12 @@
 ghost use Rattle.std.specs.Prelude.{◌++◌};
 ghost use Rattle.std.specs.List.{flat_map};
 ghost use Rattle.tg_text.specs.Sinks.{Writes};
-ghost use Rattle.tg_entries.specs.Texts.{edge_line_text, entry_text, head_text, history_text, limits_text, version_text, worker_text};
+ghost use Rattle.tg_entries.specs.Texts.{entry_text, head_text, history_text, limits_text, version_text, worker_text};
 
-use crate::write::{VERSION, write_edge, write_end, write_entry, write_limits, write_worker};
+use crate::write::{VERSION, write_end, write_entry, write_limits, write_worker};
 use tg_journal::Entry;
-use tg_model::{Edge, Opening, Value};
+use tg_model::{Opening, Value};
+use tg_saved::write_edges;
 use tg_text::{Sink, WriteFailed, put_all};
 
 /// Writes the text of a history: its opening, the line of each entry, and how many these are; or a front of it where
@@ -83,16 +84,6 @@ fn write_workers<K: Sink>(sink: &mut K, values: &[Value]) -> Result<(), WriteFai
 {
     for value in values {
         write_worker(sink, value)?;
-    }
-    Ok(())
-}
-
-fn write_edges<K: Sink>(sink: &mut K, edges: &[Edge]) -> Result<(), WriteFailed>
-    ensures { Writes (K.taken sink.old) (K.failures sink.old) (flat_map edge_line_text edges.now) result
-        (K.taken sink.new) (K.failures sink.new) }
-{
-    for edge in edges {
-        write_edge(sink, *edge)?;
     }
     Ok(())
 }

@@ -43,5 +43,5 @@ pub use audit::TextAudit;
 pub use fault::{LineFault, TextFault};
 pub use history::{write_entries, write_history, write_opening};
 pub use read::MOST_DEED_BYTES;
-pub use stream::audit_text;
-pub use write::{VERSION, write_edge, write_end, write_entry, write_limits, write_worker};
+pub use stream::{audit_text, audit_to_snapshot};
+pub use write::{VERSION, write_end, write_entry, write_limits, write_worker};

@@ -31,7 +31,7 @@ pub(crate) fn long_stage<L: Ledger, R: BufRead>(
         Stage::Version => Err(LongFault::Line(LineFault::OtherVersion)),
         Stage::Opening(head) => long_entry(alloc, again, open(alloc, head)?, reader, line),
         Stage::Entries(entered) => long_entry(alloc, again, entered, reader, line),
-        Stage::Limits | Stage::Ended(_) | Stage::Stopped => {
+        Stage::Limits | Stage::Saved(_) | Stage::Ended(_) | Stage::Stopped => {
             Err(LongFault::Line(LineFault::BadLine))
         }
     }
@@ -53,7 +53,9 @@ fn long_entry<L: Ledger, R: BufRead>(
         return Err(LongFault::Line(LineFault::BadLine));
     };
     if !is_listed(again, &mut entered.auditor, &told, reader, line)? {
-        return Err(LongFault::Line(LineFault::BadEntry { at: entered.count }));
+        return Err(LongFault::Line(LineFault::BadEntry {
+            at: entered.auditor.at(),
+        }));
     }
     entered.count = next;
     Ok(Stage::Entries(entered))
@@ -68,7 +70,7 @@ fn is_listed<L: Ledger, R: BufRead>(
     line: &mut Vec<u8>,
 ) -> Result<bool, LongFault>
     requires { again.old.bytes.items ≡ deed_text told.now.0 told.now.1 }
-    ensures { (g : ProtectionGraph) → StandsAt g auditor.old → IfOk result (λ legal. IsTrue legal → IsListedEntry g line.old.items (R.remaining reader.old) (R.remaining reader.new) auditor.new) }
+    ensures { (g : ProtectionGraph) → StandsAt g auditor.old → IfOk result (λ legal. IsTrue legal → IsListedEntry g auditor.old.at line.old.items (R.remaining reader.old) (R.remaining reader.new) auditor.new) }
 {
     match auditor.answer(told.0, &told.1)? {
         Some(Reply::Edges(edges)) => is_listing(again, edges.as_slice(), reader, line),

@@ -6,10 +6,11 @@ ghost use Rattle.tg_text.specs.Texts.{answer_text};
 ghost use Rattle.tg_entries.specs.Parts.{part_text};
 
 use crate::fault::LineFault;
-use crate::write::{write_answered, write_deed, write_edge, write_end, write_limits, write_worker};
+use crate::write::{write_answered, write_deed, write_end, write_limits, write_worker};
 use std::alloc::AllocError;
 use std::sync::ledger::Ledger;
 use tg_model::{Deed, Edge, Reply, Value};
+use tg_saved::write_edge;
 use tg_text::{Sink, WriteFailed, Written};
 
 /// What a line says, or what stands in front of its ` = `.

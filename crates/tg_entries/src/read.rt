@@ -2,18 +2,14 @@
 ghost use Rattle.std.specs.Prelude.{◌≤◌, length, IfSome};
 
 use crate::fault::LineFault;
-use std::alloc::{AllocError, Global};
+use std::alloc::Global;
 use std::str;
-use tg_model::{Deed, Edge, Law, Numbers, Value};
+use tg_model::{Deed, Value};
+use tg_saved::{read_numbers, read_value, text_of_line};
 use tg_text::{Line, read_line};
 
 /// The most bytes that an entry may have in front of ` = `.
 pub const MOST_DEED_BYTES: usize = 256;
-
-// The text of a line, without its line feed.
-fn text_of(line: &[u8]) -> Option<&str> {
-    str::from_utf8(line.strip_suffix(b"\n")?).ok()
-}
 
 /// The most bytes that a line may have, with its line feed, unless its reply lists edges: a deed, ` = ok`, and a space
 /// and 20 digits for each of the 64 numbers of the longest log.
@@ -21,7 +17,7 @@ pub(crate) const MOST_KEPT_BYTES: usize = MOST_DEED_BYTES + 5 + 64 * 21 + 1;
 
 /// What a line has in front of ` = `, where that is no more than [`MOST_DEED_BYTES`].
 pub(crate) fn deed_part(line: &[u8]) -> Option<&str> {
-    part_of(text_of(line)?)
+    part_of(text_of_line(line)?)
 }
 
 /// What a line has in front of ` = `, as [`deed_part`] has it. Only the front of the line is at hand, which may end
@@ -49,25 +45,17 @@ fn part_of(text: &str) -> Option<&str> {
 
 /// What stands behind the first word of a worker's line.
 pub(crate) fn worker_part(line: &[u8]) -> Option<&str> {
-    text_of(line)?.strip_prefix("worker ")
+    text_of_line(line)?.strip_prefix("worker ")
 }
 
 /// The number of workers and of the vertices that may ever be made.
 pub(crate) fn read_limits(alloc: Global, line: &[u8]) -> Result<(u64, u64), LineFault> {
-    let Some(text) = text_of(line) else {
+    let Some(text) = text_of_line(line) else {
         return Err(LineFault::BadLine);
     };
-    match *numbers_in(alloc, text)?.as_slice() {
+    match *read_numbers(alloc, text)?.as_slice() {
         [workers, max_vertices] => Ok((workers, max_vertices)),
         _ => Err(LineFault::BadLine),
-    }
-}
-
-/// The edge of the opening.
-pub(crate) fn read_edge(line: &[u8]) -> Option<Edge> {
-    match read_line(line.strip_suffix(b"\n")?) {
-        Some(Line::Edge(edge)) => Some(edge),
-        _ => None,
     }
 }
 
@@ -85,8 +73,11 @@ fn read_making(alloc: Global, part: &str) -> Result<(u64, Deed), LineFault> {
     let Some((line, word)) = part.rsplit_once(' ') else {
         return Err(LineFault::BadLine);
     };
-    match read_line(line.as_bytes()) {
-        Some(line) => making_of(line, read_value(alloc, word)?),
+    let Some(line) = read_line(line.as_bytes()) else {
+        return Err(LineFault::BadLine);
+    };
+    match read_value(alloc, word)? {
+        Some(value) => making_of(line, value),
         None => Err(LineFault::BadLine),
     }
 }
@@ -98,41 +89,4 @@ fn making_of(line: Line, value: Value) -> Result<(u64, Deed), LineFault> {
         Line::Spawn { worker, label } => Ok((worker, Deed::Spawn { label, law, state })),
         _ => Err(LineFault::BadLine),
     }
-}
-
-/// What a vertex stores.
-pub(crate) fn read_value(alloc: Global, word: &str) -> Result<Value, LineFault> {
-    let Some(rest) = word.get(1..) else {
-        return Err(LineFault::BadLine);
-    };
-    let numbers = numbers_in(alloc, rest)?;
-    match law_of(word, numbers.as_slice()) {
-        Some((law, state)) => Ok(Value {
-            law,
-            state: Numbers::from_slice(alloc, state)?,
-        }),
-        None => Err(LineFault::BadLine),
-    }
-}
-
-// The law that begins with this letter, and which of the numbers behind it are stored.
-fn law_of<'a>(word: &str, numbers: &'a [u64]) -> Option<(Law, &'a [u64])> {
-    match (word.as_bytes().first(), numbers) {
-        (Some(b'c'), [_]) => Some((Law::Cell, numbers)),
-        (Some(b's'), [_]) => Some((Law::Sum, numbers)),
-        (Some(b'm'), [_]) => Some((Law::Max, numbers)),
-        (Some(b'l'), [most, logged @ ..]) => Some((Law::Log(u32::try_from(*most).ok()?), logged)),
-        _ => None,
-    }
-}
-
-// The numbers below 2^64 among the words of a text, whatever stands between them. Fails only when out of memory.
-fn numbers_in(alloc: Global, text: &str) -> Result<Vec<u64>, AllocError> {
-    let mut numbers = Vec::new(alloc);
-    for word in text.split([' ', ':', ',']) {
-        if let Ok(number) = word.parse::<u64>() {
-            numbers.push(number)?;
-        }
-    }
-    Ok(numbers)
 }

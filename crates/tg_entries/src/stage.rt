@@ -2,6 +2,7 @@
 
 use tg_journal::Auditor;
 use tg_model::{Edge, Value};
+use tg_saved::SnapshotStage;
 
 /// What was read of an opening.
 #[derive(Drop)]
@@ -28,10 +29,12 @@ pub enum Stage {
     Limits,
     /// A worker's value, an edge, or what comes behind an opening.
     Opening(Head),
+    /// A line of a snapshot that the history goes on from.
+    Saved(SnapshotStage),
     /// An entry, or the end.
     Entries(Entered),
-    /// None: so many entries came, and then the end.
-    Ended(u64),
+    /// None: entries came, and then the end.
+    Ended(Entered),
     /// None: one was bad.
     Stopped,
 }

@@ -1,25 +1,56 @@
 //! An audit of all lines of a reader.
 ghost use Rattle.std.specs.Prelude.{◌≡◌, ◌<◌, ◌++◌, [], List, ℕ, IfOk, IfSome, OnOk};
-ghost use Rattle.tg_entries.specs.Read.{ReadsOn, HasRead};
-ghost use Rattle.tg_entries.specs.Texts.{IsAudited};
+ghost use Rattle.tg_entries.specs.Read.{CanSave, EndsText, ReadsOn, HasEnded, HasRead};
+ghost use Rattle.tg_entries.specs.Texts.{IsAudited, IsSavedAfter};
 
 use crate::audit::TextAudit;
 use crate::fault::{LineFault, LongFault, TextFault};
 use crate::piece::{drop_front, read_some};
 use crate::read::{MOST_KEPT_BYTES, text_len};
-use std::alloc::Global;
+use crate::stage::Entered;
+use std::alloc::{AllocError, Global};
 use std::io::{self, BufRead};
 use std::marker::Brand;
 use std::sync::ledger::{Blank, Ledger};
+use tg_snapshot::Snapshot;
 use tg_text::Count;
 
 /// Reads the text of a history to its end, and answers how many entries it has; only where it is the text of a legal
-/// history of the opening that it tells. Else the first line at fault, or that the end is cut off. A reader that fails
-/// says nothing of the text.
+/// history of the opening that it tells, or of the graph that its snapshot shows. Else the first line at fault, or that
+/// the end is cut off. A reader that fails says nothing of the text.
 pub fn audit_text<R: BufRead + Drop>(alloc: Global, reader: &mut R) -> Result<u64, TextFault>
     ensures { IfOk result (λ count. IfSome (R.remaining reader.old) (λ text. IsAudited text count)) }
 {
-    audit_named::<Brand, R>(alloc, Blank::new(1), reader)
+    let entered = audit_named::<Brand, R>(alloc, Blank::new(1), reader)?;
+    Ok(entered.count)
+}
+
+/// Reads the text of a history to its end, as [`audit_text`] does, and returns the snapshot after its last entry: the
+/// one from which the next part of the history goes on. Faults are as there.
+pub fn audit_to_snapshot<R: BufRead + Drop>(
+    alloc: Global,
+    reader: &mut R,
+) -> Result<Snapshot, TextFault>
+    ensures { IfOk result (λ snapshot. IfSome (R.remaining reader.old) (λ text. IsSavedAfter text snapshot)) }
+{
+    let entered = audit_named::<Brand, R>(alloc, Blank::new(1), reader)?;
+    match snapshot_after(&entered) {
+        Ok(snapshot) => Ok(snapshot),
+        Err(error) => Err(TextFault::Stream(error.into())),
+    }
+}
+
+// The snapshot of what the audit has come to. Fails only when out of memory.
+fn snapshot_after(entered: &Entered) -> Result<Snapshot, AllocError>
+    requires { CanSave entered.now }
+    ensures { (text : List ℕ) → HasEnded text entered.now → IfOk result (IsSavedAfter text) }
+{
+    let shown = entered.auditor.snapshot()?;
+    match shown {
+        Some(snapshot) => Ok(snapshot),
+        // An audit of a legal history always has a snapshot.
+        None => unreachable!(),
+    }
 }
 
 // The ledger names the audit's buffer.
@@ -27,11 +58,11 @@ fn audit_named<L: Ledger, R: BufRead + Drop>(
     alloc: Global,
     blank: Blank,
     reader: &mut R,
-) -> Result<u64, TextFault>
+) -> Result<Entered, TextFault>
     requires name { blank.name ≡ L.name }
     requires parts { blank.parts ≡ L.parts }
     requires some { 0 < blank.parts }
-    ensures { IfOk result (λ count. IfSome (R.remaining reader.old) (λ text. IsAudited text count)) }
+    ensures { IfOk result (EndsText (R.remaining reader.old)) }
 {
     let mut audit = TextAudit::<L>::new(alloc, Count::<L>::new(blank));
     let mut line = Vec::new(alloc);
@@ -43,9 +74,9 @@ fn audit_lines<L: Ledger, R: BufRead + Drop>(
     audit: &mut TextAudit<L>,
     reader: &mut R,
     line: &mut Vec<u8>,
-) -> Result<u64, TextFault>
+) -> Result<Entered, TextFault>
     requires { HasRead [] audit.old }
-    ensures { IfOk result (λ count. IfSome (R.remaining reader.old) (λ text. IsAudited text count)) }
+    ensures { IfOk result (EndsText (R.remaining reader.old)) }
 {
     for number in 1..u64::MAX {
         line.clear();
@@ -57,15 +88,19 @@ fn audit_lines<L: Ledger, R: BufRead + Drop>(
     Err(TextFault::CutOff { line: u64::MAX })
 }
 
-// How many entries there are, where the text ends with this of the line of this number.
-fn ended<L: Ledger>(audit: &TextAudit<L>, number: u64, line: &[u8]) -> Result<u64, TextFault>
-    ensures { (text : List ℕ) → HasRead text audit.now → IfOk result (IsAudited (text ++ line.now)) }
+// The audit, where the text ends with this of the line of this number.
+fn ended<L: Ledger>(
+    audit: &mut TextAudit<L>,
+    number: u64,
+    line: &[u8],
+) -> Result<Entered, TextFault>
+    ensures { (text : List ℕ) → HasRead text audit.old → IfOk result (HasEnded (text ++ line.now)) }
 {
     if !line.is_empty() {
         return Err(TextFault::CutOff { line: number });
     }
-    match audit.ended() {
-        Some(count) => Ok(count),
+    match audit.finish() {
+        Some(entered) => Ok(entered),
         None => Err(TextFault::CutOff { line: number }),
     }
 }
@@ -84,7 +119,10 @@ fn audit_line<L: Ledger, R: BufRead>(
     }
     match audit.line(line.as_slice()) {
         Ok(()) => Ok(()),
-        Err(why) => Err(TextFault::Line { line: number, why }),
+        Err(why) => Err(TextFault::Line {
+            line: why.line(number),
+            why,
+        }),
     }
 }
 

@@ -1,16 +1,16 @@
 //! How the text of a history is written: its opening, its entries, and the line behind them.
 ghost use Rattle.std.specs.Prelude.{◌∷◌, ◌++◌, codes, decimal};
-ghost use Rattle.std.specs.List.{flat_map};
-ghost use Rattle.tg_model.specs.declared.law.Law.TheVariants as Law;
 ghost use Rattle.tg_text.specs.declared.answer.Answer.TheVariants as Answer;
 ghost use Rattle.tg_text.specs.Grammar.{line_text};
 ghost use Rattle.tg_text.specs.Sinks.{Writes};
 ghost use Rattle.tg_text.specs.Texts.{answer_text};
-ghost use Rattle.tg_entries.specs.Texts.{deed_text, edge_line_text, end_text, entry_text, limits_text, logged_text, more_text, numbers_text, payload_text, worker_text};
+ghost use Rattle.tg_saved.specs.Values.{payload_text};
+ghost use Rattle.tg_entries.specs.Texts.{deed_text, end_text, entry_text, limits_text, worker_text};
 
 use itoa::Buffer;
 use tg_journal::Entry;
-use tg_model::{Deed, Edge, Law, Reply, Value};
+use tg_model::{Deed, Law, Reply, Value};
+use tg_saved::{write_value, write_value_line};
 use tg_text::{
     Line, Sink, WriteFailed, line_of_deed, put_all, put_texts, write_line, write_reply_of,
 };
@@ -70,24 +70,6 @@ pub fn write_worker<K: Sink>(sink: &mut K, value: &Value) -> Result<(), WriteFai
     write_value_line(sink, value)
 }
 
-fn write_value_line<K: Sink>(sink: &mut K, value: &Value) -> Result<(), WriteFailed>
-    ensures { Writes (K.taken sink.old) (K.failures sink.old)
-        (payload_text value.now.law value.now.state ++ codes "\n") result
-        (K.taken sink.new) (K.failures sink.new) }
-{
-    write_value(sink, value.law, value.state.as_slice())?;
-    put_all(sink, b"\n")
-}
-
-/// Writes the line of an edge of the opening, or a front of it where the sink fails. Takes no memory.
-pub fn write_edge<K: Sink>(sink: &mut K, edge: Edge) -> Result<(), WriteFailed>
-    ensures { Writes (K.taken sink.old) (K.failures sink.old) (edge_line_text edge) result
-        (K.taken sink.new) (K.failures sink.new) }
-{
-    write_line(sink, Line::Edge(edge))?;
-    put_all(sink, b"\n")
-}
-
 /// Writes the last line, with the number of entries, or a front of it where the sink fails. Takes no memory.
 pub fn write_end<K: Sink>(sink: &mut K, count: u64) -> Result<(), WriteFailed>
     ensures { Writes (K.taken sink.old) (K.failures sink.old) (end_text count) result
@@ -131,78 +113,4 @@ fn write_stored<K: Sink>(sink: &mut K, law: Law, state: &[u64]) -> Result<(), Wr
 {
     put_all(sink, b" ")?;
     write_value(sink, law, state)
-}
-
-// Writes the letter of a law and the numbers.
-fn write_value<K: Sink>(sink: &mut K, law: Law, state: &[u64]) -> Result<(), WriteFailed>
-    ensures { Writes (K.taken sink.old) (K.failures sink.old) (payload_text law state.now) result
-        (K.taken sink.new) (K.failures sink.new) }
-{
-    match law {
-        Law::Cell => write_numbers(sink, b"c", state),
-        Law::Sum => write_numbers(sink, b"s", state),
-        Law::Max => write_numbers(sink, b"m", state),
-        Law::Log(most) => write_log(sink, most, state),
-    }
-}
-
-fn write_log<K: Sink>(sink: &mut K, most: u32, state: &[u64]) -> Result<(), WriteFailed>
-    ensures { Writes (K.taken sink.old) (K.failures sink.old) (payload_text (Law.Log most) state.now) result
-        (K.taken sink.new) (K.failures sink.new) }
-{
-    write_number(sink, b"l", u64::from(most))?;
-    write_logged(sink, state)
-}
-
-// Writes the numbers of a log, behind a colon where it has any.
-fn write_logged<K: Sink>(sink: &mut K, state: &[u64]) -> Result<(), WriteFailed>
-    ensures { Writes (K.taken sink.old) (K.failures sink.old) (logged_text state.now) result
-        (K.taken sink.new) (K.failures sink.new) }
-{
-    match state {
-        [] => Ok(()),
-        [_, ..] => write_numbers(sink, b":", state),
-    }
-}
-
-// Writes a text, and numbers behind it with a comma between two.
-fn write_numbers<K: Sink>(sink: &mut K, front: &[u8], numbers: &[u64]) -> Result<(), WriteFailed>
-    ensures { Writes (K.taken sink.old) (K.failures sink.old) (front.now ++ numbers_text numbers.now) result
-        (K.taken sink.new) (K.failures sink.new) }
-{
-    match numbers {
-        [] => put_all(sink, front),
-        [first, rest @ ..] => write_joined(sink, front, *first, rest),
-    }
-}
-
-fn write_joined<K: Sink>(
-    sink: &mut K,
-    front: &[u8],
-    first: u64,
-    rest: &[u64],
-) -> Result<(), WriteFailed>
-    ensures { Writes (K.taken sink.old) (K.failures sink.old) (front.now ++ numbers_text (first ∷ rest.now)) result
-        (K.taken sink.new) (K.failures sink.new) }
-{
-    write_number(sink, front, first)?;
-    write_more(sink, rest)
-}
-
-fn write_more<K: Sink>(sink: &mut K, numbers: &[u64]) -> Result<(), WriteFailed>
-    ensures { Writes (K.taken sink.old) (K.failures sink.old) (flat_map more_text numbers.now) result
-        (K.taken sink.new) (K.failures sink.new) }
-{
-    for number in numbers {
-        write_number(sink, b",", *number)?;
-    }
-    Ok(())
-}
-
-fn write_number<K: Sink>(sink: &mut K, front: &[u8], number: u64) -> Result<(), WriteFailed>
-    ensures { Writes (K.taken sink.old) (K.failures sink.old) (front.now ++ decimal number) result
-        (K.taken sink.new) (K.failures sink.new) }
-{
-    let mut buffer = Buffer::new();
-    put_texts(sink, &[front, buffer.format(number).as_bytes()])
 }

@@ -1,5 +1,5 @@
 -- The graph that a snapshot shows, and the one that its lists give, are alike to the graph of which it is a snapshot.
-use Rattle.std.proofs.Common.{◌≡◌, inl, inr, ◌<◌, ◌≤◌, ℕ, true, false, Option, Some, None, refl, sym, ap, ◌∙◌, arith}
+use Rattle.std.proofs.Common.{◌≡◌, inl, inr, ◌<◌, ◌≤◌, ℕ, Option, Some, None, refl, sym, ap, ◌∙◌, arith}
 use Rattle.std.specs.Prelude.{nat_lt, IsSome, unwrap_or}
 use Rattle.std.proofs.lemmas.Bool.{lt-ltb, cond-true, false≢true}
 use Rattle.tg_model.specs.declared.value.Value.{Value}

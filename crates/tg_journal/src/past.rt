@@ -1,7 +1,8 @@
 //! What a journal no longer has in memory, for clauses alone.
-ghost use Rattle.std.specs.Prelude.{◌≡◌, ◌++◌, List, []};
+ghost use Rattle.std.specs.Prelude.{◌≡◌, ◌++◌, List, replicate};
 ghost use Rattle.std.specs.Borrow.{ftrue};
 ghost use Rattle.tg_journal.specs.declared.entry.Entry.{Entry as EntryOf};
+ghost use Rattle.tg_journal.specs.Journal.{unknown_entry};
 
 use crate::entry::Entry;
 use std::marker::Model;
@@ -23,9 +24,9 @@ unsafe impl Send for Past {}
 unsafe impl Sync for Past {}
 
 impl Past {
-    /// No entry.
-    pub(crate) fn none() -> Past
-        ensures { result.entries ≡ [] }
+    /// So many entries of which nothing is known.
+    pub(crate) fn unknown(_count: u64) -> Past
+        ensures { result.entries ≡ replicate _count unknown_entry }
     {
         Past {}
     }

@@ -15,7 +15,6 @@ use Rattle.tg_text.specs.declared.source.Fetched.{Fetched}
 use Rattle.tg_text.specs.declared.source.Fetched.TheVariants as fetched
 use Rattle.tg_text.specs.declared.fetch.TheConstants.{MOST_BYTES}
 use Rattle.tg_text.specs.Fetching.{IsOneLine, Fetches, FetchesKnown}
-use Rattle.tg_text.specs.Stock.{IsStockText}
 use Rattle.tg_text.specs.declared.stock.StockItem.{StockItem}
 use Rattle.tg_text.specs.Reading.{MayStand, Reads, ReadsScript, opening_after}
 use Rattle.tg_plain.specs.declared.reading.Reading.{Reading}
@@ -24,8 +23,9 @@ use Rattle.tg_plain.specs.declared.script.ScriptLine.{ScriptLine}
 use Rattle.tg_plain.specs.declared.fault.PlainFault.{PlainFault}
 use Rattle.tg_plain.specs.declared.options.PlainOptions.{PlainOptions}
 use Rattle.tg_plain.specs.declared.outcome.Outcome.{Outcome}
-use Rattle.tg_plain.specs.Lines.{IsEmptyScript, IsOutcome, IsOutcomeOf, IsReadOf, RunsOn, all_lines, lines_of}
-use Rattle.tg_plain.specs.Inner.Reading.{AddsLine, AddsOther, HasNoLine, IsNewReading, IsReadAs, KeepsOptions, MayAddLine, PassesPlainLine, ReadsPlainFrom, ReadsPlainFront}
+use Rattle.tg_plain.specs.Lines.{AreNumbered, IsEmptyScript, IsNumbered, IsOutcome, IsOutcomeOf, IsReadOf, NamesBoxes, RunsOn, all_lines, lines_of}
+use Rattle.tg_plain.proofs.LineLaws.{numbers_more}
+use Rattle.tg_plain.specs.Inner.Reading.{AddsLine, AddsOther, HasLinesOf, HasNoLine, IsNewReading, IsReadAs, KeepsOptions, MayAddLine, PassesPlainLine, ReadsPlainFrom, ReadsPlainFront}
 
 one_more : (text : List ℕ) (byte : ℕ) → IsOneLine text → byte ≢ 10 → IsOneLine (text ++ byte ∷ [])
 one_more [] byte one other = (other, tt)
@@ -64,25 +64,28 @@ front_all workers t bytes rest front end left b h = subst (λ x. ReadsScript wor
 
 -- ---- the lines of a script
 
-other_added : (s t : Script) (l : Line) → AddsOther s l t → all_lines t ≡ all_lines s ++ l ∷ []
-other_added s t l h =
+other_added : (s t : Script) (number : ℕ) (l : Line) → AddsOther s number l t → all_lines t ≡ all_lines s ++ l ∷ []
+other_added s t number l h =
     let edges = map line.Edge s.edges.items in
-    ap (λ (x : List Edge). map line.Edge x ++ lines_of t) h.0 ∙ ap (λ (x : List Line). edges ++ x) h.1 ∙ sym (append_assoc edges (lines_of s) (l ∷ []))
+    let line_of : ScriptLine → Line = λ (x : ScriptLine). x.line in
+    let added : ScriptLine = record { number = number; line = l } in
+    let lines : lines_of t ≡ lines_of s ++ l ∷ [] = ap (map line_of) h.1 ∙ map-append line_of s.lines.items (added ∷ []) in
+    ap (λ (x : List Edge). map line.Edge x ++ lines_of t) h.0 ∙ ap (λ (x : List Line). edges ++ x) lines ∙ sym (append_assoc edges (lines_of s) (l ∷ []))
 
 -- a line that may be added stands behind all others
-pub line_added : (s t : Script) (l : Line) → MayAddLine s l → AddsLine s l t → all_lines t ≡ all_lines s ++ l ∷ []
-line_added s t (line.Edge edge) may h =
+pub line_added : (s t : Script) (number : ℕ) (l : Line) → MayAddLine s l → AddsLine s number l t → all_lines t ≡ all_lines s ++ l ∷ []
+line_added s t number (line.Edge edge) may h =
     let edges = map line.Edge s.edges.items in
     let none : lines_of t ≡ [] = ap (map (λ l. l.line)) (h.1 ∙ may) in
     let was : lines_of s ≡ [] = ap (map (λ l. l.line)) may in
     ap (λ (x : List Line). map line.Edge t.edges.items ++ x) none ∙ append-nil (map line.Edge t.edges.items)
     ∙ ap (map line.Edge) h.0 ∙ map-append line.Edge s.edges.items (edge ∷ [])
     ∙ ap (λ (x : List Line). x ++ line.Edge edge ∷ []) (sym (ap (λ (x : List Line). edges ++ x) was ∙ append-nil edges))
-line_added s t (line.Create x label) may h = other_added s t (line.Create x label) h
-line_added s t (line.Spawn x label) may h = other_added s t (line.Spawn x label) h
-line_added s t (line.Plain x command) may h = other_added s t (line.Plain x command) h
-line_added s t line.Full may h = other_added s t line.Full h
-line_added s t line.Minor may h = other_added s t line.Minor h
+line_added s t number (line.Create x label) may h = other_added s t number (line.Create x label) h
+line_added s t number (line.Spawn x label) may h = other_added s t number (line.Spawn x label) h
+line_added s t number (line.Plain x command) may h = other_added s t number (line.Plain x command) h
+line_added s t number line.Full may h = other_added s t number line.Full h
+line_added s t number line.Minor may h = other_added s t number line.Minor h
 
 pub no_lines : (s : Script) → HasNoLine s → all_lines s ≡ []
 no_lines s none = ap (λ (x : List Edge). map line.Edge x ++ lines_of s) none.0 ∙ ap (map (λ (l : ScriptLine). l.line)) none.1
@@ -100,13 +103,13 @@ closed : {A : Type 0} (opening : Bool) → opening ≡ false → opening ≡ tru
 closed opening is opened = absurd (true≢false (sym opened ∙ is))
 
 -- where edge lines may come still, no other line came
-pub still_open : (s t : Script) (l : Line) (opening after : Bool) → after ≡ opening_after opening l → AddsLine s l t → (opening ≡ true → s.lines.items ≡ []) → after ≡ true → t.lines.items ≡ []
-still_open s t (line.Edge edge) opening after is adds none opened = adds.1 ∙ none (sym is ∙ opened)
-still_open s t (line.Create x label) opening after is adds none opened = closed after is opened
-still_open s t (line.Spawn x label) opening after is adds none opened = closed after is opened
-still_open s t (line.Plain x command) opening after is adds none opened = closed after is opened
-still_open s t line.Full opening after is adds none opened = closed after is opened
-still_open s t line.Minor opening after is adds none opened = closed after is opened
+pub still_open : (s t : Script) (number : ℕ) (l : Line) (opening after : Bool) → after ≡ opening_after opening l → AddsLine s number l t → (opening ≡ true → s.lines.items ≡ []) → after ≡ true → t.lines.items ≡ []
+still_open s t number (line.Edge edge) opening after is adds none opened = adds.1 ∙ none (sym is ∙ opened)
+still_open s t number (line.Create x label) opening after is adds none opened = closed after is opened
+still_open s t number (line.Spawn x label) opening after is adds none opened = closed after is opened
+still_open s t number (line.Plain x command) opening after is adds none opened = closed after is opened
+still_open s t number line.Full opening after is adds none opened = closed after is opened
+still_open s t number line.Minor opening after is adds none opened = closed after is opened
 
 pub keeps_then : (s t u : Script) → KeepsOptions s t → KeepsOptions t u → KeepsOptions s u
 keeps_then s t u k m = record {
@@ -114,18 +117,75 @@ keeps_then s t u k m = record {
   workers = m.workers ∙ k.workers;
   max_vertices = m.max_vertices ∙ k.max_vertices;
   stock = m.stock ∙ k.stock;
+  endless = m.endless ∙ k.endless;
 }
 
 -- a line was read, and added
-pub reads_added : (s t : Script) (r q : Reading) (bytes rest after : List ℕ) (l : Line) → t.workers ≡ s.workers → MayAddLine s l → AddsLine s l t →
+pub reads_added : (s t : Script) (r q : Reading) (bytes rest after : List ℕ) (number : ℕ) (l : Line) → t.workers ≡ s.workers → MayAddLine s l → AddsLine s number l t →
     ReadsPlainFront s.workers bytes (all_lines s) r rest → PassesPlainLine r rest l q after → ReadsPlainFront t.workers bytes (all_lines t) q after
-reads_added s t r q bytes rest after l workers may adds front passes =
+reads_added s t r q bytes rest after number l workers may adds front passes =
     subst (λ (w : ℕ). ReadsPlainFront w bytes (all_lines t) q after) (sym workers)
-    (subst (λ (x : List Line). ReadsPlainFront s.workers bytes x q after) (sym (line_added s t l may adds)) (front_more s.workers r q bytes rest after (all_lines s) l front passes))
+    (subst (λ (x : List Line). ReadsPlainFront s.workers bytes x q after) (sym (line_added s t number l may adds)) (front_more s.workers r q bytes rest after (all_lines s) l front passes))
 
 -- nothing was read yet
 pub reads_fresh : (s : Script) (r : Reading) (bytes : List ℕ) → IsNewReading r s.workers → HasNoLine s → ReadsPlainFront s.workers bytes (all_lines s) r bytes
 reads_fresh s r bytes fresh none = subst (λ (x : List Line). ReadsPlainFront s.workers bytes x r bytes) (sym (no_lines s none)) (fresh_front s.workers r bytes fresh)
+
+-- ---- numbers
+
+-- each line has its number, and so many were read
+pub record IsCounted (s : Script) (so_far : ℕ) : Type 0 where
+  pub numbered : IsNumbered s
+  pub count : so_far ≡ length s.edges.items + length s.lines.items
+
+pub counts_none : (s : Script) (count : ℕ) → HasNoLine s → count ≡ 0 → IsCounted s count
+counts_none s count none zero =
+    let edges : length s.edges.items ≡ 0 = ap (λ (x : List Edge). length x) none.0 in
+    let lines : length s.lines.items ≡ 0 = ap (λ (x : List ScriptLine). length x) none.1 in
+    record {
+      numbered = subst (AreNumbered (length s.edges.items + 1)) (sym none.1) tt;
+      count = omega (arith, zero, edges, lines);
+    }
+
+other_counted : (s t : Script) (count : ℕ) (l : Line) → AddsOther s (count + 1) l t → IsCounted s count → IsCounted t (count + 1)
+other_counted s t count l adds was =
+    let added : ScriptLine = record { number = count + 1; line = l } in
+    let edges : length t.edges.items ≡ length s.edges.items = ap (λ (x : List Edge). length x) adds.0 in
+    let lines : length t.lines.items ≡ length s.lines.items + 1 = ap (λ (x : List ScriptLine). length x) adds.1 ∙ length-append s.lines.items (added ∷ []) in
+    let next : count + 1 ≡ (length s.edges.items + 1) + length s.lines.items = omega (arith, was.count) in
+    record {
+      numbered =
+          subst (λ (n : ℕ). AreNumbered (n + 1) t.lines.items) (sym edges)
+          (subst (AreNumbered (length s.edges.items + 1)) (sym adds.1) (numbers_more (length s.edges.items + 1) s.lines.items added was.numbered next));
+      count = omega (arith, was.count, edges, lines);
+    }
+
+-- one line more was read, and added
+pub counts_more : (s t : Script) (count : ℕ) (l : Line) → MayAddLine s l → AddsLine s (count + 1) l t → IsCounted s count → IsCounted t (count + 1)
+counts_more s t count (line.Edge edge) may adds was =
+    let none : t.lines.items ≡ [] = adds.1 ∙ may in
+    let edges : length t.edges.items ≡ length s.edges.items + 1 = ap (λ (x : List Edge). length x) adds.0 ∙ length-append s.edges.items (edge ∷ []) in
+    let lines : length t.lines.items ≡ length s.lines.items = ap (λ (x : List ScriptLine). length x) adds.1 in
+    record {
+      numbered = subst (AreNumbered (length t.edges.items + 1)) (sym none) tt;
+      count = omega (arith, was.count, edges, lines);
+    }
+counts_more s t count (line.Create x label) may adds was = other_counted s t count (line.Create x label) adds was
+counts_more s t count (line.Spawn x label) may adds was = other_counted s t count (line.Spawn x label) adds was
+counts_more s t count (line.Plain x command) may adds was = other_counted s t count (line.Plain x command) adds was
+counts_more s t count line.Full may adds was = other_counted s t count line.Full adds was
+counts_more s t count line.Minor may adds was = other_counted s t count line.Minor adds was
+
+-- the same lines have the same numbers
+pub numbered_same : (s t : Script) → HasLinesOf s t → IsNumbered s → IsNumbered t
+numbered_same s t same numbered =
+    subst (λ (x : List Edge). AreNumbered (length x + 1) t.lines.items) (sym same.0)
+    (subst (AreNumbered (length s.edges.items + 1)) (sym same.1) numbered)
+
+-- and they are the same
+pub lines_same : (s t : Script) → HasLinesOf s t → all_lines t ≡ all_lines s
+lines_same s t same =
+    ap (λ (x : List Edge). map line.Edge x ++ lines_of t) same.0 ∙ ap (λ (x : List ScriptLine). map line.Edge s.edges.items ++ map (λ (l : ScriptLine). l.line) x) same.1
 
 -- ---- outcomes
 
@@ -145,7 +205,7 @@ pub runs_kept : (options : PlainOptions) (s t : Script) → IsEmptyScript option
 runs_kept options s t empty kept = record {
   workers = kept.workers ∙ empty.0;
   max_vertices = kept.max_vertices ∙ empty.1;
-  stock = subst (λ (v : Vec StockItem Global). IsStockText options.stock.now v.items) (sym kept.stock) empty.2;
+  boxes = (subst (λ (v : Vec StockItem Global). NamesBoxes options.stock v.items) (sym kept.stock) empty.2.0, kept.endless ∙ empty.2.1);
 }
 
 -- a new buffer of 65,536 bytes has what the reader within it has
@@ -176,8 +236,8 @@ reads_short s t r bytes rest kept same front =
     (front_all s.workers r bytes rest (all_lines s) (Some fault.OutOfMemory) rest front refl))
 
 -- what a script leaves that was read of these bytes and has no fault
-pub leaves_outcome : (options : PlainOptions) (bytes : List ℕ) (s : Script) (r : Result Outcome PlainFault) → RunsOn options s → IsReadOf bytes s →
+pub leaves_outcome : (options : PlainOptions) (bytes : List ℕ) (s : Script) (r : Result Outcome PlainFault) → RunsOn options s → IsReadOf bytes s → IsNumbered s →
     IfOk r (IsOutcome s) → OnOk r (s.fault ≡ None) → IfOk r (IsOutcomeOf options bytes)
-leaves_outcome options bytes s (Ok outcome) runs reads left whole =
-    record { script = s; options_are = runs; bytes_are = reads; whole = whole; outcome_is = left }
-leaves_outcome options bytes s (Err f) runs reads left whole = tt
+leaves_outcome options bytes s (Ok outcome) runs reads numbered left whole =
+    record { script = s; options_are = runs; bytes_are = reads; numbers_are = numbered; whole = whole; outcome_is = left }
+leaves_outcome options bytes s (Err f) runs reads numbered left whole = tt

@@ -2,3 +2,4 @@ pub mod Boxes
 pub mod Grown
 pub mod Inner
 pub mod Lines
+pub mod Refused

@@ -7,7 +7,8 @@
 //! a script runs on, which each program over one has beside its own options. What it prints is a [`PlainText`] first.
 //!
 //! What has to be believed stands in `specs/Lines`: which lines some bytes are (by `ReadsScript` of `tg_text`), which
-//! graph a line leaves, and how many boxes were taken. What stands in `Inner` are inside matters of this crate.
+//! graph a line leaves, what it is answered, and how many boxes were taken. `specs/Refused` says which answers say that
+//! a line was denied or refused. What stands in `Inner` are inside matters of this crate.
 #![tactic(auto)]
 
 mod fault;
@@ -16,6 +17,7 @@ mod options;
 mod outcome;
 mod program;
 mod reading;
+mod refused;
 mod run;
 mod script;
 mod text;
@@ -24,6 +26,7 @@ pub use fault::PlainFault;
 pub use options::{Choice, CommandLine, PlainOptions, STOCK, VERTICES, WORKERS, read_options};
 pub use outcome::Outcome;
 pub use program::{Program, obey};
+pub use refused::RefusedLine;
 pub use run::{PlainRun, value_of};
 pub use script::{Script, ScriptLine};
 pub use text::PlainText;

@@ -1,10 +1,15 @@
 //! The words of the command line that say what a script runs on.
+ghost use Rattle.std.specs.Prelude.{◌≡◌, codes, option_map};
+ghost use Rattle.clap.specs.Matches.{first_value, found_of};
 
 use clap::builder::ValueParser;
 use clap::{Arg, ArgAction, ArgMatches, Command, Error};
 use std::alloc::{AllocError, Global};
 use std::convert::AsStr;
 use tg_model::{MAX_VERTICES, MAX_WORKERS};
+
+/// The version of all that this repository has. The file `VERSION` says the same.
+const VERSION: &str = "0.3.0";
 
 /// An option of a command line.
 #[derive(Clone, Copy)]
@@ -60,16 +65,19 @@ pub struct PlainOptions<'a> {
     pub workers: u64,
     /// How many vertices may ever be made, from 1 to 2^24.
     pub max_vertices: u64,
-    /// The text of the stock, as it was written.
-    pub stock: &'a str,
+    /// The text of the stock, as it was written, or `None` if boxes are cells without end.
+    pub stock: Option<&'a str>,
 }
 
-/// What the words say of workers, vertices and stock, and the defaults of those of which they say nothing.
-pub fn read_options<'a>(matches: &ArgMatches<'a>) -> PlainOptions<'a> {
+/// What the words say of workers and vertices, or else their defaults, and of the stock. If they say nothing of it,
+/// boxes are cells without end.
+pub fn read_options<'a>(matches: &ArgMatches<'a>) -> PlainOptions<'a>
+    ensures stock { option_map (λ text. text.now) result.stock ≡ first_value (found_of matches.now) (codes "stock") }
+{
     PlainOptions {
         workers: matches.get_one("workers").unwrap_or(2),
         max_vertices: matches.get_one("vertices").unwrap_or(1_000_000),
-        stock: matches.get_str("stock").unwrap_or(""),
+        stock: matches.get_str("stock"),
     }
 }
 
@@ -106,6 +114,7 @@ fn command<'a>(alloc: Global, line: &CommandLine) -> Result<Command<'a>, AllocEr
 // The same, without its options, and without the name that its texts give it.
 fn bare_command<'a>(alloc: Global, line: &CommandLine) -> Command<'a> {
     Command::new(alloc, line.name)
+        .version(VERSION)
         .about(line.about)
         .after_help(line.manual)
 }

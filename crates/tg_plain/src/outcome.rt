@@ -1,22 +1,26 @@
 //! What a script leaves.
 ghost use Rattle.std.specs.Prelude.{◌≡◌, ℕ, List, Some, None, IfOk, OnOk};
-ghost use Rattle.tg_plain.specs.Lines.{IsOutcome, IsOutcomeOf};
+ghost use Rattle.tg_plain.specs.Lines.{IsOutcome, IsOutcomeOf, boxes_left as left_of, boxes_of};
 
 use crate::fault::PlainFault;
 use crate::options::PlainOptions;
+use crate::refused::RefusedLine;
 use crate::run::PlainRun;
 use crate::script::Script;
 use std::alloc::Global;
 use std::io::Read;
 use tg_model::Picture;
 
-/// What the lines of a script leave: the picture of their graph, and how many boxes of the stock they didn't take.
+/// What the lines of a script leave: the picture of their graph, how many boxes they didn't take, and which of them
+/// were denied or refused.
 #[derive(Drop)]
 pub struct Outcome {
     /// The picture of the graph.
     pub picture: Picture,
-    /// How many boxes are left.
-    pub boxes: u64,
+    /// How many boxes are left, or `None` if they have no end.
+    pub boxes: Option<u64>,
+    /// The lines that were denied or refused, in their order.
+    pub refused: Vec<RefusedLine>,
 }
 
 impl Outcome {
@@ -39,11 +43,21 @@ impl Outcome {
         ensures whole { OnOk result (script.now.fault ≡ None) }
     {
         script.whole()?;
-        let run = PlainRun::of(script)?;
-        let boxes = (script.stock.len() as u64).saturating_sub(run.taken as u64);
+        let (run, refused) = PlainRun::of(script)?;
         Ok(Outcome {
             picture: run.picture(script.alloc)?,
-            boxes,
+            boxes: boxes_left(script, run.taken),
+            refused,
         })
     }
+}
+
+// How many boxes of the script are left where so many were taken, or `None` if they have no end.
+fn boxes_left(script: &Script, taken: usize) -> Option<u64>
+    ensures { result ≡ left_of (boxes_of script.now) taken }
+{
+    if script.is_endless {
+        return None;
+    }
+    Some((script.stock.len() as u64).saturating_sub(taken as u64))
 }

@@ -1,11 +1,12 @@
 //! A script, run on the plain graph.
-ghost use Rattle.std.specs.Prelude.{◌≡◌, ◌<◌, ◌+◌, ◌^◌, nat_lt, if◌then◌else◌, IfOk, OnOk, OnErr, replicate};
+ghost use Rattle.std.specs.Prelude.{◌≡◌, ◌<◌, ◌+◌, ◌^◌, length, nat_lt, if◌then◌else◌, IfOk, OnErr, replicate};
 ghost use Rattle.tg_model.specs.Making.{deed_making};
 ghost use Rattle.tg_model.specs.Rules.{DeedFits};
 ghost use Rattle.tg_text.specs.declared.stock.StockItem.TheVariants as StockItem;
 ghost use Rattle.tg_plain.specs.Boxes.{value_of_box};
 
 use crate::fault::PlainFault;
+use crate::refused::{RefusedLine, note};
 use crate::script::Script;
 use std::alloc::{AllocError, Global};
 use tg_model::{Deed, Graph, Law, Making, Numbers, Opening, Picture, Value};
@@ -24,7 +25,7 @@ pub struct PlainRun {
 impl PlainRun {
     ghost use Rattle.tg_model.specs.Picture.{IsPictureOf};
     ghost use Rattle.tg_model.specs.Plain.{graph_of};
-    ghost use Rattle.tg_plain.specs.Lines.{Leads, MakesOfStock, RunsScript, Steps, stage_of, start_of_script};
+    ghost use Rattle.tg_plain.specs.Lines.{Leads, MakesOfBoxes, MakesOfStock, RunsScript, Steps, boxes_of, stage_of, start_of_script};
 
     /// The run of a script's edge lines: the graph that it begins with. `Opening` where the workers and vertices don't
     /// fit each other; else it fails only when out of memory.
@@ -40,26 +41,29 @@ impl PlainRun {
         })
     }
 
-    /// The run of all of a script's lines. Fails as [`PlainRun::open`] does.
-    pub fn of(script: &Script) -> Result<PlainRun, PlainFault>
-        ensures { IfOk result (RunsScript script.now) }
+    /// The run of all of a script's lines, and those of them that are denied or refused. Fails as [`PlainRun::open`]
+    /// does.
+    pub fn of(script: &Script) -> Result<(PlainRun, Vec<RefusedLine>), PlainFault>
+        ensures { IfOk result (λ done. RunsScript script.now done.1.items done.0) }
     {
         let mut run = PlainRun::open(script)?;
+        let mut refused = Vec::new(script.alloc);
         for line in script.lines.as_slice() {
-            run.take(script.stock.as_slice(), &line.line)?;
+            let answer = run.take(script, &line.line)?;
+            note(&mut refused, line, answer)?;
         }
-        Ok(run)
+        Ok((run, refused))
     }
 
-    /// Runs a line with the boxes of this stock. What it is answered; an edge line and a collection do nothing here.
+    /// Runs a line with the boxes of this script. What it is answered; an edge line and a collection do nothing here.
     /// Fails only when out of memory, and nothing changes then.
-    pub fn take(&mut self, stock: &[StockItem], line: &Line) -> Result<Answer, AllocError>
-        ensures ok { OnOk result (Leads stock.now (stage_of self.old) line.now (stage_of self.new)) }
+    pub fn take(&mut self, script: &Script, line: &Line) -> Result<Answer, AllocError>
+        ensures ok { IfOk result (λ answer. Leads (boxes_of script.now) (stage_of self.old) line.now answer (stage_of self.new)) }
         ensures err { OnErr result (self.new ≡ self.old) }
     {
         match *line {
-            Line::Create { worker, label } => self.make(stock, worker, label, Making::Object),
-            Line::Spawn { worker, label } => self.make(stock, worker, label, Making::Subject),
+            Line::Create { worker, label } => self.make(script, worker, label, Making::Object),
+            Line::Spawn { worker, label } => self.make(script, worker, label, Making::Subject),
             Line::Plain { worker, command } => self.apply(worker, &Deed::Plain(command)),
             Line::Full | Line::Minor | Line::Edge(_) => Ok(Answer::Collected(None)),
         }
@@ -72,20 +76,38 @@ impl PlainRun {
         self.graph.picture(alloc)
     }
 
-    // MakesOfStock a subject or an object that stores the next box. Where none is made, the box stays.
+    // Makes a subject or an object that stores the next box, where there is one.
     fn make(
+        &mut self,
+        script: &Script,
+        worker: u64,
+        label: Label,
+        making: Making,
+    ) -> Result<Answer, AllocError>
+        ensures ok { IfOk result (λ answer. MakesOfBoxes (boxes_of script.now) (stage_of self.old) worker (deed_making making label) answer (stage_of self.new)) }
+        ensures err { OnErr result (self.new ≡ self.old) }
+    {
+        if self.taken < script.stock.len() {
+            return self.make_of_stock(script.stock.as_slice(), worker, label, making);
+        }
+        if script.is_endless {
+            return self.apply(worker, &deed_of(label, StockItem::Cell, making));
+        }
+        Ok(Answer::Refused(Refusal::Stock))
+    }
+
+    // Makes a subject or an object that stores the next box of the stock. Where none is made, the box stays.
+    fn make_of_stock(
         &mut self,
         stock: &[StockItem],
         worker: u64,
         label: Label,
         making: Making,
     ) -> Result<Answer, AllocError>
-        ensures ok { OnOk result (MakesOfStock stock.now (stage_of self.old) worker (deed_making making label) (stage_of self.new)) }
+        requires { self.old.taken < length stock.now }
+        ensures ok { IfOk result (λ answer. MakesOfStock stock.now (stage_of self.old) worker (deed_making making label) answer (stage_of self.new)) }
         ensures err { OnErr result (self.new ≡ self.old) }
     {
-        if self.taken >= stock.len() {
-            return Ok(Answer::Refused(Refusal::Stock));
-        }
         let kind = stock[self.taken];
         let made = self.graph.made();
         let answer = self.apply(worker, &deed_of(label, kind, making))?;
@@ -96,7 +118,7 @@ impl PlainRun {
     // Has the graph take a deed.
     fn apply(&mut self, worker: u64, deed: &Deed) -> Result<Answer, AllocError>
         requires { DeedFits deed.now }
-        ensures ok { OnOk result (Steps (graph_of self.old.graph) worker deed.now (graph_of self.new.graph)) }
+        ensures ok { IfOk result (λ answer. Steps (graph_of self.old.graph) worker deed.now answer (graph_of self.new.graph)) }
         ensures taken { self.new.taken ≡ self.old.taken }
         ensures err { OnErr result (self.new ≡ self.old) }
     {

@@ -1,7 +1,7 @@
 //! The lines of a script.
 ghost use Rattle.std.specs.Prelude.{◌≡◌, ℕ, List, Some, None, IfOk, OnErr, OnOk};
-ghost use Rattle.tg_plain.specs.Lines.{IsEmptyScript, IsReadOf, RunsOn, all_lines};
-ghost use Rattle.tg_plain.specs.Inner.Reading.{AddsLine, HasNoLine, IsNewReading, IsReadAs, KeepsOptions, MayCountBoth};
+ghost use Rattle.tg_plain.specs.Lines.{IsEmptyScript, IsNumbered, IsReadOf, NamesBoxes, RunsOn};
+ghost use Rattle.tg_plain.specs.Inner.Reading.{AddsLine, HasLinesOf, HasNoLine, IsNewReading, IsReadAs, KeepsOptions, MayCountBoth};
 
 use crate::fault::PlainFault;
 use crate::heard::Heard;
@@ -13,7 +13,7 @@ use std::io::{self, BufRead, BufReader, ErrorKind, Read};
 use std::marker::Brand;
 use std::sync::ledger::{Blank, Ledger};
 use tg_model::Edge;
-use tg_text::{Count, Line, OfRead, ScriptFault, Source, StockItem, read_stock};
+use tg_text::{Count, Line, OfRead, ScriptFault, Source, StockFault, StockItem, read_stock};
 
 // How many bytes are read at once.
 const BLOCK: usize = 65536;
@@ -37,8 +37,10 @@ pub struct Script {
     pub workers: u64,
     /// How many vertices may ever be made.
     pub max_vertices: u64,
-    /// The boxes that creates and spawns take.
+    /// The boxes that creates and spawns take first.
     pub stock: Vec<StockItem>,
+    /// Whether they take cells without end behind these; else they are refused then.
+    pub is_endless: bool,
     /// The edges of the edge lines, which stand before all other lines.
     pub edges: Vec<Edge>,
     /// The other lines before the first fault, or all of them.
@@ -66,7 +68,8 @@ impl Script {
             alloc,
             workers: options.workers,
             max_vertices: options.max_vertices,
-            stock: read_stock(alloc, options.stock.as_bytes())?,
+            stock: named_boxes(alloc, options.stock)?,
+            is_endless: options.stock.is_none(),
             edges: Vec::new(alloc),
             lines: Vec::new(alloc),
             fault: None,
@@ -84,6 +87,7 @@ impl Script {
     ) -> Result<Script, PlainFault>
         ensures options { IfOk result (RunsOn options.entry) }
         ensures lines { (bytes : List ℕ) → R.remaining reader ≡ Some bytes → IfOk result (IsReadOf bytes) }
+        ensures numbered { IfOk result IsNumbered }
     {
         let mut script = Script::new(alloc, options)?;
         let Ok(reader) = BufReader::with_capacity(alloc, BLOCK, Heard::new(reader)) else {
@@ -119,6 +123,7 @@ impl Script {
         requires empty { HasNoLine self.old }
         ensures kept { KeepsOptions self.old self.new }
         ensures lines { (bytes : List ℕ) → B.remaining reader ≡ Some bytes → IsReadAs bytes result.outcome self.new }
+        ensures numbered { IsNumbered self.new }
     {
         let (asked, failures) = (Count::<A>::new(asked), Count::<F>::new(failures));
         let mut source = OfRead::new(reader, asked, failures);
@@ -142,6 +147,7 @@ impl Script {
         requires empty { HasNoLine self.old }
         ensures kept { KeepsOptions self.old self.new }
         ensures lines { (bytes : List ℕ) → S.left source.old ≡ Some bytes → IsReadAs bytes result self.new }
+        ensures numbered { IsNumbered self.new }
     {
         // Nothing is written while lines are read.
         let mut sink = PlainText::new(self.alloc);
@@ -156,8 +162,8 @@ impl Script {
     // Adds a line. Fails only when out of memory, and nothing changes then.
     fn add(&mut self, number: u64, line: Line) -> Result<(), AllocError>
         ensures kept { KeepsOptions self.old self.new }
-        ensures line { OnOk result (AddsLine self.old line self.new) }
-        ensures err { OnErr result (all_lines self.new ≡ all_lines self.old) }
+        ensures line { OnOk result (AddsLine self.old number line self.new) }
+        ensures err { OnErr result (HasLinesOf self.old self.new) }
     {
         match line {
             Line::Edge(edge) => self.edges.push(edge)?,
@@ -191,6 +197,16 @@ impl Script {
     /// How many lines there are, edge lines among them.
     pub fn count(&self) -> u64 {
         (self.edges.len() as u64).saturating_add(self.lines.len() as u64)
+    }
+}
+
+// The boxes that the text names, or none without a text. Fails as [`read_stock`] does.
+fn named_boxes(alloc: Global, text: Option<&str>) -> Result<Vec<StockItem>, StockFault>
+    ensures { IfOk result (λ boxes. NamesBoxes text.entry boxes.items) }
+{
+    match text {
+        Some(text) => read_stock(alloc, text.as_bytes()),
+        None => Ok(Vec::new(alloc)),
     }
 }
 

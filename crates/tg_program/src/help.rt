@@ -20,7 +20,8 @@ pub const VERTICES: &str = "How many vertices may ever be made, from 1 to 167772
 vertices, so it may not be below their number [default: 1000000]";
 
 pub const BLOCKS: &str = "How many blocks of 64 cells the heap may have, from 1 to 65536. Give as
-many as live cells fill, and one more for each worker [default: 4096]";
+many as live cells fill, and one more for each worker. 65536 blocks held
+3595117 vertices at once [default: 4096]";
 
 pub const STOCK: &str = "The boxes that new vertices take, first to last, as letters: c keeps the
 last value that was written, s the sum of all, m the greatest, l the last

@@ -7,6 +7,8 @@ use Rattle.tg_journal.specs.declared.entry.Entry.{Entry}
 use Rattle.tg_journal.specs.History.{IsLegal, IsFirstBad, graph_after}
 use Rattle.tg_space.specs.declared.room_fault.RoomFault.{RoomFault}
 use Rattle.tg_store.specs.Store.{StoreState, graph_of_store}
+use Rattle.tg_resume.specs.declared.part.Halted.{Halted}
+use Rattle.tg_resume.specs.declared.part.Halted.TheVariants as halted
 use Rattle.tg_resume.specs.declared.stopped.ResumeStopped.{ResumeStopped}
 use Rattle.tg_resume.specs.declared.stopped.ResumeStopped.TheVariants.{BadPlace, BadEntry, NoRoom}
 use Rattle.tg_resume.specs.Room.{LacksRoom}
@@ -36,6 +38,11 @@ pub record HasNoRoom (es : List Entry) (old new : StoreState) (at : ℕ) (why : 
 -- the first place at which the entries of the store, and then these, aren't a legal history of its opening
 abbrev pub IsBadAt : List Entry → StoreState → ℕ → Type 0
 IsBadAt es old at = IsFirstBad (start_of old.opening) (old.entries ++ es) at
+
+-- why entries weren't replayed to their end on a store that is lent
+abbrev pub IsHalted : List Entry → StoreState → StoreState → Halted → Type 0
+IsHalted es old new (halted.BadEntry at) = IsBadAt es old at
+IsHalted es old new (halted.NoRoom at why) = HasNoRoom es old new at why
 
 -- why entries from a place on weren't resumed to their end, and what is left of the store
 abbrev pub IsStopped : {P : Type 0} → ℕ → List Entry → StoreState → ResumeStopped P → Type 0

@@ -6,12 +6,12 @@ ghost use Rattle.tg_model.specs.Making.{deed_making};
 ghost use Rattle.tg_store.specs.Store.{graph_of_store};
 ghost use Rattle.tg_resume.specs.Inner.Replaying.{Does, Replays, Tries};
 
-use crate::maker::Maker;
 use std::alloc::{AllocError, Global};
 use tg_graph::VertexRefused;
 use tg_journal::Entry;
 use tg_model::{Command, Deed, Law, Making, Numbers, Reply};
 use tg_payload::{Draft, Payload};
+use tg_rebuild::Maker;
 use tg_rights::Label;
 use tg_store::{ApplyFault, CreateFault, CreateRefused, Kind, RoomFault, Store};
 

@@ -26,10 +26,9 @@
 
 mod entry;
 pub mod laws;
-mod maker;
 mod part;
 mod stopped;
 
-pub use maker::{ByLaw, Maker};
-pub use part::{Part, resume};
+pub use part::{Halted, Part, replay_all, resume};
 pub use stopped::ResumeStopped;
+pub use tg_rebuild::{ByLaw, Maker};

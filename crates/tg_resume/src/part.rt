@@ -2,15 +2,14 @@
 ghost use Rattle.std.specs.Prelude.{◌≡◌, ◌≢◌, ◌↔◌, ◌≤◌, ◌+◌, ◌-◌, List, drop, length, Err, IfOk, IfErr, IfSome, IsSome, OnOk};
 ghost use Rattle.tg_journal.specs.declared.entry.Entry.{Entry as EntryOf};
 ghost use Rattle.tg_store.specs.Store.{StoreState};
-ghost use Rattle.tg_resume.specs.Inner.Replaying.{IsHalted};
-ghost use Rattle.tg_resume.specs.Resuming.{IsStopped, Resumes};
+ghost use Rattle.tg_resume.specs.Resuming.{IsHalted, IsStopped, Resumes};
 
 use crate::entry::replay;
-use crate::maker::Maker;
 use crate::stopped::ResumeStopped;
 use std::alloc::Global;
 use tg_journal::{Entry, Journal};
 use tg_payload::Payload;
+use tg_rebuild::Maker;
 use tg_space::RoomFault;
 use tg_store::Store;
 
@@ -48,10 +47,12 @@ impl<'a> Part<'a> {
     }
 }
 
-// Why entries were no more replayed, and at which place of the journal.
+/// Why entries were no more replayed, and at which place of the journal, counted from 0.
 #[derive(Clone, Copy)]
-enum Halted {
+pub enum Halted {
+    /// The first entry that isn't legal. The store is of no use: it may have done a deed that the entries don't have.
     BadEntry { at: u64 },
+    /// There is no room for this entry. The store has all entries before it.
     NoRoom { at: u64, why: RoomFault },
 }
 
@@ -106,8 +107,15 @@ fn stopped<P: Payload>(store: Store<P>, halted: Halted) -> ResumeStopped<P>
     }
 }
 
-// Replays entries as far as it goes.
-fn replay_all<P: Payload, M: Maker<P>>(
+/// Replays entries on a store that is lent, the first of which is that of the journal's next place. It goes as far as
+/// [`resume`] does, by the same rules. It is for a host that keeps the store where it is, as behind a pointer.
+///
+/// Refusals:
+///
+/// - `BadEntry`, with the first place in the journal whose entry isn't legal. The host has to drop the store.
+/// - `NoRoom`, with the place of the entry for which there is no room. The store has all entries before that place, and
+///   goes on if it is fed from there.
+pub fn replay_all<P: Payload, M: Maker<P>>(
     alloc: Global,
     store: &mut Store<P>,
     maker: &mut M,

@@ -48,6 +48,7 @@
 //! So under the lock memory is wanted by the store's call alone, which is refused before it makes an entry.
 #![tactic(auto)]
 
+mod batch;
 mod call;
 mod closing;
 mod helpers;

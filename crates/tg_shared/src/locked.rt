@@ -168,6 +168,8 @@ impl<L: Round, P: Payload> Locked<L, P> {
         ensures served { ServesCommand command self.old.store self.new.store session.old session.new result }
         ensures kept { KeepsRound self.old self.new }
         ensures signed { HasNoted self.old self.new session.old session.new }
+        ensures spare { OnOk result (session.new.spare + 1 ≡ session.old.spare) }
+        ensures collections { self.new.store.collections ≡ self.old.store.collections }
     {
         let at = self.store.journal().len();
         let worker = session.worker();

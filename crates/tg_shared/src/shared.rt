@@ -26,9 +26,15 @@ const TRIES: u32 = 2_000;
 const PAUSES: u32 = 8;
 
 /// A store behind a lock, which many threads use through their sessions.
-#[derive(Drop)]
 pub struct SharedStore<L: Round, P: Payload> {
     pub(crate) locked: Mutex<Locked<L, P>>,
+}
+
+// It is written out, so that a crate that drops a shared store doesn't prove again how each part is dropped.
+impl<L: Round, P: Payload> Drop for SharedStore<L, P> {
+    fn drop(self) {
+        let Self { locked: _locked } = self;
+    }
 }
 
 /// A shared store with its sessions, one for each active subject, by rising name, and with its one keeper.

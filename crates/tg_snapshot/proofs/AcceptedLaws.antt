@@ -22,12 +22,12 @@ use Rattle.tg_snapshot.proofs.ShownLaws.{shown_at}
 
 -- ---- what is at a place of a list
 
-low : (n : ℕ) (vs : List ShownVertex) (k : ℕ) (d : ShownVertex) → RiseFrom n vs → k < length vs → n ≤ (get_or vs k d).name
+pub low : (n : ℕ) (vs : List ShownVertex) (k : ℕ) (d : ShownVertex) → RiseFrom n vs → k < length vs → n ≤ (get_or vs k d).name
 low n [] k d rising inside = absurd (omega (arith, inside))
 low n (v ∷ vs) zero d rising inside = rising.0
 low n (v ∷ vs) (suc k) d rising inside = let rest = low (v.name + 1) vs k d rising.1 (omega (arith, inside)) in omega (arith, rest, rising.0)
 
-value_at : (n : ℕ) (vs : List ShownVertex) (k : ℕ) (d : ShownVertex) → RiseFrom n vs → k < length vs → value_shown vs (get_or vs k d).name ≡ Some (get_or vs k d).value
+pub value_at : (n : ℕ) (vs : List ShownVertex) (k : ℕ) (d : ShownVertex) → RiseFrom n vs → k < length vs → value_shown vs (get_or vs k d).name ≡ Some (get_or vs k d).value
 value_at n [] k d rising inside = absurd (omega (arith, inside))
 value_at n (v ∷ vs) zero d rising inside = here v vs v.name refl
 value_at n (v ∷ vs) (suc k) d rising inside =

@@ -10,7 +10,7 @@ use Rattle.tg_block.specs.Cells.{IsBlock, free_cell, free_block, cell_of}
 use Rattle.tg_space.specs.SpaceList.{SpaceList, BlockList, IsEmptyFrom, IsSpace, IsSpaceList, HasCell, space_of, block_of, cell_at, blocks_before, block_count, with_cell_at, with_word_at, with_block, flat_of, cells_of}
 use Rattle.tg_space.specs.declared.kind.Kind.TheVariants.{Full, Nursery}
 use Rattle.tg_space.specs.declared.limits.Limits.{Limits}
-use Rattle.tg_space.specs.SpaceTable.{SpaceTable, adopted, with_adopted, IsSpaceTable, IsPrefixCount, IsHandedOut, used_of, number_in_space, with_spaces}
+use Rattle.tg_space.specs.SpaceTable.{SpaceTable, adopted, with_adopted, IsFreeBehind, IsSpaceTable, IsPrefixCount, IsHandedOut, used_of, number_in_space, with_spaces}
 use Rattle.tg_space.proofs.Flat.{before_more, before_few, blocks_all, flat_inside, get_or-flat_of, length-cells_of}
 use Rattle.tg_space.proofs.Writing.{other_cell}
 
@@ -249,6 +249,13 @@ table_grown t space is low whole =
       within = λ s inside. omega (arith, is.within s (omega (arith, long)), length-with_block t.spaces space low s);
       fresh = λ p held young unused. ⊎_elim (λ old. old.1 ∙ is.fresh p old.0 young unused) (λ free. free) (cell_at-with_block t.spaces space low p held);
     }
+
+-- the cells of a nursery that were not handed out are free
+pub free_behind : (t : SpaceTable) (space : ℕ) → IsSpaceTable t → 2 ≤ space → space < length t.spaces → IsFreeBehind (used_of t space) (space_of t.spaces space)
+free_behind t space is young inside = record {
+  within = is.within space inside;
+  free = λ block cell held small past. let p : Place = record { space = space; block = block; cell = cell } in is.fresh p (record { space = inside; block = held; cell = small }) young past;
+}
 
 -- a nursery collection leaves as many spaces
 pub adopted_long : (h : SpaceList) (aged old : BlockList) → 2 ≤ length h → length (adopted Nursery h aged old) ≡ length h

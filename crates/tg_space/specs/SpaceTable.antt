@@ -1,10 +1,10 @@
 -- What contracts see of `Spaces`: the cells, how many cells of each nursery were handed out, and the limits.
-use Rattle.std.specs.Prelude.{◌≡◌, ℕ, ◌+◌, ◌-◌, ◌*◌, ◌/◌, ◌%◌, ◌<◌, ◌≤◌, ◌⊎◌, List, [], ◌∷◌, ◌++◌, length, replicate, slice_index, slice_set}
+use Rattle.std.specs.Prelude.{◌≡◌, ℕ, ◌+◌, ◌-◌, ◌*◌, ◌/◌, ◌%◌, ◌<◌, ◌≤◌, ◌⊎◌, List, [], ◌∷◌, ◌++◌, length, replicate, slice_index, slice_index_or, slice_set}
 use Rattle.std.specs.List.{All}
 use Rattle.tg_word.specs.declared.Place.{Place}
 use Rattle.tg_word.specs.declared.TheConstants.{SPACES, CELLS, MOST_SPACE_BLOCKS}
 use Rattle.tg_word.specs.Word.{nursery_space}
-use Rattle.tg_block.specs.Cells.{free_cell}
+use Rattle.tg_block.specs.Cells.{cell_of, free_cell}
 use Rattle.tg_space.specs.declared.limits.TheConstants.{MOST_LARGE_BLOCKS}
 use Rattle.tg_space.specs.SpaceList.{SpaceList, BlockList, IsSpace, HasCell, space_of, cell_at, blocks_before, block_count}
 use Rattle.tg_space.specs.declared.kind.Kind.{Kind}
@@ -53,6 +53,11 @@ place_in_space space number = record { space = space; block = number / CELLS; ce
 -- a cell of a nursery that was handed out; a cell of Old or Aged needs no handing out
 abbrev pub IsHandedOut : SpaceTable → Place → Type 0
 IsHandedOut t p = 2 ≤ p.space → number_in_space p < used_of t p.space
+
+-- the first cells of a space were handed out, so many, and the others are free
+pub record IsFreeBehind (used : ℕ) (blocks : BlockList) : Type 0 where
+  pub within : used ≤ CELLS * length blocks
+  pub free : (block cell : ℕ) → block < length blocks → cell < CELLS → used ≤ CELLS * block + cell → cell_of (slice_index_or blocks block []) cell ≡ free_cell
 
 -- what is so of the value of every `Spaces`
 pub record IsSpaceTable (t : SpaceTable) : Type 0 where

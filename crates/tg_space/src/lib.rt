@@ -55,6 +55,7 @@ mod kind;
 pub mod laws;
 mod limits;
 mod moves;
+mod next_block;
 mod numbering;
 mod pointers;
 mod room_fault;

@@ -22,8 +22,17 @@ pub fn empty_spaces(alloc: Global, count: usize) -> Result<Vec<Space>, AllocErro
     Ok(spaces)
 }
 
+/// What is left of the spaces that a nursery collection emptied.
+#[derive(Drop)]
+pub struct Emptied {
+    /// Blocks for the next collection to fill. They hold whatever they held.
+    pub spare: Vec<Block>,
+    /// The first nursery, as it was.
+    pub nursery: Space,
+}
+
 /// Old is followed by these blocks, Aged is the other ones, and every nursery has none. The answer is the blocks that
-/// were left, and behind them those that Aged had.
+/// were left, with those that Aged had after them, and the first nursery as it was.
 ///
 /// The spaces from a number on, at least 2, have no block: it looks at none of them. It is refused only where memory
 /// was; then nothing is changed.
@@ -34,22 +43,27 @@ pub fn put_behind(
     aged: Space,
     old: Space,
     mut left: Vec<Block>,
-) -> Result<Vec<Block>, AllocError>
+) -> Result<Emptied, AllocError>
     requires enough { 2 ≤ filled }
+    requires nursery { 2 < length spaces.old }
     requires empty { IsEmptyFrom filled spaces.old }
     requires room { length (space_of spaces.old 0) + length old ≤ MOST_SPACE_BLOCKS }
     ensures adopted { OnOk result (spaces.new ≡ adopted Kind.Nursery spaces.old aged old) }
     ensures first { OnOk result (IsSpace (space_of spaces.old 0 ++ old)) }
     ensures second { OnOk result (IsSpace aged) }
-    ensures spare { IfOk result (λ spare. spare.items ≡ left.items ++ space_of spaces.old 1) }
+    ensures spare { IfOk result (λ emptied. emptied.spare.items ≡ left.items ++ space_of spaces.old 1) }
+    ensures nursery { IfOk result (λ emptied. emptied.nursery ≡ space_of spaces.old 2) }
     ensures refused { OnErr result (spaces.new ≡ spaces.old) }
 {
     left.reserve(spaces[1].len() as usize)?;
     spaces[0].append(old)?;
-    let emptied = take_all(alloc, &mut spaces[1..], filled - 1);
+    let emptied = take_young(alloc, &mut spaces[1..], filled - 1);
     spaces[1] = aged;
-    push_all(&mut left, emptied);
-    Ok(left)
+    push_all(&mut left, emptied.spare);
+    Ok(Emptied {
+        spare: left,
+        nursery: emptied.nursery,
+    })
 }
 
 /// Old is these blocks, and every other space has none. The answer is the blocks that Old had.
@@ -67,6 +81,21 @@ pub fn put_alone(alloc: Global, spaces: &mut [Space], filled: usize, old: Space)
     let emptied = take_all(alloc, spaces, filled);
     spaces[0] = old;
     emptied
+}
+
+// Takes every block out of Aged and the nurseries, which from a number on have none. The answer is the blocks of Aged,
+// and the first nursery.
+fn take_young(alloc: Global, young: &mut [Space], filled: usize) -> Emptied
+    requires some { 1 ≤ filled }
+    requires nursery { 1 < length young.old }
+    requires empty { IsEmptyFrom filled young.old }
+    ensures empty { young.new ≡ replicate (length young.old) [] }
+    ensures spare { result.spare.items ≡ space_of young.old 0 }
+    ensures nursery { result.nursery ≡ space_of young.old 1 }
+{
+    let nursery = mem::replace(&mut young[1], Space::new(alloc));
+    let spare = take_all(alloc, young, filled);
+    Emptied { spare, nursery }
 }
 
 // Takes every block out of these spaces, which from a number on have none. The answer is the blocks of the first.

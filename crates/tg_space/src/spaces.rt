@@ -11,6 +11,7 @@ use crate::adoption::Adoption;
 use crate::forwarding::Forwarding;
 use crate::kind::Kind;
 use crate::limits::Limits;
+use crate::next_block::NextBlock;
 use crate::room_fault::RoomFault;
 use crate::space::Space;
 use crate::space_list::{add_one, count_old_and_aged, empty_spaces, put_alone, put_behind};
@@ -38,6 +39,8 @@ pub struct Spaces {
     limits: Limits,
     // What the last collection left for the next one to use.
     spare: Spare,
+    // The block that the next space to grow gets, where a nursery collection kept one.
+    next: NextBlock,
 }
 
 impl Model for Spaces {
@@ -70,6 +73,7 @@ impl Spaces {
             starts,
             limits,
             spare: Spare::none(alloc),
+            next: NextBlock::none(),
         })
     }
 
@@ -216,7 +220,7 @@ impl Spaces {
         self.blocks() >= self.limits.max_blocks() || self.len(space) >= self.limits.space_blocks()
     }
 
-    /// Adds a block of free cells at the end of a space.
+    /// Adds a block of free cells at the end of a space: the block that a nursery collection kept, or a new one.
     ///
     /// It is refused where memory was, and where the space is full; then nothing is changed.
     pub fn add_block(&mut self, space: u64) -> Result<(), RoomFault>
@@ -229,8 +233,9 @@ impl Spaces {
         if self.is_full(space) {
             return Err(RoomFault::HeapFull);
         }
+        let block = self.next.take_or_new(self.alloc)?;
         let grown = &mut self.spaces[space as usize];
-        grown.add_block(self.alloc)?;
+        grown.push(block)?;
         // From the space that grew on, one block more stands before each space, and before the end.
         add_one(&mut self.starts[space as usize + 1..]);
         Ok(())
@@ -246,6 +251,8 @@ impl Spaces {
     /// The blocks that Old had before a full collection are spare then. So are those that Aged had before a nursery
     /// collection, behind the spare ones that it had no use for. Of these, no more are kept than the heap has blocks;
     /// and a nursery collection keeps as many as it emptied, for the next one, and gives back 64 of those beyond.
+    ///
+    /// A nursery collection also keeps the only block of the first nursery. The next space that grows gets this block.
     pub fn adopt(&mut self, kind: Kind, adoption: Adoption) -> Result<(), AllocError>
         requires { kind ≡ Kind.Nursery → kept_blocks kind self.old.spaces + length adoption.old ≤ MOST_SPACE_BLOCKS }
         ensures adopted { OnOk result (self.new ≡ with_adopted self.old kind adoption.aged adoption.old) }
@@ -304,12 +311,14 @@ impl Spaces {
     {
         let filled = self.filled();
         let young = self.blocks().saturating_sub(self.len(OLD));
-        let spare = put_behind(self.alloc, &mut self.spaces, filled, aged, old, left)?;
+        let used = self.used[nursery_space(0) as usize];
+        let emptied = put_behind(self.alloc, &mut self.spaces, filled, aged, old, left)?;
+        self.next.keep_only(emptied.nursery, used);
         self.used.fill(0);
         count_old_and_aged(&self.spaces, &mut self.starts);
         let most = self.starts[self.spaces.len()];
-        let wanted = wanted_of(spare.len() as u64, young);
-        self.spare.keep_blocks(spare, most.min(wanted));
+        let wanted = wanted_of(emptied.spare.len() as u64, young);
+        self.spare.keep_blocks(emptied.spare, most.min(wanted));
         Ok(())
     }
 

@@ -12,4 +12,5 @@ pub mod StandLaws
 mod ReachingLaws
 mod PictureLaws
 mod LeaveLaws
+pub mod BatchLaws
 mod AuditLaws

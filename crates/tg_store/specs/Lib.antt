@@ -1,4 +1,5 @@
 pub mod Store
+pub mod Batch
 pub mod Counts
 pub mod Faults
 pub mod Held

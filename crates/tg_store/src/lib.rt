@@ -6,7 +6,8 @@
 //! made. The journal is handed out in parts, or given up ([`Store::take_journal`], [`Store::forget`]); the store goes
 //! on. The graph that a store stands for (`StandsFor`) is that of its opening after the deeds of all entries, held or
 //! not, and each call is told by it: [`Store::apply`] answers what the rules answer on that graph, and then the store
-//! stands for the next graph by the rules; so do [`Store::create`] and [`Store::spawn`].
+//! stands for the next graph by the rules; so do [`Store::create`] and [`Store::spawn`]. [`Store::apply_all`] takes
+//! several commands of one worker in a row.
 //!
 //! ```text
 //!     opening --deeds of the journal--> graph        what every reply is told by; no collection enters it
@@ -35,6 +36,7 @@
 #![tactic(auto)]
 
 mod answer;
+mod batch;
 mod census;
 mod fault;
 pub mod laws;
@@ -44,6 +46,7 @@ mod store;
 mod store_fault;
 mod tallied;
 
+pub use batch::{BatchFault, MOST_BATCH};
 pub use census::{Census, Collections, Refusals};
 pub use fault::{ApplyFault, CreateFault, CreateRefused, OpenFault, OpenRefused, StoreAuditFault};
 pub use leaving::{removal, retiring};

@@ -29,7 +29,6 @@ use tg_word::OLD;
 /// An object store with access control, over payloads that its callers hand in. Contracts see it as a `StoreState`,
 /// and tell each call by the protection graph that this stands for: that of its opening, after the deeds of all entries
 /// that were made. No collection enters it.
-#[derive(Drop)]
 pub struct Store<P: Payload> {
     alloc: Global,
     opening: Opening,
@@ -38,6 +37,20 @@ pub struct Store<P: Payload> {
     heap: Heap<P>,
     journal: TalliedJournal,
     collections: Collections,
+}
+
+// It is written out, so that a crate that drops a store doesn't prove again how each part of it is dropped.
+impl<P: Payload> Drop for Store<P> {
+    fn drop(self) {
+        let Self {
+            alloc: _,
+            opening: _opening,
+            made: _,
+            heap: _heap,
+            journal: _journal,
+            collections: _,
+        } = self;
+    }
 }
 
 impl<P: Payload> Model for Store<P> {
@@ -191,8 +204,7 @@ impl<P: Payload> Store<P> {
         self.journal.forget(upto);
     }
 
-    /// Lets the store go, with all that it holds, as `drop` does. But by `drop` a caller's crate proves anew how each
-    /// part of a store is dropped, and here that is proved already.
+    /// Lets the store go, with all that it holds, as `drop` does.
     pub fn let_go(self) {}
 
     /// How many vertices, payloads and blocks the heap has, how many entries were made, how many of them are held,

@@ -1,4 +1,5 @@
 //! One error for all calls of a store, for callers that hand each of them on.
+use crate::batch::BatchFault;
 use crate::fault::{
     ApplyFault, CreateFault, CreateRefused, OpenFault, OpenRefused, StoreAuditFault,
 };
@@ -28,6 +29,9 @@ pub enum StoreFault {
     /// A command was refused, which is no denial: a denial is a reply.
     #[error("{0}")]
     Apply(ApplyFault),
+    /// A batch of commands was not done to its end.
+    #[error("{0}")]
+    Batch(BatchFault),
     /// A collection was refused.
     #[error("{0}")]
     Collect(RoomFault),
@@ -114,6 +118,17 @@ impl From<ApplyFault> for StoreFault {
 
     fn from(fault: ApplyFault) -> StoreFault {
         StoreFault::Apply(fault)
+    }
+}
+
+impl From<BatchFault> for StoreFault {
+    ghost use Rattle.std.specs.Prelude.{◌≡◌};
+    ghost use Rattle.tg_store.specs.declared.store_fault.StoreFault.TheVariants.{Batch};
+
+    ghost from_gives = { λ fault e. e ≡ Batch fault };
+
+    fn from(fault: BatchFault) -> StoreFault {
+        StoreFault::Batch(fault)
     }
 }
 

@@ -8,10 +8,11 @@
 mod words;
 
 use std::env;
-use std::io::{self, BufReader, ErrorKind};
+use std::io::{self, BufReader, ErrorKind, Write};
 use std::process::ExitCode;
-use tg_entries::{TextFault, audit_text};
-use words::{HELP, MORE};
+use tg_entries::{LineFault, TextFault, audit_text, audit_to_snapshot};
+use tg_saved::snapshot_bytes;
+use words::{HELP, MORE, OF_A_LINE, OF_AN_ENTRY, OF_THE_END, OF_THE_FIRST_LINE, VERSION};
 
 // How many bytes are read at once.
 const BLOCK: usize = 65536;
@@ -21,43 +22,87 @@ fn main(rt: HostRuntime) -> ExitCode {
         Ok(status) => ExitCode::from(status),
         Err(fault) => {
             let _ = eprintln!(rt; "tgaudit: {fault}");
+            if let Some(advice) = advice_on(&fault) {
+                let _ = eprintln!(rt; "tgaudit: {advice}");
+            }
             ExitCode::from(1)
         }
     }
 }
 
-// Does what the words of the command line ask for. The exit status.
-fn obey(rt: &HostRuntime) -> Result<u8, TextFault> {
-    match answer_words(rt)? {
-        Some(status) => Ok(status),
-        None => audit(rt),
+// What a line at fault has to be, if the fault doesn't say so.
+fn advice_on(fault: &TextFault) -> Option<&'static str> {
+    match fault {
+        TextFault::Line { why, .. } => advice_on_line(why),
+        TextFault::CutOff { .. } => Some(OF_THE_END),
+        TextFault::Stream(_) => None,
     }
 }
 
-// Answers the words of the command line, where there are any. The exit status.
-fn answer_words(rt: &HostRuntime) -> io::Result<Option<u8>> {
+// The same, of a line that is whole.
+fn advice_on_line(why: &LineFault) -> Option<&'static str> {
+    match why {
+        LineFault::OutOfMemory | LineFault::BadSnapshot { .. } => None,
+        LineFault::OtherVersion => Some(OF_THE_FIRST_LINE),
+        LineFault::BadLine => Some(OF_A_LINE),
+        LineFault::BadEntry { .. } => Some(OF_AN_ENTRY),
+    }
+}
+
+// What the words of the command line ask for.
+enum Task {
+    // To say how many entries the text has.
+    Count,
+    // To print the snapshot after the last entry.
+    Snapshot,
+    // None: the words were answered, with this exit status.
+    Answered(u8),
+}
+
+// Does what the words of the command line ask for. The exit status.
+fn obey(rt: &HostRuntime) -> Result<u8, TextFault> {
+    match read_words(rt)? {
+        Task::Count => audit(rt),
+        Task::Snapshot => print_snapshot(rt),
+        Task::Answered(status) => Ok(status),
+    }
+}
+
+// What the words of the command line ask for. Answers those that ask for no audit.
+fn read_words(rt: &HostRuntime) -> io::Result<Task> {
     let mut words = match env::args(rt) {
         Ok(words) => words,
         Err(error) if error.kind() == ErrorKind::InvalidData => {
             eprintln!(rt; "tgaudit: bad words")?;
-            return Ok(Some(2));
+            return Ok(Task::Answered(2));
         }
         Err(error) => return Err(error),
     };
-    match words.nth(1) {
-        Some(word) => Ok(Some(answer(rt, word.as_str())?)),
-        None => Ok(None),
+    let Some(first) = words.nth(1) else {
+        return Ok(Task::Count);
+    };
+    if first.as_str() != "--snapshot" {
+        return Ok(Task::Answered(answer(rt, first.as_str())?));
+    }
+    match words.next() {
+        Some(word) => Ok(Task::Answered(answer(rt, word.as_str())?)),
+        None => Ok(Task::Snapshot),
     }
 }
 
-// Prints the help where the word asks for it, else that no other word is known. The exit status.
+// Prints the help or the version where the word asks for it, else that no other word is known. The exit status.
 fn answer(rt: &HostRuntime, word: &str) -> io::Result<u8> {
-    if word == "--help" || word == "-h" {
-        print!(rt; "{HELP}")?;
-        return Ok(0);
+    match word {
+        "--help" | "-h" => print!(rt; "{HELP}")?,
+        "--version" | "-V" => println!(rt; "tgaudit {VERSION}")?,
+        _ => {
+            eprintln!(rt;
+                "error: unexpected argument '{word}' found\n\nUsage: tgaudit [OPTIONS] <TEXT\n\n{MORE}"
+            )?;
+            return Ok(2);
+        }
     }
-    eprintln!(rt; "error: unexpected argument '{word}' found\n\nUsage: tgaudit\n\n{MORE}")?;
-    Ok(2)
+    Ok(0)
 }
 
 // Audits the text on standard input, and says how many entries it has. The exit status.
@@ -65,5 +110,14 @@ fn audit(rt: &HostRuntime) -> Result<u8, TextFault> {
     let mut reader = BufReader::with_capacity(rt.alloc(), BLOCK, rt.stdin())?;
     let count = audit_text(rt.alloc(), &mut reader)?;
     println!(rt; "audit ok, {count} entries")?;
+    Ok(0)
+}
+
+// Audits the text on standard input, and prints the snapshot after its last entry. The exit status.
+fn print_snapshot(rt: &HostRuntime) -> Result<u8, TextFault> {
+    let mut reader = BufReader::with_capacity(rt.alloc(), BLOCK, rt.stdin())?;
+    let snapshot = audit_to_snapshot(rt.alloc(), &mut reader)?;
+    let text = snapshot_bytes(rt.alloc(), &snapshot).map_err(io::Error::from)?;
+    rt.stdout().write_all(text.as_slice())?;
     Ok(0)
 }

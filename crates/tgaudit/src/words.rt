@@ -1,6 +1,9 @@
 //! The words of the command line.
 
-/// The help. No other word is known.
+/// The version of all that this repository has. The file `VERSION` says the same.
+pub const VERSION: &str = "0.3.0";
+
+/// The help.
 pub const HELP: &str =
     "Audits the text of a history: its opening, and a line for each entry with its reply
 
@@ -8,12 +11,19 @@ Reads from standard input which form the text has, an opening, a line for each e
 the entries on the plain graph of the opening, and compares each reply. Writes 'audit ok, N entries' where all is as the
 rules have it. Else standard error names the first line at fault, counted from 1; an entry by its place, from 0.
 
-It takes memory by what the subjects reach and by the edges of the opening, and not by the lines or the entries.
+A history can be cut into parts. A snapshot stands in the place of the opening then: it has what the active subjects
+reach after the entries before. With --snapshot, tgaudit prints the snapshot after the last entry. The next part begins
+with it. So each part is audited alone. The snapshot of a part is right if tgaudit printed it for the part before.
 
-Usage: tgaudit
+It takes memory by what the subjects reach, by the edges of the opening and by the lines of the snapshot, and not by the
+entries.
+
+Usage: tgaudit [OPTIONS]
 
 Options:
-  -h, --help  Print help
+      --snapshot  Print the snapshot after the last entry, and not the number of entries
+  -h, --help      Print help
+  -V, --version   Print version
 
 The form:
   kovshenul entries 1         the first line
@@ -21,14 +31,24 @@ The form:
   worker c0                   for each worker: what it stores
   edge 0 1 rw                 for each edge between workers
   0 create r c0 = ok 5        for each entry: a line of a script, what a new vertex stores, and the reply
-  entries N                   the last line
+  entries N                   the last line: how many entries this text has
 
   A vertex stores a law's letter and its numbers: c7 a cell, s7 a sum, m7 a maximum, l4:1,2 a log of at most 4, and l4
   one that is empty.
 
+The form of a snapshot:
+  kovshenul picture 1         the first line
+  made MADE VERTICES ENTRIES  vertices made so far, vertices that may ever be made, and entries before
+  worker N                    for each active subject, by rising names: its name
+  vertex N c0                 for each vertex that these reach, by rising names: its name, and what it stores
+  edge N N rw                 for each edge of these, by rising ends
+  picture N                   the last line: how many lines of vertices and edges there are
+
 Faults:
-  line L: bad line            it is none of these, or may not stand there; or N isn't the number of entries
-  line L: bad entry N         its worker is no active subject, its value fits no law, or the reply isn't the rules'
+  line L: bad line            it is none of these, or may not stand there; or the last number is wrong
+  line L: vertex N needs ..   a line of a snapshot isn't as asked. Vertices, subjects and edges are counted from 0
+  line L: bad entry N         its worker is no active subject, its value fits no law, or the reply isn't the rules'. N
+                              counts the entries before the snapshot too
   line L: the end is cut off  the text ends within line L, or in front of it without the last line
 
 Exit status:
@@ -39,7 +59,26 @@ Exit status:
 Example:
   printf 'kovshenul entries 1\\nopening 1 9\\nworker c0\\n0 create r c5 = ok 1\\n0 read 1 = ok 5\\nentries 2\\n' | tgaudit
   writes 'audit ok, 2 entries'.
+
+  tgaudit --snapshot < part1.txt > part2.txt
+  makes the head of the next part, behind which its entries come.
 ";
 
 /// What stands behind a fault of the words.
 pub const MORE: &str = "For more information, try '--help'.";
+
+/// What the first line has to be.
+pub const OF_THE_FIRST_LINE: &str =
+    "each line ends with a line feed alone, and has no carriage return before it";
+
+/// What another line has to be.
+pub const OF_A_LINE: &str =
+    "'opening WORKERS VERTICES' stands before WORKERS lines 'worker', then come edges, then entries, and last 'entries N' with their number; a line ends with a line feed alone";
+
+/// What an entry has to be. Entries are counted from 0.
+pub const OF_AN_ENTRY: &str =
+    "an entry is of an active subject, its value fits the law, and its reply is the answer of the rules after the entries before it";
+
+/// What the end has to be.
+pub const OF_THE_END: &str =
+    "the last line is 'entries N', with the number of entries and a line feed";

@@ -1,6 +1,7 @@
--- What the exit status 0 says.
-use Rattle.std.specs.Prelude.{ℕ, List, Option, IfSome}
+-- What the exit status says.
+use Rattle.std.specs.Prelude.{◌≡◌, ◌≢◌, ◌↔◌, ℕ, List, [], codes, Option, Some, IfSome, option_map}
 use Rattle.std.specs.List.{All}
+use Rattle.clap.specs.Matches.{first_value, found_of}
 use Rattle.clap.specs.declared.parser.matches.ArgMatches.{ArgMatches}
 use Rattle.tg_rights.specs.declared.Right.{Right}
 use Rattle.tg_model.specs.Graph.{ProtectionGraph}
@@ -8,8 +9,9 @@ use Rattle.tg_model.specs.Picture.{Shown, IsPictureOf}
 use Rattle.tg_could.specs.Turns.{NeverHolds}
 use Rattle.tg_plain.specs.declared.options.PlainOptions.{PlainOptions}
 use Rattle.tg_plain.specs.declared.outcome.Outcome.{Outcome}
+use Rattle.tg_plain.specs.declared.refused.RefusedLine.{RefusedLine}
 use Rattle.tg_plain.specs.Lines.{IsOutcomeOf}
-use Rattle.tgcould.specs.declared.options.TheConstants.{NEVER}
+use Rattle.tgcould.specs.declared.options.TheConstants.{ALLOW_DENIED, NEVER}
 use Rattle.tgcould.specs.declared.query.Query.{Query}
 use Rattle.tgcould.specs.declared.query.Query.TheVariants.{Hold, Who, What}
 use Rattle.tgcould.specs.declared.query.VertexWord.{VertexWord}
@@ -41,11 +43,32 @@ abbrev pub AreKept : ArgMatches → Supposed → Shown → Type 0
 AreKept matches supposed p =
     (g : ProtectionGraph) → IsPictureOf p g → All (IsKeptOn (with_edges g supposed.edges.items) supposed.silent.items) (texts_of matches NEVER.now)
 
--- A script was read to its end, and on the graph that it leaves all policies are kept. If it is known which bytes the reader had, the script
--- is these.
-pub record PassesPolicies (options : PlainOptions) (matches : ArgMatches) (remaining : Option (List ℕ)) : Type 0 where
+-- ---- lines that were denied or refused
+
+-- something must never come about
+abbrev pub HasPolicy : ArgMatches → Type 0
+HasPolicy matches = texts_of matches NEVER.now ≢ []
+
+-- policies may pass though lines of the script were denied or refused
+abbrev pub AllowsDenied : ArgMatches → Type 0
+AllowsDenied matches = first_value (found_of matches) ALLOW_DENIED.now ≡ Some (codes "true")
+
+-- there is a policy, no line may be denied, and these were denied or refused
+abbrev pub FailsPolicies : ArgMatches → List RefusedLine → Type 0
+FailsPolicies matches refused = HasPolicy matches × (¬ AllowsDenied matches) × (refused ≢ [])
+
+-- ---- the exit status
+
+-- the text of the stock is what the words say, or none if they say nothing of it
+abbrev pub SaysStock : ArgMatches → PlainOptions → Type 0
+SaysStock matches options = option_map (λ s. s.now) options.stock ≡ first_value (found_of matches) (codes "stock")
+
+-- What the exit status says of a script that was read to its end. If it is known which bytes the reader had, the script is these. If the
+-- status is 0, all policies are kept on the graph that the script leaves. It is 3 exactly if lines of the script fail the policies.
+pub record IsVerdict (options : PlainOptions) (matches : ArgMatches) (remaining : Option (List ℕ)) (status : ℕ) : Type 0 where
   pub outcome : Outcome
   pub left : IfSome remaining (λ bytes. IsOutcomeOf options bytes outcome)
   pub supposed : Supposed
   pub is_supposed : IsSupposed matches supposed
-  pub kept : AreKept matches supposed outcome.picture
+  pub kept : status ≡ 0 → AreKept matches supposed outcome.picture
+  pub denied : (status ≡ 3) ↔ FailsPolicies matches outcome.refused.items

@@ -1,5 +1,5 @@
 //! The answers to all questions.
-ghost use Rattle.std.specs.Prelude.{◌≡◌, IfOk, IsTrue};
+ghost use Rattle.std.specs.Prelude.{◌≡◌, ◌<◌, IfOk, IsTrue};
 ghost use Rattle.std.specs.List.{All};
 ghost use Rattle.tgcould.specs.Policies.{IsKeptPolicy, MeetsPolicy, texts_of};
 ghost use Rattle.tgcould.specs.Told.{NeverComes};
@@ -23,8 +23,8 @@ pub struct Answers {
 }
 
 impl Answers {
-    /// No answer. So many boxes are left in the stock, and so many questions are asked.
-    pub fn new(alloc: Global, boxes: u64, questions: usize) -> Answers
+    /// No answer. So many boxes are left in the stock, or `None` if they have no end, and so many questions are asked.
+    pub fn new(alloc: Global, boxes: Option<u64>, questions: usize) -> Answers
         ensures { result.notes.status ≡ 0 }
     {
         Answers {
@@ -92,7 +92,7 @@ impl Answers {
 
     /// Prints the answers, and the notes on standard error. The exit status.
     pub fn print<R: Print + Eprint>(&self, rt: &R) -> Result<u8, PlainFault>
-        ensures { IfOk result (λ status. status ≡ self.now.notes.status) }
+        ensures { IfOk result (λ status. (status ≡ self.now.notes.status) × (status < 3)) }
     {
         if self.notes.is_short {
             return Err(PlainFault::OutOfMemory(AllocError));

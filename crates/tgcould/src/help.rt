@@ -6,6 +6,9 @@ Reads a script of tgstore's from standard input, runs it, and answers questions 
 a right over y, by any turns of the active subjects? Whom you trust you name as silent, and they take no turns. Both 'never' and
 'could' are proved.";
 
+pub const STOCK: &str = "The boxes that creates and spawns take, as tgstore has them [default: cells
+without end]";
+
 pub const SILENT: &str = "A subject that takes no turns, as the host itself; once for each";
 
 pub const AS_IF: &str = "Rights of X over Y that are supposed to be there too: so a grant is asked
@@ -14,6 +17,9 @@ about before it is made; once for each";
 pub const ASK: &str = "What is asked, as '3 r 7'; once for each question";
 
 pub const NEVER: &str = "The same, of what must never come about: the status is 1 where it could";
+
+pub const ALLOW_DENIED: &str = "With --never: lines of the script may be denied or refused; else the
+status is 3 then";
 
 pub const MANUAL: &str = "Questions:
   X and Y are names of vertices, RIGHT is one letter out of r w t g a l u v. In the place of a name 'new' stands for the next
@@ -24,8 +30,10 @@ pub const MANUAL: &str = "Questions:
   'X * *'         which rights could X come to hold, and over whom?
 
   Who acts is an active subject that isn't silent, and whoever is spawned on the way. They create, spawn, take, grant, give
-  up and retire as they like, together. A line of the script that is denied or refused, as by a --stock that is too short,
-  changes nothing and isn't told of here: tgstore tells.
+  up and retire as they like, together.
+
+  A line of the script that is denied or refused changes nothing. Standard error reports each, with its number and the reason.
+  Without --stock each create and spawn takes a cell. With --stock it takes the next of these boxes, and is refused if none is left.
 
 Answers:
   never           X doesn't, whatever those who act do
@@ -56,13 +64,15 @@ Policies:
   Keep a file of questions, a line each, and hold it against each script in bash:
     mapfile -t policy < policy.txt
     tgcould --silent 0 \"${policy[@]/#/--never=}\" < script.txt
-  No question at all is an error, so an empty file isn't taken for a policy that holds.
+  No question at all is an error, so an empty file isn't taken for a policy that holds. The status is 3 if a line of the script
+  is denied or refused, because the answers are about a graph without it. If such a line is meant, give --allow-denied.
 
 Exit status:
   0  everything was answered, and each --never is never
   1  a --never isn't, or the run stopped; standard error says which or why
   2  the words of the command line were not accepted
+  3  there is a --never, and a line of the script was denied or refused; not with --allow-denied
 
 Example:
-  printf 'edge 0 1 g\\n0 create rw\\n' | tgcould --stock c --silent 0 --ask '1 w 2'
+  printf 'edge 0 1 g\\n0 create rw\\n' | tgcould --silent 0 --ask '1 w 2'
   writes 'never'; without --silent 0 it writes lines by which 0 hands w on.";

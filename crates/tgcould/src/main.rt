@@ -6,12 +6,12 @@
 //! The words of the command line are `options`' matter, `checks` says which of them is none, and `supposed` has what
 //! they suppose. What is asked is `query`'s. `ask` asks it and tells the answer, whose texts are in `text`, and
 //! `stars` lists who and what. `answers` has those to all questions, and `notes` what standard error says of them.
-//! `verdict` has the exit status.
+//! `refused` has what it says of lines of the script that were denied or refused. `verdict` has the exit status.
 #![tactic(auto)]
 
-ghost use Rattle.std.specs.Prelude.{◌≡◌, IfOk};
+ghost use Rattle.std.specs.Prelude.{◌≡◌, ◌⊎◌, IfOk};
 ghost use Rattle.tg_plain.specs.declared.options.PlainOptions.{PlainOptions};
-ghost use Rattle.tgcould.specs.Verdict.{PassesPolicies};
+ghost use Rattle.tgcould.specs.Verdict.{IsVerdict, SaysStock};
 
 mod answers;
 mod ask;
@@ -20,6 +20,7 @@ mod help;
 mod notes;
 mod options;
 mod query;
+mod refused;
 mod stars;
 mod supposed;
 mod text;
@@ -42,9 +43,10 @@ fn main(rt: HostRuntime) -> ExitCode {
 struct Asking;
 
 impl<R: AllocGlobal + Print + Eprint + Input> Program<R> for Asking {
-    // If the status is 0, all policies are kept.
+    // The status is 2 if the words aren't accepted. If it is 0, all policies are kept. It is 3 exactly if there is a
+    // policy, no line may be denied, and a line of the script was denied or refused.
     fn run(&self, rt: &R, matches: &ArgMatches) -> Result<u8, PlainFault>
-        ensures { IfOk result (λ status. status ≡ 0 → (options : PlainOptions) × (reader : R.Reader) × PassesPolicies options matches.now (R.Reader.remaining reader)) }
+        ensures { IfOk result (λ status. (status ≡ 2) ⊎ ((options : PlainOptions) × (reader : R.Reader) × SaysStock matches.now options × IsVerdict options matches.now (R.Reader.remaining reader) status)) }
     {
         if !are_accepted(rt, matches) {
             return Ok(2);

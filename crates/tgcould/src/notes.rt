@@ -1,5 +1,5 @@
 //! What standard error says of answers.
-ghost use Rattle.std.specs.Prelude.{◌≡◌};
+ghost use Rattle.std.specs.Prelude.{◌≡◌, ◌<◌};
 ghost use Rattle.tgcould.specs.Policies.{status_after};
 
 use crate::ask::Said;
@@ -15,13 +15,14 @@ pub struct Remarks {
     pub is_short: bool,
     /// The exit status: 1 where what must never come about could.
     pub status: u8,
-    // How many boxes are left in the stock.
-    boxes: u64,
+    // How many boxes are left in the stock, or `None` if they have no end.
+    boxes: Option<u64>,
+    ghost bounded: { status < 3 },
 }
 
 impl Remarks {
-    /// No note. So many boxes are left in the stock.
-    pub fn new(alloc: Global, boxes: u64) -> Remarks
+    /// No note. So many boxes are left in the stock; `None` if they have no end.
+    pub fn new(alloc: Global, boxes: Option<u64>) -> Remarks
         ensures { result.status ≡ 0 }
     {
         Remarks {
@@ -37,7 +38,10 @@ impl Remarks {
     pub fn add(&mut self, question: &str, told: Said, must_never: bool)
         ensures { self.new.status ≡ status_after self.old.status must_never told.is_never }
     {
-        let more = told.made.saturating_sub(self.boxes);
+        let more = match self.boxes {
+            Some(boxes) => told.made.saturating_sub(boxes),
+            None => 0,
+        };
         if more > 0 {
             self.add_stock(question, more);
         }

@@ -1,4 +1,6 @@
 //! The words of the command line.
+ghost use Rattle.std.specs.Prelude.{◌↔◌, IsTrue};
+ghost use Rattle.tgcould.specs.Verdict.{AllowsDenied, HasPolicy};
 
 use crate::help;
 use clap::builder::ValueParser;
@@ -17,16 +19,19 @@ pub const ASK: &str = "ask";
 /// The questions of what must never come about.
 pub const NEVER: &str = "never";
 
-// The options: what a script runs on, who is trusted, edges that aren't there yet, and what is asked.
+/// Whether policies may pass though lines of the script were denied or refused.
+pub const ALLOW_DENIED: &str = "allow-denied";
+
+// The options: what a script runs on, who is trusted, edges that aren't there yet, what is asked, and what is allowed.
 const CHOICES: &[Choice] = &[
     WORKERS,
     VERTICES,
-    STOCK,
+    BOXES,
     Choice {
         name: SILENT,
         action: ArgAction::Append,
         value: "NAME",
-        parser: ValueParser::Unsigned(0, u64::MAX),
+        parser: ValueParser::String,
         needs: &[],
         help: help::SILENT,
     },
@@ -54,7 +59,21 @@ const CHOICES: &[Choice] = &[
         needs: &[],
         help: help::NEVER,
     },
+    Choice {
+        name: ALLOW_DENIED,
+        action: ArgAction::SetTrue,
+        value: "",
+        parser: ValueParser::Bool,
+        needs: &[],
+        help: help::ALLOW_DENIED,
+    },
 ];
+
+// The boxes. Without them there are cells without end.
+const BOXES: Choice = Choice {
+    help: help::STOCK,
+    ..STOCK
+};
 
 /// The command line.
 pub const COMMAND_LINE: CommandLine = CommandLine {
@@ -69,4 +88,22 @@ pub fn questions_in(matches: &ArgMatches) -> usize {
     let asked = matches.get_strs(ASK).unwrap_or(&[]);
     let never = matches.get_strs(NEVER).unwrap_or(&[]);
     asked.len().saturating_add(never.len())
+}
+
+/// Whether something must never come about.
+pub fn has_policy(matches: &ArgMatches) -> bool
+    ensures { IsTrue result ↔ HasPolicy matches.now }
+{
+    let never = matches.get_strs(NEVER).unwrap_or(&[]);
+    !never.is_empty()
+}
+
+/// Whether policies may pass though lines of the script were denied or refused.
+pub fn allows_denied(matches: &ArgMatches) -> bool
+    ensures { IsTrue result ↔ AllowsDenied matches.now }
+{
+    match matches.get_str(ALLOW_DENIED) {
+        Some(word) => word == "true",
+        None => false,
+    }
 }

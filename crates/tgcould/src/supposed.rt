@@ -16,6 +16,8 @@ use tg_text::{Line, read_line, reason_of};
 // The most workers there are, so that each edge between two of them is one of the grammar.
 const ANY: u64 = u64::MAX;
 
+const NO_NAME: &str = "a vertex is wanted by its name, a number from 0 to 18446744073709551615";
+
 /// What the options suppose.
 #[derive(Drop)]
 pub struct Supposed {
@@ -56,8 +58,7 @@ fn silent_of<R: Eprint>(
     read_names(rt, alloc, matches.get_strs(SILENT).unwrap_or(&[]))
 }
 
-// The names that these texts write, in their order. `None` where one writes none. The words of the command line were
-// looked at before, so this doesn't come.
+// The names that these texts write, in their order. `None` where one writes none.
 fn read_names<R: Eprint>(
     rt: &R,
     alloc: Global,
@@ -68,7 +69,7 @@ fn read_names<R: Eprint>(
     let mut names = Vec::new(alloc);
     for text in texts {
         let Ok(name) = text.parse::<u64>() else {
-            refuse(rt, SILENT, text, "no number");
+            refuse(rt, SILENT, text, NO_NAME);
             return Ok(None);
         };
         names.push(name)?;

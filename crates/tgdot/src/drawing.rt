@@ -19,7 +19,7 @@ fn write_run(text: &mut PlainText, script: &Script, run: &mut ScriptRun) {
     run.open(script);
     for line in script.lines.as_slice() {
         if !matches!(line.line, Line::Full) {
-            run.take(script.stock.as_slice(), &line.line);
+            run.take(script, &line.line);
         }
     }
     run.reach();

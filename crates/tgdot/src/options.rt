@@ -103,10 +103,15 @@ impl LineRange {
     }
 }
 
-/// The options that were found in the words, and the defaults of the others.
+/// The options that were found in the words, and the defaults of the others. Without a stock there are no boxes, as
+/// `tgstore` has it.
 pub fn options_of<'a>(matches: &ArgMatches<'a>) -> DotOptions<'a> {
+    let plain = read_options(matches);
     DotOptions {
-        plain: read_options(matches),
+        plain: PlainOptions {
+            stock: Some(plain.stock.unwrap_or("")),
+            ..plain
+        },
         steps: steps_of(matches),
     }
 }

@@ -60,12 +60,12 @@ impl ScriptRun {
         self.is_short || self.reached.is_short
     }
 
-    /// Runs a line with the boxes of this stock. What it is answered. An edge line does nothing here: the graph began
+    /// Runs a line with the boxes of this script. What it is answered. An edge line does nothing here: the graph began
     /// with its edge.
-    pub fn take(&mut self, stock: &[StockItem], line: &Line) -> Answer {
+    pub fn take(&mut self, script: &Script, line: &Line) -> Answer {
         match *line {
             Line::Full => self.collect(),
-            _ => self.run(stock, line),
+            _ => self.run(script, line),
         }
     }
 
@@ -131,9 +131,9 @@ impl ScriptRun {
     }
 
     // Has the plain graph run a line, and follows it.
-    fn run(&mut self, stock: &[StockItem], line: &Line) -> Answer {
-        let next = stock.get(self.plain.taken).copied();
-        let Ok(answer) = self.plain.take(stock, line) else {
+    fn run(&mut self, script: &Script, line: &Line) -> Answer {
+        let next = script.stock.get(self.plain.taken).copied();
+        let Ok(answer) = self.plain.take(script, line) else {
             self.is_short = true;
             return Answer::Refused(Refusal::Memory);
         };

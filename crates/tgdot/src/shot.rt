@@ -69,7 +69,7 @@ impl Shot {
     /// Runs a line of the script, and shows what is after it.
     pub fn take(&mut self, script: &Script, line: &ScriptLine) {
         self.head(line);
-        let answer = self.run.take(script.stock.as_slice(), &line.line);
+        let answer = self.run.take(script, &line.line);
         self.marks = Marks::of(&line.line, &answer);
         self.told.clear();
         self.told.add_answer(&answer);

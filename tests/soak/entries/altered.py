@@ -96,7 +96,8 @@ KINDS = [a_reply, a_worker, a_name, two_swapped, one_lost, one_twice, the_end_cu
 def try_text(text, about):
     """What tgaudit says of the text, which must be what the rules say."""
     ran = subprocess.run([PROGRAM], input=text.encode(), capture_output=True, timeout=60)
-    said, wanted = (ran.stdout + ran.stderr).decode(), judge(text)
+    # A second line says what the line has to be.
+    said, wanted = (ran.stdout + ran.stderr).decode().splitlines(keepends=True)[0], judge(text)
     if said != wanted or ran.returncode != (0 if wanted.startswith("audit ok") else 1):
         Path("/tmp/entries.failed").write_text(text)
         sys.exit(f"entries: FAILED: {about}: said {said!r} with status {ran.returncode}, and not {wanted!r}: see /tmp/entries.failed")

@@ -10,7 +10,7 @@ use Rattle.tg_text.specs.Grammar.{LineFits, line_text}
 use Rattle.tg_text.specs.Reading.{Reads, ReadsScript, MayStand, IsBadText, opening_after}
 use Rattle.tg_plain.specs.declared.reading.Reading.{Reading}
 use Rattle.tg_plain.specs.declared.script.Script.{Script}
-use Rattle.tg_plain.specs.Lines.{all_lines, lines_of}
+use Rattle.tg_plain.specs.Lines.{all_lines}
 
 -- the bytes are these lines, and then the fault, or the end, and these bytes are left
 abbrev pub ReadsPlainFrom : Reading → List ℕ → List Line → Option ScriptFault → List ℕ → Type 0
@@ -58,12 +58,17 @@ TakesPlainLine s (Err f) t = (f ≡ fault.BadLine (s.count + 1)) × IsBadText s.
 abbrev pub HasNoLine : Script → Type 0
 HasNoLine s = (s.edges.items ≡ []) × (s.lines.items ≡ [])
 
+-- its lines are as they were
+abbrev pub HasLinesOf : Script → Script → Type 0
+HasLinesOf s t = (t.edges.items ≡ s.edges.items) × (t.lines.items ≡ s.lines.items)
+
 -- what it runs on is as it was, and its fault
 pub record KeepsOptions (s t : Script) : Type 0 where
   pub fault : t.fault ≡ s.fault
   pub workers : t.workers ≡ s.workers
   pub max_vertices : t.max_vertices ≡ s.max_vertices
   pub stock : t.stock ≡ s.stock
+  pub endless : t.is_endless ≡ s.is_endless
 
 -- an edge line is added where there is no other
 abbrev pub MayAddLine : Script → Line → Type 0
@@ -74,18 +79,18 @@ MayAddLine s (line.Plain x command) = Unit {0}
 MayAddLine s line.Full = Unit {0}
 MayAddLine s line.Minor = Unit {0}
 
--- it stands behind the others that are no edge lines
-abbrev pub AddsOther : Script → Line → Script → Type 0
-AddsOther s l t = (t.edges.items ≡ s.edges.items) × (lines_of t ≡ lines_of s ++ l ∷ [])
+-- it stands with its number behind the others that are no edge lines
+abbrev pub AddsOther : Script → ℕ → Line → Script → Type 0
+AddsOther s number l t = (t.edges.items ≡ s.edges.items) × (t.lines.items ≡ s.lines.items ++ record { number = number; line = l } ∷ [])
 
 -- the line stands behind the others of its kind
-abbrev pub AddsLine : Script → Line → Script → Type 0
-AddsLine s (line.Edge edge) t = (t.edges.items ≡ s.edges.items ++ edge ∷ []) × (t.lines.items ≡ s.lines.items)
-AddsLine s (line.Create x label) t = AddsOther s (line.Create x label) t
-AddsLine s (line.Spawn x label) t = AddsOther s (line.Spawn x label) t
-AddsLine s (line.Plain x command) t = AddsOther s (line.Plain x command) t
-AddsLine s line.Full t = AddsOther s line.Full t
-AddsLine s line.Minor t = AddsOther s line.Minor t
+abbrev pub AddsLine : Script → ℕ → Line → Script → Type 0
+AddsLine s number (line.Edge edge) t = (t.edges.items ≡ s.edges.items ++ edge ∷ []) × (t.lines.items ≡ s.lines.items)
+AddsLine s number (line.Create x label) t = AddsOther s number (line.Create x label) t
+AddsLine s number (line.Spawn x label) t = AddsOther s number (line.Spawn x label) t
+AddsLine s number (line.Plain x command) t = AddsOther s number (line.Plain x command) t
+AddsLine s number line.Full t = AddsOther s number line.Full t
+AddsLine s number line.Minor t = AddsOther s number line.Minor t
 
 -- the fault of an outcome
 abbrev pub fault_of : {T : Type 0} → Result T ScriptFault → Option ScriptFault

@@ -1,5 +1,5 @@
--- One entry whose deed is done again, and entries that are replayed on a store that is lent.
-use Rattle.std.specs.Prelude.{◌≡◌, ◌↔◌, ℕ, Bool, IsTrue, List, [], ◌∷◌, ◌++◌, Result, IfOk, IfErr, OnErr}
+-- One entry whose deed is done again.
+use Rattle.std.specs.Prelude.{◌≡◌, ◌↔◌, ℕ, Bool, IsTrue, [], ◌∷◌, ◌++◌, Result, IfOk, IfErr, OnErr}
 use Rattle.tg_model.specs.declared.command.Deed.{Deed}
 use Rattle.tg_model.specs.declared.reply.Reply.{Reply}
 use Rattle.tg_model.specs.Graph.{IsSubject}
@@ -10,9 +10,6 @@ use Rattle.tg_space.specs.declared.room_fault.RoomFault.{RoomFault}
 use Rattle.tg_space.specs.declared.room_fault.RoomFault.TheVariants.{HeapFull}
 use Rattle.tg_graph.specs.Heap.{nursery_of}
 use Rattle.tg_store.specs.Store.{StoreState, Enters, IsUnchanged, graph_of_store}
-use Rattle.tg_resume.specs.declared.part.Halted.{Halted}
-use Rattle.tg_resume.specs.declared.part.Halted.TheVariants.{BadEntry, NoRoom}
-use Rattle.tg_resume.specs.Resuming.{HasNoRoom, IsBadAt}
 use Rattle.tg_resume.specs.Room.{LacksCells, LacksRoom}
 
 -- opening, limits and what was handed out are as they were
@@ -47,8 +44,3 @@ pub record Replays (e : Entry) (old new : StoreState) (result : Result Bool Room
   pub fits : OnErr result (DeedFits e.deed)
   pub reason : IfErr result (LacksRoom new e.worker e.deed)
   pub stays : Stays old new
-
--- why entries were no more replayed
-abbrev pub IsHalted : List Entry → StoreState → StoreState → Halted → Type 0
-IsHalted es old new (BadEntry at) = IsBadAt es old at
-IsHalted es old new (NoRoom at why) = HasNoRoom es old new at why

@@ -1,5 +1,5 @@
 use Rattle.std.proofs.Common.{refl}
-use Rattle.tg_entries.specs.Texts.{edge_line_text}
+use Rattle.tg_saved.specs.Texts.{edge_line_text}
 use Rattle.tg_entries.proofs.ReadLaws.{edge_read}
 use Rattle.tg_entries.proofs.audit.add_edge.Goals as goal
 

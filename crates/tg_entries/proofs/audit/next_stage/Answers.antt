@@ -4,3 +4,6 @@ use Rattle.tg_entries.proofs.audit.next_stage.Goals as goal
 
 pub returns-in-Opening : goal.returns-in-Opening
 returns-in-Opening g c = λ text was. c.opening_line.ensures text (subst (HasRead text) c.in-Opening.is was)
+
+pub returns-in-Saved : goal.returns-in-Saved
+returns-in-Saved g c = λ text was. c.snapshot_line.ensures text (subst (HasRead text) c.in-Saved.is was)

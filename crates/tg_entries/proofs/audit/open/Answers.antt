@@ -8,4 +8,4 @@ pub returns : goal.returns
 returns c = λ text is.
     let plan : Plan = record { workers = c.args.head.workers; edges = c.args.head.edges.items; values = c.args.head.values.items; limit = c.args.head.max_vertices } in
     opening_read text plan (record { auditor = c.in_ok-open.field-0; count = 0 }) is c.in-Ok.ensures.kept.1
-    (subst (λ (p : Plan). StandsAt (start_of p) c.in_ok-open.field-0) c.in-Ok.ensures.kept.0 c.in_ok-open.ensures.stands) refl
+    (subst (λ (p : Plan). StandsAt (start_of p) c.in_ok-open.field-0) c.in-Ok.ensures.kept.0 c.in_ok-open.ensures.stands) c.in_ok-open.ensures.first refl

@@ -1,5 +1,5 @@
 use Rattle.tg_entries.specs.Texts.{entry_text}
-use Rattle.tg_entries.proofs.WriteLaws.{sofar_more, cut_more}
+use Rattle.tg_saved.proofs.WriteLaws.{sofar_more, cut_more}
 use Rattle.tg_entries.proofs.history.write_entries.Goals as goal
 
 pub loop-entry-preserved : goal.loop-entry-preserved

@@ -1,7 +1,7 @@
 use Rattle.std.proofs.Common.{List, ℕ, refl, subst}
 use Rattle.tg_text.specs.Sinks.{Writes}
 use Rattle.tg_text.proofs.SinkLaws.{writes_then, writes_cut_first}
-use Rattle.tg_entries.proofs.WriteLaws.{opening_same}
+use Rattle.tg_entries.proofs.OpeningLaws.{opening_same}
 use Rattle.tg_entries.proofs.history.write_opening.Goals as goal
 
 pub returns : goal.returns

@@ -1,5 +1,5 @@
 use Rattle.tg_entries.specs.Texts.{worker_text}
-use Rattle.tg_entries.proofs.WriteLaws.{sofar_more, cut_more}
+use Rattle.tg_saved.proofs.WriteLaws.{sofar_more, cut_more}
 use Rattle.tg_entries.proofs.history.write_workers.Goals as goal
 
 pub loop-value-preserved : goal.loop-value-preserved

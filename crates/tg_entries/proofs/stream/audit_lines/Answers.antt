@@ -1,7 +1,7 @@
 use Rattle.std.proofs.Common.{ℕ, List, ◌++◌, subst}
 use Rattle.std.specs.Result.{IfOk}
 use Rattle.tg_entries.specs.Pieces.{FetchesPiece}
-use Rattle.tg_entries.specs.Texts.{IsAudited}
+use Rattle.tg_entries.specs.Read.{HasEnded}
 use Rattle.tg_entries.proofs.ReadLaws.{at_next, at_end}
 use Rattle.tg_entries.proofs.stream.audit_lines.Goals as goal
 
@@ -18,4 +18,4 @@ returns-then-branch g c =
     let taken = subst (λ (held : List ℕ). FetchesPiece held (left c.loop-number.reader) c.read_some.new.line.items (left c.read_some.new.reader)) c.clear.ensures.items c.in_ok-read_some.ensures.fetched in
     at_end (left c.args.reader.now) (left c.loop-number.reader) (left c.read_some.new.reader) c.loop-number.audit c.read_some.new.line.items c.ended.result c.loop-number.invariant
     taken (c.in_ok-read_some.ensures.ended c.if-branch.true)
-    (λ text was. subst (λ (line : List ℕ). IfOk c.ended.result (IsAudited (text ++ line))) c.as_slice.ensures.value (c.ended.ensures text was))
+    (λ text was. subst (λ (line : List ℕ). IfOk c.ended.result (HasEnded (text ++ line))) c.as_slice.ensures.value (c.ended.ensures text was))

@@ -13,8 +13,11 @@ returns g c =
     let p = c.args.picture in
     let q = c.in_ok-picture.picture in
     IfOk-weaker c.print_answers.result _ _
-    (λ status kept zero.
-    all_kept_supposed p q c.args.matches.now c.args.supposed.now c.made.result c.made.ensures (c.if-not-are_made.ensures refl)
-    (subst (λ (es : List Edge). Supposes p es q) c.as_slice.ensures.value c.in_ok-picture.ensures)
-    (subst (λ (ns : List ℕ). All (IsKeptPolicy q ns) (texts_of c.args.matches.now NEVER.now)) c.as_slice-2.ensures.value (kept zero)))
+    (λ status is. (
+      λ zero.
+          all_kept_supposed p q c.args.matches.now c.args.supposed.now c.made.result c.made.ensures (c.if-not-are_made.ensures refl)
+          (subst (λ (es : List Edge). Supposes p es q) c.as_slice.ensures.value c.in_ok-picture.ensures)
+          (subst (λ (ns : List ℕ). All (IsKeptPolicy q ns) (texts_of c.args.matches.now NEVER.now)) c.as_slice-2.ensures.value (is.0 zero)),
+      is.1,
+    ))
     c.print_answers.ensures

@@ -15,9 +15,10 @@ pub returns-in-Err : goal.returns-in-Err
 returns-in-Err g c =
     let runs = runs_kept c.args.options c.in_ok-script.script c.fill-filled.new.self c.in_ok-script.ensures c.fill-filled.ensures.kept in
     record {
-      options = record { workers = runs.workers; max_vertices = runs.max_vertices; stock = runs.stock };
+      options = record { workers = runs.workers; max_vertices = runs.max_vertices; boxes = runs.boxes };
       lines = λ bytes known.
           let held = ap g.R.Read.remaining c.new-2.ensures ∙ known in
           let all = buffers_all c.in-Ok.reader c.new-2.result (λ h. g.R.Read.remaining h.reader) bytes c.in-Ok.ensures.inner c.in-Ok.ensures.empty c.in-Ok.ensures.capacity held in
           reads_fault c.fill-filled.new.self c.fill-filled.result.outcome c.in-Err.fault bytes c.in-Err.is (c.fill-filled.ensures.lines bytes all);
+      numbered = c.fill-filled.ensures.numbered;
     }

@@ -96,3 +96,9 @@ invariant_of-self-2 g c =
           (entered_as c.self.inside.store c.apply.new.self c.worker-worker.result (Deed.Plain c.args.command) c.deed_of-deed.result c.in_ok-reply.reply told.entry c.deed_of-deed.ensures) c.apply.ensures.opening
           (one_own c.args.session.now.worker _ c.worker-worker.ensures) c.note.ensures.signed.roll,
     )
+
+pub returns-clause-collections : goal.returns-clause-collections
+returns-clause-collections g c = c.apply.ensures.collections ∙ ap (λ (b : LockedState). b.store.collections) c.self.view_is
+
+pub returns-in_err-reply-clause-collections : goal.returns-in_err-reply-clause-collections
+returns-in_err-reply-clause-collections g c = c.apply.ensures.collections ∙ ap (λ (b : LockedState). b.store.collections) c.self.view_is

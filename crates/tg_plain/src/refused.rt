@@ -1,0 +1,58 @@
+//! Lines that were denied or refused.
+ghost use Rattle.std.specs.Prelude.{◌≡◌, ◌++◌, OnOk};
+ghost use Rattle.tg_plain.specs.Refused.{noted, says_denial, says_refusal};
+
+use crate::script::ScriptLine;
+use std::alloc::AllocError;
+use tg_model::Reply;
+use tg_text::{Answer, Line};
+
+/// A line of a script that was denied or refused. It changed nothing.
+#[derive(Drop)]
+pub struct RefusedLine {
+    /// Its number, from 1 on.
+    pub number: u64,
+    /// What its text says.
+    pub line: Line,
+    /// What it was answered.
+    pub answer: Answer,
+}
+
+/// Adds the line to those that were denied or refused, if its answer says so. Fails only when out of memory.
+pub(crate) fn note(
+    refused: &mut Vec<RefusedLine>,
+    line: &ScriptLine,
+    answer: Answer,
+) -> Result<(), AllocError>
+    ensures { OnOk result (refused.new.items ≡ refused.old.items ++ noted line.now answer) }
+{
+    if is_refusal(&answer) {
+        refused.push(RefusedLine {
+            number: line.number,
+            line: line.line,
+            answer,
+        })?;
+    }
+    Ok(())
+}
+
+// Whether the answer says that a line was denied or refused.
+fn is_refusal(answer: &Answer) -> bool
+    ensures { result ≡ says_refusal answer.now }
+{
+    match answer {
+        Answer::Reply(reply) => is_denial(reply),
+        Answer::Collected(_) => false,
+        Answer::Refused(_) => true,
+    }
+}
+
+// Whether the reply says that a command was denied, or that no vertex could be made.
+fn is_denial(reply: &Reply) -> bool
+    ensures { result ≡ says_denial reply.now }
+{
+    match reply {
+        Reply::Done | Reply::Name(_) | Reply::Values(_) | Reply::Edges(_) => false,
+        Reply::Denied(_) | Reply::VerticesFull | Reply::WorkersFull => true,
+    }
+}

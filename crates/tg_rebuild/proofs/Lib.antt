@@ -1,0 +1,4 @@
+pub mod BareLaws
+pub mod LineLaws
+pub mod RaisingLaws
+pub mod EdgeLaws

@@ -1,0 +1,10 @@
+use Rattle.std.proofs.Common.{◌≡◌, ◌+◌, take}
+use Rattle.tg_shared.specs.Batch.{ServesAll}
+use Rattle.tg_shared.proofs.locked.Locked.apply_all.Given as goal
+
+-- the commands so far were taken, and each took the room of one receipt
+abbrev pub invariant-loop-done : goal.invariant-loop-done
+invariant-loop-done g l = record {
+  served : ServesAll (take l.done l.commands) l.fn.self l.self l.fn.session l.session;
+  spare : l.session.spare + l.done ≡ l.fn.session.spare;
+}
