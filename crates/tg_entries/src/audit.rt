@@ -347,10 +347,9 @@ fn entry_line<L: Ledger>(
     let Some(next) = entered.count.checked_add(1) else {
         return Err(LineFault::BadLine);
     };
+    let at = entered.auditor.at();
     if !is_next(again, &mut entered.auditor, worker, &deed, line)? {
-        return Err(LineFault::BadEntry {
-            at: entered.auditor.at(),
-        });
+        return Err(LineFault::BadEntry { at });
     }
     entered.count = next;
     Ok(())

@@ -52,10 +52,9 @@ fn long_entry<L: Ledger, R: BufRead>(
     let Some(next) = entered.count.checked_add(1) else {
         return Err(LongFault::Line(LineFault::BadLine));
     };
+    let at = entered.auditor.at();
     if !is_listed(again, &mut entered.auditor, &told, reader, line)? {
-        return Err(LongFault::Line(LineFault::BadEntry {
-            at: entered.auditor.at(),
-        }));
+        return Err(LongFault::Line(LineFault::BadEntry { at }));
     }
     entered.count = next;
     Ok(Stage::Entries(entered))
