@@ -4,6 +4,7 @@
    It is tested, and nothing of it is proved. The build names each proved call below proved_.., and links this file with
    them. */
 #include "kovshenul.h"
+#include "writer.h"
 
 tg_status proved_tg_open(tg_store *store, const tg_value *workers, size_t worker_count, const tg_edge *edges, size_t edge_count,
                          const tg_limits *limits);
@@ -27,6 +28,13 @@ tg_status proved_tg_entry(tg_store *store, uint64_t at, tg_record *out, uint64_t
 
 tg_status proved_tg_resume(tg_store *store, uint64_t at, const tg_record *record, const uint64_t *numbers, size_t number_count,
                            const tg_target *edges, size_t edge_count);
+tg_status proved_tg_opening_text(const tg_value *workers, size_t worker_count, const tg_edge *edges, size_t edge_count,
+                                 const tg_limits *limits, char *text, size_t room, uint64_t *length);
+tg_status proved_tg_entry_text(const tg_record *record, const uint64_t *numbers, size_t number_count, const tg_target *edges,
+                               size_t edge_count, char *text, size_t room, uint64_t *length);
+tg_status proved_tg_end_text(uint64_t count, char *text, size_t room, uint64_t *length);
+tg_status proved_tg_snapshot_text(tg_snapshot *snapshot, char *text, size_t room, uint64_t *length);
+tg_status proved_tg_snapshot_read(tg_snapshot *snapshot, const char *text, size_t length, uint64_t *line);
 tg_status proved_tg_could(tg_store *store, const uint64_t *silent, size_t silent_count, const tg_edge *as_if, size_t as_if_count,
                           uint64_t x, uint64_t right, uint64_t y, tg_answer *answer);
 tg_status proved_tg_answer_turn(tg_answer *answer, uint64_t at, tg_record *out, uint64_t *numbers, size_t room);
@@ -180,6 +188,57 @@ tg_status tg_resume(tg_store *store, uint64_t at, const tg_record *record, const
     return proved_tg_resume(store, at, record, numbers, number_count, edges, edge_count);
 }
 
+/* ---- texts that proved calls write, of which the last byte of the room is kept for a 0 */
+
+/* An address for the bytes of a text with no room, at which nothing is written. */
+static char no_text[1];
+
+static size_t room_for_text(size_t room) {
+    return room > 0 ? room - 1 : 0;
+}
+
+/* Puts the 0 after a text that was written. */
+static tg_status with_end(tg_status status, char *text, size_t room, const uint64_t *length) {
+    if (status == TG_DONE && room > 0)
+        text[*length < room ? *length : room - 1] = '\0';
+    return status;
+}
+
+tg_status tg_opening_text(const tg_value *workers, size_t worker_count, const tg_edge *edges, size_t edge_count,
+                          const tg_limits *limits, char *text, size_t room, uint64_t *length) {
+    if (workers == NULL && worker_count == 0)
+        workers = (const tg_value *)nothing;
+    if (edges == NULL && edge_count == 0)
+        edges = (const tg_edge *)nothing;
+    const tg_status status = proved_tg_opening_text(workers, worker_count, edges, edge_count, limits, room > 0 ? text : no_text,
+                                                    room_for_text(room), length);
+    return with_end(status, text, room, length);
+}
+
+tg_status tg_entry_text(const tg_record *record, const uint64_t *numbers, size_t number_count, const tg_target *edges,
+                        size_t edge_count, char *text, size_t room, uint64_t *length) {
+    if (numbers == NULL && number_count == 0)
+        numbers = nothing;
+    if (edges == NULL && edge_count == 0)
+        edges = (const tg_target *)nothing;
+    const tg_status status = proved_tg_entry_text(record, numbers, number_count, edges, edge_count, room > 0 ? text : no_text,
+                                                  room_for_text(room), length);
+    return with_end(status, text, room, length);
+}
+
+tg_status tg_end_text(uint64_t count, char *text, size_t room, uint64_t *length) {
+    return with_end(proved_tg_end_text(count, room > 0 ? text : no_text, room_for_text(room), length), text, room, length);
+}
+
+tg_status tg_snapshot_text(tg_snapshot *snapshot, char *text, size_t room, uint64_t *length) {
+    const tg_status status = proved_tg_snapshot_text(snapshot, room > 0 ? text : no_text, room_for_text(room), length);
+    return with_end(status, text, room, length);
+}
+
+tg_status tg_snapshot_read(tg_snapshot *snapshot, const char *text, size_t length, uint64_t *line) {
+    return proved_tg_snapshot_read(snapshot, text == NULL && length == 0 ? no_text : text, length, line);
+}
+
 /* ---- several commands in one call. Each is asked for by its proved call, and its answer is read from its entry. */
 
 enum { MOST_COMMANDS = 1024, MOST_BITS = 255 };
@@ -249,8 +308,8 @@ const char *tg_status_text(tg_status status) {
     switch (status) {
     case TG_DONE: return "done";
     case TG_DENIED: return "the rules don't allow it";
-    case TG_NOT_OPEN: return "the store, the auditor, the answer or the view is not open";
-    case TG_ALREADY_OPEN: return "the store, the auditor, the answer or the view is open already";
+    case TG_NOT_OPEN: return "the store, the auditor, the snapshot, the answer or the view is not open";
+    case TG_ALREADY_OPEN: return "the store, the auditor, the snapshot, the answer or the view is open already";
     case TG_OUT_OF_MEMORY: return "out of memory";
     case TG_HEAP_FULL:
         return "no cell or block is left, by max_blocks or max_space_blocks: a collection may free some; "
@@ -272,8 +331,8 @@ const char *tg_status_text(tg_status status) {
         return "an edge from a vertex to itself; an opening's edge with an end that is no worker; a "
                "supposed edge with an end that no worker reaches";
     case TG_BAD_VALUES:
-        return "values of no entry: hand in all that tg_entry wrote, with the record's counts; or values that no "
-               "opening takes";
+        return "values of no entry: hand in all that tg_entry wrote, with the record's counts; a text that is not "
+               "that of a snapshot; or values that no opening takes";
     case TG_BAD_ENTRY:
         return "an entry is not legal after this opening: was the store opened by the same workers, edges and "
                "limits, and is no entry altered?";
@@ -289,85 +348,8 @@ const char *tg_status_text(tg_status status) {
 
 /* ---- texts that the caller has room for */
 
-/* The letters of the rights, by their bits. */
-static const char right_letters[] = "rwtgaluv";
-
-enum { RIGHTS = sizeof right_letters - 1, DIGITS = 20 };
-
-/* Where a text is written, for how many bytes there is room, and how many were to be written so far. */
-struct writer {
-    char *text;
-    size_t room, length;
-};
-
-/* One byte more, where there is room for it and for the 0 behind it. */
-static void put(struct writer *to, char byte) {
-    if (to->room > 0 && to->length < to->room - 1)
-        to->text[to->length] = byte;
-    to->length++;
-}
-
-static void put_words(struct writer *to, const char *words) {
-    for (; *words != '\0'; words++)
-        put(to, *words);
-}
-
-static void put_number(struct writer *to, uint64_t number) {
-    char digits[DIGITS];
-    int count = 0;
-    do {
-        digits[count++] = (char)('0' + number % 10);
-        number /= 10;
-    } while (number > 0);
-    while (count > 0)
-        put(to, digits[--count]);
-}
-
-static void put_rights(struct writer *to, uint64_t rights) {
-    for (int bit = 0; bit < RIGHTS; bit++)
-        if (rights >> bit & 1)
-            put(to, right_letters[bit]);
-}
-
-/* Puts the 0 behind what there was room for, and answers how long the whole text is. */
-static size_t ended(const struct writer *to) {
-    if (to->room > 0)
-        to->text[to->length < to->room ? to->length : to->room - 1] = '\0';
-    return to->length;
-}
-
-static const char *rule_text(uint32_t rule) {
-    switch (rule) {
-    case TG_RULE_TAKE: return "take";
-    case TG_RULE_GRANT: return "grant";
-    case TG_RULE_REMOVE: return "remove";
-    case TG_RULE_READ: return "read";
-    case TG_RULE_WRITE: return "write";
-    case TG_RULE_APPEND: return "append";
-    case TG_RULE_INSPECT: return "inspect";
-    default: return "unknown rule";
-    }
-}
-
-static void put_missing(struct writer *to, const tg_denial *denial) {
-    put_rights(to, denial->rights);
-    put_words(to, " is missing on ");
-    put_number(to, denial->from);
-    put_words(to, "->");
-    put_number(to, denial->to);
-}
-
 size_t tg_denial_text(const tg_denial *denial, char *text, size_t room) {
-    struct writer to = { text, room, 0 };
-    put_words(&to, rule_text(denial->rule));
-    put_words(&to, ": ");
-    switch (denial->cause) {
-    case TG_NOT_DISTINCT: put_words(&to, "two vertices that must differ are one"); break;
-    case TG_MISSING: put_missing(&to, denial); break;
-    case TG_NOT_LOG: put_words(&to, "the target stores no log"); break;
-    default: put_words(&to, "unknown cause");
-    }
-    return ended(&to);
+    return tg_named_denial_text(denial, NULL, text, room);
 }
 
 size_t tg_rights_text(uint64_t rights, char *text, size_t room) {

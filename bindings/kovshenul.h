@@ -8,20 +8,21 @@
    Each call returns a status. The library's exports have contracts, which are proved (crates/tg_c/specs). They say what a
    status below 16 means, and when each other status comes, with two exceptions. TG_OUT_OF_MEMORY may come from each call that
    needs memory. TG_HEAP_FULL comes only where the limits may leave no room, and only of tg_open is it proved that it comes
-   then. The file kovshenul.c comes before the exports, and is tested and not proved. It has the use of NULL, tg_apply_all
-   (which makes proved calls one after the other), the texts and tg_version. Nothing checks what this header asks of its caller.
+   then. The files kovshenul.c and naming.c come before the exports, and are tested and not proved. They have the use of NULL,
+   tg_apply_all (which makes proved calls one after the other), the texts and tg_version. Nothing checks what this header asks
+   of its caller.
 
    What the caller in C owes:
    - Each pointer is to memory of the stated type. No other argument of the call overlaps it, and nobody else uses it while the
      call runs. NULL is allowed for an array of 0 items, for a text with no room, for a denial that you don't need, for the
      count of tg_auditor_feed, and for nothing else.
    - A tg_store is all zero before tg_open, and only these functions change its bytes. You may move it. Don't copy it: of two
-     copies only one may be used. The same holds of a tg_auditor, a tg_answer and a tg_view.
+     copies only one may be used. The same holds of a tg_auditor, a tg_snapshot, a tg_answer and a tg_view.
    - A bool in these structs is 0 or 1.
    - Calls on one store come one after the other. One thread at a time uses it, and hands it over under a lock, at a thread's
      start or at its join. Don't call from a signal handler, or in the forked child of a process with threads. Two stores share
      nothing, so each may have a thread of its own.
-   - An open store keeps its memory until it is closed, and so does an open auditor, answer or view.
+   - An open store keeps its memory until it is closed, and so does an open auditor, snapshot, answer or view.
 
    This library starts no thread and takes no lock. Therefore collections by several helpers, and sessions on threads, are for
    Rattle alone. If threads share a store, put a lock of your own around each call. */
@@ -60,6 +61,16 @@ typedef struct tg_auditor {
 
 #define TG_AUDITOR_INIT { false, { NULL } }
 
+/* A snapshot, from which an auditor goes on: 16 bytes, all zero while it is closed. */
+typedef struct tg_snapshot {
+    bool is_open;
+    struct {
+        void *at;
+    } handle;
+} tg_snapshot;
+
+#define TG_SNAPSHOT_INIT { false, { NULL } }
+
 /* Rights over a vertex are a set of bits. A call takes at least one of these bits, and no other bit. Their letters are r, w, t,
    g, a, l, u and v. No command asks for u and v. They are taken, granted and removed as all others, and the host gives them a
    meaning. */
@@ -74,16 +85,16 @@ enum {
     TG_FREE_V = 128
 };
 
-/* A status from 16 on is a refusal. The call wrote to none of its out parameters, and the store is as it was. There are three
-   exceptions: TG_VERTICES_FULL, TG_WORKERS_FULL, and TG_BAD_ENTRY of tg_resume. Numbers without a name are kept for later
-   editions. */
+/* A status from 16 on is a refusal. The call wrote to none of its out parameters, and the store is as it was. There are five
+   exceptions: TG_VERTICES_FULL, TG_WORKERS_FULL, TG_BAD_ENTRY of tg_resume, TG_BAD_VALUES of tg_snapshot_read, and a refusal in
+   the middle of tg_apply_all. Numbers without a name are kept for later editions. */
 typedef uint32_t tg_status;
 enum {
     TG_DONE = 0,
     TG_DENIED = 1,            /* the rules don't allow it. Only the journal changed, which has the entry */
 
-    TG_NOT_OPEN = 16,         /* exactly where the store, auditor, answer or view is closed, and no argument is TG_BAD_.. or TG_NOT_AUDITED */
-    TG_ALREADY_OPEN = 17,     /* tg_open, tg_auditor_open: exactly where it is open; tg_could, tg_view_open: where the answer or view is open, and no bits are bad */
+    TG_NOT_OPEN = 16,         /* exactly where the store, auditor, snapshot, answer or view is closed, and no argument is TG_BAD_.. or TG_NOT_AUDITED */
+    TG_ALREADY_OPEN = 17,     /* exactly where what is to be opened is open; tg_could, tg_view_open: where the answer or view is open, and no bits are bad */
 
     TG_OUT_OF_MEMORY = 32,    /* malloc or realloc returned no memory. Make the same call again. Only TG_BAD_ENTRY, and TG_BAD_EDGE of a supposed edge, are looked at later */
     TG_HEAP_FULL = 33,        /* the limits leave no cell or block. Call tg_collect, and try again */
@@ -99,7 +110,7 @@ enum {
     TG_BAD_WORKERS = 80,      /* tg_open: not from 1 to 64 workers */
     TG_BAD_LIMITS = 81,       /* tg_open: a limit is out of its range; tg_apply_all: more than 1,024 commands */
     TG_BAD_EDGE = 82,         /* an edge from a vertex to itself; tg_open: an end that is no worker; as_if: an end that no worker reaches */
-    TG_BAD_VALUES = 83,       /* tg_resume: exactly where tg_entry writes no entry so; tg_open: kept; no value that a tg_value can say gives it */
+    TG_BAD_VALUES = 83,       /* tg_resume, tg_entry_text: exactly where tg_entry writes no entry so; tg_snapshot_read: no snapshot's text; tg_open: kept */
 
     TG_BAD_ENTRY = 96,        /* tg_auditor_feed, tg_resume: the entry at its place isn't legal; tg_audit: never, if no other wrote to its memory */
     TG_BAD_PLACE = 97,        /* tg_entry, tg_forget, tg_auditor_feed: no such entry is held; tg_resume: it isn't the next; tg_answer_turn: no such turn */
@@ -226,7 +237,7 @@ enum {
 /* The number of the library's interface. */
 uint32_t tg_abi(void);
 
-/* The version of the library, as "0.3.0". */
+/* The version of the library, as "0.4.0". */
 const char *tg_version(void);
 
 /* The text of a status. It lasts as long as the program runs. */
@@ -401,6 +412,31 @@ tg_status tg_forget(tg_store *store, uint64_t upto);
 tg_status tg_resume(tg_store *store, uint64_t at, const tg_record *record, const uint64_t *numbers, size_t number_count,
                     const tg_target *edges, size_t edge_count);
 
+/* ---- The text of a history
+
+   A host writes out the text of tg_opening_text, then that of tg_entry_text for each entry, and at last that of tg_end_text.
+   The program tgaudit reads this text, and answers whether the entries are a legal history of the opening. The proved contract
+   of each call says which bytes it writes.
+
+   Each text has one line or several, with a line feed after each. It is in ASCII. As much as fits goes to text, with a 0 after
+   it. If room is 0, nothing goes to text. The length of the whole text, without the 0, goes to *length. The text was cut if
+   this length isn't below room: make the same call again with room for *length + 1 bytes. */
+
+/* Writes the lines before the entries, of a store that is opened by these words. It looks at its arguments as tg_open does,
+   with the same statuses in the same order. If there is no fault, it returns TG_DONE or TG_OUT_OF_MEMORY. */
+tg_status tg_opening_text(const tg_value *workers, size_t worker_count, const tg_edge *edges, size_t edge_count,
+                          const tg_limits *limits, char *text, size_t room, uint64_t *length);
+
+/* Writes the line of an entry, as "0 create rw c0 = ok 5". Hand in all that tg_entry wrote: the record with all of its numbers
+   and edges. It is TG_BAD_VALUES exactly where tg_entry writes no entry so. Otherwise it returns TG_DONE or TG_OUT_OF_MEMORY.
+   */
+tg_status tg_entry_text(const tg_record *record, const uint64_t *numbers, size_t number_count, const tg_target *edges,
+                        size_t edge_count, char *text, size_t room, uint64_t *length);
+
+/* Writes the last line. `count` is how many entries the text has. It returns TG_DONE or TG_OUT_OF_MEMORY. 32 bytes are room for
+   each. */
+tg_status tg_end_text(uint64_t count, char *text, size_t room, uint64_t *length);
+
 /* Replays the journal from the opening, on a plain graph that was never collected, and counts its entries. TG_NOT_WHOLE comes
    exactly where the store is open and gave up entries. An auditor replays entries before they are given up. */
 tg_status tg_audit(tg_store *store, uint64_t *count);
@@ -440,6 +476,42 @@ tg_status tg_auditor_sweep(tg_auditor *auditor);
 
 /* Gives back all memory of the auditor. *auditor is closed then, and may be opened again. */
 tg_status tg_auditor_close(tg_auditor *auditor);
+
+/* ---- Snapshots
+
+   A snapshot says what a graph is at a place of its history: the active workers, what they reach with what is stored there, and
+   how many entries came before. An auditor goes on from a snapshot, so the parts of an archive are audited side by side, and
+   none of them from the first entry on. A host keeps a snapshot as its text. One graph has one text at a place, so two
+   snapshots are compared byte by byte. Whoever writes a snapshot can write a right into it: compare it with the snapshot after
+   the part before (docs/LASTING.md).
+
+   A tg_snapshot is owned as a tg_auditor is, and what is said of a tg_store at the head of this file holds of it too. */
+
+/* Takes a snapshot of what the auditor has come to, at the auditor's place. The snapshot must be closed, and is open then. The
+   auditor is as it was. It is refused in this order, and *snapshot is then as it was: TG_ALREADY_OPEN exactly where the
+   snapshot is open, TG_NOT_OPEN exactly where the auditor is closed, and TG_BAD_ENTRY if the auditor found a bad entry. An
+   auditor that was opened by these calls and found none is refused for TG_OUT_OF_MEMORY alone. */
+tg_status tg_auditor_snapshot(tg_auditor *auditor, tg_snapshot *snapshot);
+
+/* Opens an auditor that goes on from the snapshot. Its place is that of the snapshot, so it is fed by a store that holds the
+   entry of that place, or that makes it next. TG_DONE of a later feed says that the entries from there on are a legal history
+   of the graph that the snapshot shows. The snapshot is as it was. It is refused in this order: TG_ALREADY_OPEN exactly where
+   the auditor is open, TG_NOT_OPEN exactly where the snapshot is closed, and TG_OUT_OF_MEMORY. */
+tg_status tg_auditor_reopen(tg_auditor *auditor, tg_snapshot *snapshot);
+
+/* Writes the text of the snapshot, a line for each thing that it shows, as `tgaudit --snapshot` prints it. Room, *length and
+   the 0 are those of tg_entry_text. It is TG_NOT_OPEN exactly where the snapshot is closed. Otherwise it returns TG_DONE or
+   TG_OUT_OF_MEMORY. */
+tg_status tg_snapshot_text(tg_snapshot *snapshot, char *text, size_t room, uint64_t *length);
+
+/* Reads a snapshot from `length` bytes. It returns TG_DONE only if they are exactly the text of the snapshot that it then
+   holds. It is TG_ALREADY_OPEN exactly where the snapshot is open. It is TG_BAD_VALUES if a line is no line of a snapshot's
+   text, or is out of order, or names a vertex that isn't shown, or if the end is cut off. The number of the first such line,
+   counted from 1, goes to *line. After TG_OUT_OF_MEMORY *line is as it was. A refused *snapshot is as it was. */
+tg_status tg_snapshot_read(tg_snapshot *snapshot, const char *text, size_t length, uint64_t *line);
+
+/* Gives back all memory of the snapshot. *snapshot is closed then, and may hold another one. */
+tg_status tg_snapshot_close(tg_snapshot *snapshot);
 
 /* ---- Questions about the future
 
@@ -531,6 +603,37 @@ tg_status tg_view_could(tg_view *view, uint64_t x, uint64_t right, uint64_t y, u
 
 /* Gives back all memory of the view. *view is closed then, and may be opened again. */
 tg_status tg_view_close(tg_view *view);
+
+/* ---- Names for people
+
+   A host has names of its own for vertices. The calls below write texts with these names before the numbers, as "write: w is
+   missing on plugin (1)->document (2)". They have no store, so a name changes no reply and no entry. A text goes to memory of
+   the caller, and the length is returned, as by tg_denial_text. */
+
+/* Where the names are: 16 bytes. A text that is given NULL in its place, or a NULL name_of, has no names.
+
+   name_of returns the name of a vertex, as a text that ends with a 0 and lasts until name_of is called again. It returns NULL if
+   the vertex has no name, if the number is of no vertex, or if it fails. The text then has the number alone. The empty text
+   counts as no name. A control character of a name is written as ?. name_of is handed the host, and may call the library. */
+typedef struct tg_naming {
+    const char *(*name_of)(void *host, uint64_t vertex);
+    void *host;
+} tg_naming;
+
+/* The text of a vertex, as "plugin (1)", or "1" if it has no name. */
+size_t tg_vertex_text(uint64_t vertex, const tg_naming *names, char *text, size_t room);
+
+/* The text of a denial, as by tg_denial_text. */
+size_t tg_named_denial_text(const tg_denial *denial, const tg_naming *names, char *text, size_t room);
+
+/* The text of a turn that tg_answer_turn read, with all of its numbers, as "plugin (1) take host (0) document (2) r". Without
+   names this is its line in a script of tgstore. */
+size_t tg_named_turn_text(const tg_record *turn, const uint64_t *numbers, const tg_naming *names, char *text, size_t room);
+
+/* The text of an entry that tg_entry read, with all of its numbers and edges. It is the text of a turn, then " = ", then the
+   reply. Without names this is its line for tgaudit. */
+size_t tg_named_entry_text(const tg_record *entry, const uint64_t *numbers, const tg_target *edges, const tg_naming *names,
+                           char *text, size_t room);
 
 #ifdef __cplusplus
 }

@@ -41,19 +41,33 @@
     }
   }
 
-  // Scrolls the figure in its box to what the line names, as far as all of that fits in, and else to the first of it.
+  // On a large window a figure ends with the window, so that what it shows is in sight. A small one has its bound in the style.
+  function bound(figure) {
+    const isLarge = window.matchMedia("(min-width: 50rem)").matches;
+    const top = figure.getBoundingClientRect().top + window.scrollY;
+    figure.style.maxHeight = isLarge ? `${Math.max(240, window.innerHeight - top - 16)}px` : "";
+  }
+
+  // Scrolls the figure in its box to what the line names, as far as all of that fits in, and else to the line's own worker.
   function look(step) {
     const figure = step.querySelector("figure");
-    const named = Array.from(step.querySelectorAll("svg .n.bold, svg .l.bold, svg .n.red, svg .l.red")).map((it) => it.getBoundingClientRect());
+    if (!figure) {
+      return;
+    }
+    bound(figure);
+    const boxes = (which) => Array.from(step.querySelectorAll(which)).map((it) => it.getBoundingClientRect());
+    const named = boxes("svg .n.bold, svg .l.bold, svg .n.red, svg .l.red");
+    const own = boxes("svg .n.own");
     if (named.length === 0) {
       return;
     }
     const box = figure.getBoundingClientRect();
     for (const [side, end, scroll, size] of [["left", "right", "scrollLeft", "clientWidth"], ["top", "bottom", "scrollTop", "clientHeight"]]) {
-      const first = Math.min(...named.map((it) => it[side])) - box[side];
-      const last = Math.max(...named.map((it) => it[end])) - box[side];
       const room = figure[size];
-      figure[scroll] += last - first <= room ? (first + last - room) / 2 : first;
+      const reach = (all) => [Math.min(...all.map((it) => it[side])) - box[side], Math.max(...all.map((it) => it[end])) - box[side]];
+      const [first, last] = reach(named);
+      const [from, to] = last - first <= room || own.length === 0 ? [first, last] : reach(own);
+      figure[scroll] += to - from <= room ? (from + to - room) / 2 : from;
     }
   }
 
@@ -74,15 +88,17 @@
     }
   }
 
-  // The place of the step that the address names, or else of the first.
+  const isDenied = (step) => step.classList.contains("denied") || step.classList.contains("refused");
+
+  // The place of the step that the address names. Otherwise it is that of the first that was denied or refused, or of the last step.
   function named() {
     const place = steps.findIndex((step) => `#${step.dataset.number}` === location.hash);
-    return place < 0 ? 0 : place;
+    const denied = steps.findIndex(isDenied);
+    return place >= 0 ? place : denied >= 0 ? denied : steps.length - 1;
   }
 
   // The place of the next line that was denied or refused, beginning anew behind the last one.
   function nextDenial() {
-    const isDenied = (step) => step.classList.contains("denied") || step.classList.contains("refused");
     const later = steps.findIndex((step, place) => place > at && isDenied(step));
     return later < 0 ? steps.findIndex(isDenied) : later;
   }
@@ -107,6 +123,13 @@
   document.getElementById("previous").addEventListener("click", () => show(at - 1));
   document.getElementById("next").addEventListener("click", () => show(at + 1));
   document.getElementById("denial").addEventListener("click", () => show(nextDenial()));
+  // A picture fits its window, until its reader asks for its full size.
+  const size = document.getElementById("size");
+  size.addEventListener("click", () => {
+    const isLarge = document.documentElement.classList.toggle("large");
+    size.setAttribute("aria-pressed", String(isLarge));
+    look(steps[at]);
+  });
   window.addEventListener("hashchange", () => show(named()));
 
   // A click on a line keeps the page where it is.

@@ -1,87 +1,27 @@
 /* A host that writes its journal out as tgaudit reads it: the opening, a line for each entry, and how many these are. Build it with:
    cc entries.c -lkovshenul */
 #include "kovshenul.h"
-#include <inttypes.h>
 #include <stdio.h>
 #include <stdlib.h>
 
-enum { HOST, GUEST, WORKERS, NUMBERS = 64 };
+enum { HOST, GUEST, WORKERS, NUMBERS = 64, OPENING = 200, END = 32 };
 
-static const char *const letters = "csml";
-
-static void put_rights(uint64_t rights) {
-    char text[9];
-    tg_rights_text(rights, text, sizeof text);
-    fputs(text, stdout);
+/* The line of an entry, with these numbers and edges. The first call says how long it is. */
+static tg_status put_line(const tg_record *entry, const uint64_t *numbers, const tg_target *edges) {
+    const size_t number_count = entry->number_count, edge_count = entry->edge_count;
+    uint64_t length = 0;
+    tg_status status = tg_entry_text(entry, numbers, number_count, edges, edge_count, NULL, 0, &length);
+    char *line = status == TG_DONE ? malloc(length + 1) : NULL;
+    if (line == NULL)
+        return status == TG_DONE ? TG_OUT_OF_MEMORY : status;
+    status = tg_entry_text(entry, numbers, number_count, edges, edge_count, line, length + 1, &length);
+    if (status == TG_DONE)
+        fputs(line, stdout);
+    free(line);
+    return status;
 }
 
-/* What a vertex stores: the letter of its law, and its number, or how many a log keeps and those that it has. */
-static void put_value(uint32_t law, uint32_t most, const uint64_t *numbers, uint64_t count) {
-    putchar(letters[law]);
-    if (law == TG_LOG)
-        printf("%" PRIu32, most);
-    for (uint64_t at = 0; at < count; at++)
-        printf("%s%" PRIu64, at > 0 ? "," : law == TG_LOG ? ":" : "", numbers[at]);
-}
-
-/* What was asked for. */
-static void put_deed(const tg_record *entry, const uint64_t *numbers) {
-    static const char *const words[] = { "take", "grant", "remove", "read", "write", "append", "inspect" };
-    printf("%" PRIu64, entry->worker);
-    switch (entry->deed) {
-    case TG_DEED_LIST: fputs(" list", stdout); return;
-    case TG_DEED_RETIRE: fputs(" retire", stdout); return;
-    case TG_DEED_CREATE:
-    case TG_DEED_SPAWN:
-        fputs(entry->deed == TG_DEED_CREATE ? " create " : " spawn ", stdout);
-        put_rights(entry->rights);
-        putchar(' ');
-        put_value(entry->law, entry->most, numbers, entry->number_count);
-        return;
-    default: printf(" %s", words[entry->deed]);
-    }
-    if (entry->deed == TG_DEED_TAKE || entry->deed == TG_DEED_GRANT)
-        printf(" %" PRIu64, entry->via);
-    printf(" %" PRIu64, entry->target);
-    if (entry->deed == TG_DEED_WRITE || entry->deed == TG_DEED_APPEND) {
-        printf(" %" PRIu64, entry->value);
-    } else if (entry->deed <= TG_DEED_REMOVE) {
-        putchar(' ');
-        put_rights(entry->rights);
-    }
-}
-
-static void put_denial(const tg_denial *denial) {
-    static const char *const words[] = { "take", "grant", "remove", "read", "write", "append", "inspect" };
-    printf("denied %s ", words[denial->rule]);
-    if (denial->cause == TG_MISSING) {
-        printf("%" PRIu64 "->%" PRIu64 " ", denial->from, denial->to);
-        put_rights(denial->rights);
-    } else {
-        fputs(denial->cause == TG_NOT_DISTINCT ? "distinct" : "law", stdout);
-    }
-}
-
-/* What was answered. */
-static void put_reply(const tg_record *entry, const uint64_t *numbers, const tg_target *edges) {
-    switch (entry->reply) {
-    case TG_REPLY_DENIED: put_denial(&entry->denial); return;
-    case TG_REPLY_VERTICES_FULL: fputs("refused vertices", stdout); return;
-    case TG_REPLY_WORKERS_FULL: fputs("refused workers", stdout); return;
-    case TG_REPLY_NAME: printf("ok %" PRIu64, entry->name); return;
-    default: fputs("ok", stdout);
-    }
-    if (entry->reply == TG_REPLY_VALUES)
-        for (uint64_t at = 0; at < entry->number_count; at++)
-            printf(" %" PRIu64, numbers[at]);
-    if (entry->reply == TG_REPLY_EDGES)
-        for (uint64_t at = 0; at < entry->edge_count; at++) {
-            printf(" %" PRIu64 ":", edges[at].to);
-            put_rights(edges[at].rights);
-        }
-}
-
-/* The line of the entry at a place. A list has room as it needs. */
+/* The line of the entry at a place. */
 static tg_status put_entry(tg_store *store, uint64_t at) {
     uint64_t numbers[NUMBERS];
     tg_target *edges = NULL;
@@ -91,41 +31,25 @@ static tg_status put_entry(tg_store *store, uint64_t at) {
         edges = malloc(entry.edge_count * sizeof *edges);
         status = edges ? tg_entry(store, at, &entry, numbers, NUMBERS, edges, entry.edge_count) : TG_OUT_OF_MEMORY;
     }
-    if (status == TG_DONE) {
-        put_deed(&entry, numbers);
-        fputs(" = ", stdout);
-        put_reply(&entry, numbers, edges);
-        putchar('\n');
-    }
+    if (status == TG_DONE)
+        status = put_line(&entry, numbers, edges);
     free(edges);
     return status;
 }
 
-/* The lines in front of the entries. */
-static void put_opening(const tg_value *values, size_t count, const tg_edge *edges, size_t edge_count, uint64_t max_vertices) {
-    printf("kovshenul entries 1\nopening %zu %" PRIu64 "\n", count, max_vertices);
-    for (size_t at = 0; at < count; at++) {
-        fputs("worker ", stdout);
-        put_value(values[at].law, values[at].most, &values[at].number, values[at].law != TG_LOG);
-        putchar('\n');
-    }
-    for (size_t at = 0; at < edge_count; at++) {
-        printf("edge %" PRIu64 " %" PRIu64 " ", edges[at].from, edges[at].to);
-        put_rights(edges[at].rights);
-        putchar('\n');
-    }
-}
-
 /* The entries that the store holds, and how many it made. */
 static tg_status put_entries(tg_store *store) {
-    uint64_t at, next;
+    char line[END];
+    uint64_t at, next, length;
     tg_status status = tg_first(store, &at);
     if (status == TG_DONE)
         status = tg_entries(store, &next);
     while (status == TG_DONE && at < next)
         status = put_entry(store, at++);
     if (status == TG_DONE)
-        printf("entries %" PRIu64 "\n", next);
+        status = tg_end_text(next, line, END, &length);
+    if (status == TG_DONE)
+        fputs(line, stdout);
     return status;
 }
 
@@ -157,10 +81,14 @@ int main(void) {
     static const tg_edge edge = { HOST, GUEST, TG_TAKE | TG_GRANT };
     static const tg_limits limits = TG_LIMITS_INIT;
     tg_store store = TG_STORE_INIT;
+    char opening[OPENING];
+    uint64_t length;
     tg_status status = tg_open(&store, values, WORKERS, &edge, 1, &limits);
+    if (status == TG_DONE)
+        status = tg_opening_text(values, WORKERS, &edge, 1, &limits, opening, OPENING, &length);
     if (status == TG_DONE) {
         work(&store);
-        put_opening(values, WORKERS, &edge, 1, limits.max_vertices);
+        fputs(opening, stdout);
         status = put_entries(&store);
     }
     if (status != TG_DONE)

@@ -1,65 +1,8 @@
 //! A host that writes its journal out as tgaudit reads it: the opening, a line for each entry, and how many these are.
-use kovshenul::{Deed, Denial, Edge, Entry, Error, Limits, Reply, Rights, Store, Value};
+use kovshenul::{end_text, opening_text, Edge, Error, Limits, Rights, Store, Value};
 
 const HOST: u64 = 0;
 const GUEST: u64 = 1;
-
-/// What a vertex stores at first: the letter of its law, and its number, or how many a log keeps.
-fn value_text(value: Value) -> String {
-    match value {
-        Value::Cell(number) => format!("c{number}"),
-        Value::Sum(number) => format!("s{number}"),
-        Value::Max(number) => format!("m{number}"),
-        Value::Log(most) => format!("l{most}"),
-        other => unreachable!("no law {other:?} is known here"),
-    }
-}
-
-/// What was asked for.
-fn deed_text(deed: Deed) -> String {
-    match deed {
-        Deed::Take { via, target, rights } => format!("take {via} {target} {rights}"),
-        Deed::Grant { via, target, rights } => format!("grant {via} {target} {rights}"),
-        Deed::Remove { target, rights } => format!("remove {target} {rights}"),
-        Deed::Read { target } => format!("read {target}"),
-        Deed::Write { target, value } => format!("write {target} {value}"),
-        Deed::Append { target, value } => format!("append {target} {value}"),
-        Deed::Inspect { target } => format!("inspect {target}"),
-        Deed::List => "list".to_string(),
-        Deed::Retire => "retire".to_string(),
-        Deed::Create { rights, value } => format!("create {rights} {}", value_text(value)),
-        Deed::Spawn { rights, value } => format!("spawn {rights} {}", value_text(value)),
-        other => unreachable!("no deed {other:?} is known here"),
-    }
-}
-
-/// What was answered.
-fn reply_text(reply: &Reply) -> String {
-    match reply {
-        Reply::Done => "ok".to_string(),
-        Reply::Name(name) => format!("ok {name}"),
-        Reply::Values(numbers) => numbers.iter().fold("ok".to_string(), |text, number| format!("{text} {number}")),
-        Reply::Edges(edges) => edges.iter().fold("ok".to_string(), |text, edge| format!("{text} {}:{}", edge.to, edge.rights)),
-        Reply::Denied(Denial::NotDistinct { rule }) => format!("denied {rule} distinct"),
-        Reply::Denied(Denial::Missing { rule, from, to, rights }) => format!("denied {rule} {from}->{to} {rights}"),
-        Reply::Denied(Denial::NotLog { rule }) => format!("denied {rule} law"),
-        Reply::VerticesFull => "refused vertices".to_string(),
-        Reply::WorkersFull => "refused workers".to_string(),
-        other => unreachable!("no reply {other:?} is known here"),
-    }
-}
-
-/// The line of an entry, as tgaudit reads it.
-fn entry_text(entry: &Entry) -> String {
-    format!("{} {} = {}", entry.worker, deed_text(entry.deed), reply_text(&entry.reply))
-}
-
-/// Writes the lines in front of the entries.
-fn put_opening(values: &[Value], edges: &[Edge], max_vertices: u64) {
-    println!("kovshenul entries 1\nopening {} {max_vertices}", values.len());
-    values.iter().for_each(|value| println!("worker {}", value_text(*value)));
-    edges.iter().for_each(|Edge { from, to, rights }| println!("edge {from} {to} {rights}"));
-}
 
 /// A command of each kind, served or denied.
 fn work(store: &mut Store) -> Result<(), Error> {
@@ -88,8 +31,8 @@ fn main() -> Result<(), Error> {
     let limits = Limits::default();
     let mut store = Store::open(&values, &edges, &limits)?;
     work(&mut store)?;
-    put_opening(&values, &edges, limits.max_vertices);
-    store.journal().for_each(|entry| println!("{}", entry_text(&entry)));
-    println!("entries {}", store.entries()?);
+    println!("{}", opening_text(&values, &edges, &limits)?);
+    store.journal().for_each(|entry| println!("{entry}"));
+    println!("{}", end_text(store.entries()?)?);
     Ok(())
 }

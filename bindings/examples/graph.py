@@ -1,6 +1,6 @@
 """Plays a small story, and writes the graph that it leaves as text for dot: graph.py | dot -Tsvg > graph.svg
 
-Workers are boxes, objects circles. An edge has the letters of its rights.
+Workers are boxes, objects circles. A vertex has its name before its number, and an edge the letters of its rights.
 """
 from kovshenul import APPEND, GRANT, READ, TAKE, WRITE, Denied, Log, Store, Sum
 
@@ -21,16 +21,18 @@ def play(store):
         store.take(CAROL, BOB, diary, READ)
     except Denied:
         pass
-    return {document: "document", diary: "diary"}
+    store.set_name(document, "document")
+    store.set_name(diary, "diary")
+    return document, diary
 
 
 def lines_of(store, objects):
     """The graph, line by line. Each worker's row is listed, which the journal tells."""
     yield "digraph kovshenul {"
-    for worker, name in enumerate(NAMES):
-        yield f'    v{worker} [shape=box, label="{name}"];'
-    for vertex, name in objects.items():
-        yield f'    v{vertex} [shape=ellipse, label="{name}"];'
+    for worker in range(len(NAMES)):
+        yield f'    v{worker} [shape=box, label="{store.named(worker)}"];'
+    for vertex in objects:
+        yield f'    v{vertex} [shape=ellipse, label="{store.named(vertex)}"];'
     for worker in range(len(NAMES)):
         for target, rights in store.list(worker):
             yield f'    v{worker} -> v{target} [label="{rights.letters}"];'
@@ -38,5 +40,7 @@ def lines_of(store, objects):
 
 
 with Store([Sum(0)] * len(NAMES), [(ALICE, BOB, GRANT), (CAROL, BOB, TAKE)], (10, 8, 4)) as store:
+    for worker, name in enumerate(NAMES):
+        store.set_name(worker, name)
     objects = play(store)
     print("\n".join(lines_of(store, objects)))

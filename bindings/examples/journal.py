@@ -3,7 +3,8 @@
 Each create takes a box of the stock. A box begins with 0, and a log of it keeps four numbers: of objects that begin so, the page
 has the journal's own replies.
 """
-from kovshenul import APPEND, GRANT, READ, TAKE, WRITE, Denied, Log, Rights, Store, Sum
+from kovshenul import APPEND, GRANT, READ, TAKE, WRITE, Denied, Log, Store, Sum
+from kovshenul.journal import Create
 
 ALICE, BOB, CAROL = range(3)
 EDGES = [(ALICE, BOB, GRANT), (CAROL, BOB, TAKE)]
@@ -28,9 +29,9 @@ def play(store):
 
 
 def line_of(entry):
-    """The line that asks for the same: the worker, the deed's name and all that it has, but for what a vertex stores at first."""
-    said = [it.letters if isinstance(it, Rights) else it for it in vars(entry.deed).values() if isinstance(it, int)]
-    return " ".join(map(str, [entry.worker, type(entry.deed).__name__.lower(), *said]))
+    """The line that asks for the same, without what a vertex stores at first."""
+    asked, _, _ = str(entry).partition(" = ")
+    return asked.rpartition(" ")[0] if isinstance(entry.deed, Create) else asked
 
 
 with Store([Sum(0)] * 3, EDGES, (10, 8, 4)) as store:

@@ -1,36 +1,25 @@
 /* A host that keeps its journal short: every few commands it writes the new entries out, has an auditor replay them, and gives them
-   up. Build it with: cc parts.c -lkovshenul */
+   up. Another auditor goes on after the first part. Build it with: cc parts.c -lkovshenul */
 #include "kovshenul.h"
 #include <inttypes.h>
 #include <stdio.h>
 
-enum { HOST, GUEST, EVERY = 4, COMMANDS = 10 };
+enum { HOST, GUEST, EVERY = 4, COMMANDS = 10, LINE = 100, SNAPSHOT = 500 };
 
-/* Writes an entry out, as the line of a script that asks for the same, and whether it was done. */
-static void put_entry(const tg_record *entry) {
-    char rights[9];
-    tg_rights_text(entry->rights, rights, sizeof rights);
-    printf("%" PRIu64, entry->worker);
-    switch (entry->deed) {
-    case TG_DEED_CREATE: printf(" create %s", rights); break;
-    case TG_DEED_GRANT: printf(" grant %" PRIu64 " %" PRIu64 " %s", entry->via, entry->target, rights); break;
-    case TG_DEED_WRITE: printf(" write %" PRIu64 " %" PRIu64, entry->target, entry->value); break;
-    default: printf(" deed %" PRIu32, entry->deed);
-    }
-    puts(entry->reply == TG_REPLY_DENIED ? " = denied" : " = ok");
-}
-
-/* Writes out the entries that the store holds. */
+/* Writes out the entries that the store holds. None of them has more than a number, or an edge. */
 static tg_status put_entries(tg_store *store) {
-    uint64_t at, next;
+    uint64_t at, next, number, length;
+    char line[LINE];
     tg_record entry;
     tg_status status = tg_first(store, &at);
     if (status == TG_DONE)
         status = tg_entries(store, &next);
     while (status == TG_DONE && at < next) {
-        status = tg_entry(store, at++, &entry, NULL, 0, NULL, 0);
+        status = tg_entry(store, at++, &entry, &number, 1, NULL, 0);
         if (status == TG_DONE)
-            put_entry(&entry);
+            status = tg_entry_text(&entry, &number, entry.number_count, NULL, 0, line, LINE, &length);
+        if (status == TG_DONE)
+            fputs(line, stdout);
     }
     return status;
 }
@@ -45,6 +34,26 @@ static tg_status hand_over(tg_store *store, tg_auditor *auditor) {
         status = tg_auditor_forget(auditor, store, audited);
     if (status == TG_DONE)
         printf("%" PRIu64 " entries audited and given up\n", audited);
+    return status;
+}
+
+/* Has an auditor go on from the snapshot of what it has come to, as another process does that has the text of the snapshot alone. */
+static tg_status go_on(tg_auditor *auditor) {
+    char text[SNAPSHOT];
+    uint64_t length, line;
+    tg_snapshot snapshot = TG_SNAPSHOT_INIT;
+    tg_status status = tg_auditor_snapshot(auditor, &snapshot);
+    if (status == TG_DONE)
+        status = tg_snapshot_text(&snapshot, text, SNAPSHOT, &length);
+    tg_snapshot_close(&snapshot);
+    tg_auditor_close(auditor);
+    if (status == TG_DONE)
+        status = tg_snapshot_read(&snapshot, text, length, &line);
+    if (status == TG_DONE)
+        status = tg_auditor_reopen(auditor, &snapshot);
+    if (status == TG_DONE)
+        fputs(text, stdout);
+    tg_snapshot_close(&snapshot);
     return status;
 }
 
@@ -72,6 +81,8 @@ int main(void) {
         status = command(&store, number);
         if (status <= TG_DENIED && (number % EVERY == 0 || number == COMMANDS))
             status = hand_over(&store, &auditor);
+        if (status <= TG_DENIED && number == EVERY)
+            status = go_on(&auditor);
     }
     if (status > TG_DENIED)
         puts(tg_status_text(status));

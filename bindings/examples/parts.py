@@ -1,25 +1,27 @@
-"""A host that keeps its journal short: every few commands it writes the new entries out, has an auditor replay them, and gives them up."""
-from kovshenul import GRANT, READ, WRITE, Auditor, Cell, Denied, Edge, Rights, Store, Sum, journal
+"""A host that keeps its journal short: every few commands it writes the new entries out, has an auditor replay them, and gives them up.
+Another auditor goes on after the first part."""
+from kovshenul import GRANT, READ, WRITE, Auditor, Cell, Denied, Edge, Snapshot, Store, Sum
 
 HOST, GUEST = range(2)
 EVERY, COMMANDS = 4, 10
 OPENING = [Cell(0), Cell(0)], [Edge(HOST, GUEST, GRANT)]
 
 
-def line_of(entry):
-    """The line of a script that asks for the same, and whether it was done."""
-    said = [it.letters if isinstance(it, Rights) else it for it in vars(entry.deed).values() if isinstance(it, int)]
-    answer = "denied" if isinstance(entry.reply, journal.Denied) else "ok"
-    return " ".join(map(str, [entry.worker, type(entry.deed).__name__.lower(), *said, "=", answer]))
-
-
 def hand_over(store, auditor):
     """Writes out what the store holds, audits it, and gives it up. Where it can't be audited the store keeps it."""
     for entry in store.journal():
-        print(line_of(entry))
+        print(entry)
     audited = auditor.feed(store)
     auditor.forget(store, audited)
     print(audited, "entries audited and given up")
+
+
+def gone_on(auditor):
+    """Another auditor, which goes on from what this one has come to, as a process does that has the text of the snapshot alone."""
+    text = str(auditor.snapshot())
+    auditor.close()
+    print(text)
+    return Auditor.reopen(Snapshot(text))
 
 
 def add(store, total, number):
@@ -30,11 +32,15 @@ def add(store, total, number):
         pass
 
 
-with Store(*OPENING) as store, Auditor(*OPENING) as auditor:
+with Store(*OPENING) as store:
+    auditor = Auditor(*OPENING)
     total = store.create(HOST, READ | WRITE, Sum(0))
     store.grant(HOST, GUEST, total, WRITE)
     for number in range(3, COMMANDS + 1):
         add(store, total, number)
         if number % EVERY == 0:
             hand_over(store, auditor)
+        if number == EVERY:
+            auditor = gone_on(auditor)
     hand_over(store, auditor)
+    auditor.close()

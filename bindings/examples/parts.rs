@@ -1,31 +1,27 @@
 //! A host that keeps its journal short: every few commands it writes the new entries out, has an auditor replay them, and gives them
-//! up.
-use kovshenul::{Auditor, Deed, Edge, Entry, Error, Limits, Reply, Rights, Store, Value};
+//! up. Another auditor goes on after the first part.
+use kovshenul::{Auditor, Edge, Error, Limits, Rights, Snapshot, Store, Value};
 
 const HOST: u64 = 0;
 const GUEST: u64 = 1;
 const EVERY: u64 = 4;
 const COMMANDS: u64 = 10;
 
-/// Writes an entry out, as the line of a script that asks for the same, and whether it was done.
-fn put_entry(entry: &Entry) {
-    let asked = match entry.deed {
-        Deed::Create { rights, .. } => format!("create {rights}"),
-        Deed::Grant { via, target, rights } => format!("grant {via} {target} {rights}"),
-        Deed::Write { target, value } => format!("write {target} {value}"),
-        other => format!("{other:?}"),
-    };
-    let answer = if matches!(entry.reply, Reply::Denied(_)) { "denied" } else { "ok" };
-    println!("{} {asked} = {answer}", entry.worker);
-}
-
 /// Writes out what the store holds, audits it, and gives it up. Where it can't be audited the store keeps it.
 fn hand_over(store: &mut Store, auditor: &mut Auditor) -> Result<(), Error> {
-    store.journal().for_each(|entry| put_entry(&entry));
+    store.journal().for_each(|entry| println!("{entry}"));
     let audited = auditor.feed(store)?;
     auditor.forget(store, audited)?;
     println!("{audited} entries audited and given up");
     Ok(())
+}
+
+/// Another auditor, which goes on from what this one has come to, as a process does that has the text of the snapshot alone.
+fn gone_on(auditor: Auditor) -> Result<Auditor, Box<dyn std::error::Error>> {
+    let text = auditor.snapshot()?.to_string();
+    drop(auditor);
+    println!("{text}");
+    Ok(Auditor::reopen(&text.parse::<Snapshot>()?)?)
 }
 
 /// The guest adds to the host's sum, and once writes to what isn't its own.
@@ -37,7 +33,7 @@ fn add(store: &mut Store, sum: u64, number: u64) -> Result<(), Error> {
     }
 }
 
-fn main() -> Result<(), Error> {
+fn main() -> Result<(), Box<dyn std::error::Error>> {
     let cells = [Value::Cell(0), Value::Cell(0)];
     let edges = [Edge { from: HOST, to: GUEST, rights: Rights::GRANT }];
     let mut store = Store::open(&cells, &edges, &Limits::default())?;
@@ -49,6 +45,9 @@ fn main() -> Result<(), Error> {
         if number % EVERY == 0 {
             hand_over(&mut store, &mut auditor)?;
         }
+        if number == EVERY {
+            auditor = gone_on(auditor)?;
+        }
     }
-    hand_over(&mut store, &mut auditor)
+    Ok(hand_over(&mut store, &mut auditor)?)
 }

@@ -9,6 +9,7 @@ abi=$(sed -n 's/^#define TG_ABI //p' "$here/kovshenul.h")
 shared=libkovshenul.so.$abi
 archive=$top/crates/tg_c/out/libtg_c.a
 extension=$here/python/kovshenul/_extension.abi3.so
+programs="tgstore tgaudit tgcould tgdot"
 
 say() {
     echo "bindings: $1"
@@ -59,7 +60,7 @@ sum() {
     sha256sum | cut -d ' ' -f 1
 }
 
-# The crates on which tg_c stands, lowest first, and tg_c after them.
+# The crates below tg_c, lowest first, and tg_c after them.
 crates_of_library() {
     "$top/tools/crates" with tg_c
 }
@@ -69,8 +70,8 @@ files_of_crate() {
     find "$1" -path "$1/out" -prune -o -type f -print
 }
 
-# A sum over what the proved archive is made from: the kit, and of tg_c and each crate below it the line of crates.txt
-# and the text.
+# A sum over what the proved archive is made from, or a program if one is named: the kit, and of its crate and each crate
+# below it the line of crates.txt and the text.
 sum_of_text() {
     (
         set -o pipefail
@@ -78,7 +79,7 @@ sum_of_text() {
         export LC_ALL=C
         {
             rt version
-            tools/crates line $(crates_of_library) | while read -r line; do
+            tools/crates line $(tools/crates with "${1-tg_c}") | while read -r line; do
                 echo "$line"
                 files_of_crate "crates/${line%%[ :]*}" | sort | tr '\n' '\0' | xargs -0 sha256sum
             done
@@ -97,9 +98,21 @@ sum_of_proved() {
     echo "$text"
 }
 
-# A sum over what stands before the proved calls.
+# Where a program is built.
+program_at() {
+    echo "$top/crates/$1/out/$1"
+}
+
+# Whether 'bindings/build programs' left the program, as it was proved of the texts that are there now. It keeps a line for
+# each: its name, the sum of its texts and its own.
+is_proved_program() {
+    test -x "$(program_at "$1")" && test -e "$out/programs" &&
+        grep -qxF "$1 $(sum_of_text "$1") $(sum <"$(program_at "$1")")" "$out/programs"
+}
+
+# A sum over what comes before the proved calls.
 sum_of_c() {
-    cat "$here/kovshenul.c" "$here/kovshenul.h" "$top/VERSION" | sum
+    cat "$here/kovshenul.c" "$here/naming.c" "$here/writer.h" "$here/kovshenul.h" "$top/VERSION" | sum
 }
 
 # A sum over the library as it lies in 'out', or none where a part of it isn't there. An earlier version left a link there, which 'rt
@@ -186,6 +199,29 @@ put_for_c() {
     fill kovshenul-config.cmake "$cmake"
     fill kovshenul-config-version.cmake "$cmake"
     put_pages "$1/share/man"
+}
+
+# The programs that were proved, and the one that makes pages of runs.
+put_programs() {
+    for program in $programs; do
+        ! is_proved_program "$program" || install -D -m 755 "$(program_at "$program")" "$1/bin/$program"
+    done
+    put "$top/viewer/page.css" "$1/share/kovshenul/viewer"
+    put "$top/viewer/page.js" "$1/share/kovshenul/viewer"
+    install -m 755 "$top/viewer/page" "$1/share/kovshenul/viewer/"
+}
+
+# The pages and the examples, at the places that their links name.
+put_docs() {
+    (
+        cd "$top"
+        git ls-files -z --cached --others --exclude-standard README.md CHANGELOG.md SECURITY.md VERSION 'docs/*.md' 'docs/*.svg' 'docs/*.txt' \
+            bindings/examples bench/README.md bench/LEARNT.md tests/README.md evidence
+    ) | while IFS= read -r -d '' file; do
+        mode=644
+        test ! -x "$top/$file" || mode=755
+        install -D -m "$mode" "$top/$file" "$1/share/doc/kovshenul/$file"
+    done
 }
 
 # The man pages: the library's, which is made from the header, and those in docs/man.

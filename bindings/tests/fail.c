@@ -82,6 +82,38 @@ static void resume_from(tg_store *store, uint64_t entries, const tg_value *worke
         stop(__LINE__, 0);
 }
 
+/* The texts of a history, for which memory is asked each time, also where there is no room for them. */
+static void write_texts(tg_store *store, uint64_t entries, const tg_value *workers, const tg_edge *edges, const tg_limits *limits) {
+    tg_record entry;
+    tg_target row[64];
+    uint64_t numbers[64], length;
+    char text[400];
+    CALL(tg_opening_text(workers, 2, edges, 2, limits, text, sizeof text, &length));
+    for (uint64_t at = 0; at < entries; at += 7) {
+        CALL(tg_entry(store, at, &entry, numbers, 64, row, 64));
+        CALL(tg_entry_text(&entry, numbers, entry.number_count, row, entry.edge_count, text, at % 2 ? sizeof text : 0, &length));
+    }
+    CALL(tg_end_text(entries, text, sizeof text, &length));
+}
+
+/* Another auditor goes on from a snapshot of the first, by way of its text. */
+static void go_on_from(tg_auditor *auditor) {
+    tg_snapshot snapshot = TG_SNAPSHOT_INIT, again = TG_SNAPSHOT_INIT;
+    tg_auditor second = TG_AUDITOR_INIT;
+    uint64_t length, at, line, place;
+    static char text[4000];
+    CALL(tg_auditor_snapshot(auditor, &snapshot));
+    CALL(tg_snapshot_text(&snapshot, text, sizeof text, &length));
+    if (length >= sizeof text)
+        stop(__LINE__, 0);
+    CALL(tg_snapshot_read(&again, text, length, &line));
+    CALL(tg_auditor_reopen(&second, &again));
+    CALL(tg_auditor_at(auditor, &at));
+    CALL(tg_auditor_at(&second, &place));
+    if (at != place || tg_auditor_close(&second) || tg_snapshot_close(&again) || tg_snapshot_close(&snapshot))
+        stop(__LINE__, 0);
+}
+
 /* A batch of the first worker, which goes on from the command at which memory was refused. Each command has one entry. */
 static void take_all(tg_store *store, const tg_command *commands, size_t count) {
     uint64_t before, first, done = 0, after;
@@ -165,11 +197,13 @@ static uint64_t tell_story(void) {
     CALL(tg_entries(&store, &entries));
     read_entries(&store, entries);
     resume_from(&store, entries, workers, edges, &limits);
+    write_texts(&store, entries, workers, edges, &limits);
     CALL(tg_audit(&store, &count));
     if (count != entries)
         stop(__LINE__, 0);
     CALL(tg_auditor_feed(&auditor, &store, &count));
     CALL(tg_auditor_sweep(&auditor));
+    go_on_from(&auditor);
     /* To give entries up takes no memory. */
     before = made;
     CALL(tg_auditor_forget(&auditor, &store, count));

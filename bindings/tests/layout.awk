@@ -1,8 +1,8 @@
 # Writes a C file that compiles exactly where kovshenul.h fits the library's text: each struct of numbers has the same
 # fields at the same offsets, each export the same parameters, each constant the number that the contracts give it.
 #
-# It reads crates/tg_c/src/forms.rt, records.rt, place.rt, answer.rt, exports.rt, could.rt, resuming.rt, those of its auditor and view,
-# crates/tg_c/specs/Forms.antt, Records.antt, Could.antt and View.antt, behind them crates/tg_model/specs/Commands.antt, and
+# It reads crates/tg_c/src/forms.rt, records.rt, place.rt, answer.rt, exports.rt, could.rt, resuming.rt, text.rt, ending.rt, those of its
+# auditor, snapshot and view, crates/tg_c/specs/Forms.antt, Records.antt, Could.antt and View.antt, behind them crates/tg_model/specs/Commands.antt, and
 # crates/tg_rights/specs/RightSet.antt.
 
 function same(is, wanted) {
@@ -57,13 +57,14 @@ function prototype(text,    name, parts, count, i, given, list) {
 BEGIN {
     print "#include \"kovshenul.h\""
     print "#define SAME(is, wanted) _Static_assert((is) == (wanted), #is)"
-    types["u8"] = "uint8_t"; types["u32"] = "uint32_t"; types["u64"] = "uint64_t"; types["bool"] = "bool"
+    types["u8"] = "char"; types["u32"] = "uint32_t"; types["u64"] = "uint64_t"; types["bool"] = "bool"
     types["EdgeIn"] = "tg_edge"; types["ValueIn"] = "tg_value"; types["LimitsIn"] = "tg_limits"
     types["DenialOut"] = "tg_denial"; types["EdgeOut"] = "tg_target"; types["CensusOut"] = "tg_counts"
     types["RecordOut"] = "tg_record"
     types["StorePlace"] = "tg_store"; types["StoreHandle"] = "twin_StoreHandle"
     types["AnswerPlace"] = "tg_answer"; types["AnswerHandle"] = "twin_AnswerHandle"
     types["AuditorPlace"] = "tg_auditor"; types["AuditorHandle"] = "twin_AuditorHandle"
+    types["SnapshotPlace"] = "tg_snapshot"; types["SnapshotHandle"] = "twin_SnapshotHandle"
     types["ViewPlace"] = "tg_view"; types["ViewHandle"] = "twin_ViewHandle"
     same("sizeof(void *)", 8)
     same("sizeof(bool)", 1)

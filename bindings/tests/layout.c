@@ -23,6 +23,9 @@ SAME(offsetof(tg_view, handle.at), 8);
 SAME(sizeof(tg_auditor), 16);
 SAME(offsetof(tg_auditor, is_open), 0);
 SAME(offsetof(tg_auditor, handle.at), 8);
+SAME(sizeof(tg_snapshot), 16);
+SAME(offsetof(tg_snapshot, is_open), 0);
+SAME(offsetof(tg_snapshot, handle.at), 8);
 
 SAME(sizeof(tg_value), 16);
 SAME(offsetof(tg_value, law), 0);
@@ -49,6 +52,10 @@ SAME(offsetof(tg_denial, rights), 24);
 SAME(sizeof(tg_target), 16);
 SAME(offsetof(tg_target, to), 0);
 SAME(offsetof(tg_target, rights), 8);
+
+SAME(sizeof(tg_naming), 16);
+SAME(offsetof(tg_naming, name_of), 0);
+SAME(offsetof(tg_naming, host), 8);
 
 SAME(sizeof(tg_command), 40);
 SAME(offsetof(tg_command, deed), 0);

@@ -1249,6 +1249,204 @@ static void resumed_in_a_full_heap(void) {
     WANT(tg_close(&first) == TG_DONE && tg_close(&second) == TG_DONE);
 }
 
+/* ---- the text of a history */
+
+enum { LINE = 400 };
+
+/* A call for a text, of which nothing but the room is left to say. */
+struct asked_text {
+    const tg_value *workers;
+    size_t worker_count;
+    const tg_edge *edges;
+    size_t edge_count;
+    const struct kept *it;
+    uint64_t count;
+};
+
+static tg_status opening_of(const struct asked_text *of, char *text, size_t room, uint64_t *length) {
+    return tg_opening_text(of->workers, of->worker_count, of->edges, of->edge_count, &limits, text, room, length);
+}
+
+static tg_status line_of(const struct asked_text *of, char *text, size_t room, uint64_t *length) {
+    const tg_record *entry = &of->it->entry;
+    return tg_entry_text(entry, of->it->numbers, entry->number_count, of->it->edges, entry->edge_count, text, room, length);
+}
+
+static tg_status end_of(const struct asked_text *of, char *text, size_t room, uint64_t *length) {
+    return tg_end_text(of->count, text, room, length);
+}
+
+/* That a call writes this text, and cuts it where there is less room. */
+static void is_written(tg_status (*call)(const struct asked_text *, char *, size_t, uint64_t *), struct asked_text of, const char *wanted) {
+    const size_t length = strlen(wanted);
+    char text[LINE];
+    uint64_t told;
+    WANT(length < LINE - 2);
+    for (size_t room = 0; room <= length + 2; room++) {
+        const size_t kept = room == 0 ? 0 : length < room ? length : room - 1;
+        memset(text, UNTOUCHED, sizeof text);
+        told = UNTOUCHED;
+        WANT(call(&of, room == 0 ? NULL : text, room, &told) == TG_DONE && told == length);
+        WANT(memcmp(text, wanted, kept) == 0 && (room == 0 || text[kept] == '\0'));
+        for (size_t i = room == 0 ? 0 : kept + 1; i < sizeof text; i++)
+            WANT(text[i] == UNTOUCHED);
+    }
+}
+
+/* That a call is refused by this status, and writes nothing. */
+static void is_unwritten(tg_status (*call)(const struct asked_text *, char *, size_t, uint64_t *), struct asked_text of, tg_status status) {
+    char text[LINE];
+    uint64_t told = UNTOUCHED;
+    memset(text, UNTOUCHED, sizeof text);
+    WANT(call(&of, text, LINE, &told) == status && told == UNTOUCHED);
+    for (size_t i = 0; i < sizeof text; i++)
+        WANT(text[i] == UNTOUCHED);
+    WANT(call(&of, NULL, 0, &told) == status && told == UNTOUCHED);
+}
+
+/* The lines of the store of tell_of_each, one for each of its first entries. */
+static const char *const lines[] = {
+    "0 create rwal c7 = ok 2\n", "0 create rwal s40 = ok 3\n", "0 create rwal m5 = ok 4\n", "0 create rwal l2 = ok 5\n",
+    "0 grant 1 2 r = ok\n", "0 take 1 2 r = ok\n", "0 write 3 2 = ok\n", "0 append 5 9 = ok\n", "0 append 5 8 = ok\n",
+    "0 append 2 8 = denied append law\n", "0 read 5 = ok 9 8\n", "1 read 3 = denied read 1->3 r\n",
+    "0 take 0 2 r = denied take distinct\n", "0 list = ok 1:tg 2:rwal 3:rwal 4:rwal 5:rwal\n", "0 inspect 2 = ok\n",
+    "0 spawn g c7 = ok 6\n", "0 remove 6 g = ok\n", "6 retire = ok\n"
+};
+
+static void texts_of_histories(void) {
+    static const tg_value four[4] = { { TG_CELL, 0, 0 }, { TG_SUM, 0, UINT64_MAX }, { TG_MAX, 0, 5 }, { TG_LOG, 64, 0 } };
+    static const tg_value no_law[2] = { { TG_CELL, 0, 0 }, { 4, 0, 0 } };
+    static const tg_edge no_rights = { 0, 1, 0 }, to_itself = { 1, 1, TG_READ };
+    const size_t count = sizeof lines / sizeof *lines;
+    tg_store store = TG_STORE_INIT;
+    uint64_t length = UNTOUCHED;
+    struct kept other;
+    is_written(opening_of, (struct asked_text){ four, 4, edges, 2, NULL, 0 },
+               "kovshenul entries 1\nopening 4 12\nworker c0\nworker s18446744073709551615\nworker m5\nworker l64\nedge 0 1 tg\nedge 1 0 g\n");
+    is_written(opening_of, (struct asked_text){ workers, 1, NULL, 0, NULL, 0 }, "kovshenul entries 1\nopening 1 12\nworker c0\n");
+    is_unwritten(opening_of, (struct asked_text){ no_law, 2, &no_rights, 1, NULL, 0 }, TG_BAD_LAW);
+    is_unwritten(opening_of, (struct asked_text){ NULL, 0, &no_rights, 1, NULL, 0 }, TG_BAD_RIGHTS);
+    is_unwritten(opening_of, (struct asked_text){ NULL, 0, NULL, 0, NULL, 0 }, TG_BAD_WORKERS);
+    is_unwritten(opening_of, (struct asked_text){ workers, 2, &to_itself, 1, NULL, 0 }, TG_BAD_EDGE);
+    is_written(end_of, (struct asked_text){ NULL, 0, NULL, 0, NULL, 0 }, "entries 0\n");
+    is_written(end_of, (struct asked_text){ NULL, 0, NULL, 0, NULL, UINT64_MAX }, "entries 18446744073709551615\n");
+    memset(kept, 0, sizeof kept);
+    WANT(tg_open(&store, workers, 2, edges, 2, &limits) == TG_DONE);
+    tell_of_each(&store);
+    WANT(keep(&store) == 25 && tg_close(&store) == TG_DONE);
+    for (size_t at = 0; at < count; at++)
+        is_written(line_of, (struct asked_text){ NULL, 0, NULL, 0, &kept[at], 0 }, lines[at]);
+    is_written(line_of, (struct asked_text){ NULL, 0, NULL, 0, &kept[23], 0 }, "1 create r c7 = refused vertices\n");
+    is_written(line_of, (struct asked_text){ NULL, 0, NULL, 0, &kept[24], 0 }, "0 spawn g c7 = refused vertices\n");
+    other = kept[24];
+    other.entry.reply = TG_REPLY_WORKERS_FULL;
+    is_written(line_of, (struct asked_text){ NULL, 0, NULL, 0, &other, 0 }, "0 spawn g c7 = refused workers\n");
+    for (size_t at = 0; at < count; at++) {
+        other = kept[at];
+        other.entry.deed = 7;
+        is_unwritten(line_of, (struct asked_text){ NULL, 0, NULL, 0, &other, 0 }, TG_BAD_VALUES);
+        other = kept[at];
+        other.entry.denial.to++;
+        other.entry.denial.rule = 7;
+        is_unwritten(line_of, (struct asked_text){ NULL, 0, NULL, 0, &other, 0 }, TG_BAD_VALUES);
+    }
+    WANT(tg_entry_text(&kept[10].entry, NULL, 0, NULL, 0, NULL, 0, &length) == TG_BAD_VALUES && length == UNTOUCHED);
+}
+
+/* ---- snapshots */
+
+static const char shown[] =
+    "kovshenul picture 1\nmade 4 12 5\nworker 0\nworker 1\nvertex 0 c0\nvertex 1 c0\nvertex 2 s42\nvertex 3 l2:8\n"
+    "edge 0 1 tg\nedge 0 2 rw\nedge 0 3 ra\nedge 1 0 g\nedge 1 2 r\npicture 9\n";
+
+static void closed_snapshots(void) {
+    tg_snapshot snapshot = TG_SNAPSHOT_INIT;
+    tg_auditor auditor = TG_AUDITOR_INIT;
+    char text[LINE] = "";
+    uint64_t length = UNTOUCHED;
+    WANT(tg_snapshot_close(&snapshot) == TG_NOT_OPEN && tg_snapshot_text(&snapshot, text, LINE, &length) == TG_NOT_OPEN);
+    WANT(tg_auditor_snapshot(&auditor, &snapshot) == TG_NOT_OPEN && tg_auditor_reopen(&auditor, &snapshot) == TG_NOT_OPEN);
+    WANT(text[0] == '\0' && length == UNTOUCHED && !snapshot.is_open && snapshot.handle.at == NULL && !auditor.is_open);
+}
+
+/* That the text isn't read, and which line is at fault. */
+static void is_unread(const char *text, size_t length, uint64_t line) {
+    tg_snapshot snapshot = TG_SNAPSHOT_INIT;
+    uint64_t told = UNTOUCHED;
+    WANT(tg_snapshot_read(&snapshot, text, length, &told) == TG_BAD_VALUES && told == line);
+    WANT(!snapshot.is_open && snapshot.handle.at == NULL);
+}
+
+/* Each byte of the text of a snapshot is altered in turn. What is read then is another snapshot, which has the other text. */
+static void each_byte_altered(void) {
+    char text[sizeof shown], again[sizeof shown];
+    uint64_t length, read = 0;
+    for (size_t at = 0; at < sizeof shown - 1; at++) {
+        tg_snapshot snapshot = TG_SNAPSHOT_INIT;
+        memcpy(text, shown, sizeof shown);
+        text[at] ^= 1;
+        if (tg_snapshot_read(&snapshot, text, sizeof shown - 1, &length) != TG_DONE)
+            continue;
+        WANT(tg_snapshot_text(&snapshot, again, sizeof again, &length) == TG_DONE && length == sizeof shown - 1);
+        WANT(strcmp(again, text) == 0 && tg_snapshot_close(&snapshot) == TG_DONE);
+        read++;
+    }
+    WANT(read > 0 && read < 40);
+    for (size_t cut = 0; cut < sizeof shown - 1; cut++) {
+        uint64_t line = 1;
+        for (size_t at = 0; at < cut; at++)
+            line += shown[at] == '\n';
+        is_unread(shown, cut, line);
+    }
+    is_unread(NULL, 0, 1);
+    is_unread("kovshenul picture 2\n", 20, 1);
+    is_unread("kovshenul picture 1\nmade 0 12 5\npicture 0\n", 42, 2);
+    is_unread("kovshenul picture 1\nmade 2 12 5\nworker 0\npicture 0\n", 51, 3);
+}
+
+/* An auditor goes on from a snapshot of another one, and says what that one says. */
+static void snapshots(void) {
+    tg_store store = TG_STORE_INIT, fresh = TG_STORE_INIT;
+    tg_auditor first = TG_AUDITOR_INIT, second = TG_AUDITOR_INIT;
+    tg_snapshot snapshot = TG_SNAPSHOT_INIT, again = TG_SNAPSHOT_INIT;
+    char text[LINE], other[LINE];
+    uint64_t name, length, line = UNTOUCHED;
+    WANT(tg_open(&store, workers, 2, edges, 2, &limits) == TG_DONE && tg_open(&fresh, workers, 2, edges, 2, &limits) == TG_DONE);
+    WANT(tg_auditor_open(&first, workers, 2, edges, 2, &limits) == TG_DONE);
+    WANT(tg_create(&store, 0, TG_READ | TG_WRITE, &sum, &name) == TG_DONE && tg_write(&store, 0, name, 2, &why) == TG_DONE);
+    WANT(tg_grant(&store, 0, 1, name, TG_READ, &why) == TG_DONE);
+    WANT(tg_create(&store, 0, TG_READ | TG_APPEND, &last_two, &name) == TG_DONE && tg_append(&store, 0, name, 8, &why) == TG_DONE);
+    WANT(tg_auditor_feed(&first, &store, NULL) == TG_DONE);
+    WANT(tg_auditor_snapshot(&first, &snapshot) == TG_DONE && snapshot.is_open && stands_at(&first, 5));
+    WANT(tg_auditor_snapshot(&first, &snapshot) == TG_ALREADY_OPEN && tg_auditor_snapshot(&second, &snapshot) == TG_ALREADY_OPEN);
+    WANT(tg_auditor_reopen(&first, &snapshot) == TG_ALREADY_OPEN && tg_auditor_reopen(&first, &again) == TG_ALREADY_OPEN);
+    for (size_t room = 0; room < LINE; room++) {
+        memset(text, UNTOUCHED, sizeof text);
+        WANT(tg_snapshot_text(&snapshot, room == 0 ? NULL : text, room, &length) == TG_DONE && length == strlen(shown));
+        WANT(room == 0 ? text[0] == UNTOUCHED : strlen(text) == (length < room ? length : room - 1) && memcmp(text, shown, strlen(text)) == 0);
+    }
+    WANT(tg_snapshot_read(&snapshot, shown, sizeof shown - 1, &line) == TG_ALREADY_OPEN && line == UNTOUCHED);
+    WANT(tg_snapshot_read(&again, text, length, &line) == TG_DONE && line == UNTOUCHED && again.is_open);
+    WANT(tg_auditor_reopen(&second, &again) == TG_DONE && stands_at(&second, 5) && again.is_open);
+    WANT(tg_auditor_feed(&second, &fresh, &line) == TG_BAD_PLACE && line == UNTOUCHED);
+    WANT(tg_forget(&store, 5) == TG_DONE && tg_read(&store, 1, 2, numbers, 64, &length, &why) == TG_DONE && numbers[0] == 42);
+    WANT(tg_auditor_feed(&first, &store, NULL) == TG_DONE && tg_auditor_feed(&second, &store, NULL) == TG_DONE && stands_at(&second, 6));
+    WANT(tg_snapshot_close(&snapshot) == TG_DONE && tg_snapshot_close(&again) == TG_DONE && !again.is_open && again.handle.at == NULL);
+    WANT(tg_auditor_snapshot(&first, &snapshot) == TG_DONE && tg_auditor_snapshot(&second, &again) == TG_DONE);
+    WANT(tg_snapshot_text(&snapshot, text, LINE, &length) == TG_DONE && tg_snapshot_text(&again, other, LINE, &length) == TG_DONE);
+    WANT(strcmp(text, other) == 0 && strcmp(text, shown) != 0);
+    WANT(tg_snapshot_close(&snapshot) == TG_DONE && tg_snapshot_close(&again) == TG_DONE);
+    WANT(tg_auditor_close(&first) == TG_DONE && tg_auditor_close(&second) == TG_DONE);
+    /* Without 1's right over the sum the read isn't legal. From then on the auditor has no snapshot. */
+    memcpy(other, shown, sizeof shown);
+    other[strstr(other, "edge 1 2 r") - other + 9] = 'w';
+    WANT(tg_snapshot_read(&snapshot, other, sizeof shown - 1, &line) == TG_DONE && tg_auditor_reopen(&first, &snapshot) == TG_DONE);
+    WANT(tg_auditor_feed(&first, &store, NULL) == TG_BAD_ENTRY && stands_at(&first, 5));
+    WANT(tg_auditor_snapshot(&first, &again) == TG_BAD_ENTRY && !again.is_open && again.handle.at == NULL);
+    WANT(tg_auditor_close(&first) == TG_DONE && tg_snapshot_close(&snapshot) == TG_DONE);
+    WANT(tg_close(&store) == TG_DONE && tg_close(&fresh) == TG_DONE);
+}
+
 enum { MOST_COMMANDS = 1024 };
 
 /* Each command of a batch is done as its own call does it, and its answer is that of its entry. */
@@ -1368,6 +1566,10 @@ int main(void) {
     batches_stopped();
     resumed();
     resumed_in_a_full_heap();
+    texts_of_histories();
+    closed_snapshots();
+    snapshots();
+    each_byte_altered();
     puts("statuses ok");
     return 0;
 }

@@ -1,6 +1,6 @@
-"""The scripts and races that have a collection, and the tests of store_tests and session_tests, on a copy of the tree
-that `rt try` builds without a proof. In the copy `Store::collect` has a seated helper collect (`collect_seated`) in
-place of a walk without a table (`collect_one`). What is written must be the same."""
+"""The scripts and races that have a collection, and the tests of store_tests, on a copy of the tree that `rt try` builds
+without a proof. In the copy `Store::collect` has a seated helper collect (`collect_seated`) in place of a walk without
+a table (`collect_one`). What is written must be the same."""
 import shutil
 import subprocess
 import tempfile
@@ -15,7 +15,7 @@ COLLECTS = {
     "use tg_evac::collect_one;": "use tg_parallel::collect_seated;",
     " = collect_one(": " = collect_seated(",
 }
-TESTED = ("store_tests", "session_tests")
+TESTED = ("store_tests",)
 
 
 def try_seated(rows: Sequence[Row]) -> int:

@@ -80,6 +80,10 @@ PLACES = {
         ["match written Ok(()) Err(WriteFailed)"],
         "what was written lies in memory, and writing fails for want of it alone",
     ),
+    ("tg_c/src/text.rt", "bytes_named"): (
+        ["match written Ok(()) Err(WriteFailed)"],
+        "what was written lies in memory, and writing fails for want of it alone",
+    ),
     **{
         (f"tg_entries/src/{file}", name): (
             [f"match {writer} Ok(()) Err(_)"],

@@ -10,6 +10,7 @@ Module      | What it has
 `kit`       | `home` and `version` of the toolchain, the options that name a crate's libraries, and the last line that
             | the checker or the gate writes (`Last`)
 `unproved`  | `build_program` and `fails_test`: builds a program of a tree without its proof, or runs a test so
+`verdicts`  | what a proof rests on: the checker's last lines and the axioms in a log, unsafe code, proofs by hand, and sums
 `counted`   | `counted` and `instructions`: how many instructions a program executes, under valgrind; `run_check` for a
             | script that does nothing else
 `prose`     | `Prose`: the sentences of a page, and whether they keep the limits

@@ -1,5 +1,6 @@
 """What is read of Rattle sources without a compiler: functions, types and clauses of a .rt file, and definitions of a
 .antt file. Everything is found by its text, so a form that this repository doesn't use may be missed."""
+import itertools
 import re
 from collections.abc import Iterator
 from dataclasses import dataclass, field
@@ -37,6 +38,12 @@ class Clause:
 def code_of(source: str) -> str:
     """The source without comments, and with empty strings."""
     return STRING_OR_COMMENT.sub(lambda it: "" if it[0].startswith("//") else '""', source)
+
+
+def head_of(source: str) -> str:
+    """The comment at the beginning of a source that says what its module is, as Markdown."""
+    lines = itertools.takewhile(lambda line: line.startswith("//!"), source.splitlines())
+    return "\n".join(line.removeprefix("//!").removeprefix(" ") for line in lines)
 
 
 def functions(source: str) -> Iterator[Function]:

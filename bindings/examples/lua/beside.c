@@ -42,8 +42,16 @@ void keep(uint64_t vertex, const char *name, const char *maker, bool is_of_log) 
     snprintf(resource->maker, sizeof resource->maker, "%s", maker);
 }
 
-static const struct resource *find(uint64_t vertex) {
+static struct resource *find(uint64_t vertex) {
     return count == 0 ? NULL : bsearch(&vertex, resources, count, sizeof *resources, by_vertex);
+}
+
+void rename_object(uint64_t vertex, const char *name, const char *maker) {
+    struct resource *resource = find(vertex);
+    if (resource == NULL)
+        return;
+    snprintf(resource->name, sizeof resource->name, "%s", name);
+    snprintf(resource->maker, sizeof resource->maker, "%s", maker);
 }
 
 bool is_log(uint64_t vertex) {

@@ -39,10 +39,14 @@ static void hold(struct plugin *plugin, uint64_t vertex) {
     place->handles++;
 }
 
+void hold_again(struct plugin *plugin, uint64_t vertex) {
+    find(plugin, NONE)->vertex = vertex;
+}
+
 /* Gives up these rights of the worker over the vertex, if there are any. */
 static void give_up(uint64_t worker, uint64_t vertex, uint64_t rights) {
     if (rights != 0)
-        must(tg_remove(&store, worker, vertex, rights, NULL), "tg_remove");
+        done(tg_remove(&store, worker, vertex, rights, NULL), "tg_remove");
 }
 
 static uint64_t rights_of(uint64_t worker, uint64_t vertex) {
@@ -132,10 +136,11 @@ static void write_denial(const tg_denial *why, char *text, size_t room) {
     }
 }
 
-/* Raises what isn't done as an error of the script. The word is the one that the script called. `why` is NULL for a call that is
+/* Saves the entry of a command, and raises what isn't done as an error of the script. The word is the one that the script called. `why` is NULL for a call that is
    never denied. */
 static void done_or_raise(lua_State *state, const char *word, tg_status status, const tg_denial *why) {
     char text[TEXT_ROOM];
+    save();
     if (status == TG_DONE)
         return;
     if (status == TG_DENIED && why != NULL) {
@@ -170,6 +175,7 @@ static int make(lua_State *state) {
     done_or_raise(state, "make", tg_create(&store, plugin->worker, rights[kind], &value, vertex), NULL);
     hold(plugin, *vertex);
     keep(*vertex, name, plugin->name, laws[kind] == TG_LOG);
+    save_object(*vertex, name, plugin->name);
     return 1;
 }
 
@@ -292,12 +298,27 @@ static int handle_text(lua_State *state) {
     return 1;
 }
 
+/* Leaves a handle to a vertex that the worker holds since before the host was killed, by rising names; or nothing. */
+static int receive_again(lua_State *state) {
+    struct plugin *plugin = plugin_of(state);
+    uint64_t *vertex;
+    int at = 0;
+    while (at < MOST_HELD && (plugin->held[at].vertex == NONE || plugin->held[at].handles > 0))
+        at++;
+    if (at == MOST_HELD)
+        return 0;
+    vertex = push_empty(state);
+    *vertex = plugin->held[at].vertex;
+    plugin->held[at].handles = 1;
+    return 1;
+}
+
 /* receive() returns the handle that has waited longest in the inbox, or nil. Its place was taken when it was delivered. */
 static int receive(lua_State *state) {
     struct plugin *plugin = plugin_of(state);
     uint64_t *vertex;
     if (plugin->waiting == 0)
-        return 0;
+        return receive_again(state);
     vertex = push_empty(state);
     *vertex = plugin->inbox[0];
     plugin->waiting--;

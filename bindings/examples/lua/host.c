@@ -1,12 +1,13 @@
 /* A host of plug-ins that are scripts in Lua 5.4. Build it with:
-   cc -o host beside.c handles.c host.c library.c plugins.c policy.c store.c -I/usr/include/lua5.4 -llua5.4 -lkovshenul
+   cc -o host *.c -I/usr/include/lua5.4 -llua5.4 -lkovshenul
 
-   host [--never NAME] FOLDER NAME ..
+   host [--never NAME] [--file FILE] FOLDER NAME ..
 
    Each plug-in is the script FOLDER/NAME.lua. The first one gets to read the host's secret. The plug-in named after --never must
    never come to read it, whatever the plug-ins do together. docs/LUA.md explains the host file by file.
 
-   What isn't here: a host that was killed doesn't go on from a file. It starts anew. */
+   With --file the host saves what it does. If it is killed, start it again with the same words: it goes on from FILE. The host
+   removes FILE at its end. */
 #include "host.h"
 #include <inttypes.h>
 #include <stdio.h>
@@ -14,28 +15,37 @@
 
 enum {
     SECRET = 4242,
-    FILE_ROOM = 512,
     ROUNDS = 4                 /* between two collections */
 };
 
-/* Makes the secret, and a rule of who must never read it. The first plug-in gets it if that keeps the rule. */
+/* The words of the command line. */
+struct words {
+    const char *watched, *file, *folder;
+    char **names;
+    int count;
+};
+
+/* Makes the secret, and a rule of who must never read it. The first plug-in gets it if that keeps the rule. The rule is saved
+   before anybody gets the secret. */
 static uint64_t share_secret(struct plugin *first, const struct plugin *watched) {
     const tg_value value = { TG_CELL, 0, SECRET };
     uint64_t secret;
     char text[TEXT_ROOM];
     must(make_room() ? TG_DONE : TG_OUT_OF_MEMORY, "room for a resource");
-    must(tg_create(&store, HOST, TG_READ, &value, &secret), "tg_create");
+    done(tg_create(&store, HOST, TG_READ, &value, &secret), "tg_create");
     keep(secret, "secret", "the host", false);
-    if (watched != NULL)
+    save_object(secret, "secret", "the host");
+    if (watched != NULL) {
         never(watched->worker, TG_READ, secret);
-    if (first == NULL)
-        return secret;
-    if (!is_safe(first->worker, secret, TG_READ, text, sizeof text)) {
-        printf("host: the secret isn't handed out: %s\n", text);
-        return secret;
+        save_rule(watched->worker, TG_READ, secret);
     }
-    must(tg_grant(&store, HOST, first->worker, secret, TG_READ, NULL), "tg_grant");
-    deliver(first, secret);
+    if (first != NULL && !is_safe(first->worker, secret, TG_READ, text, sizeof text)) {
+        printf("host: the secret isn't handed out: %s\n", text);
+    } else if (first != NULL) {
+        done(tg_grant(&store, HOST, first->worker, secret, TG_READ, NULL), "tg_grant");
+        deliver(first, secret);
+    }
+    save_secret(secret);
     return secret;
 }
 
@@ -57,31 +67,56 @@ static void run_rounds(void) {
     }
 }
 
-/* Starts the plug-ins with these names, from the folder. Returns the first, or NULL if it didn't start. */
-static struct plugin *start_all(const char *folder, char **names, int count) {
-    struct plugin *first = NULL;
-    for (int at = 0; at < count; at++) {
-        char file[FILE_ROOM];
-        struct plugin *started;
-        snprintf(file, sizeof file, "%s/%s.lua", folder, names[at]);
-        started = start_plugin(names[at], file, (uint64_t)at);
-        if (at == 0)
-            first = started;
+/* Starts the plug-ins that the file has and those that it hasn't. */
+static void start_all(const struct words *words) {
+    char file[FILE_ROOM];
+    start_again(words->folder);
+    for (int at = 0; at < words->count; at++) {
+        snprintf(file, sizeof file, "%s/%s.lua", words->folder, words->names[at]);
+        if (!is_in_file(words->names[at]))
+            start_plugin(words->names[at], file, (uint64_t)at);
     }
-    return first;
 }
 
-int main(int count, char **words) {
-    const char *watched = NULL;
-    struct plugin *first;
-    uint64_t secret, left;
-    if (count > 2 && strcmp(words[1], "--never") == 0) {
-        watched = words[2];
-        words += 2;
-        count -= 2;
+/* Gives up the secret, and looks whether nothing is left. Returns the status of the host. */
+static int end(uint64_t secret, const char *file) {
+    uint64_t rights, left;
+    must(tg_label(&store, HOST, secret, &rights), "tg_label");
+    if (rights != 0)
+        done(tg_remove(&store, HOST, secret, rights, NULL), "tg_remove");
+    left = collect();
+    audit();
+    printf("host: at the end %" PRIu64 " vertex is left, and %zu resources\n", left, resource_count());
+    if (file != NULL)
+        end_file(file);
+    close_store();
+    return left == 1 && resource_count() == 0 ? 0 : 1;
+}
+
+/* Reads the words of the command line. Returns false if they are wrong. */
+static bool read_words(struct words *words, int count, char **given) {
+    int at = 1;
+    for (; at + 1 < count && given[at][0] == '-'; at += 2) {
+        if (strcmp(given[at], "--never") == 0)
+            words->watched = given[at + 1];
+        else if (strcmp(given[at], "--file") == 0)
+            words->file = given[at + 1];
+        else
+            return false;
     }
-    if (count < 3) {
-        fprintf(stderr, "usage: host [--never NAME] FOLDER NAME ..\n");
+    if (at + 2 > count)
+        return false;
+    words->folder = given[at];
+    words->names = given + at + 1;
+    words->count = count - at - 1;
+    return true;
+}
+
+int main(int count, char **given) {
+    struct words words = { NULL, NULL, NULL, NULL, 0 };
+    uint64_t secret = NONE;
+    if (!read_words(&words, count, given)) {
+        fprintf(stderr, "usage: host [--never NAME] [--file FILE] FOLDER NAME ..\n");
         return 2;
     }
     if (tg_abi() != TG_ABI) {
@@ -89,13 +124,13 @@ int main(int count, char **words) {
         return 1;
     }
     open_store();
-    first = start_all(words[1], words + 2, count - 2);
-    secret = share_secret(first, watched == NULL ? NULL : plugin_named(watched));
+    if (words.file != NULL)
+        secret = open_file(words.file);
+    start_all(&words);
+    if (words.file != NULL)
+        tidy_host(secret);
+    if (secret == NONE)
+        secret = share_secret(plugin_named(words.names[0]), words.watched == NULL ? NULL : plugin_named(words.watched));
     run_rounds();
-    must(tg_remove(&store, HOST, secret, TG_READ, NULL), "tg_remove");
-    left = collect();
-    audit();
-    printf("host: at the end %" PRIu64 " vertex is left, and %zu resources\n", left, resource_count());
-    close_store();
-    return left == 1 && resource_count() == 0 ? 0 : 1;
+    return end(secret, words.file);
 }

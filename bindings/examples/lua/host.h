@@ -16,6 +16,7 @@ enum {
     MOST_HELD = 160,           /* vertices to which a plug-in may have handles */
     MOST_WAITING = 64,         /* handles that may wait in a plug-in's inbox */
     NAME_ROOM = 24,            /* bytes of a name, with the 0 at its end */
+    FILE_ROOM = 512,           /* bytes of a file's name */
     KNOWN_ROOM = 64,           /* bytes of how scripts know a vertex */
     TEXT_ROOM = 200            /* bytes of an error that a script gets */
 };
@@ -48,6 +49,9 @@ extern tg_store store;
 /* Ends the host if the call wasn't done. */
 void must(tg_status status, const char *call);
 
+/* Ends the host if the command wasn't done. Otherwise its entry is saved. */
+void done(tg_status status, const char *call);
+
 /* Opens the store, with the host as its one worker, and the auditor. */
 void open_store(void);
 
@@ -63,6 +67,9 @@ extern struct plugin plugins[MOST_PLUGINS];
 /* Starts the script in the file as a plug-in with this name. The script gets the name and the number as its arguments. Returns
    the plug-in, or NULL if it didn't start, and then says why. */
 struct plugin *start_plugin(const char *name, const char *file, uint64_t number);
+
+/* Starts a plug-in anew after the host was killed, as the worker that it was. It has handles to what the worker holds. */
+void restart_plugin(const char *name, const char *file, uint64_t number, uint64_t worker);
 
 /* Lets the script run until it waits, ends, fails or hangs. A plug-in that isn't waiting then leaves. */
 void take_turn(struct plugin *plugin);
@@ -90,6 +97,9 @@ void open_handles(lua_State *state);
 /* Puts a handle into the plug-in's inbox. Returns false if the plug-in has no room. */
 bool deliver(struct plugin *plugin, uint64_t vertex);
 
+/* Counts a vertex that the worker holds as held, without a handle: receive() makes the first one. There is a place for it. */
+void hold_again(struct plugin *plugin, uint64_t vertex);
+
 /* ---- library.c */
 
 /* Defines what a script gets of Lua's own functions. */
@@ -114,6 +124,9 @@ bool make_room(void);
 /* Keeps a resource beside a vertex that was just made: its name, who made it, and whether it is a log. There is room. */
 void keep(uint64_t vertex, const char *name, const char *maker, bool is_of_log);
 
+/* Gives the object another name and maker, if a resource is kept for it. */
+void rename_object(uint64_t vertex, const char *name, const char *maker);
+
 /* Whether the vertex is a log. */
 bool is_log(uint64_t vertex);
 
@@ -126,5 +139,37 @@ size_t resource_count(void);
 /* Collects all states, then the store, and frees the resources beside vertices that are gone. Returns how many vertices are
    left. */
 uint64_t collect(void);
+
+/* ---- file.c. Without a file these save nothing. */
+
+/* Opens the file, or makes it, and goes on from what it has. Returns the secret that the file has, or NONE. */
+uint64_t open_file(const char *name);
+
+/* Whether the file has a plug-in with this name, running or not. */
+bool is_in_file(const char *name);
+
+/* Starts the plug-ins of the file anew whose workers are active. Their scripts are FOLDER/NAME.lua. */
+void start_again(const char *folder);
+
+/* Gives up what the host holds and shouldn't: what it took in the middle of a hand, and edges to workers that have left. */
+void tidy_host(uint64_t secret);
+
+/* Closes the file and removes it. */
+void end_file(const char *name);
+
+/* Saves the entries that aren't saved yet. */
+void save(void);
+
+/* Saves what the host keeps beside the store. */
+void save_plugin(const struct plugin *plugin, uint64_t number);
+void save_object(uint64_t vertex, const char *name, const char *maker);
+void save_rule(uint64_t worker, uint64_t right, uint64_t vertex);
+void save_secret(uint64_t vertex);
+
+/* Whether the vertex is an active worker. */
+bool is_worker(uint64_t vertex);
+
+/* Lists the worker's edges. The first ones go to the row. Returns how many there are. */
+uint64_t row_of(uint64_t worker, tg_target *row, size_t room);
 
 #endif

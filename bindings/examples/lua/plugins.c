@@ -143,12 +143,9 @@ static const char *load_script(struct plugin *plugin, struct source *source) {
     return lua_pcall(plugin->state, 1, 0, 0) == LUA_OK ? NULL : error_text(plugin->state);
 }
 
-struct plugin *start_plugin(const char *name, const char *file, uint64_t number) {
-    const tg_value value = { TG_CELL, 0, 0 };
-    struct source source = { file, NULL, 0, number };
+/* A free place for a plug-in with this name. NULL if there is none, or if the name is taken, and then it says so. */
+static struct plugin *place_for(const char *name) {
     struct plugin *plugin = plugins;
-    const char *wrong;
-    tg_status status;
     while (plugin < plugins + MOST_PLUGINS && plugin->state != NULL)
         plugin++;
     if (plugin == plugins + MOST_PLUGINS) {
@@ -161,20 +158,47 @@ struct plugin *start_plugin(const char *name, const char *file, uint64_t number)
     }
     *plugin = (struct plugin){ .worker = NONE };
     snprintf(plugin->name, sizeof plugin->name, "%s", name);
+    return plugin;
+}
+
+/* Loads the script of a plug-in that has a worker. A plug-in without a script leaves, and NULL is returned. */
+static struct plugin *with_script(struct plugin *plugin, const char *file, uint64_t number) {
+    struct source source = { file, NULL, 0, number };
+    const char *wrong = load_script(plugin, &source);
+    free(source.text);
+    if (wrong == NULL)
+        return plugin;
+    printf("host: %s: %s\n", plugin->name, wrong);
+    end_plugin(plugin, "doesn't start");
+    return NULL;
+}
+
+struct plugin *start_plugin(const char *name, const char *file, uint64_t number) {
+    const tg_value value = { TG_CELL, 0, 0 };
+    struct plugin *plugin = place_for(name);
+    tg_status status;
+    if (plugin == NULL)
+        return NULL;
     /* The host may take from the worker and grant to it, and nobody else may. */
     status = tg_spawn(&store, HOST, TG_TAKE | TG_GRANT, &value, &plugin->worker);
     if (status == TG_HEAP_FULL) {
         collect();
         status = tg_spawn(&store, HOST, TG_TAKE | TG_GRANT, &value, &plugin->worker);
     }
-    must(status, "tg_spawn");
-    wrong = load_script(plugin, &source);
-    free(source.text);
-    if (wrong == NULL)
-        return plugin;
-    printf("host: %s: %s\n", name, wrong);
-    end_plugin(plugin, "doesn't start");
-    return NULL;
+    done(status, "tg_spawn");
+    save_plugin(plugin, number);
+    return with_script(plugin, file, number);
+}
+
+void restart_plugin(const char *name, const char *file, uint64_t number, uint64_t worker) {
+    struct plugin *plugin = place_for(name);
+    tg_target row[MOST_HELD];
+    must(plugin == NULL ? TG_WORKERS_FULL : TG_DONE, "a place for a plug-in of the file");
+    plugin->worker = worker;
+    const uint64_t count = row_of(worker, row, MOST_HELD);
+    for (uint64_t at = 0; at < count && at < MOST_HELD; at++)
+        hold_again(plugin, row[at].to);
+    with_script(plugin, file, number);
 }
 
 /* ---- turns */
@@ -199,8 +223,8 @@ void take_turn(struct plugin *plugin) {
 
 void end_plugin(struct plugin *plugin, const char *why) {
     uint64_t edges;
-    must(tg_leave(&store, plugin->worker, &edges), "tg_leave");
-    must(tg_remove(&store, HOST, plugin->worker, TG_TAKE | TG_GRANT, NULL), "tg_remove");
+    done(tg_leave(&store, plugin->worker, &edges), "tg_leave");
+    done(tg_remove(&store, HOST, plugin->worker, TG_TAKE | TG_GRANT, NULL), "tg_remove");
     forget_rules(plugin->worker);
     /* What finalizers of the state do from now on must not ask the store in the name of the worker. */
     plugin->worker = NONE;

@@ -1,7 +1,8 @@
 /* The store, and the auditor of its journal.
 
-   The host is worker 0, and every plug-in is a worker that it spawns. The journal has an entry for each command. The auditor
-   replays the entries after each turn, and then the store gives them up, so the journal stays short. */
+   The host is worker 0, and every plug-in is a worker that it spawns. The journal has an entry for each command. The host saves
+   each entry before it uses the reply, if it has a file. The auditor replays the entries after each turn, and then the store
+   gives them up, so the journal stays short. */
 #include "host.h"
 #include <stdio.h>
 #include <stdlib.h>
@@ -17,6 +18,11 @@ void must(tg_status status, const char *call) {
     exit(1);
 }
 
+void done(tg_status status, const char *call) {
+    must(status, call);
+    save();
+}
+
 void open_store(void) {
     const tg_value mine = { TG_CELL, 0, 0 };
     tg_limits limits = TG_LIMITS_INIT;
@@ -27,6 +33,7 @@ void open_store(void) {
 
 uint64_t audit(void) {
     uint64_t audited;
+    save();
     must(tg_auditor_feed(&auditor, &store, &audited), "tg_auditor_feed");
     must(tg_auditor_forget(&auditor, &store, audited), "tg_auditor_forget");
     return audited;

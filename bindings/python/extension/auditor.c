@@ -1,4 +1,6 @@
 /* The type of an auditor. */
+#include <stdlib.h>
+
 #include "extension.h"
 
 static PyObject *auditor_open(PyObject *it, PyObject *const *words, Py_ssize_t count) {
@@ -76,9 +78,56 @@ static PyObject *auditor_sweep(PyObject *it, PyObject *unused) {
     return end_long(self->state) ? decided(self->state, status, NULL, NULL, 0) : NULL;
 }
 
+/* Writes the text of a snapshot to new memory, which is NULL if there is none. */
+static tg_status write_text(const struct library *library, tg_snapshot *snapshot, char **text, uint64_t *length) {
+    tg_status status = library->snapshot_text(snapshot, NULL, 0, length);
+    if (status != TG_DONE)
+        return status;
+    *text = malloc(*length + 1);
+    return *text == NULL ? TG_OUT_OF_MEMORY : library->snapshot_text(snapshot, *text, *length + 1, length);
+}
+
+static PyObject *auditor_snapshot(PyObject *it, PyObject *unused) {
+    struct auditor *self = (struct auditor *)it;
+    const struct library *library = &self->state->library;
+    tg_snapshot snapshot = TG_SNAPSHOT_INIT;
+    char *text = NULL;
+    uint64_t length = 0;
+    PyObject *told = NULL;
+    (void)unused;
+    if (!begin_long(self->state))
+        return NULL;
+    tg_status status = library->auditor_snapshot(&self->place, &snapshot);
+    if (status == TG_DONE) {
+        status = write_text(library, &snapshot, &text, &length);
+        library->snapshot_close(&snapshot);
+    }
+    if (end_long(self->state))
+        told = status == TG_DONE ? PyBytes_FromStringAndSize(text, (Py_ssize_t)length) : refused(self->state, status, NULL, NULL);
+    free(text);
+    return told;
+}
+
+static PyObject *auditor_reopen(PyObject *it, PyObject *const *words, Py_ssize_t count) {
+    struct auditor *self = (struct auditor *)it;
+    const struct library *library = &self->state->library;
+    tg_snapshot snapshot = TG_SNAPSHOT_INIT;
+    const void *text;
+    size_t length;
+    uint64_t line = 0;
+    if (!has_words(count, 1) || !items_of(words[0], 1, &text, &length) || !begin_long(self->state))
+        return NULL;
+    tg_status status = library->snapshot_read(&snapshot, text, length, &line);
+    if (status == TG_DONE) {
+        status = library->auditor_reopen(&self->place, &snapshot);
+        library->snapshot_close(&snapshot);
+    }
+    return end_long(self->state) ? decided(self->state, status, NULL, NULL, 0) : NULL;
+}
+
 static PyMethodDef auditor_methods[] = {
-    WITH_WORDS(auditor, open) WITH_WORDS(auditor, feed) WITH_WORDS(auditor, forget)
-    ALONE(auditor, close) ALONE(auditor, is_open) ALONE(auditor, at) ALONE(auditor, sweep)
+    WITH_WORDS(auditor, open) WITH_WORDS(auditor, feed) WITH_WORDS(auditor, forget) WITH_WORDS(auditor, reopen)
+    ALONE(auditor, close) ALONE(auditor, is_open) ALONE(auditor, at) ALONE(auditor, sweep) ALONE(auditor, snapshot)
     { NULL, NULL, 0, NULL },
 };
 

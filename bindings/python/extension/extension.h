@@ -21,7 +21,8 @@
     DO(open) DO(close) DO(take) DO(grant) DO(remove) DO(write) DO(append) DO(create) DO(spawn) DO(retire) DO(leave) \
     DO(who_holds) DO(subjects) DO(read) DO(list) DO(inspect) DO(label) DO(collect) DO(census) DO(names) DO(entries) \
     DO(first) DO(entry) DO(forget) DO(resume) DO(apply_all) DO(audit) DO(auditor_open) DO(auditor_feed) DO(auditor_at) DO(auditor_forget) \
-    DO(auditor_sweep) DO(auditor_close) DO(could) DO(answer_kind) DO(answer_names) DO(answer_turns) DO(answer_turn) \
+    DO(auditor_sweep) DO(auditor_close) DO(auditor_snapshot) DO(auditor_reopen) DO(snapshot_text) DO(snapshot_read) \
+    DO(snapshot_close) DO(could) DO(answer_kind) DO(answer_names) DO(answer_turns) DO(answer_turn) \
     DO(answer_close) DO(view_open) DO(view_could) DO(view_close)
 
 /* The addresses of these functions. */

@@ -9,8 +9,9 @@ A command that the rules don't allow raises Denied, whose cause says which check
 are an Error. A number that isn't from 0 to 2^64 - 1 raises OverflowError, and an argument that is no number raises TypeError.
 Nothing happened then.
 
-`entry` and `journal` read a store's journal, and `forget` gives it up. An Auditor replays it before that, part after part.
-`Store.resume` opens a store that goes on from the entries of another process. `kovshenul.journal` has the types of what an entry
+`entry` and `journal` read a store's journal, and `forget` gives it up. An Auditor replays it before that, part after part. Another
+one goes on from its Snapshot. `Store.resume` opens a store that goes on from the entries of another process. `opening_text`, the
+`str` of each entry and `end_text` are the text that the program tgaudit reads. `kovshenul.journal` has the types of what an entry
 says. `kovshenul.outlook` has the types of what `could` answers about the future. A View, which `view` opens, answers many such
 questions. The module `kovshenul.plain` is a model of the store in plain Python, to test a host against.
 
@@ -50,7 +51,9 @@ from ._refusals import (
     VerticesFull,
     WorkersFull,
 )
+from ._snapshot import Snapshot
 from ._store import Store
+from ._texts import end_text, opening_text
 from ._values import MOST_NUMBERS, Cell, Counts, Edge, Kind, Limits, Log, Max, Rights, Sum, Target, Value
 from ._view import View
 
@@ -100,6 +103,7 @@ __all__ = [
     "RULES",
     "Refused",
     "Rights",
+    "Snapshot",
     "Store",
     "Sum",
     "TAKE",
@@ -109,6 +113,8 @@ __all__ = [
     "View",
     "WRITE",
     "WorkersFull",
+    "end_text",
     "journal",
+    "opening_text",
     "outlook",
 ]

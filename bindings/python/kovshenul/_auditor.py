@@ -1,13 +1,17 @@
 """An auditor: it replays a store's journal part after part."""
 from __future__ import annotations
 
-from typing import Iterable, Tuple
+from typing import Iterable, Tuple, Type, TypeVar
 
 from ._backend import back_end
 from ._held import Held, place_of
+from ._library import short_of
 from ._packed import opening_in
+from ._snapshot import Snapshot
 from ._store import Store
 from ._values import Limits, Value
+
+Own = TypeVar("Own", bound="Auditor")
 
 
 class Auditor(Held):
@@ -28,6 +32,20 @@ class Auditor(Held):
         limits: Tuple[int, int, int] = Limits(),
     ) -> None:
         self._place.open(*opening_in(workers, edges, limits))
+
+    @classmethod
+    def reopen(cls: Type[Own], snapshot: Snapshot) -> Own:
+        """Opens an auditor that goes on from a snapshot. Its place is that of the snapshot. So it is fed by a store that holds the
+        entry of this place, or that makes it next."""
+        if not isinstance(snapshot, Snapshot):
+            raise TypeError(f"a snapshot is wanted, and not {short_of(snapshot)}")
+        auditor = cls.__new__(cls)
+        auditor._place.reopen(snapshot._packed())
+        return auditor
+
+    def snapshot(self) -> Snapshot:
+        """Takes a snapshot of what it has come to, at its place. It raises BadEntry after a bad entry."""
+        return Snapshot(self._place.snapshot().decode("ascii"))
 
     def feed(self, store: Store) -> int:
         """Replays the entries that the store holds, from the auditor's place on, and returns how many entries passed in all.

@@ -14,8 +14,9 @@ from ctypes import Array, byref, c_size_t, c_uint32, c_uint64
 from functools import partial
 from typing import Callable, ClassVar, List, NoReturn, Optional, Sequence, Tuple
 
-from ._library import BITS, library, number_in
+from ._library import BITS, PlaceOfC, library, number_in
 from ._lock import LOCK
+from ._packed import COMMAND_SIZE, EDGE_SIZE, NUMBER_SIZE, TARGET_SIZE, VALUE_SIZE
 from ._refusals import BadPlace, Numbers, denied, refusal
 from ._values import MOST_NUMBERS, RIGHTS, Target
 from .journal import DEEDS, REPLIES, Edges, Inspect, Record
@@ -24,15 +25,12 @@ from .journal import List as Listed
 CALLS = (
     "abi open close take grant remove write append create spawn retire leave who_holds subjects read list inspect label collect census names entries "
     "first entry forget resume apply_all audit auditor_open auditor_feed auditor_at auditor_forget auditor_sweep auditor_close "
-    "could answer_kind answer_names answer_turns answer_turn answer_close view_open view_could view_close"
+    "auditor_snapshot auditor_reopen snapshot_text snapshot_read snapshot_close could answer_kind answer_names answer_turns answer_turn answer_close view_open view_could view_close"
 ).split()
 
 DENIED = 1
 MOST_WORKERS = 64
 MOST_ASKED = 4
-
-# How many bytes a value, an edge, a number, a target and a command take.
-VALUE_SIZE, EDGE_SIZE, NUMBER_SIZE, TARGET_SIZE, COMMAND_SIZE = 16, 24, 8, 16, 40
 
 # How many edges of a row are taken at once. A longer row is read from the journal, which has all of it.
 SHORT_ROW = 64
@@ -109,12 +107,6 @@ class Counts(ctypes.Structure):
         ("nursery_collections", Number),
         ("full_collections", Number),
     ]
-
-
-class PlaceOfC(ctypes.Structure):
-    """A store, or none where all of it is zero; an auditor, an answer and a view are held in the same way."""
-
-    _fields_ = [("is_open", ctypes.c_bool), ("at", ctypes.c_void_p)]
 
 
 def _declared(library: ctypes.CDLL) -> ctypes.CDLL:
@@ -615,6 +607,41 @@ class Auditor(_Place):
 
     def sweep(self) -> None:
         self._ask(library.tg_auditor_sweep)
+
+    def snapshot(self) -> bytes:
+        shown = _Snapshot()
+        with LOCK:
+            self._ask(library.tg_auditor_snapshot, shown._at)
+        try:
+            return shown.text()
+        finally:
+            shown.close()
+
+    def reopen(self, text: bytes) -> None:
+        shown = _Snapshot()
+        shown.read(text)
+        with LOCK:
+            self._ask(library.tg_auditor_reopen, shown._at)
+        shown.close()
+
+
+class _Snapshot(_Place):
+    """The place of a snapshot."""
+
+    __slots__ = ()
+    _give_back = staticmethod(library.tg_snapshot_close)
+
+    def text(self) -> bytes:
+        """The text of an open one."""
+        length = Number()
+        self._ask(library.tg_snapshot_text, None, c_size_t(0), byref(length))
+        text = ctypes.create_string_buffer(length.value + 1)
+        self._ask(library.tg_snapshot_text, text, c_size_t(len(text)), byref(length))
+        return text.value
+
+    def read(self, text: bytes) -> None:
+        """Reads one from its text."""
+        self._ask(library.tg_snapshot_read, text, c_size_t(len(text)), byref(Number()))
 
 
 class View(_Place):

@@ -49,6 +49,12 @@ def _loaded(kind: Type[ctypes.CDLL]) -> ctypes.CDLL:
 library = _loaded(ctypes.CDLL)
 
 
+class PlaceOfC(ctypes.Structure):
+    """A store, or none where all of it is zero; an auditor, a snapshot, an answer and a view are held in the same way."""
+
+    _fields_ = [("is_open", ctypes.c_bool), ("at", ctypes.c_void_p)]
+
+
 def address_of(name: str) -> int:
     """Where the function with this name is in memory."""
     return ctypes.cast(getattr(library, name), ctypes.c_void_p).value

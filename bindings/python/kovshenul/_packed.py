@@ -9,6 +9,9 @@ from ._library import BITS, number_in
 from ._values import Value
 from .journal import Deed, Entry, command_of, record_of
 
+# How many bytes a value, an edge, a number, a target and a command take.
+VALUE_SIZE, EDGE_SIZE, NUMBER_SIZE, TARGET_SIZE, COMMAND_SIZE = 16, 24, 8, 16, 40
+
 NO_VALUE = "a value is a Cell, a Sum, a Max or a Log"
 
 

@@ -2,7 +2,7 @@
 from __future__ import annotations
 
 from operator import index
-from typing import Optional, Sequence, Tuple
+from typing import Mapping, Optional, Sequence, Tuple
 
 from ._library import text_of
 from ._values import RIGHTS, Rights
@@ -16,6 +16,9 @@ MISSING = CAUSES.index("missing")
 SENTENCES = {"not distinct": "two vertices that must differ are one", "not log": "the target stores no log"}
 
 
+# The names of a store to which the host gave none.
+NO_NAMES: Mapping[int, str] = {}
+
 # What the library says of a denial in numbers: rule, cause, edge from and to, and rights.
 Numbers = Tuple[int, int, int, int, int]
 
@@ -27,6 +30,12 @@ def told_by(denial: Numbers) -> Tuple[str, str, Optional[Tuple[int, int]], Right
     return RULES[rule], CAUSES[cause], edge, RIGHTS[rights]
 
 
+def shown(vertex: int, names: Mapping[int, str]) -> str:
+    """The number of a vertex, in brackets after its name if it has one."""
+    name = names.get(vertex)
+    return f"{name} ({vertex})" if name else str(vertex)
+
+
 class Error(Exception):
     """What a store raises: Denied, or a Refused."""
 
@@ -36,7 +45,8 @@ class Denied(Error, PermissionError):
 
     `rule` and `cause` are words of RULES and CAUSES. If the cause is `missing`, `rights` are the missing rights, on the edge from
     `edge[0]` to `edge[1]`. Otherwise there is no edge. The cause is `not log` if the target of an append stores no log.
-    `vertices` are those that the command named: the worker, for a take or a grant the one between, and the target.
+    `vertices` are those that the command named: the worker, for a take or a grant the one between, and the target. `names` has
+    the names of these vertices that the host gave by `set_name`, for the text of the denial.
     """
 
     def __init__(
@@ -46,16 +56,23 @@ class Denied(Error, PermissionError):
         edge: Optional[Tuple[int, int]] = None,
         rights: Rights = Rights(0),
         vertices: Tuple[int, ...] = (),
+        names: Mapping[int, str] = NO_NAMES,
     ) -> None:
         # OSError's own __init__, which isn't called, would make a number and a file's name of these.
         self.args = rule, cause, edge, rights, vertices
         self.rule, self.cause, self.edge, self.rights, self.vertices = rule, cause, edge, rights, vertices
+        self.names = names
 
     def __str__(self) -> str:
         if self.edge is not None:
-            return f"{self.rule}: {self.rights.letters} is missing on {self.edge[0]}->{self.edge[1]}"
-        named = f" ({', '.join(map(str, self.vertices))})" if self.vertices else ""
+            source, target = (shown(vertex, self.names) for vertex in self.edge)
+            return f"{self.rule}: {self.rights.letters} is missing on {source}->{target}"
+        named = f" ({', '.join(shown(vertex, self.names) for vertex in self.vertices)})" if self.vertices else ""
         return f"{self.rule}: {SENTENCES.get(self.cause, self.cause)}{named}"
+
+    def __repr__(self) -> str:
+        words = [*map(repr, self.args), *([f"names={dict(self.names)!r}"] if self.names else [])]
+        return f"{type(self).__name__}({', '.join(words)})"
 
 
 def denied(denial: Numbers, vertices: Tuple[int, ...]) -> Denied:
@@ -74,6 +91,9 @@ class Refused(Error):
     """The place of the entry from which a store didn't go on (`Store.resume`, `Store.go_on`); else None."""
     replies: Optional[Sequence[object]] = None
     """The replies to the commands of a batch that are done, where a later one was refused (`Store.apply_all`); else None."""
+
+    line: Optional[int] = None
+    """The first line at fault in a text, counted from 1 (`Snapshot`); else None."""
 
     def __init__(self, status: Optional[int] = None, text: str = "") -> None:
         if status is not None:
@@ -165,7 +185,8 @@ class BadEdge(Refused, ValueError):
 
 
 class BadValues(Refused, ValueError):
-    """An entry to go on from that no store makes, as one with an empty set of rights. Of an opening it is kept: no value gives it."""
+    """An entry to go on from that no store makes, as one with an empty set of rights; a text that is not that of a snapshot. Of an
+    opening it is kept: no value gives it."""
 
     status = 83
 

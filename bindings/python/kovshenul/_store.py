@@ -2,13 +2,14 @@
 from __future__ import annotations
 
 from itertools import count as from_on
-from typing import Iterable, Iterator, List, Set, Tuple, Type, TypeVar
+from typing import Iterable, Iterator, List, Optional, Set, Tuple, Type, TypeVar
 
 from ._backend import back_end
 from ._held import Held
 from ._library import number_in
+from ._marks import Marked
 from ._packed import commands_in, entry_in, opening_in, scene_in, value_in
-from ._refusals import BadPlace, Refused, refusal
+from ._refusals import BadPlace, Denied, Refused, refusal
 from ._values import RIGHTS, Counts, Kind, Limits, Rights, Target, Value
 from ._view import View
 from .journal import Deed, Entry, Reply, entry_of
@@ -20,24 +21,34 @@ ROOM = 64
 Own = TypeVar("Own", bound="Store")
 
 
-class Store(Held):
+class Store(Held, Marked):
     """An open store. `close`, or leaving its `with`, gives its memory back.
+
+    The workers of `trusted` are marked as by `trust`. If one is no worker, it raises NoSuchWorker, and the store is closed.
 
     Any thread may call. The module's lock makes the calls come one after the other. If a number is out of its range, the call
     raises OverflowError, and nothing happened. A call that isn't served raises Denied or a Refused.
     """
 
-    __slots__ = ()
+    __slots__ = ("_names", "_trusted")
     _named = "a store"
     _kind = back_end.Store
+
+    def __new__(cls, *_arguments: object, **_words: object) -> Store:
+        """A closed one, without marks."""
+        store = super().__new__(cls)
+        store._names, store._trusted = {}, set()
+        return store
 
     def __init__(
         self,
         workers: Iterable[Value],
         edges: Iterable[Tuple[int, int, int]] = (),
         limits: Tuple[int, int, int] = Limits(),
+        trusted: Iterable[int] = (),
     ) -> None:
         self._place.open(*opening_in(workers, edges, limits))
+        self._trust_each(trusted)
 
     @classmethod
     def resume(
@@ -46,13 +57,14 @@ class Store(Held):
         edges: Iterable[Tuple[int, int, int]],
         limits: Tuple[int, int, int],
         entries: Iterable[Entry],
+        trusted: Iterable[int] = (),
     ) -> Own:
         """Opens a store that goes on from the entries of another one, which was opened with the same workers, edges and
         `max_vertices`. They begin at the first entry.
 
         The store does the deed of each entry again, and compares the replies. So nobody has to believe the entries: they are a
         legal history of this opening. The store then gives each later reply as the other one would. It raises what `go_on`
-        raises, and the store is closed then.
+        raises, and the store is closed then. Entries have no marks of the host: `trusted` are workers after the last entry.
         """
         store = cls(workers, edges, limits)
         try:
@@ -60,6 +72,7 @@ class Store(Held):
         except BaseException:
             store.close()
             raise
+        store._trust_each(trusted)
         return store
 
     def go_on(self, at: int, entries: Iterable[Entry]) -> None:
@@ -80,35 +93,53 @@ class Store(Held):
 
     def take(self, worker: int, via: int, target: int, rights: int) -> None:
         """The worker takes rights over the target that `via` has."""
-        self._place.take(worker, via, target, rights)
+        try:
+            self._place.take(worker, via, target, rights)
+        except Denied as denial:
+            raise self._with_names(denial)
 
     def grant(self, worker: int, via: int, target: int, rights: int) -> None:
         """The worker grants rights over the target to `via`."""
-        self._place.grant(worker, via, target, rights)
+        try:
+            self._place.grant(worker, via, target, rights)
+        except Denied as denial:
+            raise self._with_names(denial)
 
     def remove(self, worker: int, target: int, rights: int) -> None:
         """The worker gives up its own rights over the target."""
-        self._place.remove(worker, target, rights)
+        try:
+            self._place.remove(worker, target, rights)
+        except Denied as denial:
+            raise self._with_names(denial)
 
     def write(self, worker: int, target: int, value: int) -> None:
         """The worker writes to the target."""
-        self._place.write(worker, target, value)
+        try:
+            self._place.write(worker, target, value)
+        except Denied as denial:
+            raise self._with_names(denial)
 
     def append(self, worker: int, target: int, value: int) -> None:
         """The worker adds to the log of the target, by its right to append. To a target that stores no log, write by `write`."""
-        self._place.append(worker, target, value)
+        try:
+            self._place.append(worker, target, value)
+        except Denied as denial:
+            raise self._with_names(denial)
 
     def create(self, worker: int, rights: int, value: Value) -> int:
         """Makes a vertex over which the worker has the rights, and returns its name."""
         return self._place.create(worker, rights, value_in(value))
 
-    def spawn(self, worker: int, rights: int, value: Value) -> int:
+    def spawn(self, worker: int, rights: int, value: Value, trusted: bool = False) -> int:
         """Makes a worker over which the asking worker has the rights, and returns its name.
 
         The new worker holds nothing until it is granted something. At most 64 workers are active at a time, and no name is used
-        again.
+        again. If `trusted`, the new worker is marked as by `trust`.
         """
-        return self._place.spawn(worker, rights, value_in(value))
+        name = self._place.spawn(worker, rights, value_in(value))
+        if trusted:
+            self._trusted.add(name)
+        return name
 
     def retire(self, worker: int) -> None:
         """The worker retires. Each later call in its name is refused. Its vertex and its edges stay while a worker reaches them.
@@ -132,7 +163,10 @@ class Store(Held):
 
     def read(self, worker: int, target: int) -> List[int]:
         """Returns the state of the target."""
-        return self._place.read(worker, target)
+        try:
+            return self._place.read(worker, target)
+        except Denied as denial:
+            raise self._with_names(denial)
 
     def list(self, worker: int, room: int = ROOM) -> List[Target]:
         """Returns the worker's edges by rising name. The journal gets one entry with all of them, however many there are.
@@ -144,7 +178,10 @@ class Store(Held):
     def inspect(self, worker: int, target: int, room: int = ROOM) -> List[Target]:
         """Returns the target's edges by rising name, by the worker's right to inspect it. The journal gets one entry with all of
         them. `room` has no effect, as in `list`."""
-        return self._place.inspect(worker, target, room)
+        try:
+            return self._place.inspect(worker, target, room)
+        except Denied as denial:
+            raise self._with_names(denial)
 
     def apply_all(self, worker: int, commands: Iterable[Deed]) -> List[Reply]:
         """Takes commands of the worker one after the other, at most 1,024, and answers their replies. Each is a deed of
@@ -171,11 +208,12 @@ class Store(Held):
         x: int,
         right: int,
         y: int,
-        silent: Iterable[int] = (),
+        silent: Optional[Iterable[int]] = None,
         as_if: Iterable[Tuple[int, int, int]] = (),
     ) -> Outlook:
-        """Returns whether x could ever come to hold the right over y, by any turns of the workers that aren't silent. A worker
-        that is spawned on the way acts too. A name that isn't made yet represents a vertex that those who act may make.
+        """Returns whether x could ever come to hold the right over y, by any turns of the workers that aren't silent. These are the
+        trusted ones (`trust`), unless `silent` lists others: `silent=()` has all act. A worker that is spawned on the way acts too.
+        A name that isn't made yet represents a vertex that those who act may make.
 
         The edges of `as_if` are supposed to be there too, so a host asks about a grant before it makes it. Their ends may be any
         vertices that a worker reaches.
@@ -184,11 +222,12 @@ class Store(Held):
         NoSuchWorker if a silent one is no worker, and BadEdge if a supposed edge joins a vertex to itself, or has an end that no
         worker reaches.
         """
-        return outlook_of(*self._place.could(*scene_in(silent, as_if), x, right, y))
+        return outlook_of(*self._place.could(*scene_in(self._silent(silent), as_if), x, right, y))
 
-    def view(self, silent: Iterable[int] = (), as_if: Iterable[Tuple[int, int, int]] = ()) -> View:
+    def view(self, silent: Optional[Iterable[int]] = None, as_if: Iterable[Tuple[int, int, int]] = ()) -> View:
         """Opens a view of what the workers reach, in which the silent ones take no turns, as if these edges were there too. The
-        journal gets no entry. It is refused as `could` is for a silent one or a supposed edge."""
+        silent ones are those of `could`. The journal gets no entry. It is refused as `could` is for a silent one or a supposed
+        edge."""
         return View(self, silent, as_if)
 
     def collect(self, kind: int = Kind.FULL) -> int:

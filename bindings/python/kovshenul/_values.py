@@ -111,6 +111,10 @@ class Log(Value):
         self._pack(3, number_in(32, self.most), 0)
 
 
+# The letters of the laws, as in a script.
+LETTERS = {Cell: "c", Sum: "s", Max: "m", Log: "l"}
+
+
 class Edge(NamedTuple):
     """The rights of worker `source` over worker `target`, at the opening."""
 

@@ -1,7 +1,7 @@
 """A view, which answers many questions about the future."""
 from __future__ import annotations
 
-from typing import TYPE_CHECKING, Iterable, Tuple
+from typing import TYPE_CHECKING, Iterable, Optional, Tuple
 
 from ._backend import back_end
 from ._held import Held, place_of
@@ -28,9 +28,9 @@ class View(Held):
     _named = "a view"
     _kind = back_end.View
 
-    def __init__(self, store: Store, silent: Iterable[int] = (), as_if: Iterable[Tuple[int, int, int]] = ()) -> None:
-        scene = scene_in(silent, as_if)
-        self._place.open(place_of("store", store), *scene)
+    def __init__(self, store: Store, silent: Optional[Iterable[int]] = None, as_if: Iterable[Tuple[int, int, int]] = ()) -> None:
+        place = place_of("store", store)
+        self._place.open(place, *scene_in(store._silent(silent), as_if))
 
     def could(self, x: int, right: int, y: int) -> Chance:
         """Returns what is known of the question whether x could ever come to hold the right over y. The answers are that it never

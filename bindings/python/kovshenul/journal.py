@@ -5,14 +5,15 @@
             case journal.Entry(worker, journal.Write(target, value), journal.Denied(edge=edge)):
                 print(f"{at}: {worker} may not write {value} to {target}: {edge}")
 
-Entries are values: they compare, print and can be kept, also after the store is closed.
+Entries are values: they compare, print and can be kept, also after the store is closed. Printed, an entry is its line in the text
+that the program tgaudit reads.
 """
 from __future__ import annotations
 
 from dataclasses import dataclass
 from typing import NamedTuple, Optional, Sequence, Tuple, Union
 
-from ._refusals import CAUSES, RULES, Numbers, told_by
+from ._refusals import CAUSES, RULES, BadValues, Numbers, told_by
 from ._values import RIGHTS, Cell, Log, Max, Rights, Sum, Target, Value
 
 # By their numbers. A log begins with none.
@@ -159,11 +160,21 @@ Reply = Union[Done, Denied, Name, Values, Edges, VerticesFull, WorkersFull]
 
 @dataclass(frozen=True)
 class Entry:
-    """An entry of the journal."""
+    """An entry of the journal. Its `str` is the line of the entry in the text of a history (`kovshenul.opening_text`). An entry that
+    no store makes has no line, and its `str` is its `repr`."""
 
     worker: int
     deed: Deed
     reply: Reply
+
+    def __str__(self) -> str:
+        # It packs entries, and so it imports this module.
+        from ._texts import entry_text
+
+        try:
+            return entry_text(self)
+        except (BadValues, OverflowError, TypeError, ValueError):
+            return repr(self)
 
 
 # By their numbers.

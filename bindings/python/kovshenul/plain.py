@@ -10,8 +10,8 @@
 It has the same calls, with the same arguments and answers. It raises the same exceptions and keeps the same journal. The rules are in
 `_rules.py`, written so that they can be read. The store is proved, and the model isn't. The package's tests compare the two.
 
-It is plain Python. The library for C, which the package loads, is asked for the texts of refusals and for nothing else. `_rules.py`
-runs without the package.
+It is plain Python. The library for C, which the package loads, is asked for texts and for nothing else: those of refusals, of entries,
+of an opening and of a snapshot. `_rules.py` runs without the package.
 
 What it leaves out:
 
@@ -33,6 +33,7 @@ from . import journal, outlook
 from ._asked import Pair, edges_in, must_be_one, must_be_rights, must_be_written, must_fit, numbers_in, opened, stored_in
 from ._foresight import Foresight
 from ._library import number_in, short_of
+from ._marks import Marked
 from ._packed import commands_in, entry_in
 from ._refusals import CAUSES, RULES, BadEntry, BadLaw, BadLimits, BadValues, BadWorkers, Error, HeapFull, NotAudited, OutOfMemory, Refused
 from ._refusals import (
@@ -50,6 +51,8 @@ from ._refusals import (
     refusal,
 )
 from ._rules import Denial, Full
+from ._snapshot import Snapshot
+from ._texts import end_text, opening_text
 from ._values import MOST_NUMBERS, Cell, Counts, Edge, Kind, Limits, Log, Max, Rights, Sum, Target, Value
 from .journal import Create, Deed, Entry, Reply, Spawn
 from .outlook import Chance, Outlook
@@ -84,18 +87,26 @@ class _Held:
         self.close()
 
 
-class Store(_Held):
+class Store(_Held, Marked):
     """A store by the rules alone. Each call does what the call of the same name of `kovshenul.Store` does."""
 
-    def __init__(self, workers: Iterable[Value], edges: Iterable[Pair] = (), limits: Tuple[int, int, int] = Limits()) -> None:
+    def __init__(
+        self,
+        workers: Iterable[Value],
+        edges: Iterable[Pair] = (),
+        limits: Tuple[int, int, int] = Limits(),
+        trusted: Iterable[int] = (),
+    ) -> None:
         if not self.closed:
             raise AlreadyOpen
         self._graph = opened(workers, edges, limits)
+        self._names, self._trusted = {}, set()
         self._entries: List[Entry] = []
         self._first = 0
         self._collections = {kind: 0 for kind in Kind}
         self._foreseen: Optional[Tuple[object, Foresight]] = None
         self.closed = False
+        self._trust_each(trusted)
 
     # ---- commands, each of which has its entry
 
@@ -146,9 +157,12 @@ class Store(_Held):
         """Makes a vertex over which the worker has the rights, and returns its name."""
         return self._make(Create, worker, rights, value)
 
-    def spawn(self, worker: int, rights: int, value: Value) -> int:
+    def spawn(self, worker: int, rights: int, value: Value, trusted: bool = False) -> int:
         """Makes a worker over which the one who asks has the rights, and returns its name."""
-        return self._make(Spawn, worker, rights, value)
+        name = self._make(Spawn, worker, rights, value)
+        if trusted:
+            self._trusted.add(name)
+        return name
 
     def _make(self, kind: Callable[..., Deed], worker: int, rights: int, value: Value) -> int:
         """Asks for a command that makes a vertex."""
@@ -164,10 +178,18 @@ class Store(_Held):
         self._ask(worker, journal.Retire())
 
     @classmethod
-    def resume(cls: Type[Own], workers: Iterable[Value], edges: Iterable[Pair], limits: Tuple[int, int, int], entries: Iterable[Entry]) -> Own:
+    def resume(
+        cls: Type[Own],
+        workers: Iterable[Value],
+        edges: Iterable[Pair],
+        limits: Tuple[int, int, int],
+        entries: Iterable[Entry],
+        trusted: Iterable[int] = (),
+    ) -> Own:
         """Opens a store that goes on from the entries of another one. They begin at the first entry."""
         store = cls(workers, edges, limits)
         store.go_on(0, entries)
+        store._trust_each(trusted)
         return store
 
     def go_on(self, at: int, entries: Iterable[Entry]) -> None:
@@ -244,7 +266,7 @@ class Store(_Held):
         self._entries.append(Entry(worker, deed, reply))
         if isinstance(reply, journal.Denied):
             named = [getattr(deed, name) for name in ("via", "target") if hasattr(deed, name)]
-            raise Denied(reply.rule, reply.cause, reply.edge, reply.rights, (worker, *named))
+            raise self._with_names(Denied(reply.rule, reply.cause, reply.edge, reply.rights, (worker, *named)))
         if isinstance(reply, journal.VerticesFull):
             raise VerticesFull
         if isinstance(reply, journal.WorkersFull):
@@ -271,15 +293,15 @@ class Store(_Held):
         self._must_be_open()
         return [*self._graph.subjects]
 
-    def could(self, x: int, right: int, y: int, silent: Iterable[int] = (), as_if: Iterable[Pair] = ()) -> Outlook:
+    def could(self, x: int, right: int, y: int, silent: Optional[Iterable[int]] = None, as_if: Iterable[Pair] = ()) -> Outlook:
         """Whether x could ever come to hold the right over y, by any turns of the workers but the silent ones, as if these edges were
         there too."""
-        names, edges = numbers_in(*silent), edges_in(as_if)
+        names, edges = numbers_in(*self._silent(silent)), edges_in(as_if)
         x, right, y = numbers_in(x, right, y)
         must_be_one(right)
         return self._foresight(names, edges).answer(x, right, y)
 
-    def view(self, silent: Iterable[int] = (), as_if: Iterable[Pair] = ()) -> View:
+    def view(self, silent: Optional[Iterable[int]] = None, as_if: Iterable[Pair] = ()) -> View:
         """A view of what the workers reach at the moment."""
         return View(self, silent, as_if)
 
@@ -374,10 +396,10 @@ def _reply(deed: Deed, answer: object) -> Reply:
 class View(_Held):
     """A view, which answers many questions about the future, as of the moment of `Store.view`."""
 
-    def __init__(self, store: Store, silent: Iterable[int] = (), as_if: Iterable[Pair] = ()) -> None:
-        names, edges = numbers_in(*silent), edges_in(as_if)
+    def __init__(self, store: Store, silent: Optional[Iterable[int]] = None, as_if: Iterable[Pair] = ()) -> None:
         if not isinstance(store, Store):
             raise TypeError(f"a store is wanted, and not {short_of(store)}")
+        names, edges = numbers_in(*store._silent(silent)), edges_in(as_if)
         self._foresight = store._foresight(names, edges)
         self.closed = False
 

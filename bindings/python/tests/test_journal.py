@@ -24,12 +24,15 @@ from kovshenul import (
     NotWhole,
     Refused,
     Rights,
+    Snapshot,
     Store,
     Sum,
     Target,
     VerticesFull,
     WorkersFull,
+    end_text,
     journal,
+    opening_text,
 )
 
 WORKERS = 3
@@ -323,6 +326,130 @@ class Resumed(unittest.TestCase):
             self.assertRaises(TypeError, store.go_on, 0, [journal.Entry(0, journal.Create(Rights(1), 7), journal.Done())])
             self.assertRaises(ValueError, store.go_on, 0, [journal.Entry(0, journal.List(), journal.Denied("eat", "missing"))])
             self.assertEqual(store.entries(), 0)
+
+
+LETTERS = {Cell: "c", Sum: "s", Max: "m", Log: "l"}
+
+
+def words_of(deed):
+    """What was asked for: its name, and its numbers, rights and value."""
+    for word in (type(deed).__name__.lower(), *vars(deed).values()):
+        most_or_number = getattr(word, "most", getattr(word, "number", None))
+        yield f"{LETTERS[type(word)]}{most_or_number}" if type(word) in LETTERS else getattr(word, "letters", word)
+
+
+def words_of_reply(reply):
+    """What was answered."""
+    if isinstance(reply, journal.Denied):
+        missing = [f"{reply.edge[0]}->{reply.edge[1]}", reply.rights.letters] if reply.edge else []
+        return ["denied", reply.rule, *(missing or [{"not distinct": "distinct", "not log": "law"}[reply.cause]])]
+    if isinstance(reply, (journal.VerticesFull, journal.WorkersFull)):
+        return ["refused", "vertices" if isinstance(reply, journal.VerticesFull) else "workers"]
+    edges = [f"{edge.to}:{edge.rights.letters}" for edge in getattr(reply, "edges", ())]
+    return ["ok", *([reply.name] if isinstance(reply, journal.Name) else getattr(reply, "numbers", edges))]
+
+
+def by_hand(entry):
+    """The line of an entry, written here once more."""
+    return " ".join(map(str, [entry.worker, *words_of(entry.deed), "=", *words_of_reply(entry.reply)]))
+
+
+class Texts(unittest.TestCase):
+    """The text of a history."""
+
+    def test_entries(self):
+        for seed in range(5):
+            with opened() as store:
+                entries = told(store, seed)
+                store.retire(2)
+                for entry in (*entries, store.entry(store.entries() - 1)):
+                    self.assertEqual(str(entry), by_hand(entry))
+                    self.assertEqual(f"{entry}", str(entry))
+
+    def test_long_lines(self):
+        with opened(1_000) as store:
+            for _ in range(300):
+                store.create(0, READ, Cell(0))
+            store.list(0)
+            entry = store.entry(300)
+            self.assertEqual(str(entry), by_hand(entry))
+            self.assertGreater(len(str(entry)), 1_606)
+
+    def test_other_lines(self):
+        lines = {
+            "0 spawn r l64 = refused workers": journal.Entry(0, journal.Spawn(READ, Log(64)), journal.WorkersFull()),
+            "1 append 2 3 = denied append law": journal.Entry(1, journal.Append(2, 3), journal.Denied("append", "not log")),
+        }
+        for line, entry in lines.items():
+            self.assertEqual(str(entry), line)
+        none = [
+            journal.Entry(0, journal.Take(1, 2, Rights(0)), journal.Done()),
+            journal.Entry(-1, journal.List(), journal.Done()),
+            journal.Entry(0, None, journal.Done()),
+            journal.Entry(0, journal.List(), journal.Denied("eat", "missing")),
+        ]
+        for entry in none:
+            self.assertEqual(str(entry), repr(entry))
+
+    def test_openings(self):
+        values, edges = [Cell(0), Sum(2**64 - 1), Max(3), Log(64)], [(0, 1, READ | GRANT), (3, 0, TAKE)]
+        self.assertEqual(
+            opening_text(values, edges, Limits(9, 8, 4)),
+            "kovshenul entries 1\nopening 4 9\nworker c0\nworker s18446744073709551615\nworker m3\nworker l64\nedge 0 1 rg\nedge 3 0 t",
+        )
+        long = opening_text([Cell(0)] * 64)
+        self.assertEqual(long, "\n".join(["kovshenul entries 1", "opening 64 1048576", *["worker c0"] * 64]))
+        self.assertRaises(BadWorkers, opening_text, [])
+        self.assertRaises(TypeError, opening_text, [7])
+        self.assertEqual([end_text(0), end_text(2**64 - 1)], ["entries 0", "entries 18446744073709551615"])
+        for count in (-1, 2**64):
+            self.assertRaises(OverflowError, end_text, count)
+
+
+class Snapshots(unittest.TestCase):
+    """What an auditor has come to, from which another one goes on."""
+
+    def test_parts(self):
+        with opened() as store, Auditor(*opening()) as whole:
+            before = whole.snapshot()
+            for seed in range(10):
+                told(store, seed, 50)
+                with Auditor.reopen(before) as part:
+                    self.assertEqual(part.feed(store), whole.feed(store))
+                    before = part.snapshot()
+                    self.assertEqual(before, whole.snapshot())
+                    self.assertEqual((part.at, whole.at), (store.entries(), store.entries()))
+                store.forget(store.entries())
+
+    def test_texts(self):
+        with Auditor([Cell(7), Log(2)], [(0, 1, READ | GRANT)], Limits(9, 8, 4)) as auditor:
+            snapshot = auditor.snapshot()
+        lines = ["kovshenul picture 1", "made 2 9 0", "worker 0", "worker 1", "vertex 0 c7", "vertex 1 l2", "edge 0 1 rg", "picture 3"]
+        self.assertEqual(str(snapshot), "\n".join(lines))
+        for text in (str(snapshot), f"{snapshot}\n"):
+            self.assertEqual(Snapshot(text), snapshot)
+        self.assertEqual(pickle.loads(pickle.dumps(snapshot)), snapshot)
+        for at in range(len(lines)):
+            with self.assertRaises(BadValues) as refused:
+                Snapshot("\n".join([*lines[:at], "nonsense", *lines[at + 1 :]]))
+            self.assertEqual(refused.exception.line, at + 1)
+            self.assertTrue(str(refused.exception).startswith(f"line {at + 1}: "))
+        for text in ("", "kovshenul picture 1", f"{snapshot}\n\n", "\u20ac", f"{snapshot}\0"):
+            self.assertRaises(BadValues, Snapshot, text)
+        for text in (None, b"kovshenul picture 1", 7):
+            self.assertRaises(TypeError, Snapshot, text)
+            self.assertRaises(TypeError, Auditor.reopen, text)
+
+    def test_stopped(self):
+        with opened() as store, Auditor(*opening()) as auditor:
+            store.create(0, READ, Cell(0))
+            auditor.feed(store)
+            text = str(auditor.snapshot())
+            store.read(0, WORKERS)
+            with Auditor.reopen(Snapshot(text.replace(f"edge 0 {WORKERS} r", f"edge 0 {WORKERS} w"))) as other:
+                self.assertRaises(BadEntry, other.feed, store)
+                self.assertRaises(BadEntry, other.snapshot)
+        self.assertRaises(NotOpen, auditor.snapshot)
 
 
 if __name__ == "__main__":

@@ -1,7 +1,7 @@
 //! An audit that comes in parts.
 use crate::error::served;
 use crate::raw::{self, RawAuditor, RawEdge, RawValue};
-use crate::{Edge, Error, Limits, Store, Value};
+use crate::{Edge, Error, Limits, Snapshot, Store, Value};
 use std::cell::UnsafeCell;
 use std::fmt;
 use std::panic::RefUnwindSafe;
@@ -64,6 +64,42 @@ impl Auditor {
         Ok(Auditor {
             place: UnsafeCell::new(place),
         })
+    }
+
+    /// Opens an auditor that goes on from a snapshot. Its place is that of the snapshot. So it is fed by a store that holds the entry of
+    /// this place, or that makes it next. Only memory may be lacking.
+    ///
+    /// ```
+    /// # use kovshenul::{Auditor, Limits, Rights, Snapshot, Store, Value};
+    /// # let (workers, limits) = ([Value::Cell(0)], Limits { max_vertices: 10, max_blocks: 8, max_space_blocks: 4 });
+    /// # let mut store = Store::open(&workers, &[], &limits)?;
+    /// let mut first = Auditor::open(&workers, &[], &limits)?;
+    /// let sum = store.create(0, Rights::READ | Rights::WRITE, Value::Sum(40))?;
+    /// let audited = first.feed(&store)?;
+    /// let kept = first.snapshot()?.to_string();
+    /// first.forget(&mut store, audited)?;
+    /// store.write(0, sum, 2)?;
+    /// let snapshot: Snapshot = kept.parse()?;
+    /// let mut second = Auditor::reopen(&snapshot)?;
+    /// assert_eq!(second.feed(&store)?, 2);
+    /// assert_eq!(first.feed(&store)?, 2);
+    /// assert_eq!(second.snapshot()?, first.snapshot()?);
+    /// # Ok::<(), Box<dyn std::error::Error>>(())
+    /// ```
+    pub fn reopen(snapshot: &Snapshot) -> Result<Auditor, Error> {
+        let mut place = RawAuditor {
+            is_open: false,
+            at: null_mut(),
+        };
+        snapshot.reopen(&mut place)?;
+        Ok(Auditor {
+            place: UnsafeCell::new(place),
+        })
+    }
+
+    /// Takes a snapshot of what it has come to, at its place. It is [`BadEntry`](Error::BadEntry) after a bad entry.
+    pub fn snapshot(&self) -> Result<Snapshot, Error> {
+        Snapshot::of(self.place.get())
     }
 
     /// Replays the entries that the store holds, from the auditor's place on, and returns how many entries passed in all.

@@ -2,7 +2,7 @@
 use crate::error::served;
 use crate::raw::{self, RawAnswer, RawEdge, RawRecord};
 use crate::store::MOST_NUMBERS;
-use crate::{Deed, Edge, Error, Rights, Store};
+use crate::{Deed, Edge, Error, Rights, Silent, Store};
 use std::ptr::null_mut;
 
 /// A command of a worker that acts.
@@ -59,9 +59,10 @@ impl Could {
 }
 
 impl Store {
-    /// Returns whether x could ever come to hold the right over y, by any turns of the workers that aren't silent. These
-    /// edges are supposed to be there too, so a host asks about a grant before it makes it. A worker that is spawned on the
-    /// way acts too. A name that isn't made yet represents a vertex that those who act may make.
+    /// Returns whether x could ever come to hold the right over y, by any turns of the workers that aren't silent. The silent
+    /// ones are those that the host trusts ([`Silent::Trusted`]), or a slice of names. The edges `as_if` are supposed to be
+    /// there too, so a host asks about a grant before it makes it. A worker that is spawned on the way acts too. A name that
+    /// isn't made yet represents a vertex that those who act may make.
     ///
     /// The answer is that of the graph that was never collected, and the journal gets no entry. It is `BadRights` if it
     /// isn't one right, and `NoSuchWorker` if a silent one is no worker. It is `BadEdge` if an edge joins a vertex to
@@ -80,7 +81,15 @@ impl Store {
     /// assert!(could.turns().any(|turn| turn.worker == plugin && turn.deed == take));
     /// # Ok::<(), Error>(())
     /// ```
-    pub fn could(&self, x: u64, right: Rights, y: u64, silent: &[u64], as_if: &[Edge]) -> Result<Could, Error> {
+    pub fn could<'a>(
+        &self,
+        x: u64,
+        right: Rights,
+        y: u64,
+        silent: impl Into<Silent<'a>>,
+        as_if: &[Edge],
+    ) -> Result<Could, Error> {
+        let silent = self.silent(silent.into())?;
         let edges: Vec<RawEdge> = as_if.iter().map(RawEdge::from).collect();
         let mut answer = Answer(RawAnswer {
             is_open: false,

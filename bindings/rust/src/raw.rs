@@ -70,6 +70,13 @@ pub struct RawAuditor {
     pub at: *mut c_void,
 }
 
+/// A snapshot, or none where all of it is zero.
+#[repr(C)]
+pub struct RawSnapshot {
+    pub is_open: bool,
+    pub at: *mut c_void,
+}
+
 #[repr(C)]
 pub struct RawValue {
     law: u32,
@@ -248,6 +255,27 @@ extern "C" {
         edges: *const RawTarget,
         edge_count: usize,
     ) -> u32;
+    pub fn tg_opening_text(
+        workers: *const RawValue,
+        worker_count: usize,
+        edges: *const RawEdge,
+        edge_count: usize,
+        limits: &Limits,
+        text: *mut u8,
+        room: usize,
+        length: &mut u64,
+    ) -> u32;
+    pub fn tg_entry_text(
+        record: &RawRecord,
+        numbers: *const u64,
+        number_count: usize,
+        edges: *const RawTarget,
+        edge_count: usize,
+        text: *mut u8,
+        room: usize,
+        length: &mut u64,
+    ) -> u32;
+    pub fn tg_end_text(count: u64, text: *mut u8, room: usize, length: &mut u64) -> u32;
     pub fn tg_audit(store: *mut RawStore, count: &mut u64) -> u32;
     pub fn tg_could(
         store: *mut RawStore,
@@ -294,4 +322,9 @@ extern "C" {
     pub fn tg_auditor_forget(auditor: *mut RawAuditor, store: *mut RawStore, upto: u64) -> u32;
     pub fn tg_auditor_sweep(auditor: *mut RawAuditor) -> u32;
     pub fn tg_auditor_close(auditor: *mut RawAuditor) -> u32;
+    pub fn tg_auditor_snapshot(auditor: *mut RawAuditor, snapshot: &mut RawSnapshot) -> u32;
+    pub fn tg_auditor_reopen(auditor: *mut RawAuditor, snapshot: &mut RawSnapshot) -> u32;
+    pub fn tg_snapshot_text(snapshot: *mut RawSnapshot, text: *mut u8, room: usize, length: &mut u64) -> u32;
+    pub fn tg_snapshot_read(snapshot: &mut RawSnapshot, text: *const u8, length: usize, line: &mut u64) -> u32;
+    pub fn tg_snapshot_close(snapshot: &mut RawSnapshot) -> u32;
 }

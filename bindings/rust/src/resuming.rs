@@ -85,12 +85,7 @@ impl Store {
 
     // Goes on from the entry at a place. After a bad one it is closed.
     fn replay(&mut self, at: u64, entry: &Entry) -> Result<(), Error> {
-        let (numbers, edges) = (numbers_of(entry), edges_of(entry));
-        let mut record = RawRecord::from(&entry.deed);
-        record.worker = entry.worker;
-        record.put_reply(&entry.reply);
-        record.number_count = numbers.len() as u64;
-        record.edge_count = edges.len() as u64;
+        let (record, numbers, edges) = entry.parts();
         served(unsafe {
             raw::tg_resume(
                 self.at(),
@@ -102,6 +97,19 @@ impl Store {
                 edges.len(),
             )
         })
+    }
+}
+
+impl Entry {
+    // The entry as the library writes one: its record, its numbers and its edges.
+    pub(crate) fn parts(&self) -> (RawRecord, Vec<u64>, Vec<RawTarget>) {
+        let (numbers, edges) = (numbers_of(self), edges_of(self));
+        let mut record = RawRecord::from(&self.deed);
+        record.worker = self.worker;
+        record.put_reply(&self.reply);
+        record.number_count = numbers.len() as u64;
+        record.edge_count = edges.len() as u64;
+        (record, numbers, edges)
     }
 }
 

@@ -1,5 +1,6 @@
 //! An open store.
 use crate::error::{decided, served};
+use crate::marks::Marks;
 use crate::raw::{self, RawDenial, RawEdge, RawRecord, RawStore, RawTarget, RawValue};
 use crate::{Counts, Edge, Entry, Error, Journal, Kind, Limits, Rights, Target, Value};
 use std::cell::UnsafeCell;
@@ -61,6 +62,8 @@ pub struct Store {
     // While a call runs, one that only looks too, the library takes the store out of its place, and puts it back. The
     // cell is why that may be, and why no two threads call at once.
     place: UnsafeCell<RawStore>,
+    // What the host said of its vertices, of which the library knows nothing.
+    pub(crate) marks: Marks,
 }
 
 // What the pointer leads to may go to another thread: the library has a function whose bound asks for it (crates/tg_c/src/place.rt).
@@ -93,6 +96,7 @@ impl Store {
         served(status)?;
         Ok(Store {
             place: UnsafeCell::new(place),
+            marks: Marks::default(),
         })
     }
 

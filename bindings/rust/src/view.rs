@@ -1,7 +1,7 @@
 //! Many questions about the future, of one moment.
 use crate::error::served;
 use crate::raw::{self, RawEdge, RawView};
-use crate::{Edge, Error, Rights, Store};
+use crate::{Edge, Error, Rights, Silent, Store};
 use std::cell::UnsafeCell;
 use std::fmt;
 use std::panic::RefUnwindSafe;
@@ -50,8 +50,10 @@ impl RefUnwindSafe for View {}
 
 impl Store {
     /// Opens a view of what the workers reach, in which the silent ones take no turns, as if these edges were there too.
-    /// The journal gets no entry. It is refused as [`Store::could`] is for a silent one or a supposed edge.
-    pub fn view(&self, silent: &[u64], as_if: &[Edge]) -> Result<View, Error> {
+    /// The silent ones are given as to [`Store::could`]. The journal gets no entry. It is refused as `could` is for a silent
+    /// one or a supposed edge.
+    pub fn view<'a>(&self, silent: impl Into<Silent<'a>>, as_if: &[Edge]) -> Result<View, Error> {
+        let silent = self.silent(silent.into())?;
         let edges: Vec<RawEdge> = as_if.iter().map(RawEdge::from).collect();
         let view = View {
             place: UnsafeCell::new(RawView {

@@ -1,5 +1,8 @@
 //! The journal of a store, read back: it says what was called and what was answered.
-use kovshenul::{Auditor, BatchStopped, Deed, Denial, Edge, Entry, Error, Limits, Reply, Rights, Rule, Stopped, Store, Target, Value};
+use kovshenul::{
+    end_text, opening_text, Auditor, BatchStopped, Deed, Denial, Edge, Entry, Error, Limits, NoSnapshot, Reply, Rights, Rule, Snapshot,
+    Stopped, Store, Target, Value,
+};
 
 const WORKERS: [Value; 2] = [Value::Cell(0); 2];
 
@@ -281,6 +284,78 @@ fn what_stops_a_resume() {
     assert_eq!((stopped.why, stopped.why.status(), stopped.store.is_some()), (Error::BadValues, 83, true));
     assert_eq!(resumed(1, &entries).unwrap_err().why, Error::BadLimits);
     assert_eq!(resumed(3, &entries).unwrap_err().why, Error::BadEntry);
+}
+
+#[test]
+fn entries_have_lines() {
+    let entry = |worker, deed, reply| Entry { worker, deed, reply };
+    let missing = Denial::Missing { rule: Rule::Read, from: 1, to: 2, rights: Rights::READ };
+    let no_log = Denial::NotLog { rule: Rule::Append };
+    let edges = vec![Target { to: 1, rights: Rights::TAKE | Rights::GRANT }, Target { to: u64::MAX, rights: Rights::READ }];
+    let lines = [
+        (entry(0, Deed::Create { rights: Rights::READ, value: Value::Sum(5) }, Reply::Name(2)), "0 create r s5 = ok 2"),
+        (entry(0, Deed::Spawn { rights: Rights::READ, value: Value::Log(64) }, Reply::WorkersFull), "0 spawn r l64 = refused workers"),
+        (entry(1, Deed::Read { target: 2 }, Reply::Denied(missing)), "1 read 2 = denied read 1->2 r"),
+        (entry(1, Deed::Read { target: 2 }, Reply::Values(vec![3, 4])), "1 read 2 = ok 3 4"),
+        (entry(7, Deed::List, Reply::Edges(edges)), "7 list = ok 1:tg 18446744073709551615:r"),
+        (entry(0, Deed::Append { target: 1, value: 2 }, Reply::Denied(no_log)), "0 append 1 2 = denied append law"),
+    ];
+    for (entry, line) in lines {
+        assert_eq!(entry.to_string(), line);
+        assert_eq!(format!("{entry:>50}"), format!("{line:>50}"));
+    }
+    let none = entry(0, Deed::Remove { target: 1, rights: Rights::NONE }, Reply::Done);
+    assert_eq!(none.to_string(), format!("{none:?}"));
+}
+
+#[test]
+fn a_history_has_a_text() {
+    let (store, entries) = told(8, 500);
+    let opening = opening_text(&WORKERS, &edges(), &limits(20)).unwrap();
+    assert_eq!(opening, "kovshenul entries 1\nopening 2 20\nworker c0\nworker c0\nedge 0 1 tgl\nedge 1 0 tgl");
+    assert_eq!(end_text(store.entries().unwrap()).unwrap(), format!("entries {}", entries.len()));
+    assert_eq!(end_text(u64::MAX).unwrap(), "entries 18446744073709551615");
+    assert_eq!(opening_text(&[], &[], &limits(20)), Err(Error::BadWorkers));
+    let many = [Value::Cell(0); 64];
+    assert_eq!(opening_text(&many, &[], &limits(100)).unwrap().lines().count(), 66);
+    let mut long = opened(1_000);
+    for _ in 0..300 {
+        long.create(0, Rights::READ, Value::Cell(0)).unwrap();
+    }
+    long.list(0).unwrap();
+    let line = long.entry(300).unwrap().to_string();
+    let words: Vec<String> = (2..302).map(|name| format!("{name}:r")).collect();
+    assert_eq!(line, format!("0 list = ok 1:tgl {}", words.join(" ")));
+}
+
+#[test]
+fn an_auditor_goes_on_from_a_snapshot() {
+    let (mut store, mut dice) = (opened(20), Dice(9));
+    let mut whole = auditor(20);
+    let mut before = whole.snapshot().unwrap();
+    let shown = "vertex 0 c0\nvertex 1 c0\nedge 0 1 tgl\nedge 1 0 tgl";
+    assert_eq!(before.to_string(), format!("kovshenul picture 1\nmade 2 20 0\nworker 0\nworker 1\n{shown}\npicture 4"));
+    for _ in 0..10 {
+        for _ in 0..50 {
+            let (worker, deed) = (dice.below(2), dice.deed());
+            call(&mut store, worker, deed);
+        }
+        let mut part = Auditor::reopen(&before).unwrap();
+        assert_eq!(part.feed(&store), whole.feed(&store));
+        before = part.snapshot().unwrap();
+        assert_eq!(before, whole.snapshot().unwrap());
+        assert_eq!(before.to_string().parse(), Ok(before.clone()));
+        assert_eq!(format!("{before}\n").parse(), Ok(before.clone()));
+        let entries = store.entries().unwrap();
+        store.forget(entries).unwrap();
+    }
+    let text = before.to_string();
+    for (at, line) in text.lines().enumerate() {
+        let altered = text.replacen(line, "nonsense", 1);
+        assert_eq!(altered.parse::<Snapshot>(), Err(NoSnapshot::Line(at as u64 + 1)));
+    }
+    assert_eq!("".parse::<Snapshot>(), Err(NoSnapshot::Line(1)));
+    assert!(NoSnapshot::Line(3).to_string().starts_with("line 3: "));
 }
 
 #[test]

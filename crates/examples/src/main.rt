@@ -1,13 +1,13 @@
-//! Examples: five stories of programs that embed the store, told one after the other.
+//! Examples: five stories of programs that embed the store, one after the other.
 //!
-//! - `caretaker`: a store, rights that are handed on and given back, collections and an audit. To be read first.
-//! - `stand_in`: how to take back, though no rule does. What is proved reaches into the program.
+//! - `caretaker`: a store, rights that are handed on and given back, collections and an audit. Read it first.
+//! - `stand_in`: how to take a right back, although no rule does. The proof reaches into the program.
 //! - `deputy`: a store that is shared by sessions on two threads.
 //! - `service`: subjects that come and go while others work, and one that hangs.
 //! - `tenants`: clients who pay for their commands, and one who can't any more.
 //!
-//! Each has a folder of its own. What they have in common is what stores are opened with (`opening`), what sessions are
-//! asked for (`sessions`), what is told of a reply (`tell`) and why a story ends early (`fault`).
+//! Each has a folder of its own. They share what stores are opened with (`opening`), what sessions are asked for
+//! (`sessions`), how a reply is shown (`tell`), and why a story ends early (`fault`).
 #![tactic(auto)]
 
 mod caretaker;

@@ -1,8 +1,8 @@
-//! Tests of the heap below the store, and of the race of a collection. Those of the plain graph and of audits are rows
-//! of `tests/runs/audit` and `tests/runs/could`.
+//! Tests of the heap below the store, and of the race of a collection by several helpers.
 //!
-//! They stand here and not beside what they test, since a crate with tests is proved twice. A test is named for what it
-//! shows; each file has one topic. Nothing here is called by any crate.
+//! Tests have crates of their own, because a crate with tests is proved twice. Each file of this crate has one topic,
+//! and the name of a test says what it shows. Only the gate runs this crate. Tests of the plain graph and of audits are
+//! rows of `tests/runs/audit` and `tests/runs/could`.
 #![tactic(auto)]
 
 #[cfg(test)]

@@ -1,7 +1,8 @@
-//! Tests of snapshots: lists that are one, lists with a fault at each place, and audits that go on from one.
+//! Tests of snapshots. They try lists that are a snapshot, lists with a fault at each place, and audits that go on from
+//! a snapshot.
 //!
-//! They stand here and not beside what they test, since a crate with tests is proved twice. A test is named for what it
-//! shows. Nothing here is called by any crate.
+//! Tests have crates of their own, because a crate with tests is proved twice. The name of a test says what it shows.
+//! Only the gate runs this crate.
 #![tactic(auto)]
 
 #[cfg(test)]

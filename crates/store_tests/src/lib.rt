@@ -1,13 +1,15 @@
-//! Tests of the store, of scripts and races in memory, of the payloads that these name, and of answers of `tg_could`
-//! that no clause asks for. Those of sessions stand in `session_tests`.
+//! Tests of the store, of its sessions, of stores that are resumed, of scripts and races in memory, and of the payloads
+//! that these use. A few answers of `tg_could` are tested too, which no clause promises.
 //!
-//! They stand here and not beside what they test, since a crate with tests is proved twice. A test is named for what it
-//! shows; each file has one topic. Nothing here is called by any crate. What a whole script is answered is no test
-//! here: such scripts are rows of `tests/runs/`, which the program is run on.
+//! Tests have crates of their own, because a crate with tests is proved twice. They are one crate, because each check
+//! of a crate reads all libraries below it. Each file has one topic, and the name of a test says what it shows. Only
+//! the gate runs this crate. The replies to a whole script are a row of `tests/runs/`, which runs the program.
 #![tactic(auto)]
 
 #[cfg(test)]
 mod could;
+#[cfg(test)]
+mod hands;
 #[cfg(test)]
 mod helpers;
 #[cfg(test)]
@@ -19,7 +21,11 @@ mod parts;
 #[cfg(test)]
 mod payloads;
 #[cfg(test)]
+mod resumed;
+#[cfg(test)]
 mod runs;
+#[cfg(test)]
+mod sessions;
 #[cfg(test)]
 mod shown;
 #[cfg(test)]

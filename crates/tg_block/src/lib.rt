@@ -1,6 +1,6 @@
 //! Blocks of cells.
 //!
-//! The heap grows by blocks. A block is 64 cells, a cell 8 words of 64 bits:
+//! The heap grows by blocks. A block has 64 cells, and a cell has 8 words of 64 bits:
 //!
 //! ```text
 //!            word 0   1      2            3          4          5          6          7
@@ -9,14 +9,15 @@
 //!  chunk     2        reference ..                                         reference  next chunk
 //! ```
 //!
-//! The first word of a cell, its tag, says what the cell is; a cell that is none of the three is bad. What its
-//! references mean is no matter of this crate. Code knows the layout by the constants below; where a cell is written
-//! whole, its words stand in this order.
+//! The first word of a cell is its tag. It says whether the cell is free, an object or a chunk, and a cell with another
+//! tag is bad. The meaning of references is defined in crates above. Code knows the layout by the constants of this
+//! crate. A function that writes a whole cell writes its words in the order of the table.
 //!
-//! The cells of a block are one allocation of 4 KiB, zeroed where it stands. A block is moved by its pointer, so
+//! The cells of a block are one allocation of 4 KiB, which is zeroed in place. A block moves by its pointer. Therefore
 //! its cells never move, and a list of blocks grows without copying them.
 //!
-//! A block is seen as a list of 64 cells, each a list of 8 words. Setting a word or a cell changes it alone.
+//! Contracts see a block as a list of 64 cells, and a cell as a list of 8 words. A call that sets a word or a cell
+//! changes it alone.
 #![tactic(auto)]
 
 ghost use Rattle.std.specs.Prelude.{◌≡◌, ℕ, ◌<◌, List, IfOk, slice_index, slice_set};

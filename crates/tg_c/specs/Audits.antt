@@ -1,12 +1,13 @@
 -- What the calls of C do to an auditor: it has come to a place of a history, and is fed what a store holds from there on.
 use Rattle.std.specs.Prelude.{◌≡◌, ◌≢◌, ◌≤◌, ◌<◌, ℕ, true, false, List, take, Result, Ok, Err, IfErr, OnOk}
-use Rattle.tg_model.specs.Graph.{ProtectionGraph}
 use Rattle.tg_model.specs.Opened.{start_of}
+use Rattle.tg_model.specs.Graph.{ProtectionGraph}
 use Rattle.tg_journal.specs.declared.auditor.PartFault.{PartFault}
 use Rattle.tg_journal.specs.declared.entry.Entry.{Entry}
 use Rattle.tg_journal.specs.Auditing.{FeedsPart, StandsAt}
 use Rattle.tg_journal.specs.History.{graph_after}
 use Rattle.tg_journal.specs.Live.{IsSweptGraph, graph_kept}
+use Rattle.tg_store.specs.Origin.{start_at}
 use Rattle.tg_store.specs.Store.{StoreState}
 use Rattle.tg_c.specs.declared.auditor.audit.Audit.{Audit}
 use Rattle.tg_c.specs.declared.auditor.place.AuditorPlace.{AuditorPlace}
@@ -37,7 +38,7 @@ pub record FeedsJournal (old new : Audit) (first : ℕ) (entries : List Entry) (
 
 -- An audit that stands where the store's own history stood at the audit's place finds no bad entry in it.
 abbrev pub FindsNone : Audit → StoreState → Result ℕ CallRefusal → Type 0
-FindsNone a s answer = StandsAt (graph_after (start_of s.opening) (take a.auditor.at s.entries)) a.auditor → answer ≢ Err refusal.BadEntry
+FindsNone a s answer = StandsAt (graph_after (start_at s.opening) (take a.auditor.at s.entries)) a.auditor → answer ≢ Err refusal.BadEntry
 
 -- the store is the same, and the audit had this answer, which is told
 pub record IsFed (old new : Audit) (store after : StorePlace) (tells : Result ℕ CallRefusal → Type 0) : Type 0 where

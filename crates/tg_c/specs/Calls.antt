@@ -1,6 +1,6 @@
 -- What the calls of C do to a place and its store. Each but the opening is a call on a place: a closed one is refused
 -- as that, and on an open one the store's answer is told, of which the clauses of the store's own call hold.
-use Rattle.std.specs.Prelude.{◌≡◌, ◌≢◌, ◌↔◌, ◌⊎◌, ◌≤◌, ◌<◌, ◌-◌, ◌==◌, ℕ, true, false, List, [], ◌∷◌, Some, None, Result, Ok, Err, IfOk, IfErr, OnOk, OnErr, length, map}
+use Rattle.std.specs.Prelude.{◌≡◌, ◌≢◌, ◌↔◌, ◌⊎◌, ◌≤◌, ◌<◌, ◌-◌, ◌==◌, ℕ, true, false, List, [], ◌∷◌, Some, None, Result, Ok, Err, IfOk, IfErr, OnOk, OnErr, length, map, IsSome}
 use Rattle.std.specs.List.{IsDistinct}
 use Rattle.tg_rights.specs.RightSet.{RightSet, bits_of}
 use Rattle.tg_model.specs.Graph.{ProtectionGraph, IsSubject}
@@ -33,6 +33,7 @@ use Rattle.tg_store.specs.Made.{IsMadeFor}
 use Rattle.tg_model.specs.Making.{deed_making}
 use Rattle.tg_store.specs.Room.{LacksRoomToCollect}
 use Rattle.tg_store.specs.Counts.{no_collections, refusals_in}
+use Rattle.tg_store.specs.Origin.{opened_by}
 use Rattle.tg_store.specs.Store.{StoreState, StandsFor, Enters, HasFewBlocks, HoldsFrom, OnlyEnters, IsUnchanged}
 use Rattle.tg_store.specs.declared.census.Census.{Census}
 use Rattle.tg_store.specs.declared.fault.ApplyFault.{ApplyFault}
@@ -268,11 +269,12 @@ pub record IsHeldAt (worker target : ℕ) (old new : StoreState) (answer : Resul
 abbrev pub AsksRights : StorePlace → StorePlace → ℕ → ℕ → (Result ℕ CallRefusal → Type 0) → Type 0
 AsksRights old new worker target = IsCall (λ why. why) (IsHeldAt worker target) old new
 
--- An audit of the store's own journal is refused exactly where entries were given up, and else for want of memory alone.
+-- An audit of the store's own journal is refused exactly if entries were given up or the store was opened again from a snapshot, or else
+-- because memory ran out.
 pub record StoreIsAudited (old new : StoreState) (answer : Result ℕ CallRefusal) : Type 0 where
   pub same : new ≡ old
   pub count : IfOk answer (λ n. n ≡ length old.entries)
-  pub not_whole : (answer ≡ Err refusal.NotWhole) ↔ (0 < old.handed)
+  pub not_whole : (answer ≡ Err refusal.NotWhole) ↔ ((0 < old.handed) ⊎ IsSome old.opening.shown)
   pub fault : IfErr answer (λ why. (why ≡ refusal.NotWhole) ⊎ (why ≡ refusal.OutOfMemory))
 
 abbrev pub Audits : StorePlace → StorePlace → (Result ℕ CallRefusal → Type 0) → Type 0
@@ -335,7 +337,7 @@ pub record IsAskedFor (workers : List ValueIn) (edges : List EdgeIn) (limits : L
 -- The store of an opening, all of whose demands are met: it has no entry, and stands for the graph of what C asked for.
 pub record IsOpenedStore (s : StoreState) (workers : List ValueIn) (edges : List EdgeIn) (limits : LimitsIn) : Type 0 where
   pub met : AreMet (demands_of workers edges limits)
-  pub opening : s.opening ≡ plan_given workers edges limits.max_vertices
+  pub opening : s.opening ≡ opened_by (plan_given workers edges limits.max_vertices)
   pub stands : StandsFor s (start_of (plan_given workers edges limits.max_vertices))
   pub no_entry : s.entries ≡ []
   pub none_collected : s.collections ≡ no_collections

@@ -7,4 +7,4 @@
 pub mod audit;
 mod calls;
 mod exports;
-mod place;
+pub mod place;

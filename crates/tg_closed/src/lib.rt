@@ -1,8 +1,8 @@
-//! The words of a table that several helpers shared, read where they stand once no one shares it any more.
+//! The words of a table that several helpers shared, read in place after the last helper has gone.
 //!
-//! A collection by several helpers gives each cell its new place in such a table (`tg_race`). What settles the heap
-//! afterwards reads these words in place (`tg_space`), so that closing the table copies none of them. A table's words
-//! are zeros at first, and `zeros` lays them out in room that the last collection left.
+//! A collection by several helpers gives each cell its new place in such a table (`tg_race`). Code that settles the
+//! heap afterwards reads the words in place (`tg_space`). Therefore closing the table copies no word. A new table has
+//! zeros only. `zeros` writes them into room that the last collection left.
 #![tactic(auto)]
 
 ghost use Rattle.std.specs.Prelude.{◌≡◌, ◌+◌, ◌<◌, ◌≤◌, IfOk, drop, length, replicate, slice_index};

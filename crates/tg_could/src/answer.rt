@@ -17,8 +17,8 @@ use tg_model::{Deed, Picture};
 // How many names that nobody asks about turns make at most, on the way to one that is asked about.
 const MOST_MADE: u64 = 1 << 16;
 
-/// What comes of the question whether x could ever come to hold a right over y. Who acts is an active subject that
-/// isn't silent; whoever is spawned later acts too.
+/// The answer to the question whether x could ever come to hold a right over y. Those who act are the active subjects
+/// that aren't silent, and each subject that is spawned later.
 #[derive(Drop)]
 pub enum Answer {
     /// x never holds it, after no list of turns of those who act. The separation may be kept and asked again
@@ -32,12 +32,13 @@ pub enum Answer {
     WantsNames {
         /// The turns, each of one who acts by then.
         turns: Vec<(u64, Deed)>,
-        /// How many names are wanting.
+        /// How many names are missing.
         names: u64,
     },
-    /// Of a name that isn't made yet and over 65,536 others come before this says nothing, since turns would have to
-    /// make all of them: ask about the next name in its place. No other name is known to get this answer. It would say
-    /// that x could, after turns that aren't told, where 64 names are left besides x or y isn't made yet.
+    /// Nothing is known. The answer is about a name that isn't made yet and that comes after over 65,536 others. Turns
+    /// would have to make all of these, so ask about the next name in its place. No other name is known to get this
+    /// answer. If another got it, x could come to hold the right after turns that aren't shown, if 64 names besides x
+    /// are left or y isn't made yet.
     Open,
 }
 
@@ -56,12 +57,12 @@ impl Answer {
     }
 }
 
-/// Whether x could ever come to hold a right over y, by any turns of the active subjects but the silent ones, on the
-/// graph of which this is a picture. A name in `silent` that was never made counts for nothing. Who retired is asked
-/// about like any object. A name that isn't made yet is asked about as one that whoever acts may make, and may have the
-/// right over, or hand it to: a `Could` makes each name up to it, and where over 65,536 others come before it the
-/// answer is `Never` or `Open`. Takes time and memory in proportion to the picture and to these. Fails only when out of
-/// memory.
+/// Whether x could ever come to hold a right over y, by any turns of the active subjects but the silent ones. The
+/// picture is that of the graph. A name in `silent` that was never made is ignored. A subject that retired is asked
+/// about like any object. A name that isn't made yet is asked about as one that those who act may make, and over which
+/// they may have the right, or to which they may hand it. A `Could` makes each name up to that name. If over 65,536
+/// others come before it, the answer is `Never` or `Open`. Takes time and memory in proportion to the picture and to
+/// these names. Fails only when out of memory.
 pub fn could_hold(alloc: Global, scene: &Scene, question: Question) -> Result<Answer, AllocError>
     ensures { IfOk result (λ answer. OnGraphs scene.now (AnswerOf scene.now question answer)) }
 {

@@ -8,9 +8,9 @@ use crate::search::search;
 use crate::witness::trial::leave_out;
 use std::alloc::{AllocError, Global};
 
-/// Whose turns would be enough: each of the silent ones for whom [`could_hold`](crate::could_hold) answers other than
-/// `Never` when it alone is taken out of the silent ones. Of each one left out it is proved that x never holds the
-/// right over y then. One search for each. Fails only when out of memory.
+/// Whose turns would be enough. These are the silent subjects for whom [`could_hold`](crate::could_hold) answers other
+/// than `Never` if it alone is taken out of the silent ones. For each subject that is left out, it is proved that x
+/// never holds the right over y then. Makes one search for each. Fails only when out of memory.
 pub fn needs(alloc: Global, scene: &Scene, question: Question) -> Result<Vec<u64>, AllocError>
     ensures { IfOk result (λ enough. OnGraphs scene.now (λ g. (p : ℕ) → Contains scene.now.silent.now p →
         ¬ Contains enough.items p → NeverWithout scene.now question p g)) }

@@ -14,22 +14,22 @@ pub fn the_separated_never_hold()
         IsMade g → IsSeparated silent g x right y → NeverHolds silent g x right y }
 {}
 
-/// No take or grant edge leaves or enters a set of vertices: then none of the set ever holds a right over a vertex made
-/// before that none of the set held at first.
+/// Suppose that no take or grant edge leaves or enters a set of vertices. Then none of the set ever holds a right over
+/// an older vertex that none of the set held at first.
 pub fn the_confined_never_hold()
     ensures { (silent : List ℕ) (g : ProtectionGraph) (inside : ℕ → Bool) (right : Right) (y : ℕ) →
         IsConfinedWithout inside g right y → NoneEverHolds inside silent g right y }
 {}
 
-/// A question is asked of a grant before it is made: where x never holds the right on the graph with the new edge, it
-/// never does after the host's grant either, whatever the others do while the host is silent.
+/// A grant is asked about before it is made. If x never holds the right on the graph with the new edge, it never does
+/// after the host's grant either, whatever the others do while the host is silent.
 pub fn a_grant_is_asked_about_before_it_is_made()
     ensures { (silent : List ℕ) (g : ProtectionGraph) (host via target : ℕ) (rights : RightSet) →
         IsForeseenByEdge silent g host via target rights }
 {}
 
-/// Where walks lead the right over y to x, x could come to hold it: there are turns of those who act behind which it
-/// does, where names aren't short, and y isn't the only one who acts among 64 subjects.
+/// If walks lead the right over y to x, x could come to hold it. There are turns of those who act after which it does,
+/// if enough names are left and y isn't the only one who acts among 64 subjects.
 pub fn what_is_brought_could_come_about()
     ensures { (silent : List ℕ) (g : ProtectionGraph) (x : ℕ) (right : Right) (y : ℕ) →
         HasMeans silent g x y → IsBroughtTo silent g x right y → CouldHold silent g x right y }
@@ -41,7 +41,7 @@ pub fn what_is_not_brought_is_parted()
         IsMade g → IsSeparated silent g x right y ⊎ IsBroughtTo silent g x right y }
 {}
 
-/// So each question has an answer where names aren't short: x never holds the right over y, or could come to hold it.
+/// So each question has an answer if enough names are left: x never holds the right over y, or could come to hold it.
 pub fn each_question_has_an_answer()
     ensures { (silent : List ℕ) (g : ProtectionGraph) (x y : ℕ) (right : Right) →
         IsSound g → ¬ IsShort g x y → NeverHolds silent g x right y ⊎ CouldHold silent g x right y }

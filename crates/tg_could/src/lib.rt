@@ -1,36 +1,39 @@
 //! Could x ever come to hold a right over y, by any turns of those whom one doesn't trust?
 //!
-//! A reference monitor says what is allowed now. A host asks another question before each grant: could this plug-in
-//! ever come to write that document? [`could_hold`] answers a [`Question`] on a [`Scene`]. The scene has the picture of
-//! a graph of `tg_model`: the active subjects, the edges, and how many vertices were made and may be. It also has the
-//! names of those who take no turns: a host names whom it trusts, itself first. All other active subjects act, and so
-//! does whoever is spawned later.
+//! A reference monitor says what is allowed now. A host asks another question before each grant. For example, could
+//! this plug-in ever come to write that document? [`could_hold`] answers a [`Question`] about a [`Scene`]. The scene
+//! has the picture of a graph of `tg_model`, which has the active subjects, the edges, the number of vertices made, and
+//! their limit. It also has the names of the silent subjects, who take no turns. A host names whom it trusts, itself
+//! first. All other active subjects act, and so does every subject that is spawned later.
 //!
-//! - `Never`: after no list of turns of those who act does x hold the right over y, whatever they create or give up,
-//!   and whoever retires. With it comes a [`Separation`], which [`Separation::parts`] checks in one pass over the
-//!   edges: a host may keep it, and ask again after changes.
-//! - `Could`: these very turns lead there. [`lead_there`] replays turns, anybody's.
-//! - `WantsNames`: they do where so many more vertices may be made than are left.
-//! - `Open`: of a name far ahead of those made, nothing. That it comes of no other is tested; it would say that it
-//!   could come about, after turns that aren't told. So each question about others is decided.
+//! There are four answers:
 //!
-//! [`who_could`] and [`what_could`] tell of everybody, and of everything, by one search: who or what isn't told is
-//! `Never`. [`needs`] tells whose turns would be enough. A [`View`] is made once of a picture, and then tells of each
-//! question in the time of the edges to y.
+//! - `Never`. No list of turns of those who act gives x the right over y, whatever they create or give up, and whoever
+//!   of them retires. A [`Separation`] comes with the answer. [`Separation::parts`] checks it in one pass over the
+//!   edges, so a host may keep it and check it again after changes.
+//! - `Could`. The turns in the answer give x the right. [`lead_there`] replays turns of any subjects.
+//! - `WantsNames`. The turns in the answer give x the right if so many more vertices may be made than are left.
+//! - `Open`. Nothing is known, because the question names a vertex far ahead of those made. Tests show that only such a
+//!   name leads to this answer. If there were another, its meaning would be that turns exist, and that they are not
+//!   listed.
 //!
-//! A question about a grant is asked before it is made, on the picture with the new edge (`Picture::with`).
+//! [`who_could`] lists who could come to hold a right, and [`what_could`] over what, by one search each. For a vertex
+//! that they don't list, the answer is `Never`. [`needs`] lists subjects whose turns would be enough. A [`View`] is
+//! made once of a picture. It then answers each question in the time that the edges to y take.
 //!
-//! Of a store there is a picture of what its active subjects reach. [`could_hold_reached`] asks on it, with the edges
-//! that are supposed. If nobody reaches x, the answer is `Unreached`. Every other answer is that of the whole graph.
+//! A host asks about a grant before it makes it, on the picture with the new edge (`Picture::with`). The picture of a
+//! store has what its active subjects reach. [`could_hold_reached`] asks about such a picture with the supposed edges.
+//! If nobody reaches x, the answer is `Unreached`. Every other answer is that of the whole graph.
 //!
-//! What a reader has to believe stands in `specs/`: `Turns` (turns, `NeverHolds`, `LeadThere`), `Answered` (what an
-//! answer says), `Scenes` and `Reached`; of `Separation`, `Led`, `Told`, `Listed` and `View` no more than that a law or
-//! a later call speaks of them. The theorem is that of Jones, Lipton and Snyder ("A linear time algorithm for deciding
-//! security", 1976) and of Lipton and Snyder ("A linear time algorithm for deciding subject security", Journal of the
-//! ACM 24(3), 1977). The search (`search`) and the turns that it leads to (`plan`) promise nothing: what they find is
-//! checked. [`laws`] has what holds of the definitions alone.
+//! The definitions to believe are in `specs/`. `Turns` defines turns, `NeverHolds` and `LeadThere`. `Answered` says
+//! what an answer promises. `Scenes` and `Reached` define the scene of a question. Of `Separation`, `Led`, `Told`,
+//! `Listed` and `View` a reader needs only what a law or a later call says about them. The theorem is that of Jones,
+//! Lipton and Snyder ("A linear time algorithm for deciding security", 1976). For subjects it is that of Lipton and
+//! Snyder ("A linear time algorithm for deciding subject security", Journal of the ACM 24(3), 1977). The search
+//! (`search`) and the turns that it finds (`plan`) promise nothing, because the result is checked. [`laws`] has what
+//! follows from the definitions alone.
 //!
-//! The phases have a folder each: `search`, `separation`, `witness` and `view`.
+//! Each phase has a folder: `search`, `separation`, `witness` and `view`.
 #![tactic(auto)]
 
 mod answer;

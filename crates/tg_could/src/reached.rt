@@ -17,15 +17,15 @@ use tg_model::{Edge, Picture};
 /// What comes of the question on a picture of what the active subjects reach.
 #[derive(Drop)]
 pub enum ReachedAnswer {
-    /// No active subject reaches x, which was made: it holds what it holds, and no turns of anybody change that. The
+    /// No active subject reaches x, which was made. So x keeps what it holds, and no turns of anybody change that. The
     /// picture doesn't show what this is.
     Unreached,
     /// What [`could_hold`] answers. It is true of the whole graph.
     Of(Answer),
 }
 
-/// Whether an active subject reaches the vertex with a name, on the graph of whose reached part this is a picture: it
-/// is one, or an edge of the picture leads to it. Looks at each edge once at most. Takes no memory.
+/// Whether an active subject reaches the vertex with a name, on the graph whose reached part the picture has. The
+/// vertex is such a subject, or an edge of the picture leads to it. Looks at each edge once at most. Takes no memory.
 pub fn is_reached(picture: &Picture, name: u64) -> bool
     ensures { (g : ProtectionGraph) → IsReachedPicture picture.now g → IsTrue result ↔ IsReachable g name }
 {
@@ -51,10 +51,10 @@ fn is_led_to(edges: &[Edge], name: u64) -> bool
     false
 }
 
-/// What [`could_hold`] answers on the graph with these edges too, by a picture of what the active subjects of the graph
-/// reach without them, and so true of the whole graph; but `Unreached` exactly where x was made and no active subject
-/// reaches it. Each of the edges has to join two different vertices that active subjects reach ([`join_reached`]): else
-/// the answer says nothing. Fails only when out of memory.
+/// Answers as [`could_hold`] does on the graph with these edges too. The picture has what the active subjects of the
+/// graph reach without the edges, and the answer is true of the whole graph. `Unreached` is returned exactly if x was
+/// made and no active subject reaches it. Each edge has to join two different vertices that active subjects reach
+/// ([`join_reached`]), or else the answer says nothing. Fails only when out of memory.
 pub fn could_hold_reached(
     alloc: Global,
     scene: &Scene,
@@ -106,8 +106,9 @@ pub fn supposing(alloc: Global, picture: &Picture, edges: &[Edge]) -> Result<Pic
     Ok(Picture::new(subjects, all, picture.made(), picture.limit()))
 }
 
-/// On the graph with the labels that a picture of its reached part shows, whoever is reached or isn't made yet could
-/// hold exactly what it could on the whole graph: the same turns lead there, and where none do there, none do here.
+/// A graph may have only the labels that a picture of the reached part shows. On it, whoever is reached or isn't made
+/// yet could hold exactly what it could on the whole graph. The same turns give the right, and if no turns do so there,
+/// none do here.
 pub fn what_is_reached_says_it_all()
     ensures never { (silent : List ℕ) (p : Shown) (g : ProtectionGraph) (x : ℕ) (right : Right) (y : ℕ) →
         ShowsAllOf p g x → NeverHoldsAlso silent (as_shown p g) g x right y }
@@ -115,7 +116,8 @@ pub fn what_is_reached_says_it_all()
         ShowsAllOf p g x → LeadThereAlso silent (as_shown p g) g x right y }
 {}
 
-/// Whoever was made and no active subject reaches holds what it holds: no turns of anybody change a label at it.
+/// A vertex that was made and that no active subject reaches keeps what it holds. No turns of anybody change a label at
+/// it.
 pub fn the_unreached_hold_what_they_hold()
     ensures { (g : ProtectionGraph) (x : ℕ) → IsSound g → x < g.made → ¬ IsReachable g x → HoldsWhatItHolds g x }
 {}

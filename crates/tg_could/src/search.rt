@@ -32,8 +32,8 @@ struct PackedHop {
     before: u32,
 }
 
-/// What the search has found: the sets, its steps in order, and who acts, in the second of two sets. Where memory was
-/// wanting once, nothing of it may be told but that.
+/// What the search has found: the sets, its steps in order, and who acts, in the second of two sets. If memory ran out
+/// once, only that may be reported.
 #[derive(Drop)]
 pub(crate) struct Findings {
     pub(crate) sides: Separation,
@@ -83,10 +83,10 @@ impl PackedHop {
     }
 }
 
-/// The least sets that hold those who have the right over a vertex and that no edge and nobody who acts leads out of.
-/// Where the vertex may yet be made, who acts is taken for one who has the right. Where `back`, the same walks go back
-/// from the vertex: the first set has those whose rights it may get, the second those who may hand it what they get,
-/// and where it may yet be made, who acts is taken for it. Tells whether memory was wanting.
+/// The least sets that hold those who have the right over a vertex, and that no edge and nobody who acts leads out of.
+/// If the vertex may yet be made, those who act count as having the right. With `back`, the same walks go back from the
+/// vertex. Then the first set has those whose rights it may get, and the second those who may hand it what they get. If
+/// the vertex may yet be made, those who act count as the vertex. Reports whether memory ran out.
 pub(crate) fn search(
     alloc: Global,
     scene: &Scene,
@@ -285,8 +285,8 @@ impl Findings {
         rows
     }
 
-    /// The steps that led to a vertex in a set, the first one first; none where it isn't in it. Notes whether memory
-    /// was wanting.
+    /// The steps that led to a vertex in a set, the first one first. There are none if the vertex isn't in the set.
+    /// Notes whether memory ran out.
     pub(crate) fn path(
         &self,
         alloc: Global,

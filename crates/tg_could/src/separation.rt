@@ -150,7 +150,7 @@ fn are_fit(edge: &Edge, from: Membership, to: Membership, question: Question) ->
 }
 
 impl Separation {
-    /// Sets of these names, which none is in. Notes whether memory was wanting.
+    /// Empty sets of these names. Notes whether memory ran out.
     pub(crate) fn none(
         alloc: Global,
         names: Names,
@@ -259,10 +259,10 @@ impl Separation {
         true
     }
 
-    /// Whether x never holds the right over y, as far as the two sets show it: after no list of turns of the active
-    /// subjects but the silent ones, those spawned on the way included. Looks at each edge once. Where x is y, or
-    /// nobody but y acts and as many subjects as may be are active, the sets play no part: who holds nothing then never
-    /// does.
+    /// Whether the two sets show that x never holds the right over y, after any turns of the active subjects but the
+    /// silent ones. Subjects that are spawned on the way are among those who act. Looks at each edge once. The sets
+    /// play no part if x is y. They also play none if only y acts and as many subjects as may be are active. In both
+    /// cases x never holds the right unless it holds it at first.
     pub fn parts(&self, scene: &Scene, question: Question) -> bool
         ensures { IsTrue result → OnGraphs scene.now (NeverOf scene.now question) }
     {

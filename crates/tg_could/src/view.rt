@@ -61,9 +61,9 @@ impl Drop for Facts {
 }
 
 impl View {
-    /// Makes ready for all questions of a picture, where the silent ones take no turns: for each vertex two words of 64
-    /// bits, and the edges by their targets. Time and memory are in proportion to the picture. Vertices and edges count
-    /// by 32 bits: where there are more, all is told as `Perhaps`. Fails only when out of memory.
+    /// Makes ready for all questions about a picture, in which the silent ones take no turns. It keeps two words of 64
+    /// bits for each vertex, and the edges by their targets. Time and memory are in proportion to the picture. Vertices
+    /// and edges count by 32 bits. If there are more, every answer is `Perhaps`. Fails only when out of memory.
     pub fn open(alloc: Global, scene: &Scene) -> Result<View, AllocError>
         ensures { IfOk result (λ view. IsViewOf scene.now.silent.now scene.now.picture.now view) }
     {
@@ -77,8 +77,8 @@ impl View {
     }
 
     /// Whether x could ever come to hold a right over y, by any turns of the active subjects but the silent ones, as of
-    /// the moment of [`View::open`]: `Never` is proved, `Perhaps` says nothing. Takes no memory, and time in proportion
-    /// to the edges to y.
+    /// the moment of [`View::open`]. `Never` is proved, and `Perhaps` says nothing. Takes no memory, and time in
+    /// proportion to the edges to y.
     pub fn could(&self, question: Question) -> Chance
         ensures { TellsNever (λ silent shown. IsViewOf silent shown self.now) result question }
     {

@@ -21,7 +21,7 @@ use std::alloc::{AllocError, Global};
 use tg_model::Edge;
 use tg_rights::{Right, Rights};
 
-/// What someone could ever come to hold, as [`what_could`] tells it.
+/// What someone could ever come to hold, as [`what_could`] returns it.
 #[derive(Drop)]
 pub struct What {
     listed: Listed,
@@ -31,8 +31,9 @@ pub struct What {
     limit: u64,
 }
 
-/// The rights over each vertex that are told, whether all are over those that aren't made yet, and the only one who
-/// acts where as many subjects as may be are active: nobody comes to hold a right over that one.
+/// The listed rights over each vertex, and whether every right over vertices that aren't made yet is listed. It also
+/// has the only one who acts if as many subjects as may be are active, because nobody comes to hold a right over that
+/// one.
 #[derive(Drop)]
 struct Listed {
     names: Names,
@@ -42,8 +43,8 @@ struct Listed {
 }
 
 impl What {
-    /// What is told of a right over a name: `Never` of each that is left out. Of names that aren't made yet all is told
-    /// alike, and of one that can't be made any more it is `Never`.
+    /// The answer for a right over a name, which is `Never` for each that isn't listed. All names that aren't made yet
+    /// have one answer. For a name that can't be made any more it is `Never`.
     pub fn of(&self, right: Right, name: u64) -> Chance
         ensures { (result ≡ Never) ↔ IsLeftOut self.now right name }
     {
@@ -54,7 +55,7 @@ impl What {
         }
     }
 
-    /// The rights over a name of which `Perhaps` is told.
+    /// The rights over the name for which the answer is `Perhaps`.
     pub fn over(&self, name: u64) -> Rights
         ensures { (right : TheRight) → (¬ (has_right result right ≡ true)) ↔ IsLeftOut self.now right name }
     {
@@ -70,8 +71,8 @@ impl What {
         Rights::empty()
     }
 
-    /// The rights over names that aren't made yet of which `Perhaps` is told: a right that isn't among them is left out
-    /// over each of these names.
+    /// The rights over names that aren't made yet for which the answer is `Perhaps`. For every other right the answer
+    /// is `Never` over each of these names.
     pub fn over_later(&self) -> Rights
         ensures { (right : TheRight) →
             (¬ (has_right result right ≡ true)) ↔ ((name : ℕ) → self.now.made ≤ name → IsLeftOut self.now right name) }
@@ -80,9 +81,9 @@ impl What {
     }
 }
 
-/// What x could ever come to hold, by any turns of the active subjects but the silent ones. Each right over a name of
-/// which `Never` is told it never holds; `Perhaps` says nothing. One search: time and memory in proportion to the
-/// picture. Fails only when out of memory.
+/// What x could ever come to hold, by any turns of the active subjects but the silent ones. It never holds a right over
+/// a name for which the answer is `Never`, and `Perhaps` says nothing. Makes one search, in time and memory in
+/// proportion to the picture. Fails only when out of memory.
 pub fn what_could(alloc: Global, scene: &Scene, x: u64) -> Result<What, AllocError>
     ensures { IfOk result (TellsWhat scene.now.silent.now scene.now.picture.now x) }
 {

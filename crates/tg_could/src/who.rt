@@ -18,7 +18,7 @@ use std::alloc::{AllocError, Global};
 use tg_model::{Edge, Picture};
 use tg_rights::Right;
 
-/// Who could ever come to hold a right over a vertex, as [`who_could`] tells it.
+/// Who could ever come to hold a right over a vertex, as [`who_could`] returns it.
 #[derive(Drop)]
 pub struct Who {
     told: Candidates,
@@ -28,7 +28,7 @@ pub struct Who {
     limit: u64,
 }
 
-/// Who is told, in the second of two sets, and whether those are who aren't made yet.
+/// Who is listed, in the second of two sets, and whether the subjects that aren't made yet are.
 #[derive(Drop)]
 struct Candidates {
     marks: Separation,
@@ -36,8 +36,8 @@ struct Candidates {
 }
 
 impl Who {
-    /// What is told of a name: `Never` of each one left out. Of names that aren't made yet all is told alike, and of
-    /// one that can't be made any more it is `Never`.
+    /// The answer for a name, which is `Never` for each that isn't listed. All names that aren't made yet have one
+    /// answer. For a name that can't be made any more it is `Never`.
     pub fn of(&self, name: u64) -> Chance
         ensures { (result ≡ Never) ↔ IsLeftOut self.now name }
     {
@@ -53,7 +53,7 @@ impl Who {
         Chance::Never
     }
 
-    /// What is told of all names that aren't made yet, at once: `Never` where each of them is left out.
+    /// The answer for all names that aren't made yet, at once. It is `Never` if each of them is left out.
     pub fn of_later(&self) -> Chance
         ensures { (result ≡ Never) ↔ ((name : ℕ) → self.now.made ≤ name → IsLeftOut self.now name) }
     {
@@ -72,9 +72,9 @@ impl Who {
     }
 }
 
-/// Who could ever come to hold a right over y, by any turns of the active subjects but the silent ones. Each name of
-/// which `Never` is told never does; `Perhaps` says nothing. One search: time and memory in proportion to the picture.
-/// Fails only when out of memory.
+/// Who could ever come to hold a right over y, by any turns of the active subjects but the silent ones. A name for
+/// which the answer is `Never` never does, and `Perhaps` says nothing. Makes one search, in time and memory in
+/// proportion to the picture. Fails only when out of memory.
 pub fn who_could(alloc: Global, scene: &Scene, right: Right, y: u64) -> Result<Who, AllocError>
     ensures { IfOk result (TellsWho scene.now.silent.now scene.now.picture.now right y) }
 {

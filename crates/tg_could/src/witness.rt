@@ -11,9 +11,9 @@ use crate::witness::chains::Chains;
 use crate::witness::trial::Trial;
 use std::alloc::{AllocError, Global};
 
-/// Whether these turns lead to x's holding a right over y, where so many more vertices may be made: each is that of one
-/// who acts by then, it adds rights, makes a vertex or retires, and is allowed; and behind the last x holds the right.
-/// Fails only when out of memory.
+/// Whether x holds a right over y after these turns, if so many more vertices may be made. Each turn has to be one of a
+/// subject that acts by then, and has to be allowed. It adds rights, makes a vertex or retires. Fails only when out of
+/// memory.
 pub fn lead_there(
     alloc: Global,
     scene: &Scene,

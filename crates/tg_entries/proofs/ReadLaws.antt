@@ -22,7 +22,7 @@ use Rattle.tg_entries.specs.Pieces.{FetchesPiece}
 use Rattle.tg_entries.specs.Read.{CanSave, EndsText, ReadsOn, HasEnded, HasEntered, HasRead, IsListedEntry, IsNext}
 use Rattle.tg_snapshot.specs.Snapshot.{Saved, IsSnapshot, IsSnapshotOf, graph_shown}
 use Rattle.tg_saved.specs.Texts.{edge_line_text, snapshot_text}
-use Rattle.tg_entries.specs.Texts.{Origin, Opened, Shown, IsAudited, IsHistory, IsOrigin, IsSavedAfter, end_text, entry_text, graph_of_origin, head_text, limits_text, opening_text, origin_text, version_text, worker_text}
+use Rattle.tg_entries.specs.Texts.{TextStart, Opened, Shown, IsAudited, IsHistory, IsTextStart, IsSavedAfter, end_text, entry_text, graph_of_origin, head_text, limits_text, opening_text, origin_text, version_text, worker_text}
 
 -- an edge
 pub edge_read : (text line : List ℕ) (workers limit : ℕ) (values : List Value) (edges now : List Edge) (edge : Edge) → now ≡ edges ++ edge ∷ [] →
@@ -130,7 +130,7 @@ saved_ended text entered p was of place =
       place = place ∙ read.place;
     }
 
-can_be_saved : (o : Origin) → IsOrigin o → CanBeSaved (graph_of_origin o)
+can_be_saved : (o : TextStart) → IsTextStart o → CanBeSaved (graph_of_origin o)
 can_be_saved (Opened plan) is = CanBeSaved-opened plan is
 can_be_saved (Shown p) is = CanBeSaved-shown p is
 

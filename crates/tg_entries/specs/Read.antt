@@ -12,14 +12,14 @@ use Rattle.tg_entries.specs.declared.stage.Entered.{Entered}
 use Rattle.tg_entries.specs.declared.stage.Stage.{Stage}
 use Rattle.tg_entries.specs.declared.stage.Stage.TheVariants as stage
 use Rattle.tg_saved.specs.Read.{HasReadSnapshot}
-use Rattle.tg_entries.specs.Texts.{Origin, IsOrigin, end_text, entries_before, entry_text, graph_of_origin, opening_text, origin_text, version_text}
+use Rattle.tg_entries.specs.Texts.{TextStart, IsTextStart, end_text, entries_before, entry_text, graph_of_origin, opening_text, origin_text, version_text}
 
 -- The text is an origin's and then that of so many entries, which are a legal history. The audit has come to the graph and the place after
 -- them.
 pub record HasEntered (text : List ℕ) (entered : Entered) : Type 0 where
-  pub origin : Origin
+  pub origin : TextStart
   pub entries : List Entry
-  pub accepted : IsOrigin origin
+  pub accepted : IsTextStart origin
   pub passes : Passes (graph_of_origin origin) entries entered.auditor
   pub place : entered.auditor.at ≡ entries_before origin + length entries
   pub number : entered.count ≡ length entries

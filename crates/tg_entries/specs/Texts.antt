@@ -63,46 +63,46 @@ abbrev pub history_text : Plan → List Entry → List ℕ
 history_text p es = (head_text p ++ flat_map entry_text es) ++ end_text (length es)
 
 -- where a history begins: at an opening, or at a snapshot of an earlier graph
-pub data Origin : Type 0 where
-  Opened : Plan → Origin
-  Shown : Saved → Origin
+pub data TextStart : Type 0 where
+  Opened : Plan → TextStart
+  Shown : Saved → TextStart
 
 -- an opening, or a snapshot, that may be one
-abbrev pub IsOrigin : Origin → Type 0
-IsOrigin (Opened plan) = IsPlan plan
-IsOrigin (Shown p) = IsSnapshot p
+abbrev pub IsTextStart : TextStart → Type 0
+IsTextStart (Opened plan) = IsPlan plan
+IsTextStart (Shown p) = IsSnapshot p
 
 -- the graph from which its entries go on
-abbrev pub graph_of_origin : Origin → ProtectionGraph
+abbrev pub graph_of_origin : TextStart → ProtectionGraph
 graph_of_origin (Opened plan) = start_of plan
 graph_of_origin (Shown p) = graph_shown p
 
 -- how many entries were made before it
-abbrev pub entries_before : Origin → ℕ
+abbrev pub entries_before : TextStart → ℕ
 entries_before (Opened plan) = 0
 entries_before (Shown p) = p.entries
 
 -- the text in front of its entries
-abbrev pub origin_text : Origin → List ℕ
+abbrev pub origin_text : TextStart → List ℕ
 origin_text (Opened plan) = head_text plan
 origin_text (Shown p) = snapshot_text p
 
 -- The text is that of these entries behind their origin, of which they are a legal history.
-pub record IsHistory (text : List ℕ) (origin : Origin) (entries : List Entry) : Type 0 where
-  pub accepted : IsOrigin origin
+pub record IsHistory (text : List ℕ) (origin : TextStart) (entries : List Entry) : Type 0 where
+  pub accepted : IsTextStart origin
   pub legal : IsLegal (graph_of_origin origin) entries
   pub whole : text ≡ (origin_text origin ++ flat_map entry_text entries) ++ end_text (length entries)
 
 -- the text is that of a legal history of so many entries
 pub record IsAudited (text : List ℕ) (count : ℕ) : Type 0 where
-  pub origin : Origin
+  pub origin : TextStart
   pub entries : List Entry
   pub history : IsHistory text origin entries
   pub number : count ≡ length entries
 
 -- the text is that of a legal history, and the snapshot is of the graph after its last entry
 pub record IsSavedAfter (text : List ℕ) (p : Saved) : Type 0 where
-  pub origin : Origin
+  pub origin : TextStart
   pub entries : List Entry
   pub history : IsHistory text origin entries
   pub of : IsSnapshotOf p (graph_after (graph_of_origin origin) entries)

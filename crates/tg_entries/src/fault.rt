@@ -74,7 +74,7 @@ pub enum TextFault {
 }
 
 /// Why a line of which only the front was at hand doesn't go on with the lines before it.
-#[derive(Clone, Copy, Debug)]
+#[derive(Clone, Copy)]
 pub(crate) enum LongFault {
     Line(LineFault),
     /// Reading failed.

@@ -1,7 +1,8 @@
 //! The text of a history, and an audit that reads it.
 //!
-//! A history is written line by line: which form the text has, its opening with a line for each worker's value and each
-//! edge, a line for each entry, and at the end how many entries there are. `specs/Texts` says how each is spelled.
+//! A history is written line by line. The first line names the form of the text. Then come the opening, with a line for
+//! each worker's value and for each edge, and a line for each entry. The last line says how many entries there are.
+//! `specs/Texts` defines the spelling of each line.
 //!
 //! ```text
 //!     kovshenul entries 1
@@ -14,17 +15,17 @@
 //!     entries 2
 //! ```
 //!
-//! [`write_history`] puts all of it into a sink of `tg_text`, and [`write_opening`], [`write_entry`], [`write_entries`]
-//! and [`write_end`] what a host writes as it goes. [`audit_text`] reads all of a reader's, and answers how many
-//! entries there are only where the text is that of a legal history of the opening that it tells ([`TextAudit`] is the
-//! same, fed a line at a time). Nothing that takes a line apart has to be believed, and no reply is read: the deed of a
-//! line is written again, and the answer of `tg_journal`'s [`Auditor`](tg_journal::Auditor) behind it, and that has to
-//! be what came.
+//! [`write_history`] writes all of it into a sink of `tg_text`. A host that writes as it goes uses [`write_opening`],
+//! [`write_entry`], [`write_entries`] and [`write_end`]. [`audit_text`] reads a text from a reader. It returns the
+//! number of entries only if the text is that of a legal history of the opening in it. [`TextAudit`] does the same a
+//! line at a time. The code that takes a line apart needs no trust, and no reply is parsed. The audit writes the deed
+//! of the line again, followed by the answer of `tg_journal`'s [`Auditor`](tg_journal::Auditor). The line has to be
+//! equal to that.
 //!
 //! [`audit_text`] keeps at most 1,606 bytes of a line. Only an entry that lists edges may be longer. Its deed is read
-//! from the front of the line. Then the edges of the reply are written one after another, and each is compared with
-//! what is read next. So an audit takes memory by the edges of the opening and by what its subjects reach, and not by
-//! lines or entries.
+//! from the front of the line. Then the edges of the reply are written one after another, and each is compared with the
+//! bytes that are read next. So the memory of an audit grows with the edges of the opening and with what its subjects
+//! reach. It is independent of the number of lines.
 #![tactic(auto)]
 
 mod audit;

@@ -1,21 +1,21 @@
-//! A collection: the cells that the roots reach, copied into new blocks.
+//! A collection: the cells that the roots reach are copied into new blocks.
 //!
-//! There are two kinds. A full collection moves all cells, to Old, whose new blocks are numbered from 0. A nursery
-//! collection moves the cells of Aged and of the nurseries; Old keeps its blocks and gets new ones behind them, and
-//! Aged is made anew. Either goes over the cells once, and only reads them.
+//! There are two kinds. A full collection moves all cells to Old, whose new blocks are numbered from 0. A nursery
+//! collection moves the cells of Aged and of the nurseries. Old then keeps its blocks and gets new ones after them, and
+//! Aged is made anew. Both kinds go over the cells once, and only read them.
 //!
-//! *Claim.* Each cell that is reached, and that is moved, is won once: it gets the next place of Old or of Aged, its
-//! forwarding word becomes the link to that place, and the pair is put behind those won before. A cell goes straight to
-//! Old in a full collection, where it is one of Aged, and where it is first met from a remembered cell or from a cell
-//! whose copy is in Old; any other goes to Aged: 'Where a copy goes' in docs/inside/ARCHITECTURE.md. What was met once
-//! keeps its place.
+//! *Claim.* Each reached cell that is to be moved is won once. It gets the next place of Old or of Aged, and its
+//! forwarding word becomes the link to that place. The pair of the cell and its place is added to the list of won
+//! cells. A cell goes straight to Old in three cases: in a full collection, if it is in Aged, and if it is first met
+//! from a remembered cell or from a cell whose copy is in Old. Any other cell goes to Aged ('Where a copy goes' in
+//! docs/inside/ARCHITECTURE.md). A cell that is met again keeps its place.
 //!
 //! *Scan.* First the targets of the roots are claimed, the rows before the remembered cells. Then the won cells are
-//! scanned, in the order in which they were won, until there is none left: breadth first. A full collection does this
-//! for one root after the other, so that what a root leads to lies together. To scan a cell is to copy it as it is, and
-//! then to claim what it names: the place in each reference and link of the copy is replaced by that of what it names,
-//! where that is moved, and all else is as it was. The copies of a space are made in the order of their places, so they
-//! fill its new blocks one after the other, and all but the last are full.
+//! scanned in the order in which they were won, until none is left. The walk is therefore breadth first. A full
+//! collection does this for one root after the other, so that what a root reaches lies together. A scan copies the
+//! cell, and then claims what the cell names. In the copy, the place in each reference and link becomes the place of
+//! the target's copy if the target is moved. The other words stay. The copies of a space are made in the order of their
+//! places. So they fill its new blocks one after the other, and only the last block has free cells.
 //!
 //! ```text
 //!    Old            Aged       nursery
@@ -24,36 +24,37 @@
 //!
 //!    won, in order     first met from     goes to
 //!    n                 the row            Aged 0
-//!    m                 a                  Old, behind the blocks that stay
+//!    m                 a                  Old, after the blocks that stay
 //!    p                 n                  Old: it was in Aged
 //!    o                 n                  Aged 1: n is scanned before m
 //! ```
 //!
-//! A copy is right when it is made: a place that was given stays, and all that a cell names has a place once the cell
-//! is scanned. It is said so: a copy is right by whatever map has the places that are known, and what is known only
-//! grows. In the end that map is the table of forwarding words.
+//! A copy is right when it is made, because a place that was given never changes. Once a cell is scanned, all that it
+//! names has a place. The contracts say so in this way: a copy is right by every map that has the known places, and the
+//! known places only grow. At the end that map is the table of forwarding words.
 //!
-//! *Notes.* At last the cells of Old that will name young ones are noted: those of the remembered ones that still do,
-//! and the copies in Old. In the picture that is the copy of m, since o is in Aged now; a names no young cell any more.
-//! A full collection has all its copies in Old, and looks for none.
+//! *Notes.* At the end the collection notes the cells of Old that will name young cells. These are the remembered cells
+//! that still do, and the copies in Old that name young cells. In the picture it is the copy of m, because o is in Aged
+//! now. The cell a names no young cell any more. A full collection has all its copies in Old, and looks for no such
+//! cell.
 //!
-//! So each live cell that is moved is read once and written once, and of the others only remembered cells and the cells
-//! of rows are looked at. A collection takes the new blocks, a word for each cell of from-space, the list of won cells,
-//! a word for each with room for all of from-space, and the notes; nothing grows with the number of references, and
-//! nothing of a nursery collection with the cells that Old has.
+//! So each live cell that is moved is read once and written once. Of the other cells only remembered cells and cells of
+//! rows are read. A collection takes memory for the new blocks, a word for each cell of from-space, the list of won
+//! cells with room for a word for each cell of from-space, and the notes. Its memory is independent of the number of
+//! references. The memory of a nursery collection is also independent of the cells in Old.
 //!
-//! **Who may call.** The store calls [`collect_one`] with the rows of the heap's workers as roots, and for a nursery
-//! collection with its remembered cells, and hands what it gets to the heap's graph, which settles there. It may use
+//! **Who may call.** The store calls [`collect_one`] with the rows of the heap's workers as roots, and with the
+//! remembered cells in a nursery collection. It hands the result to the heap's graph, which settles there. It may use
 //! that the forwarding words, the new blocks and the notes are a collection of the spaces (`IsCollection` of
-//! `tg_space`), with no more blocks than its copies need, and within the limit (`AreFewBlocks`); `Collects` has all
-//! that it is promised. A collection that is refused has changed nothing.
+//! `tg_space`). The collection has only the blocks that its copies need, and keeps within the limit (`AreFewBlocks`).
+//! `Collects` has the whole promise. A refused collection changes nothing.
 //!
 //! **What other collectors may use.** The walk asks of its table of claims only what [`Claimer`] says, so it serves any
-//! table: [`Walk::along`] is generic, and [`Copies`] holds what it copies. That won pairs with their copies
-//! are a collection is proved of any list of pairs, in whatever order and by whomever they were won
-//! (`proofs/Collecting.antt`), where each was claimed for a reason: that the reasons put copies in the space of their
-//! generation stands in `proofs/Reasons.antt`, and that no more cells are won than aren't free in
-//! `proofs/Counting.antt`. The other lemmas are told by 'Maps of the proofs' in docs/inside/ARCHITECTURE.md.
+//! table. [`Walk::along`] is generic, and [`Copies`] holds what it copies. Won pairs with their copies are a collection
+//! in whatever order, and by whichever helper, they were won (`proofs/Collecting.antt`). The proof needs a reason for
+//! each claim. `proofs/Reasons.antt` proves that the reasons put copies in the space of their generation.
+//! `proofs/Counting.antt` proves that at most as many cells are won as are in use. 'Maps of the proofs' in
+//! docs/inside/ARCHITECTURE.md describes the other lemmas.
 #![tactic(auto)]
 
 pub use both::Both;

@@ -1,8 +1,8 @@
 //! A store's collections by several helpers.
 //!
-//! [`collect_with`] is `Store::collect` with up to eight helpers on threads. It stands in a crate of its own, over the
-//! store and over `tg_parallel`, because a library for C can't hold what starts threads or waits, and the store is part
-//! of one.
+//! [`collect_with`] does what `Store::collect` does, with up to eight helpers on threads. It has a crate of its own
+//! above the store and `tg_parallel`. The store is part of the library for C, and that library must not start threads
+//! or wait.
 #![tactic(auto)]
 
 ghost use Rattle.std.specs.Prelude.{◌≡◌, ◌≢◌, Err, IfOk, OnOk};

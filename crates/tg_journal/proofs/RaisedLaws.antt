@@ -9,7 +9,7 @@ use Rattle.tg_model.proofs.NameLaws.{name_is_next}
 use Rattle.tg_model.proofs.ReachLaws.{lt-IsReachable}
 use Rattle.tg_model.proofs.SoundLaws.{le-step-made}
 use Rattle.tg_journal.specs.declared.entry.Entry.{Entry}
-use Rattle.tg_journal.specs.History.{IsLegal, graph_after}
+use Rattle.tg_journal.specs.History.{AnswersName, IsLegal, graph_after}
 use Rattle.tg_journal.proofs.HistoryLaws.{le-graph_after-made}
 use Rattle.tg_journal.specs.Raised.{raised, with_unreached}
 use Rattle.tg_snapshot.specs.Snapshot.{Saved, IsSnapshot, IsSnapshotOf, graph_shown, unreached_value}
@@ -72,8 +72,8 @@ given_in g (first ∷ es) (suc at) e name legal there named =
     let rest = given_in (step g first.worker first.deed) es at e name legal.1 there named in
     record { fresh = omega (arith, rest.fresh, le-step-made g first.worker first.deed); used_up = rest.used_up }
 
-pub given_later : (p : Saved) (g : ProtectionGraph) (lost es : List Entry) (made at other : ℕ) (e f : Entry) (old new : ℕ) → IsLegal g lost → (graph_after g lost).made ≤ made → IsLegal (graph_shown (raised p made)) es → slice_get lost at ≡ Some e → e.reply ≡ Name old → slice_get es other ≡ Some f → f.reply ≡ Name new → old < new
-given_later p g lost es made at other e f old new was low legal there named here given =
-    let first = given_in g lost at e old was there named in
-    let second = given_in (graph_shown (raised p made)) es other f new legal here given in
+pub given_later : (p : Saved) (g : ProtectionGraph) (lost es : List Entry) (made at other old new : ℕ) → IsLegal g lost → (graph_after g lost).made ≤ made → IsLegal (graph_shown (raised p made)) es → AnswersName lost at old → AnswersName es other new → old < new
+given_later p g lost es made at other old new was low legal before later =
+    let first = given_in g lost at before.entry old was before.stands before.answers in
+    let second = given_in (graph_shown (raised p made)) es other later.entry new legal later.stands later.answers in
     omega (arith, first.used_up, low, second.fresh)

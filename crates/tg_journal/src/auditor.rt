@@ -104,12 +104,12 @@ impl Auditor {
         }
     }
 
-    /// Replays entries that no journal holds, as the next ones of the history: the caller knows their place. `Ok` is
+    /// Replays entries from outside a journal, as the next ones of the history. The caller knows their place. `Ok` is
     /// returned only if they are a legal history of the graph so far. The auditor has then come to the graph and the
     /// place after them. Otherwise the entries before [`Auditor::at`] passed. `BadEntry` has that place in the whole
-    /// history. After `OutOfMemory` the auditor can be fed again from there. `OutOfMemory` is returned too after
-    /// 2^64 - 1 entries, since the next has no place. The auditor [sweeps](Auditor::sweep) by itself if it has a
-    /// quarter as many vertices again as the last sweep left, and 65,536 at least, unless nothing could be forgotten.
+    /// history. After `OutOfMemory` the auditor can be fed again from there. `OutOfMemory` is returned too after 2^64 -
+    /// 1 entries, because the next has no place. The auditor [sweeps](Auditor::sweep) by itself if it has a quarter as
+    /// many vertices again as the last sweep left, and 65,536 at least, unless nothing could be forgotten.
     pub fn feed_entries(&mut self, entries: &[Entry]) -> Result<(), AuditFault>
         ensures fed { FeedsEntries self.old self.new entries.now result }
         ensures ended { IsEnded self.old self.new result }
@@ -150,10 +150,11 @@ impl Auditor {
     }
 
     /// Replays the next deed, whose reply isn't known. Returns the reply with which its entry is legal, and the auditor
-    /// has then come to the graph and the place after that entry. Returns `None` if no entry with this deed is legal:
-    /// its worker is no active subject, or the state of a new vertex doesn't fit its law. After a bad entry it returns
-    /// `None` always. Sweeps by itself, as [`Auditor::feed_entries`] does. Fails only when out of memory, or after
-    /// 2^64 - 1 entries, since the next has no place. Then, and after `None`, the auditor stays where it has come.
+    /// has then come to the graph and the place after that entry. Returns `None` if no entry with this deed is legal.
+    /// Then its worker is no active subject, or the state of a new vertex doesn't fit its law. After a bad entry it
+    /// returns `None` always. Sweeps by itself, as [`Auditor::feed_entries`] does. Fails only when out of memory, or
+    /// after 2^64 - 1 entries, because the next has no place. Then, and after `None`, the auditor stays where it has
+    /// come.
     pub fn answer(&mut self, worker: u64, deed: &Deed) -> Result<Option<Reply>, AllocError>
         ensures answered { (g : ProtectionGraph) → StandsAt g self.old → IfOk result (AuditAnswers g worker deed.now self.old self.new) }
         ensures refused { (g : ProtectionGraph) → StandsAt g self.old → OnErr result (StandsAt g self.new) }

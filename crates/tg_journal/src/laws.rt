@@ -47,8 +47,8 @@ pub fn fronts_are_legal()
     ensures { (g : ProtectionGraph) (es : List Entry) (n : ℕ) → IsLegal g es → IsLegal g (take n es) }
 {}
 
-/// A legal history keeps a graph sound. So the graph after a legal history of an opening is sound, has no more vertices
-/// than there may be, and what each of them stores fits its law.
+/// A legal history keeps a graph sound. So the graph after a legal history of an opening is sound. It has at most as
+/// many vertices as there may be, and what each of them stores fits its law.
 pub fn legal_histories_stay_sound()
     ensures kept { (g : ProtectionGraph) (es : List Entry) →
         IsSound g → IsLegal g es → IsSound (graph_after g es) }
@@ -61,8 +61,8 @@ pub fn legal_histories_stay_sound()
         IfSome ((graph_after (start_of plan) es).value y) ValueFits }
 {}
 
-/// Who is a subject after a history was one before it, or was made in it; who was made and is no subject never is one
-/// again. No history changes how many vertices there may be, and the number of vertices never falls.
+/// A subject after a history was one before it, or was made in it. A vertex that was made and is no subject never
+/// becomes one again. A history keeps the limit of vertices, and the number of vertices never falls.
 pub fn who_retired_stays_so_and_made_never_falls()
     ensures subjects { (g : ProtectionGraph) (es : List Entry) (x : ℕ) →
         IsSubject (graph_after g es) x → IsSubject g x ⊎ (g.made ≤ x) }
@@ -97,9 +97,9 @@ pub fn the_unreachable_stay()
         (graph_after g es).value u ≡ g.value u }
 {}
 
-/// A graph that has the same labels and values as another at all that its subjects reach answers each deed of a subject
-/// as the other does, and is so again after it: it has nothing to know of what can't be reached. An entry is legal on
-/// both or on none.
+/// Suppose that a graph has the same labels and values as another at all that its subjects reach. Then it answers each
+/// deed of a subject as the other does, and the same holds after the deed. So it needs to know nothing of what can't be
+/// reached. An entry is legal on both or on none.
 pub fn where_subjects_reach_is_enough()
     ensures answer { (g kept : ProtectionGraph) (x : ℕ) (deed : Deed) →
         HasComeTo g kept → IsSubject g x → answer_of kept x deed ≡ answer_of g x deed }
@@ -114,9 +114,9 @@ pub fn the_unreached_may_be_forgotten()
     ensures { (g kept swept : ProtectionGraph) → HasComeTo g kept → IsSweptGraph kept swept → HasComeTo g swept }
 {}
 
-/// An auditor that is fed the parts of a journal, one after the other, replays one history. If it has come to the graph
-/// after the entries before its place, and a part with these in front passes, it has come to the graph after all of
-/// them, and they are a legal history.
+/// An auditor that is fed the parts of a journal, one after the other, replays one history. Suppose that it has come to
+/// the graph after the entries before its place, and that a part with these in front passes. Then it has come to the
+/// graph after all of them, and they are a legal history.
 pub fn a_part_goes_on()
     ensures { (g : ProtectionGraph) (old new : AuditState) (first : ℕ) (entries : List Entry) →
         PassesBefore g entries old → PartGoesOn g old new first entries }
@@ -130,9 +130,9 @@ pub fn legal_or_one_first_bad_place()
         IsFirstBad g es at → IsFirstBad g es other → at ≡ other }
 {}
 
-/// A journal that was made when there were four rights, and no append, inspect, spawn or retire, is legal today exactly
-/// where it was legal then, and so is each front of it. Where it isn't, its first bad place is the same: an audit
-/// answers as it did.
+/// The first edition had four rights, and no append, inspect, spawn or retire. A journal of that edition is legal today
+/// exactly if it was legal then, and so is each front of it. If it isn't legal, its first bad place is the same, so an
+/// audit answers as it did.
 pub fn first_edition_is_judged_alike()
     ensures legal { (plan : Plan1) (es : List Entry1) →
         IsLegal (start_of (plan_now plan)) (map entry_today es) ↔ IsLegal1 (start_of1 plan) es }

@@ -1,11 +1,12 @@
 //! What a journal no longer has in memory, for clauses alone.
-ghost use Rattle.std.specs.Prelude.{◌≡◌, ◌++◌, List, replicate};
+ghost use Rattle.std.specs.Prelude.{◌≡◌, ◌++◌, List, []};
 ghost use Rattle.std.specs.Borrow.{ftrue};
 ghost use Rattle.tg_journal.specs.declared.entry.Entry.{Entry as EntryOf};
-ghost use Rattle.tg_journal.specs.Journal.{unknown_entry};
+ghost use Rattle.tg_journal.specs.Journal.{placeholders};
 
 use crate::entry::Entry;
 use std::marker::Model;
+use tg_snapshot::Snapshot;
 
 /// The entries that a journal no longer has in memory. Only clauses read them: it takes no memory, and nothing is done
 /// at run time.
@@ -24,14 +25,21 @@ unsafe impl Send for Past {}
 unsafe impl Sync for Past {}
 
 impl Past {
-    /// So many entries of which nothing is known.
-    pub(crate) fn unknown(_count: u64) -> Past
-        ensures { result.entries ≡ replicate _count unknown_entry }
+    /// No entry.
+    pub(crate) fn nothing() -> Past
+        ensures { result.entries ≡ [] }
     {
         Past {}
     }
 
-    /// These, and behind them the listed ones.
+    /// The placeholders of the entries that were made before a snapshot.
+    pub(crate) fn before(_snapshot: &Snapshot) -> Past
+        ensures { result.entries ≡ placeholders _snapshot.now }
+    {
+        Past {}
+    }
+
+    /// These, followed by the listed ones.
     pub(crate) fn with(&self, _listed: &[Entry]) -> Past
         ensures { result.entries ≡ self.now.entries ++ _listed.now }
     {

@@ -1,13 +1,12 @@
 //! Laws of snapshots, and of histories that go on from one. A function here does nothing: what it ensures is the law.
-ghost use Rattle.std.specs.Prelude.{◌≡◌, ◌↔◌, ◌<◌, ◌≤◌, ◌++◌, ℕ, List, slice_get, Some};
+ghost use Rattle.std.specs.Prelude.{◌↔◌, ◌<◌, ◌≤◌, ◌++◌, ℕ, List};
 ghost use Rattle.tg_model.specs.Graph.{ProtectionGraph, IsSubject, IsSound};
 ghost use Rattle.tg_model.specs.Opened.{Plan, IsPlan, start_of};
-ghost use Rattle.tg_model.specs.declared.reply.Reply.TheVariants.{Name};
 ghost use Rattle.tg_snapshot.specs.Snapshot.{Saved, IsSnapshot, IsSnapshotOf, graph_shown};
 ghost use Rattle.tg_journal.specs.declared.entry.Entry.{Entry};
 ghost use Rattle.tg_journal.specs.Auditing.{HasComeTo, Passes};
 ghost use Rattle.tg_journal.specs.Continues.{IsSnapshotAfter, Continues};
-ghost use Rattle.tg_journal.specs.History.{IsLegal, graph_after};
+ghost use Rattle.tg_journal.specs.History.{AnswersName, IsLegal, graph_after};
 ghost use Rattle.tg_journal.specs.Live.{AuditState};
 ghost use Rattle.tg_journal.specs.Raised.{LeadsTo, raised, with_unreached};
 ghost use Rattle.tg_journal.specs.Saving.{CanBeSaved};
@@ -35,31 +34,29 @@ pub fn histories_go_on_from_a_snapshot()
 {}
 
 /// A snapshot whose count of vertices is raised is one of the graph in which more vertices were made that nobody
-/// reaches. A history that goes on from there gives no name below that count. So it gives no name again that was given
-/// after the snapshot in entries that were lost, if at most so many vertices were made in these.
+/// reaches. A history that goes on from there gives only names from that count on. Entries after the snapshot may have
+/// been lost. If at most so many vertices were made in them, their names are never given again.
 pub fn a_count_may_be_raised()
     ensures accepted { (p : Saved) (made : ℕ) → IsSnapshot p → p.picture.made ≤ made → made ≤ p.picture.limit →
         IsSnapshot (raised p made) }
     ensures sound { (g : ProtectionGraph) (made : ℕ) → IsSound g → g.made ≤ made → IsSound (with_unreached g made) }
     ensures of { (p : Saved) (g : ProtectionGraph) (made : ℕ) → IsSound g → IsSnapshotOf p g → g.made ≤ made →
         IsSnapshotOf (raised p made) (with_unreached g made) }
-    ensures names { (p : Saved) (g : ProtectionGraph) (lost es : List Entry) (made at other : ℕ) (e f : Entry) (old new : ℕ) →
+    ensures names { (p : Saved) (g : ProtectionGraph) (lost es : List Entry) (made i j old new : ℕ) →
         IsLegal g lost → (graph_after g lost).made ≤ made → IsLegal (graph_shown (raised p made)) es →
-        slice_get lost at ≡ Some e → e.reply ≡ Name old → slice_get es other ≡ Some f → f.reply ≡ Name new →
-        old < new }
+        AnswersName lost i old → AnswersName es j new → old < new }
 {}
 
-/// While there is an active subject, the graph of a raised count can come about: the subject makes so many vertices
-/// more, and gives each of them up. So whatever is promised of legal histories is promised of one that goes on from
-/// there.
+/// While there is an active subject, the graph of a raised count can come about. The subject makes so many vertices
+/// more, and gives each of them up. So every promise about legal histories also holds of one that goes on from there.
 pub fn a_raised_count_can_come_about()
     ensures { (g : ProtectionGraph) (x made : ℕ) → IsSound g → IsSubject g x → g.made ≤ made → made ≤ g.limit →
         LeadsTo g (with_unreached g made) }
 {}
 
-/// A part of a history that is audited alone, by an auditor that goes on from a snapshot of the graph before it, is
-/// accepted exactly if the whole history is. What one auditor has come to the other has come to: so both hand out the
-/// same snapshot (`one_graph_has_one_snapshot` of `tg_snapshot`).
+/// A part of a history is audited alone by an auditor that goes on from a snapshot of the graph before it. It is
+/// accepted exactly if the whole history is. Both auditors have then come to the same. So both hand out the same
+/// snapshot (`one_graph_has_one_snapshot` of `tg_snapshot`).
 pub fn a_part_is_audited_alone()
     ensures whole { (first : ProtectionGraph) (front es : List Entry) (p : Saved) (a : AuditState) →
         IsSound first → IsSnapshotAfter first front p → Passes (graph_shown p) es a → Passes first (front ++ es) a }
@@ -68,8 +65,8 @@ pub fn a_part_is_audited_alone()
         Passes (graph_shown p) es a }
 {}
 
-/// Of which graphs there is a snapshot: of the graph that an opening starts from, of one that a snapshot shows, and of
-/// each graph after a legal history of such a graph.
+/// Three kinds of graph have a snapshot: the graph that an opening starts from, one that a snapshot shows, and each
+/// graph after a legal history of such a graph.
 pub fn graphs_can_be_saved()
     ensures opened { (plan : Plan) → IsPlan plan → CanBeSaved (start_of plan) }
     ensures shown { (p : Saved) → IsSnapshot p → CanBeSaved (graph_shown p) }

@@ -19,7 +19,7 @@ pub enum Verb {
     Retire,
 }
 
-/// What stands behind the word of a command, in its order: names of vertices, and then rights or a value.
+/// The operands that follow the word of a command, in their order: names of vertices, and then rights or a value.
 #[derive(Clone, Copy, Debug)]
 pub enum Arguments {
     /// Nothing.

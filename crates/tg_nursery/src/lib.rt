@@ -1,7 +1,7 @@
 //! Allocation in nurseries.
 //!
-//! A new cell comes from the nursery that the worker whose command asks for it holds. The nursery hands out its cells
-//! one after the other; when its last block is used up, it gets one more block, of free cells:
+//! A new cell comes from the nursery of the worker whose command needs it. The nursery hands out its cells one after
+//! the other. When its last block is used up, it gets one more block of free cells:
 //!
 //! ```text
 //!   before   [xxxx][xxxx]            `used` is 64 times the number of blocks
@@ -9,11 +9,11 @@
 //!   then     [xxxx][xxxx][x---]      `hand_out`
 //! ```
 //!
-//! A block is the last that a call asks for: see 'Growth comes first' in docs/inside/ARCHITECTURE.md.
+//! A block is the last thing that a call asks for ('Growth comes first' in docs/inside/ARCHITECTURE.md).
 //!
-//! So the cell is free and was never handed out since the nursery was last emptied, and no other cell changes. The
-//! heap's graph is the caller. It may use the two views of a success that the contract gives: the exact table that is
-//! left, and that a fresh cell was allocated.
+//! So the cell is free, it wasn't handed out since the nursery was last emptied, and no other cell changes. The caller
+//! is the heap's graph. The contract gives it two views of a success: the exact table that is left, and that a fresh
+//! cell was allocated.
 #![tactic(auto)]
 
 ghost use Rattle.std.specs.Prelude.{◌≡◌, ◌<◌, ◌≤◌, ◌*◌, ◌↔◌, Err, IfOk, IsOk, OnOk, OnErr, length};

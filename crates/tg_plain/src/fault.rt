@@ -1,9 +1,9 @@
 //! Why a program doesn't run a script.
 
+use crate::bad_stock::StockReason;
 use std::alloc::AllocError;
 use std::io;
 use tg_model::OpeningFault;
-use tg_text::StockFault;
 use thiserror::Error;
 
 /// Why a script isn't run, or not as far as its end.
@@ -16,8 +16,8 @@ pub enum PlainFault {
     #[error("bad words")]
     BadWords,
     /// The stock is none, or names too many boxes.
-    #[error(transparent)]
-    Stock(#[from] StockFault),
+    #[error("bad stock: {reason}")]
+    BadStock { reason: StockReason },
     /// The workers and vertices don't fit each other.
     #[error(transparent)]
     Opening(#[from] OpeningFault),
@@ -50,7 +50,7 @@ impl PlainFault {
         match self {
             PlainFault::BadWords
             | PlainFault::BadRange { .. }
-            | PlainFault::Stock(StockFault::BadStock)
+            | PlainFault::BadStock { .. }
             | PlainFault::Opening(_) => 2,
             _ => 1,
         }

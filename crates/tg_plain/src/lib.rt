@@ -1,31 +1,36 @@
-//! Runs the lines of a script on the plain graph of `tg_model`: no heap, no journal, and no collection.
+//! Runs the lines of a script on the plain graph of `tg_model`, without heap, journal and collection.
 //!
-//! A [`Script`] is what a reader has, up to the first fault in its bytes, and what it runs on: workers, a limit of
-//! vertices and a stock. It is read as `tgstore` reads it, and in bounded memory. [`PlainRun::open`] is the graph with
-//! which it begins, [`PlainRun::take`] runs a line, and [`PlainRun::of`] runs all; an [`Outcome`] is what all of them
-//! leave. [`obey`] has a program do what the words of its command line ask for; [`read_options`] is what they say that
-//! a script runs on, which each program over one has beside its own options. What it prints is a [`PlainText`] first.
+//! A [`Script`] has the lines of a reader up to the first fault in its bytes, and what they run on: workers, a limit of
+//! vertices and a stock. It is read as `tgstore` reads it, in bounded memory. [`PlainRun::open`] is the graph at the
+//! start, [`PlainRun::take`] runs one line, and [`PlainRun::of`] runs all lines. An [`Outcome`] is what all of them
+//! leave. [`obey`] has a program do what its command line asks for. [`read_options`] reads what a script runs on, which
+//! each program adds to its own options. A program prints into a [`PlainText`] first.
+//! [`stock_reason`] and [`NumberOption`] say what is wrong with a value.
 //!
-//! What has to be believed stands in `specs/Lines`: which lines some bytes are (by `ReadsScript` of `tg_text`), which
-//! graph a line leaves, what it is answered, and how many boxes were taken. `specs/Refused` says which answers say that
-//! a line was denied or refused. What stands in `Inner` are inside matters of this crate.
+//! The definitions to believe are in `specs/Lines`. They say which lines some bytes are (by `ReadsScript` of
+//! `tg_text`), which graph a line leaves, what its answer is, and how many boxes were taken. `specs/Refused` says which
+//! answers mean that a line was denied or refused. `Inner` has definitions that only this crate uses.
 #![tactic(auto)]
 
+mod bad_stock;
 mod fault;
 mod heard;
 mod options;
 mod outcome;
 mod program;
+mod ranges;
 mod reading;
 mod refused;
 mod run;
 mod script;
 mod text;
 
+pub use bad_stock::{StockReason, stock_reason};
 pub use fault::PlainFault;
 pub use options::{Choice, CommandLine, PlainOptions, STOCK, VERTICES, WORKERS, read_options};
 pub use outcome::Outcome;
 pub use program::{Program, obey};
+pub use ranges::NumberOption;
 pub use refused::RefusedLine;
 pub use run::{PlainRun, value_of};
 pub use script::{Script, ScriptLine};

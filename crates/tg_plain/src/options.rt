@@ -2,14 +2,16 @@
 ghost use Rattle.std.specs.Prelude.{◌≡◌, codes, option_map};
 ghost use Rattle.clap.specs.Matches.{first_value, found_of};
 
+use crate::ranges::NumberOption;
 use clap::builder::ValueParser;
+use clap::error::ErrorKind;
 use clap::{Arg, ArgAction, ArgMatches, Command, Error};
 use std::alloc::{AllocError, Global};
 use std::convert::AsStr;
 use tg_model::{MAX_VERTICES, MAX_WORKERS};
 
 /// The version of all that this repository has. The file `VERSION` says the same.
-const VERSION: &str = "0.3.0";
+const VERSION: &str = "0.4.0";
 
 /// An option of a command line.
 #[derive(Clone, Copy)]
@@ -35,7 +37,7 @@ pub const WORKERS: Choice = Choice {
     value: "N",
     parser: ValueParser::Unsigned(1, MAX_WORKERS),
     needs: &[],
-    help: "How many workers there are at first, from 1 to 64 [default: 2]",
+    help: "Sets how many workers there are at first, from 1 to 64 [default: 2]",
 };
 
 /// How many vertices may ever be made.
@@ -45,7 +47,7 @@ pub const VERTICES: Choice = Choice {
     value: "N",
     parser: ValueParser::Unsigned(1, MAX_VERTICES),
     needs: &[],
-    help: "How many vertices may ever be made, from 1 to 16777216 [default: 1000000]",
+    help: "Sets how many vertices may ever be made, from 1 to 16777216 [default: 1000000]",
 };
 
 /// The boxes that creates and spawns take.
@@ -55,7 +57,7 @@ pub const STOCK: Choice = Choice {
     value: "TEXT",
     parser: ValueParser::String,
     needs: &[],
-    help: "The boxes that creates and spawns take, as tgstore has them",
+    help: "Names the boxes that new vertices take, as --stock of tgstore does [default: none]",
 };
 
 /// What a script runs on.
@@ -90,6 +92,8 @@ pub struct CommandLine {
     pub about: &'static str,
     /// What its help says behind the options.
     pub manual: &'static str,
+    /// What is said after the error of a word that no option takes: how the words are meant.
+    pub advice: &'static str,
     /// The options.
     pub choices: &'static [Choice],
 }
@@ -101,7 +105,56 @@ pub(crate) fn read_words<'a, S: AsStr>(
     line: &CommandLine,
     words: &'a [S],
 ) -> Result<ArgMatches<'a>, Error> {
-    command(alloc, line)?.try_get_matches_from(words)
+    match command(alloc, line) {
+        Ok(mut command) => read_by(alloc, &mut command, line, words),
+        Err(wanting) => Err(Error::from(wanting)),
+    }
+}
+
+// The same, by this command line.
+fn read_by<'a, S: AsStr>(
+    alloc: Global,
+    command: &mut Command<'a>,
+    line: &CommandLine,
+    words: &'a [S],
+) -> Result<ArgMatches<'a>, Error> {
+    match command.try_get_matches_from_mut(words) {
+        Ok(matches) => Ok(matches),
+        Err(error) => Err(with_range(alloc, command, line, words, error)),
+    }
+}
+
+// The error with the range of the first option whose value is no number of it, if the error is of such a value.
+fn with_range<S: AsStr>(
+    alloc: Global,
+    command: &mut Command,
+    line: &CommandLine,
+    words: &[S],
+    error: Error,
+) -> Error {
+    if error.kind() != ErrorKind::ValueValidation {
+        return error;
+    }
+    for choice in line.choices {
+        if let Some(number) = number_of(choice) {
+            if let Some(text) = number.wrong_value(words) {
+                return number.error(alloc, command, text);
+            }
+        }
+    }
+    error
+}
+
+// The range of an option whose value is a number.
+fn number_of(choice: &Choice) -> Option<NumberOption> {
+    match choice.parser {
+        ValueParser::Unsigned(least, most) => Some(NumberOption {
+            name: choice.name,
+            least,
+            most,
+        }),
+        _ => None,
+    }
 }
 
 // The command line, as clap has it.

@@ -42,7 +42,7 @@ where
         Err(error) if error.kind() == ErrorKind::OutOfMemory => {
             Err(PlainFault::OutOfMemory(AllocError))
         }
-        Err(error) => Ok(print_error(rt, &error)?),
+        Err(error) => Ok(print_error(rt, line, &error)?),
     }
 }
 
@@ -55,8 +55,11 @@ fn words_of<R: AllocGlobal + Env>(rt: &R) -> Result<Vec<String>, PlainFault> {
     }
 }
 
-// Prints the text of an error. The exit status.
-fn print_error<R: Print + Eprint>(rt: &R, error: &Error) -> io::Result<u8> {
+// Prints the text of an error, and after that of a word that no option takes the program's advice. The exit status.
+fn print_error<R: Print + Eprint>(rt: &R, line: &CommandLine, error: &Error) -> io::Result<u8> {
     error.print(rt)?;
+    if error.kind() == ErrorKind::UnknownArgument {
+        eprintln!(rt; "{}: {}", line.name, line.advice)?;
+    }
     Ok(error.exit_code() as u8)
 }

@@ -3,6 +3,7 @@ ghost use Rattle.std.specs.Prelude.{◌≡◌, ℕ, List, Some, None, IfOk, OnEr
 ghost use Rattle.tg_plain.specs.Lines.{IsEmptyScript, IsNumbered, IsReadOf, NamesBoxes, RunsOn};
 ghost use Rattle.tg_plain.specs.Inner.Reading.{AddsLine, HasLinesOf, HasNoLine, IsNewReading, IsReadAs, KeepsOptions, MayCountBoth};
 
+use crate::bad_stock::stock_reason;
 use crate::fault::PlainFault;
 use crate::heard::Heard;
 use crate::options::PlainOptions;
@@ -60,7 +61,7 @@ struct Filled<B: Drop> {
 }
 
 impl Script {
-    // A script with no line. `Stock` where the text of the stock is none, or memory is wanting for its boxes.
+    // A script with no line. `BadStock` if the text of the stock is none. Else it fails only when out of memory.
     fn new(alloc: Global, options: PlainOptions) -> Result<Script, PlainFault>
         ensures { IfOk result (IsEmptyScript options.entry) }
     {
@@ -78,8 +79,8 @@ impl Script {
     }
 
     /// The script that the reader has, as far as its first fault, to be run with these options. Its lines are those of
-    /// the bytes that are left in the reader. `Stock` where the text of the stock is none, and then nothing is read;
-    /// `Stream` where the reader failed. Else it fails only when out of memory.
+    /// the bytes that are left in the reader. `BadStock` if the text of the stock is none, and then nothing is read.
+    /// `Stream` if the reader failed. Else it fails only when out of memory.
     pub fn read<R: Read + Drop>(
         alloc: Global,
         options: PlainOptions,
@@ -200,13 +201,20 @@ impl Script {
     }
 }
 
-// The boxes that the text names, or none without a text. Fails as [`read_stock`] does.
-fn named_boxes(alloc: Global, text: Option<&str>) -> Result<Vec<StockItem>, StockFault>
+// The boxes that the text names, or none without a text. `BadStock` if it names none. Else it fails only when out of
+// memory.
+fn named_boxes(alloc: Global, text: Option<&str>) -> Result<Vec<StockItem>, PlainFault>
     ensures { IfOk result (λ boxes. NamesBoxes text.entry boxes.items) }
 {
-    match text {
-        Some(text) => read_stock(alloc, text.as_bytes()),
-        None => Ok(Vec::new(alloc)),
+    let Some(text) = text else {
+        return Ok(Vec::new(alloc));
+    };
+    match read_stock(alloc, text.as_bytes()) {
+        Ok(boxes) => Ok(boxes),
+        Err(StockFault::BadStock) => Err(PlainFault::BadStock {
+            reason: stock_reason(text),
+        }),
+        Err(StockFault::OutOfMemory) => Err(PlainFault::OutOfMemory(AllocError)),
     }
 }
 

@@ -1,7 +1,7 @@
 //! The texts of the help, and the version.
 
 /// The version of all that this repository has. The file `VERSION` says the same.
-pub const VERSION: &str = "0.3.0";
+pub const VERSION: &str = "0.4.0";
 
 pub const ABOUT: &str = "An object store whose access control is proved
 

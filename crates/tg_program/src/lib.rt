@@ -1,14 +1,14 @@
-//! What the program `tgstore` is made of, so that its `main` is one call.
+//! The parts of the program `tgstore`, whose `main` is one call.
 //!
-//! The words of the command line are read first (`words`), then the stock and the limits are looked at (`start`), and
-//! only then are buffers (`streams`) and boxes with drafts of them (`boxes`) made and input read (`serving`), whose
-//! last line is noted where it is to be said why a line is bad (`noted`). Collections by several helpers run on
-//! threads (`on_threads`). What goes wrong is one line on standard error and a status (`stop`). [`obey`] does all of
-//! it.
+//! The program works in this order. It reads the words of the command line (`words`), and looks at the stock and the
+//! limits (`start`). Only then it makes buffers (`streams`) and boxes with drafts of them (`boxes`), and reads input
+//! (`serving`). If it has to say why a line is bad, `noted` keeps the last line that was read. Collections by several
+//! helpers run on threads (`on_threads`). A fault is one line on standard error and a status (`stop`). [`obey`] does
+//! all of it.
 //!
-//! What a reader has to believe stands in `specs/`: `Words` says what the words ask for, `Ranges` and `Starts` what is
-//! refused before any input is read, `Boxes` what boxes begin with, `Serving` what a run reads and writes, and `Faults`
-//! the statuses.
+//! The definitions to believe are in `specs/`. `Words` says what the words ask for. `Ranges` and `Starts` say what is
+//! refused before any input is read. `Boxes` says what boxes begin with, `Serving` what a run reads and writes, and
+//! `Faults` what the statuses are.
 #![tactic(auto)]
 
 mod boxes;

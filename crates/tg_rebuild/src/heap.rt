@@ -1,9 +1,10 @@
 //! The heap of a snapshot.
-ghost use Rattle.std.specs.Prelude.{◌≡◌, ℕ, IfOk};
+ghost use Rattle.std.specs.Prelude.{◌≡◌, ◌∷◌, ℕ, [], IfOk, OnOk};
 ghost use Rattle.tg_rows.specs.Content.{IsNamed};
 ghost use Rattle.tg_graph.specs.Heap.{content_of, subject_names};
 ghost use Rattle.tg_graph.specs.Standing.{IsContentOf};
 ghost use Rattle.tg_snapshot.specs.Snapshot.{ShowsName, graph_shown, value_shown};
+ghost use Rattle.tg_rebuild.specs.Inner.Raising.{IsRaised};
 
 use crate::edges::add_edges;
 use crate::maker::Maker;
@@ -37,10 +38,34 @@ pub fn heap_of<P: Payload, M: Maker<P>>(
     ensures limits { IfOk result (λ heap. heap.table.limits ≡ limits) }
 {
     let mut heap = open_zero(alloc, snapshot, limits, maker)?;
+    match raise(&mut heap, maker, snapshot, alloc) {
+        Ok(()) => Ok(heap),
+        Err(fault) => {
+            drop(heap);
+            Err(fault)
+        }
+    }
+}
+
+// Makes all that the snapshot shows, in the heap of the vertex 0. Refused, the heap is of no use.
+fn raise<P: Payload, M: Maker<P>>(
+    heap: &mut Heap<P>,
+    maker: &mut M,
+    snapshot: &Snapshot,
+    alloc: Global,
+) -> Result<(), RoomFault>
+    requires raised { IsRaised snapshot.now heap.old }
+    requires zero { subject_names heap.old ≡ 0 ∷ [] }
+    ensures stands { OnOk result (IsContentOf (content_of heap.new) (graph_shown snapshot.now)) }
+    ensures subjects { OnOk result (subject_names heap.new ≡ snapshot.now.picture.subjects) }
+    ensures vertices { OnOk result ((y : ℕ) → ShowsName snapshot.now.vertices y → IsNamed (content_of heap.new) y) }
+    ensures values { OnOk result ((y : ℕ) → ShowsName snapshot.now.vertices y → (content_of heap.new).value y ≡ value_shown snapshot.now.vertices y) }
+    ensures limits { OnOk result (heap.new.table.limits ≡ heap.old.table.limits) }
+{
     let zero = heap.worker_place(0);
     let holder = 0;
     hand_on(
-        &mut heap,
+        heap,
         maker,
         snapshot,
         Scaffold {
@@ -55,13 +80,13 @@ pub fn heap_of<P: Payload, M: Maker<P>>(
         holder,
         zero,
     };
-    add_subjects(&mut heap, maker, snapshot, scaffold)?;
-    let places = place_vertices(&mut heap, maker, snapshot, scaffold)?;
+    add_subjects(heap, maker, snapshot, scaffold)?;
+    let places = place_vertices(heap, maker, snapshot, scaffold)?;
     // It tells what holds of all spaces (`IsSpaceTable`).
     let _ = heap.subjects();
     // It tells that the lists are a snapshot.
     let _ = snapshot.picture();
-    add_edges(&mut heap, holder, snapshot, places.as_slice())?;
-    leave_none(&mut heap, snapshot);
-    Ok(heap)
+    add_edges(heap, holder, snapshot, places.as_slice())?;
+    leave_none(heap, snapshot);
+    Ok(())
 }

@@ -1,12 +1,12 @@
 //! The remembered set: the places of old cells that may refer to young ones.
 //!
-//! A nursery collection looks at no old cell but the remembered ones. So each old cell that gets a reference or a link
-//! into a younger space is noted here, and each is noted once, however often it is written. The set keeps the order of
-//! first notes, because the collection goes through it in that order, and answers are to depend on nothing else.
+//! A nursery collection reads only the remembered cells of Old. So each old cell that gets a reference or a link into a
+//! younger space is noted here, once, however often it is written. The set keeps the order of first notes, because the
+//! collection goes through it in that order. The result of a collection then depends on the order of writes alone.
 //!
-//! The heap notes a cell when it writes to it, and that mustn't be refused half way: it reserves room for its one note
-//! before any change. Contracts see that room as the number `spare`. Whatever else is in the heap, whether a cell is
-//! old, and what it refers to, isn't known here.
+//! The heap notes a cell when it writes to it, and such a write must not be refused half way. Therefore the heap
+//! reserves room for its one note before any change. Contracts see that room as the number `spare`. The set knows only
+//! places. Whether a cell is old, and what it refers to, is known in crates above.
 #![tactic(auto)]
 
 ghost use Rattle.std.specs.Prelude.{◌≡◌, ◌≢◌, ◌+◌, ◌<◌, ◌≤◌, ◌↔◌, ◌⊎◌, [], length, Some, IsTrue, IsOk, OnOk, Contains, AllPairs, slice_get};

@@ -5,7 +5,6 @@ use Rattle.std.specs.List.{Contains}
 use Rattle.tg_model.specs.declared.command.Deed.{Deed}
 use Rattle.tg_model.specs.declared.reply.Reply.{Reply}
 use Rattle.tg_model.specs.Graph.{ProtectionGraph, IsReachable}
-use Rattle.tg_model.specs.Opened.{start_of}
 use Rattle.tg_model.specs.Rules.{IsAllowed}
 use Rattle.tg_journal.specs.declared.entry.Entry.{Entry}
 use Rattle.tg_journal.specs.History.{graph_after}
@@ -19,6 +18,7 @@ use Rattle.tg_rows.specs.Graph.{content_in}
 use Rattle.tg_graph.specs.Heap.{content_of, nursery_of}
 use Rattle.tg_store.specs.Collecting.{IsSwept, KeepsHistory}
 use Rattle.tg_store.specs.Room.{LacksRoomToCollect}
+use Rattle.tg_store.specs.Origin.{start_at}
 use Rattle.tg_store.specs.Store.{StoreState, IsUnchanged, graph_of_store}
 use Rattle.tg_resume.specs.Inner.Replaying.{Does, Stays, Tries}
 use Rattle.tg_resume.specs.Room.{HasOnlyReached, IsFullFor, LacksCells, LacksRoom}
@@ -26,7 +26,7 @@ use Rattle.tg_resume.specs.Room.{HasOnlyReached, IsFullFor, LacksCells, LacksRoo
 -- ---- what stays
 
 pub same_graph : (old new : StoreState) → new.entries ≡ old.entries → new.opening ≡ old.opening → graph_of_store new ≡ graph_of_store old
-same_graph old new entries opening = λ i. graph_after (start_of (opening i)) (entries i)
+same_graph old new entries opening = λ i. graph_after (start_at (opening i)) (entries i)
 
 pub stays_twice : (old mid new : StoreState) → Stays old mid → Stays mid new → Stays old new
 stays_twice old mid new first second = record {

@@ -3,13 +3,13 @@ use Rattle.std.proofs.Common.{◌≡◌, ◌∙◌, ◌+◌, ◌-◌, ◌++◌, 
 use Rattle.std.proofs.lemmas.List.{length-append, length-take-le, take-append-drop}
 use Rattle.std.proofs.lemmas.Option.{slice_get_within}
 use Rattle.tg_model.specs.Graph.{ProtectionGraph}
-use Rattle.tg_model.specs.Opened.{Plan, start_of}
 use Rattle.tg_journal.specs.declared.entry.Entry.{Entry}
 use Rattle.tg_journal.specs.History.{IsLegal, graph_after}
 use Rattle.tg_journal.proofs.HistoryLaws.{IsFirstBad-not_legal, IsLegal-append, IsLegal-cut, graph_after-append}
 use Rattle.tg_space.specs.declared.room_fault.RoomFault.{RoomFault}
+use Rattle.tg_store.specs.Origin.{Origin, start_at}
 use Rattle.tg_store.specs.Store.{IsFaithful, StoreState, graph_of_store}
-use Rattle.tg_resume.specs.Resuming.{HasNoRoom, IsBadAt, Resumes}
+use Rattle.tg_resume.specs.Resuming.{HasFrontOf, HasNoRoom, IsBadAt, Resumes}
 
 pub resumed_both : (front more : List Entry) (old mid new : StoreState) → Resumes front old mid → Resumes more mid new → Resumes (front ++ more) old new
 resumed_both front more old mid new first second = record {
@@ -36,16 +36,16 @@ resumed_on_from es old mid at why stopped =
           (resumed_both (take done es) (drop done es) old mid new stopped.before (subst (λ n. Resumes (drop n es) mid new) count rest)),
     )
 
-pub as_the_first : (first old new : StoreState) → old.opening ≡ first.opening → old.entries ≡ take (length old.entries) first.entries → Resumes (drop (length old.entries) first.entries) old new → (new.entries ≡ first.entries) × (graph_of_store new ≡ graph_of_store first)
-as_the_first first old new opening front resumed =
+pub as_the_first : (first old new : StoreState) → HasFrontOf first old → Resumes (drop (length old.entries) first.entries) old new → (new.entries ≡ first.entries) × (graph_of_store new ≡ graph_of_store first)
+as_the_first first old new is resumed =
     let n = length old.entries in
     let entries : new.entries ≡ first.entries =
-    resumed.entries ∙ ap (λ (l : List Entry). l ++ drop n first.entries) front ∙ take-append-drop n first.entries in
-    (entries, (λ i. graph_after (start_of ((resumed.opening ∙ opening) i)) (entries i)))
+    resumed.entries ∙ ap (λ (l : List Entry). l ++ drop n first.entries) is.entries ∙ take-append-drop n first.entries in
+    (entries, (λ i. graph_after (start_at ((resumed.opening ∙ is.opening) i)) (entries i)))
 
 pub none_is_bad : (first old : StoreState) (es later : List Entry) (at : ℕ) → IsFaithful first → old.opening ≡ first.opening → first.entries ≡ (old.entries ++ es) ++ later → IsBadAt es old at → ⊥
 none_is_bad first old es later at faithful opening entries bad =
-    let start = start_of old.opening in
+    let start = start_at old.opening in
     let legal : IsLegal start ((old.entries ++ es) ++ later) =
-    subst (IsLegal start) entries (subst (λ (p : Plan). IsLegal (start_of p) first.entries) (sym opening) faithful.legal) in
+    subst (IsLegal start) entries (subst (λ (o : Origin). IsLegal (start_at o) first.entries) (sym opening) faithful.legal) in
     IsFirstBad-not_legal start (old.entries ++ es) at bad (IsLegal-cut start (old.entries ++ es) later legal).0

@@ -8,12 +8,12 @@ use Rattle.std.specs.Prelude.{IsTrue, Result, Ok, Err}
 use Rattle.tg_model.specs.declared.reply.Reply.{Reply}
 use Rattle.tg_model.specs.declared.command.Deed.{Deed}
 use Rattle.tg_model.specs.Graph.{ProtectionGraph, IsSubject}
-use Rattle.tg_model.specs.Opened.{Plan, start_of}
 use Rattle.tg_model.specs.Rules.{step}
 use Rattle.tg_journal.specs.declared.entry.Entry.{Entry}
 use Rattle.tg_journal.specs.History.{IsLegal, IsLegalEntry, IsFirstBad, graph_after}
 use Rattle.tg_journal.proofs.HistoryLaws.{IsLegal-push, IsLegal-cut, graph_after-push}
 use Rattle.tg_space.specs.declared.room_fault.RoomFault.{RoomFault}
+use Rattle.tg_store.specs.Origin.{Origin, start_at}
 use Rattle.tg_store.specs.Store.{StoreState, IsFaithful, graph_of_store}
 use Rattle.tg_store.proofs.StandLaws.{graph-grown}
 use Rattle.tg_resume.specs.Inner.Replaying.{Does, Replays}
@@ -27,8 +27,8 @@ use Rattle.tg_resume.proofs.Doing.{same_graph}
 -- the last entry of a store is legal on the graph before it
 legal_last : (old new : StoreState) (e : Entry) → IsFaithful new → new.opening ≡ old.opening → new.entries ≡ old.entries ++ e ∷ [] → IsLegalEntry (graph_of_store old) e
 legal_last old new e faithful opening entries =
-    let legal : IsLegal (start_of old.opening) new.entries = subst (λ (p : Plan). IsLegal (start_of p) new.entries) opening faithful.legal in
-    (IsLegal-cut (start_of old.opening) old.entries (e ∷ []) (subst (IsLegal (start_of old.opening)) entries legal)).1.0
+    let legal : IsLegal (start_at old.opening) new.entries = subst (λ (o : Origin). IsLegal (start_at o) new.entries) opening faithful.legal in
+    (IsLegal-cut (start_at old.opening) old.entries (e ∷ []) (subst (IsLegal (start_at old.opening)) entries legal)).1.0
 
 module _ (e : Entry) (old new : StoreState) where
   -- its deed was done, and the replies were compared
@@ -110,13 +110,13 @@ module _ (old s new : StoreState) (es : List Entry) (done : ℕ) (x : Entry) (wa
 
     pub halted_bad : IsFaithful s → Replays x s new (Ok false) → IsBadAt es old (length s.entries)
     halted_bad faithful this =
-        let start = start_of old.opening in
+        let start = start_at old.opening in
         let seam : take (length s.entries) (s.entries ++ x ∷ rest) ≡ s.entries = take-append_seam s.entries (x ∷ rest) in
         let graph : graph_of_store s ≡ graph_after start (take (length s.entries) (s.entries ++ x ∷ rest)) =
-        ap (λ (p : Plan). graph_after (start_of p) s.entries) was.opening ∙ ap (graph_after start) (sym seam) in
+        ap (λ (o : Origin). graph_after (start_at o) s.entries) was.opening ∙ ap (graph_after start) (sym seam) in
         subst (λ (l : List Entry). IsFirstBad start l (length s.entries)) (sym whole)
         (record {
-          before = subst (IsLegal start) (sym seam) (subst (λ (p : Plan). IsLegal (start_of p) s.entries) was.opening faithful.legal);
+          before = subst (IsLegal start) (sym seam) (subst (λ (o : Origin). IsLegal (start_at o) s.entries) was.opening faithful.legal);
           entry = x;
           there =
               slice_get-get_or (s.entries ++ x ∷ rest) (length s.entries) x (omega (arith, length-append s.entries (x ∷ rest)))

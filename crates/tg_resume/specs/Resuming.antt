@@ -1,11 +1,11 @@
 -- What a store has that was resumed from entries, and why it stopped at one of them.
 use Rattle.std.specs.Prelude.{◌≡◌, ◌≢◌, ◌+◌, ℕ, List, ◌++◌, take, length, slice_get, Some}
 use Rattle.tg_model.specs.Graph.{IsSubject}
-use Rattle.tg_model.specs.Opened.{start_of}
 use Rattle.tg_model.specs.Rules.{DeedFits}
 use Rattle.tg_journal.specs.declared.entry.Entry.{Entry}
 use Rattle.tg_journal.specs.History.{IsLegal, IsFirstBad, graph_after}
 use Rattle.tg_space.specs.declared.room_fault.RoomFault.{RoomFault}
+use Rattle.tg_store.specs.Origin.{start_at}
 use Rattle.tg_store.specs.Store.{StoreState, graph_of_store}
 use Rattle.tg_resume.specs.declared.part.Halted.{Halted}
 use Rattle.tg_resume.specs.declared.part.Halted.TheVariants as halted
@@ -23,6 +23,11 @@ pub record Resumes (es : List Entry) (old new : StoreState) : Type 0 where
   pub handed : new.handed ≡ old.handed
   pub limits : new.heap.table.limits ≡ old.heap.table.limits
 
+-- the second store has the opening of the first one, and the first entries of its journal, or none
+pub record HasFrontOf (first old : StoreState) : Type 0 where
+  pub opening : old.opening ≡ first.opening
+  pub entries : old.entries ≡ take (length old.entries) first.entries
+
 -- There is no room for the entry at a place of the journal. The store has those before it, and nothing is known to be wrong with it:
 -- its worker is a subject, and the state of a vertex that it is to make fits.
 pub record HasNoRoom (es : List Entry) (old new : StoreState) (at : ℕ) (why : RoomFault) : Type 0 where
@@ -37,7 +42,7 @@ pub record HasNoRoom (es : List Entry) (old new : StoreState) (at : ℕ) (why : 
 
 -- the first place at which the entries of the store, and then these, aren't a legal history of its opening
 abbrev pub IsBadAt : List Entry → StoreState → ℕ → Type 0
-IsBadAt es old at = IsFirstBad (start_of old.opening) (old.entries ++ es) at
+IsBadAt es old at = IsFirstBad (start_at old.opening) (old.entries ++ es) at
 
 -- why entries weren't replayed to their end on a store that is lent
 abbrev pub IsHalted : List Entry → StoreState → StoreState → Halted → Type 0

@@ -1,9 +1,9 @@
 //! What a store is that was resumed. A function here does nothing: what it ensures is the law.
-ghost use Rattle.std.specs.Prelude.{◌≡◌, ◌-◌, ℕ, List, ◌++◌, drop, length, take};
+ghost use Rattle.std.specs.Prelude.{◌≡◌, ◌-◌, ℕ, List, ◌++◌, drop, length};
 ghost use Rattle.tg_journal.specs.declared.entry.Entry.{Entry};
 ghost use Rattle.tg_space.specs.declared.room_fault.RoomFault.{RoomFault};
 ghost use Rattle.tg_store.specs.Store.{IsFaithful, StoreState, graph_of_store};
-ghost use Rattle.tg_resume.specs.Resuming.{HasNoRoom, IsBadAt, Resumes};
+ghost use Rattle.tg_resume.specs.Resuming.{HasFrontOf, HasNoRoom, IsBadAt, Resumes};
 
 /// A store that is resumed from one part, and then from the next, is resumed from both.
 pub fn parts_join()
@@ -22,8 +22,7 @@ pub fn it_goes_on_from_where_it_stopped()
 /// journal and stands for the graph of the other store: both have one opening. So each later reply is the same.
 pub fn it_is_as_the_first_store_was()
     ensures { (first old new : StoreState) →
-        old.opening ≡ first.opening → old.entries ≡ take (length old.entries) first.entries →
-        Resumes (drop (length old.entries) first.entries) old new →
+        HasFrontOf first old → Resumes (drop (length old.entries) first.entries) old new →
         (new.entries ≡ first.entries) × (graph_of_store new ≡ graph_of_store first) }
 {}
 

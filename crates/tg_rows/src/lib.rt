@@ -1,7 +1,7 @@
 //! Rows of vertices in the cells of a heap: their references, and the indexes of long rows.
 //!
-//! A vertex is an object: a cell with the vertex's name, the key of what it stores, and references. Its row is its own
-//! cell and the chunks to which its link leads, one after the other:
+//! A vertex is an object. An object is a cell with the vertex's name, the key of what it stores, and references. The
+//! row of a vertex is its own cell and the chunks that its link leads to, one after the other:
 //!
 //! ```text
 //!             word 0   1       2       3       4       5       6       7
@@ -11,24 +11,25 @@
 //! ```
 //!
 //! Here word 3 of the first chunk is an empty place, which a reference left. A reference names the object of a vertex,
-//! with at least one right over it; a row has at most one to each vertex. A new one takes the first empty place in
-//! chain order, or else the first place of a new chunk at the chain's end. A reference that loses its last right
-//! becomes an empty place; chunks are never unlinked.
+//! with at least one right over it. A row has at most one reference to each vertex. A new reference takes the first
+//! empty place in chain order, or else the first place of a new chunk at the chain's end. A reference that loses its
+//! last right becomes an empty place. Chunks stay linked.
 //!
-//! What the cells mean is one definition, the *content*: the names of the vertices, the labels between them, and their
+//! The *content* of cells is one definition. It has the names of the vertices, the labels between them, and their
 //! values, read off the words. `Cells` holds the cells of all spaces, the table of payloads, and which cells of Old are
-//! remembered. A call here looks at one row, or changes it. It asks that the cells are those of a graph (`IsGraph`),
-//! and tells of which content they are then. That they are is known of every heap of `tg_graph`.
+//! remembered. A call here reads one row, or changes it. It requires that the cells are those of a graph (`IsGraph`),
+//! and says which content they have afterwards. Every heap of `tg_graph` has such cells.
 //!
-//! **Indexes.** A row of more than four cells is found by its index: the number of the place at which each name stands,
-//! and the row's cells in chain order. It is there once rights were put in such a row, agrees with the words at all
-//! times, and is kept by every call and every collection. A shorter row is walked along. Contracts see which names have
-//! an index. What a collection makes of one is told by 'Rows and their indexes' in docs/inside/ARCHITECTURE.md.
+//! **Indexes.** A row of more than four cells has an index. It has the number of the place of each name, and the row's
+//! cells in chain order. It exists once rights were put in such a row. It agrees with the words at all times, and every
+//! call and every collection keeps it. A shorter row is searched cell by cell. Contracts see which names have an index.
+//! 'Rows and their indexes' in docs/inside/ARCHITECTURE.md says what a collection makes of one.
 //!
-//! **Memory.** Growth comes first, so a refused call leaves the cells as they were, blocks included; at most there is
-//! room for one more payload and one more note.
+//! **Memory.** Growth comes first. A refused call leaves the cells and blocks as they were. It may leave room for one
+//! more payload and for one more note.
 //!
-//! **Who may call.** `tg_graph` alone, whose heap holds the cells together with the indexes of their rows.
+//! **Who may call.** Only `tg_graph` calls this crate. Its heap holds the cells together with the indexes of their
+//! rows.
 #![tactic(auto)]
 
 mod cells;

@@ -1,12 +1,12 @@
 -- What a command does that is served, and how a refused growth is told.
-use Rattle.std.specs.Prelude.{◌≡◌, ◌↔◌, ℕ, ◌<◌, List, Option, Result, IfOk, OnErr, OnOk}
+use Rattle.std.specs.Prelude.{◌≡◌, ◌↔◌, ℕ, ◌<◌, List, Option, Result, OnErr, OnOk}
 use Rattle.tg_rights.specs.RightSet.{RightSet}
 use Rattle.tg_model.specs.declared.value.Value.{Value}
 use Rattle.std.specs.List.{All, Contains}
 use Rattle.tg_model.specs.declared.command.Command.{Command}
 use Rattle.tg_model.specs.declared.command.Command.TheVariants.{Take, Grant, Read, Inspect, List as Listing}
 use Rattle.tg_model.specs.declared.reply.Reply.{Reply}
-use Rattle.tg_model.specs.declared.reply.Reply.TheVariants.{Done, Values, Edges}
+use Rattle.tg_model.specs.declared.reply.Reply.TheVariants.{Values, Edges}
 use Rattle.tg_model.specs.Near.{reply_on_none}
 use Rattle.tg_model.specs.Rules.{labels_after, subjects_after, values_after, reply_of}
 use Rattle.tg_word.specs.Word.{nursery_space}

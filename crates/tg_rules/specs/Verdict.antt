@@ -2,9 +2,13 @@
 use Rattle.std.specs.Prelude.{◌≡◌, ℕ, Option, Some, None, false}
 use Rattle.std.specs.List.{Contains}
 use Rattle.tg_rights.specs.RightSet.{RightSet, is_none_held}
+use Rattle.tg_model.specs.declared.command.Command.TheVariants.{Grant}
 use Rattle.tg_model.specs.declared.reply.Denial.{Denial}
+use Rattle.tg_model.specs.Graph.{with_rights}
+use Rattle.tg_model.specs.Rules.{denial_of}
 use Rattle.tg_subjects.specs.declared.subject.Subject.{Subject}
 use Rattle.tg_graph.specs.Heap.{HeapState, nursery_of}
+use Rattle.tg_rows.specs.Content.{Content}
 use Rattle.tg_rows.specs.Rows.{IsVertexAt}
 use Rattle.tg_rules.specs.declared.decision.Verdict.{Verdict}
 use Rattle.tg_rules.specs.declared.decision.Verdict.TheVariants.{Served, Denied}
@@ -14,6 +18,10 @@ use Rattle.tg_rules.specs.declared.vertex.Vertex.{Vertex}
 abbrev pub verdict_of : Option Denial → Verdict
 verdict_of None = Served
 verdict_of (Some denial) = Denied denial
+
+-- the denial of a grant of x to y over z, once x has taken the same rights over z
+abbrev pub denial_once_taken : Content → ℕ → ℕ → ℕ → RightSet → Option Denial
+denial_once_taken c x y z rights = denial_of (with_rights c.label x z rights) c.value x (Grant rights y z)
 
 -- the heap has the vertex with this name at this place
 abbrev pub HasVertex : HeapState → Vertex → Type 0

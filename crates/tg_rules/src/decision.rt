@@ -1,10 +1,11 @@
 //! Whether a command is served.
-ghost use Rattle.std.specs.Prelude.{◌≡◌, ◌==◌, ◌||◌, IfOk};
+ghost use Rattle.std.specs.Prelude.{◌≡◌, ◌==◌, ◌||◌, Err, IfOk, Some};
 ghost use Rattle.std.specs.Option.{option_or};
 ghost use Rattle.std.specs.Result.{result_err};
+ghost use Rattle.tg_rights.specs.RightSet.{RightSet};
 ghost use Rattle.tg_model.specs.Rules.{unless_distinct, unless_held, unless_log, denial_of};
 ghost use Rattle.tg_graph.specs.Heap.{IsActive, content_of};
-ghost use Rattle.tg_rules.specs.Verdict.{verdict_of, HasSubject, HasVertex, IsVertexNamed, MayCheck};
+ghost use Rattle.tg_rules.specs.Verdict.{denial_once_taken, verdict_of, HasSubject, HasVertex, IsVertexNamed, MayCheck};
 ghost use Rattle.tg_rules.specs.Parties.{AreParties};
 
 use crate::vertex::{Parties, Vertex, subject_of, vertex_of};
@@ -23,9 +24,9 @@ pub enum Verdict {
     Denied(Denial),
 }
 
-/// Decides a command of a worker by the rules, on what the heap has. The denial is the first check that fails, in the
-/// order distinctness, the right to use the rule, the rights that are taken or given, the law of what is appended to. A
-/// name that no vertex has, or that was collected, is as good as one without an edge. Takes no memory.
+/// Decides a command of a worker by the rules, on what the heap has. The denial is the first check that fails. The
+/// order is distinctness, the right to use the rule, the rights that are taken or given, the law of what is appended
+/// to. A name that no vertex has, or that was collected, is treated as one without an edge. Takes no memory.
 pub fn decide<P: Payload>(heap: &Heap<P>, worker: u64, command: &Command) -> Verdict
     requires { IsActive heap.now worker }
     ensures { result ≡ verdict_of (denial_of (content_of heap.now).label (content_of heap.now).value worker command.now) }
@@ -36,7 +37,7 @@ pub fn decide<P: Payload>(heap: &Heap<P>, worker: u64, command: &Command) -> Ver
     }
 }
 
-/// Makes each check of a command of a subject that was looked up, as [`decide`] does, and answers the vertices that the
+/// Makes each check of a command of a subject that was looked up, as [`decide`] does. Returns the vertices that the
 /// command is about, so that [`look_between`] and [`change_between`] needn't look them up again. Takes no memory.
 ///
 /// [`look_between`]: crate::look_between
@@ -105,6 +106,45 @@ pub fn find_parties<P: Payload>(
             target: worker,
         }),
     }
+}
+
+/// Makes the checks of a grant that follows a take of the same rights, before anything is taken. The grant is to the
+/// vertex with a name, over the target that the checks of the take met. The denial is that of the grant on the heap
+/// after the take, whatever the rights are. The grant is denied exactly if two of the three vertices are one, or else
+/// if the subject lacks grant over the vertex. So it is also denied like this on the heap as it is (`before`).
+///
+/// If there is no denial, it answers the vertices that the grant is about, for [`change_between`]. It changes nothing
+/// and takes no memory. The rules are those of the take-grant model (Lipton and Snyder 1977).
+///
+/// [`change_between`]: crate::change_between
+pub fn find_receiver<P: Payload>(
+    heap: &Heap<P>,
+    subject: Subject,
+    to: u64,
+    met: Parties,
+) -> Result<Parties, Denial>
+    requires subject { HasSubject heap.now subject }
+    requires target { HasVertex heap.now met.target }
+    ensures denial { (rights : RightSet) → result_err result ≡ denial_once_taken (content_of heap.now) subject.name to met.target.name rights }
+    ensures before { (rights : RightSet) (denial : Denial) → result ≡ Err denial →
+        denial_of (content_of heap.now).label (content_of heap.now).value subject.name (Command.Grant rights to met.target.name) ≡ Some denial }
+    ensures found { (rights : RightSet) → IfOk result (AreParties heap.now subject.name (Command.Grant rights to met.target.name)) }
+{
+    check_distinct(
+        Rule::Grant,
+        are_two_the_same(subject.name, to, met.target.name),
+    )?;
+    let receiver = check_held(
+        heap,
+        Rule::Grant,
+        vertex_of(subject),
+        to,
+        Rights::of(Right::G),
+    )?;
+    Ok(Parties {
+        from: receiver,
+        target: met.target,
+    })
 }
 
 // The checks of a command that wants only rights of the worker over its target.

@@ -19,12 +19,13 @@ use tg_rights::Label;
 use tg_space::RoomFault;
 use tg_subjects::Subject;
 
-/// Performs a command of a worker that is to be served: answers as the rules say on what the heap has, and changes
-/// that as they say. The vertices that there are stay where they are; one who retires is no active subject any more,
-/// and all other subjects stay.
+/// Carries out a command of a worker that is to be served. It answers as the rules say on what the heap has, and
+/// changes that as they say. The vertices stay where they are. A subject that retires is active no more, and all other
+/// subjects stay.
 ///
-/// It is refused where memory was, and a take or a grant also where its reference isn't there yet, the row has no empty
-/// place for it, and the nursery of the worker has no cell left and gets no more blocks; then nothing is changed.
+/// It is refused when out of memory. A take or a grant is also refused if it needs a new reference for which there is
+/// no cell. Then the reference isn't there yet, the row has no empty place for it, and the nursery of the worker has no
+/// cell left and gets no more blocks. A refused call changes nothing.
 pub fn perform<P: Payload>(
     heap: &mut Heap<P>,
     worker: u64,
@@ -125,8 +126,8 @@ pub fn change_between<P: Payload>(
     }
 }
 
-/// What the vertex with a name stores, where a worker may read it: `Some` exactly where a read command of the worker is
-/// to be served. Takes no memory.
+/// What the vertex with a name stores, if a worker may read it. `Some` is returned exactly if a read command of the
+/// worker is to be served. Takes no memory.
 pub fn readable<P: Payload>(heap: &Heap<P>, worker: u64, name: u64) -> Option<&P>
     requires { IsActive heap.now worker }
     ensures allowed { IsSome result ↔ (denial_of (content_of heap.now).label (content_of heap.now).value worker (Command.Read name) ≡ None) }

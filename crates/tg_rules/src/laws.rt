@@ -12,8 +12,8 @@ ghost use Rattle.tg_graph.specs.Standing.{IsContentOf};
 ghost use Rattle.tg_rules.specs.Effect.{ChangesNothing, IsLook, OnlyLooks};
 ghost use Rattle.tg_rules.specs.Laws.{AnswersAsContent, CreatesAsContent, DeniesAsContent, RefusesAsContent, RepliesAsContent, ServesAsContent, SpawnsAsContent, StandsForMaker, StandsForSubject, StaysWhereDenied, StaysWhereFull};
 
-/// The denial of a subject's command is the same on a content as on the graph that it stands for. And the graph's
-/// answer is that denial or else the reply, computed on the content with the graph's number of vertices ever made.
+/// The denial of a subject's command is the same on a content as on the graph that it represents. The graph's answer is
+/// that denial, or else the reply. It is computed on the content with the graph's number of vertices ever made.
 pub fn decisions_on_a_content_are_its_graphs()
     ensures denial { (c : Content) (g : ProtectionGraph) (x : ℕ) → StandsForSubject c g x → DeniesAsContent c g x }
     ensures answer { (c : Content) (g : ProtectionGraph) (x : ℕ) → StandsForSubject c g x → AnswersAsContent c g x }
@@ -21,9 +21,9 @@ pub fn decisions_on_a_content_are_its_graphs()
     ensures denied { (c : Content) (g : ProtectionGraph) (x : ℕ) → StandsForSubject c g x → RefusesAsContent c g x }
 {}
 
-/// A content that is changed as the rules say stands for the next graph: where a command is served, and where an object
-/// or a subject is made. Where a command is denied, or no more vertices may be made, it does where it stays as it is.
-/// The next name is one that the content doesn't have.
+/// A content that is changed as the rules say represents the next graph. This holds if a command is served, and if an
+/// object or a subject is made. If a command is denied, or no more vertices may be made, the content that stays as it
+/// is represents the next graph. The next name is new to the content.
 pub fn steps_on_a_content_are_its_graphs()
     ensures served { (c : Content) (g : ProtectionGraph) (x : ℕ) → StandsForSubject c g x → ServesAsContent c g x }
     ensures denied { (c : Content) (g : ProtectionGraph) (x : ℕ) → StandsForSubject c g x → StaysWhereDenied c g x }

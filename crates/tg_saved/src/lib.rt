@@ -1,8 +1,8 @@
 //! The text of a snapshot, and the text of a value that a vertex stores.
 //!
-//! A snapshot is written line by line: which form the text has, how many vertices were made, the active subjects, the
-//! vertices with what they store, the edges, and at the end how many vertices and edges there are. `specs/Texts` says
-//! how each line is spelled, and `specs/Values` how a value is.
+//! A snapshot is written line by line. The first line names the form of the text. Then come how many vertices were
+//! made, the active subjects, the vertices with what they store, and the edges. The last line says how many vertices
+//! and edges there are. `specs/Texts` defines the spelling of each line, and `specs/Values` that of a value.
 //!
 //! ```text
 //!     kovshenul picture 1
@@ -20,10 +20,10 @@
 //! The text is a function of the snapshot (`snapshot_text`), and one graph has one snapshot at a place
 //! (`one_graph_has_one_snapshot` of `tg_snapshot`). So two graphs can be compared by their texts, byte by byte.
 //!
-//! [`write_snapshot`] puts the text into a sink of `tg_text`, and [`snapshot_bytes`] into memory. [`read_snapshot`]
+//! [`write_snapshot`] writes the text into a sink of `tg_text`, and [`snapshot_bytes`] into memory. [`read_snapshot`]
 //! reads a text, and returns a snapshot only if the bytes are exactly its text. [`SnapshotStage`] does the same a line
-//! at a time. Nothing that takes a line apart has to be believed: what is read is written again, and has to be what
-//! came. Each fault names its line, and says what would be right.
+//! at a time. The code that takes a line apart needs no trust. What is read is written again, and has to be equal to
+//! the line. Each fault names its line, and says what would be right.
 #![tactic(auto)]
 
 mod fault;

@@ -9,6 +9,7 @@ use Rattle.tg_model.specs.Graph.{ProtectionGraph}
 use Rattle.tg_model.specs.Opened.{Plan, IsPlan, start_of}
 use Rattle.tg_journal.specs.declared.entry.Entry.{Entry}
 use Rattle.tg_journal.specs.History.{IsLegal, graph_after}
+use Rattle.tg_store.specs.Origin.{Origin, start_at}
 use Rattle.tg_text.specs.declared.line.Line.{Line}
 use Rattle.tg_text.specs.declared.fault.ScriptFault.{ScriptFault}
 use Rattle.tg_text.specs.declared.fault.ScriptFault.TheVariants as fault
@@ -320,6 +321,6 @@ entering_finished outcome r start bytes before left mid after f g h (keeps, inr 
 -- ---- the history is legal
 
 -- all entries of a store that had none when it stood for a graph are a legal history of that graph
-pub legal_from : (p p' : Plan) (begun entries : List Entry) (g : ProtectionGraph) → begun ≡ [] → graph_after (start_of p) begun ≡ g → p' ≡ p → IsLegal (start_of p') entries → IsLegal g entries
-legal_from p p' begun entries g none stands same legal =
-    subst (λ (x : ProtectionGraph). IsLegal x entries) (ap (λ (es : List Entry). graph_after (start_of p) es) (sym none) ∙ stands) (subst (λ (x : Plan). IsLegal (start_of x) entries) same legal)
+pub legal_from : (o now : Origin) (begun entries : List Entry) (g : ProtectionGraph) → begun ≡ [] → graph_after (start_at o) begun ≡ g → now ≡ o → IsLegal (start_at now) entries → IsLegal g entries
+legal_from o now begun entries g none stands same legal =
+    subst (λ (x : ProtectionGraph). IsLegal x entries) (ap (λ (es : List Entry). graph_after (start_at o) es) (sym none) ∙ stands) (subst (λ (x : Origin). IsLegal (start_at x) entries) same legal)

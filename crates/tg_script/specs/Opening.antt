@@ -2,6 +2,7 @@
 use Rattle.std.specs.Prelude.{◌≡◌, ℕ, ◌<◌, ◌≤◌, false, List, [], map, Result, Ok, Err}
 use Rattle.tg_model.specs.declared.edge.Edge.{Edge}
 use Rattle.tg_model.specs.Opened.{Plan, HasLimits, start_of}
+use Rattle.tg_store.specs.Origin.{opened_by}
 use Rattle.tg_store.specs.Store.{StoreState, StandsFor}
 use Rattle.tg_text.specs.declared.line.Line.{Line}
 use Rattle.tg_text.specs.declared.line.Line.TheVariants as line
@@ -30,7 +31,7 @@ plan_by settings edges values = record { workers = settings.workers; edges = edg
 -- The store is opened with the plan, has no entry, and stands for the graph that the plan starts from; or a limit of the plan is
 -- out of its range, or else memory was wanting, or a block for each worker where the heap may have so many.
 abbrev pub OpensStore : Plan → ℕ → Result StoreState ScriptFault → Type 0
-OpensStore p blocks (Ok store) = HasLimits p × (p.workers ≤ blocks) × StandsFor store (start_of p) × (store.opening ≡ p) × (store.entries ≡ [])
+OpensStore p blocks (Ok store) = HasLimits p × (p.workers ≤ blocks) × StandsFor store (start_of p) × (store.opening ≡ opened_by p) × (store.entries ≡ [])
 OpensStore p blocks (Err fault.BadLimits) = ¬ HasLimits p
 OpensStore p blocks (Err fault.OutOfMemory) = HasLimits p
 OpensStore p blocks (Err fault.HeapFull) = HasLimits p × (blocks < p.workers)

@@ -1,18 +1,18 @@
 //! Scripts: a store that is driven by lines of text.
 //!
-//! A script is a list of lines: first the edges between the opening's workers, then commands, each of one subject, and
-//! collections. Its bytes come from a [`Source`], and the replies, one line each, go to a [`Sink`]. [`run_script_with`]
-//! runs a whole script: it reads a line, answers it and writes the reply before it reads the next. What makes its
-//! collections is a [`Collector`]; [`run_script_one`] is the run with [`OneThread`]. [`run_script_entries`] is the same
-//! run, and writes the text of its history in the place of replies.
+//! A script is a list of lines. The first lines are the edges between the opening's workers. Then come commands, each
+//! of one subject, and collections. The bytes come from a [`Source`], and the replies go to a [`Sink`], one line each.
+//! [`run_script_with`] runs a whole script. It reads a line, answers it and writes the reply before it reads the next
+//! line. A [`Collector`] makes its collections. [`run_script_one`] is the run with [`OneThread`].
+//! [`run_script_entries`] is the same run, and writes the text of its history in place of replies.
 //!
-//! How lines and answers are spelled, and how bytes are read, is `tg_text`'s; what callers need of it is offered here
-//! again. What a reader has to believe besides stands in `specs/`: `Script` says what is answered to the lines and in
-//! which cases a line may be refused instead, `Running` what then stands in the sink, and `Entering` the same where
-//! entries are written. The other files of `specs/` are inside matters of this crate.
+//! `tg_text` has the spelling of lines and answers, and reads bytes. This crate exports what callers need of it. Its
+//! other definitions to believe are in `specs/`. `Script` says what the answers to the lines are, and in which cases a
+//! line may be refused instead. `Running` says what is then in the sink, and `Entering` says the same if entries are
+//! written. Only this crate uses the other files of `specs/`.
 //!
-//! Nothing here waits or starts a thread, and no line takes memory but an edge line and what the store takes. Programs
-//! call [`run_script_with`] with [`OfRead`] and [`OfWrite`]; [`Bytes`] and [`Written`] serve in memory.
+//! Nothing here waits or starts a thread. Only an edge line and the store take memory. Programs call
+//! [`run_script_with`] with [`OfRead`] and [`OfWrite`]. In memory [`Bytes`] and [`Written`] take their place.
 #![tactic(auto)]
 
 mod collector;

@@ -13,17 +13,18 @@ use Rattle.tg_model.specs.declared.reply.Reply.{Reply}
 use Rattle.tg_model.specs.declared.reply.Reply.TheVariants.{Name}
 use Rattle.tg_model.specs.Graph.{ProtectionGraph, IsSound}
 use Rattle.tg_model.specs.Rules.{answer_of}
-use Rattle.tg_model.specs.Opened.{Plan, IsPlan, start_of}
 use Rattle.tg_model.proofs.NameLaws.{name_is_next}
 use Rattle.tg_model.proofs.SubjectLaws.{few_from_rising, made-spawned}
 use Rattle.tg_journal.specs.declared.entry.Entry.{Entry}
 use Rattle.tg_journal.specs.History.{graph_after}
-use Rattle.tg_journal.proofs.HistoryLaws.{IsSound-opened, graph_after-append, le-graph_after-made, made-opened}
+use Rattle.tg_journal.proofs.HistoryLaws.{graph_after-append, le-graph_after-made}
 use Rattle.tg_space.specs.declared.kind.Kind.{Kind}
 use Rattle.tg_passes.specs.declared.signed.Signed.{Signed}
 use Rattle.tg_store.specs.Collecting.{IsSwept, KeepsHistory}
+use Rattle.tg_store.specs.Origin.{Origin, IsOrigin, start_at}
 use Rattle.tg_store.specs.Store.{StoreState, Enters, HasFewBlocks, IsFaithful, graph_of_store}
-use Rattle.tg_store.proofs.StandLaws.{graph-entered}
+use Rattle.tg_store.proofs.OriginLaws.{made_from}
+use Rattle.tg_store.proofs.StandLaws.{graph-entered, made_of, sound_of}
 use Rattle.tg_shared.specs.Serving.{Collects}
 use Rattle.tg_shared.specs.Sessions.{GoesOn, IsBalanced, LockedState, SharedStart, is_spawn, made_subject, sessions_made, shared_as, spawned, subjects_at}
 
@@ -71,7 +72,7 @@ grown start s on =
 
 module _ (old new : StoreState) (more : List Entry) (entries : new.entries ≡ old.entries ++ more) (opening : new.opening ≡ old.opening) where
   pub graph_more : graph_of_store new ≡ graph_after (graph_of_store old) more
-  graph_more = (λ i. graph_after (start_of (opening i)) (entries i)) ∙ graph_after-append (start_of old.opening) old.entries more
+  graph_more = (λ i. graph_after (start_at (opening i)) (entries i)) ∙ graph_after-append (start_at old.opening) old.entries more
 
   -- the entries are counted
   pub balanced_more : (start sessions owed total next rest left parts : ℕ) → IsBalanced old start sessions total rest parts → next ≡ total + length more → owed + left ≡ sessions + rest → owed ≤ (graph_of_store new).made → IsBalanced new start owed next left parts
@@ -81,7 +82,7 @@ module _ (old new : StoreState) (more : List Entry) (entries : new.entries ≡ o
       record {
         counted = omega (arith, count, longer, counts);
         cut = cut ∙ held.cut;
-        enough = held.enough ∙ ap (λ (p : Plan). p.limit + 1) (sym opening);
+        enough = held.enough ∙ ap (λ (o : Origin). o.plan.limit + 1) (sym opening);
         made = made;
       }
 
@@ -145,7 +146,7 @@ within_word limit parts within are = omega (arith, within, are)
 -- there is a part left for one more session
 pub part_left : (s : StoreState) (start sessions total rest parts : ℕ) → IsBalanced s start sessions total rest parts → IsFaithful s → 1 ≤ rest
 part_left s start sessions total rest parts held faithful =
-    let most = made-opened s.opening s.entries faithful.plan in
+    let most = made_of s faithful in
     omega (arith, most, held.cut, held.enough, held.made)
 
 pub some_part : (rest : ℕ) → 1 ≤ rest → 0 < rest
@@ -166,8 +167,8 @@ module _ (old new : StoreState) (start sessions total rest parts worker name : �
   -- where an entry made a subject, it wasn't the last part that was left
   pub parts_left : IsFaithful old → 1 ≡ rest → ⊥
   parts_left faithful last =
-      let most = made-opened new.opening new.entries (subst IsPlan (sym opening) faithful.plan) in
-      let limit = ap (λ (p : Plan). p.limit) opening in
+      let most = made_from new.opening new.entries (subst IsOrigin (sym opening) faithful.origin) in
+      let limit = ap (λ (o : Origin). o.plan.limit) opening in
       let grows = one_made in
       omega (arith, most, limit, grows, held.cut, held.enough, held.made)
 
@@ -180,12 +181,12 @@ module _ (old new : StoreState) (start sessions total rest parts worker name : �
 
 -- the same opening and the same entries make the same graph
 pub graph_same : (old new : StoreState) → new.entries ≡ old.entries → new.opening ≡ old.opening → graph_of_store new ≡ graph_of_store old
-graph_same old new entries opening = λ i. graph_after (start_of (opening i)) (entries i)
+graph_same old new entries opening = λ i. graph_after (start_at (opening i)) (entries i)
 
 -- a store that is shared has made its subjects at least
 pub active_made : (s : StoreState) → IsFaithful s → length (graph_of_store s).subjects ≤ (graph_of_store s).made
 active_made s faithful =
-    let sound : IsSound (graph_of_store s) = IsSound-opened s.opening s.entries faithful.plan faithful.legal in
+    let sound : IsSound (graph_of_store s) = sound_of s faithful in
     few_from_rising (graph_of_store s).subjects (graph_of_store s).made sound.rising sound.subjects_made
 
 -- a store that was just shared goes on

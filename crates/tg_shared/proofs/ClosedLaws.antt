@@ -4,13 +4,13 @@ use Rattle.std.proofs.lemmas.List.{length-map, take-append-le}
 use Rattle.std.proofs.Math.Seq.{take-length}
 use Rattle.tg_rights.specs.RightSet.{RightSet}
 use Rattle.tg_model.specs.Graph.{ProtectionGraph}
-use Rattle.tg_model.specs.Opened.{start_of}
 use Rattle.tg_journal.specs.declared.entry.Entry.{Entry}
 use Rattle.tg_journal.specs.History.{graph_after}
 use Rattle.tg_passes.specs.declared.signed.Signed.{Signed}
 use Rattle.tg_passes.specs.Passes.{entries_of}
 use Rattle.tg_passes.proofs.Signing.{entries_append}
 use Rattle.tg_store.specs.Held.{IsHeldOver}
+use Rattle.tg_store.specs.Origin.{start_at}
 use Rattle.tg_store.specs.Store.{StoreState, graph_of_store}
 use Rattle.tg_shared.specs.Laws.{ClosesOver, HasExactly, graph_up_to}
 use Rattle.tg_shared.specs.Sessions.{IsHeldAtSeen, SharedStart, graph_seen}
@@ -34,7 +34,7 @@ pub graph_has : (start : SharedStart) (seen : List Signed) (s : StoreState) → 
 graph_has start seen s has = graph_is start s seen has.grown has.gone_on
 
 pub of_the_closed : (start : SharedStart) (seen : List Signed) (s closed : StoreState) → HasExactly start seen s → ClosesOver start seen closed → graph_of_store s ≡ graph_up_to start seen closed
-of_the_closed start seen s closed has over = graph_has start seen s has ∙ (λ i. graph_after (start_of (sym over.has.gone_on.opening i)) (sym (front_of start seen closed over) i))
+of_the_closed start seen s closed has over = graph_has start seen s has ∙ (λ i. graph_after (start_at (sym over.has.gone_on.opening i)) (sym (front_of start seen closed over) i))
 
 pub label_closed : (start : SharedStart) (seen : List Signed) (closed : StoreState) → ClosesOver start seen closed → (worker target : ℕ) (label : Option RightSet) → IsHeldAtSeen start seen worker target label → IsHeldOver (graph_up_to start seen closed) worker target label
 label_closed start seen closed over worker target label answer =

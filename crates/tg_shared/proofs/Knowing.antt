@@ -7,18 +7,20 @@ use Rattle.tg_model.specs.declared.command.Command.TheVariants.{Retire}
 use Rattle.tg_model.specs.declared.command.Deed.{Deed}
 use Rattle.tg_model.specs.declared.command.Deed.TheVariants.{Plain}
 use Rattle.tg_model.specs.Graph.{ProtectionGraph, IsSound, IsSubject}
-use Rattle.tg_model.specs.Opened.{start_of}
 use Rattle.tg_model.specs.Rules.{step}
 use Rattle.tg_model.proofs.SoundLaws.{IsSound-step}
 use Rattle.tg_journal.specs.declared.entry.Entry.{Entry}
 use Rattle.tg_journal.specs.History.{IsLegal, graph_after}
-use Rattle.tg_journal.proofs.HistoryLaws.{IsLegal-cut, IsSound-after, IsSound-opened, graph_after-append, le-graph_after-made, no_subject-after}
+use Rattle.tg_journal.proofs.HistoryLaws.{IsLegal-cut, IsSound-after, graph_after-append, le-graph_after-made, no_subject-after}
 use Rattle.tg_passes.specs.declared.signed.Maker.{Maker}
 use Rattle.tg_passes.specs.declared.signed.Maker.TheVariants.{Keeper, Session}
 use Rattle.tg_passes.specs.declared.signed.Signed.{Signed}
 use Rattle.tg_passes.specs.Passes.{AreOwn, BeginsWith, MayMake, PassState, RollState, Sees, entries_by, entries_of, own_entries, sign, sign_all}
 use Rattle.tg_passes.proofs.Signing.{by_append, by_one, by_other, by_others, by_signed, entries_append, entries_signed, own_append, own_by_session, own_signed, session_keeper, whole}
+use Rattle.tg_store.specs.Origin.{start_at}
 use Rattle.tg_store.specs.Store.{StoreState, IsFaithful, graph_of_store}
+use Rattle.tg_store.proofs.OriginLaws.{sound_from}
+use Rattle.tg_store.proofs.StandLaws.{sound_of}
 use Rattle.tg_shared.specs.declared.receipt.Receipt.{Receipt}
 use Rattle.tg_shared.specs.Serving.{HasNoted, Signs}
 use Rattle.tg_shared.specs.Sessions.{GoesOn, HasAllUnlessEnded, HasGrownBy, HasLooked, HasMade, HoldsWhenFree, IsGone, IsRolled, KeeperState, KeeperLooked, KeepsReceipts, LockedState, OnlyLooked, SessionState, SharedStart, StaysOut, graph_seen, keeper_knowledge, knowledge, retired_behind, retired_by, sessions_made, since, subjects_at}
@@ -54,7 +56,7 @@ got_more old new more is = ap (drop (length old)) is ∙ drop_front old more
 -- the graph after some more than these
 pub graph_front : (start : SharedStart) (seen rest : List Signed) → graph_seen start (seen ++ rest) ≡ graph_after (graph_seen start seen) (entries_of rest)
 graph_front start seen rest =
-    let first : ProtectionGraph = start_of start.opening in
+    let first : ProtectionGraph = start_at start.opening in
     let all : start.entries ++ entries_of (seen ++ rest) ≡ (start.entries ++ entries_of seen) ++ entries_of rest =
     ap (λ l. start.entries ++ l) (entries_append seen rest) ∙ sym (append_assoc start.entries (entries_of seen) (entries_of rest)) in
     ap (graph_after first) all ∙ graph_after-append first (start.entries ++ entries_of seen) (entries_of rest)
@@ -70,7 +72,7 @@ module _ (start : SharedStart) (s : StoreState) (signed : List Signed) (grew : H
 
   -- all stores with these entries have one graph
   pub graph_is : GoesOn start s → graph_of_store s ≡ graph_seen start signed
-  graph_is on = λ i. graph_after (start_of (on.opening i)) (grew.all i)
+  graph_is on = λ i. graph_after (start_at (on.opening i)) (grew.all i)
 
   -- the keeper made none of a worker
   pub none_of : (worker : ℕ) → (start.may_end ≡ true → own_entries worker (entries_by Keeper signed) ≡ []) → own_entries worker (entries_by Keeper signed) ≡ []
@@ -219,14 +221,14 @@ none_by g (s ∷ ss) name sound legal own low =
     by_append (Session name) (s ∷ []) ss ∙ (λ i. by_other s.by (Session name) s.entry apart i ++ rest i)
 
 module _ (start : SharedStart) (s : StoreState) (signed : List Signed) (on : GoesOn start s) (faithful : IsFaithful s) (grew : HasGrownBy start s signed) where
-  later : graph_of_store s ≡ graph_after (graph_after (start_of s.opening) start.entries) (entries_of signed)
-  later = ap (graph_after (start_of s.opening)) grew.all ∙ graph_after-append (start_of s.opening) start.entries (entries_of signed)
+  later : graph_of_store s ≡ graph_after (graph_after (start_at s.opening) start.entries) (entries_of signed)
+  later = ap (graph_after (start_at s.opening)) grew.all ∙ graph_after-append (start_at s.opening) start.entries (entries_of signed)
 
-  cut : IsLegal (start_of s.opening) start.entries × IsLegal (graph_after (start_of s.opening) start.entries) (entries_of signed)
-  cut = IsLegal-cut (start_of s.opening) start.entries (entries_of signed) (subst (IsLegal (start_of s.opening)) grew.all faithful.legal)
+  cut : IsLegal (start_at s.opening) start.entries × IsLegal (graph_after (start_at s.opening) start.entries) (entries_of signed)
+  cut = IsLegal-cut (start_at s.opening) start.entries (entries_of signed) (subst (IsLegal (start_at s.opening)) grew.all faithful.legal)
 
-  sound_first : IsSound (graph_after (start_of s.opening) start.entries)
-  sound_first = IsSound-opened s.opening start.entries faithful.plan cut.0
+  sound_first : IsSound (graph_after (start_at s.opening) start.entries)
+  sound_first = sound_from s.opening start.entries faithful.origin cut.0
 
   -- who was gone after a front of the entries is gone after all of them
   pub stays_gone : (session : SessionState) → StaysOut start s signed session
@@ -254,7 +256,7 @@ module _ (start : SharedStart) (s : StoreState) (signed : List Signed) (on : Goe
   pub gone_made : (worker : ℕ) (made : List Entry) → entries_by (Session worker) signed ≡ made → own_entries worker (entries_by Keeper signed) ≡ [] → retired_behind false made ≡ true → ¬ IsSubject (graph_of_store s) worker
   gone_made worker made own none among = λ here.
       let all : retired_behind false (own_entries worker (entries_of signed)) ≡ true = ap (retired_behind false) (own_by_session worker signed grew.owned none ∙ own) ∙ among in
-      who_retired (graph_after (start_of s.opening) start.entries) worker (entries_of signed) sound_first cut.1 all (subst (λ (g : ProtectionGraph). IsSubject g worker) later here)
+      who_retired (graph_after (start_at s.opening) start.entries) worker (entries_of signed) sound_first cut.1 all (subst (λ (g : ProtectionGraph). IsSubject g worker) later here)
 
   -- and one that entered none is one, if it was one after a front of the entries
   pub stays_made : (worker : ℕ) (made : List Entry) (front rest : List Signed) → entries_by (Session worker) signed ≡ made → own_entries worker (entries_by Keeper signed) ≡ [] → retired_behind false made ≡ false → signed ≡ front ++ rest
@@ -268,7 +270,7 @@ module _ (start : SharedStart) (s : StoreState) (signed : List Signed) (on : Goe
 
   -- no session of a worker that isn't made yet made an entry
   pub none_named : (name : ℕ) → (graph_of_store s).made ≤ name → entries_by (Session name) signed ≡ []
-  none_named name low = none_by (graph_after (start_of s.opening) start.entries) signed name sound_first cut.1 grew.owned (subst (λ (g : ProtectionGraph). g.made ≤ name) later low)
+  none_named name low = none_by (graph_after (start_at s.opening) start.entries) signed name sound_first cut.1 grew.owned (subst (λ (g : ProtectionGraph). g.made ≤ name) later low)
 
 -- ---- who retires
 
@@ -288,7 +290,7 @@ pub gone_noted : (start : SharedStart) (old new : StoreState) (signed : List Sig
     → IsGone start (signed ++ sign_all (Session worker) (front ++ e ∷ [])) worker
 gone_noted start old new signed worker front e grew entries opening own is on before after none =
     let more : List Entry = front ++ e ∷ [] in
-    let sound : IsSound (graph_of_store old) = IsSound-opened old.opening old.entries before.plan before.legal in
+    let sound : IsSound (graph_of_store old) = sound_of old before in
     let low : e.worker < (graph_after (graph_of_store old) more).made = last_low (graph_of_store old) front e sound (legal_more old new more entries opening after) in
     let here : worker < (graph_of_store new).made = subst (λ (n : ℕ). n < (graph_of_store new).made) is (subst (λ (g : ProtectionGraph). e.worker < g.made) (sym (graph_more old new more entries opening)) low) in
     (new, on, after, (grown_more start old new signed (Session worker) more grew entries own (λ _. session_keeper worker), (here, none)))

@@ -8,13 +8,14 @@ use Rattle.tg_rights.specs.RightSet.{RightSet}
 use Rattle.tg_model.specs.declared.command.Command.TheVariants.{Remove, Retire}
 use Rattle.tg_model.specs.declared.command.Deed.TheVariants.{Plain}
 use Rattle.tg_model.specs.Graph.{ProtectionGraph, IsSound, IsSubject, listing_of}
-use Rattle.tg_model.specs.Opened.{Plan, start_of}
 use Rattle.tg_model.proofs.SubjectLaws.{is_without}
 use Rattle.tg_journal.specs.declared.entry.Entry.{Entry}
 use Rattle.tg_journal.specs.History.{IsLegal}
-use Rattle.tg_journal.proofs.HistoryLaws.{IsLegal-cut, IsSound-opened, no_subject-after}
+use Rattle.tg_journal.proofs.HistoryLaws.{IsLegal-cut, no_subject-after}
 use Rattle.tg_store.specs.Leaving.{HasLeft, leaving, removal, retiring}
+use Rattle.tg_store.specs.Origin.{Origin, start_at}
 use Rattle.tg_store.specs.Store.{StoreState, IsFaithful, graph_of_store}
+use Rattle.tg_store.proofs.StandLaws.{sound_of}
 use Rattle.tg_shared.specs.Receipts.{receipt_of, receipts_from}
 use Rattle.tg_shared.specs.Sessions.{AddsReceipt, AddsReceipts, GoesOn, IsBalanced, SessionState, SharedStart, is_spawn, retired_behind, retired_by, sessions_made, spawned}
 use Rattle.tg_shared.proofs.Balances.{graph_more, locked_more, one}
@@ -66,8 +67,8 @@ leaving_own x (e ∷ row) = All-cons (λ (y : Entry). y.worker ≡ x) (removal x
 -- what was entered was legal
 pub legal_more : (old new : StoreState) (es : List Entry) → new.entries ≡ old.entries ++ es → new.opening ≡ old.opening → IsFaithful new → IsLegal (graph_of_store old) es
 legal_more old new es entries opening faithful =
-    let legal : IsLegal (start_of old.opening) new.entries = subst (λ (p : Plan). IsLegal (start_of p) new.entries) opening faithful.legal in
-    (IsLegal-cut (start_of old.opening) old.entries es (subst (IsLegal (start_of old.opening)) entries legal)).1
+    let legal : IsLegal (start_at old.opening) new.entries = subst (λ (o : Origin). IsLegal (start_at o) new.entries) opening faithful.legal in
+    (IsLegal-cut (start_at old.opening) old.entries es (subst (IsLegal (start_at old.opening)) entries legal)).1
 
 -- who has left is no subject
 pub gone_left : (old new : StoreState) (x : ℕ) → HasLeft x old new → ¬ IsSubject (graph_of_store new) x
@@ -77,7 +78,7 @@ gone_left old new x left here =
 -- and never is one again
 pub stays_away : (old new later : StoreState) (x : ℕ) (es : List Entry) → IsFaithful old → IsSubject (graph_of_store old) x → HasLeft x old new → later.opening ≡ new.opening → later.entries ≡ new.entries ++ es → ¬ IsSubject (graph_of_store later) x
 stays_away old new later x es faithful here left opening entries again =
-    let sound : IsSound (graph_of_store old) = IsSound-opened old.opening old.entries faithful.plan faithful.legal in
+    let sound : IsSound (graph_of_store old) = sound_of old faithful in
     let low : x < (graph_of_store new).made = subst (λ (g : ProtectionGraph). x < g.made) (sym left.graph) (sound.subjects_made x here) in
     no_subject-after (graph_of_store new) es x low (gone_left old new x left) (subst (λ (g : ProtectionGraph). IsSubject g x) (graph_more new later es entries opening) again)
 

@@ -10,7 +10,6 @@ use Rattle.tg_model.specs.declared.opening.TheConstants.{MAX_WORKERS}
 use Rattle.tg_model.specs.declared.reply.Reply.{Reply}
 use Rattle.tg_model.specs.declared.reply.Reply.TheVariants.{Name, VerticesFull, WorkersFull}
 use Rattle.tg_model.specs.Graph.{ProtectionGraph, IsSubject}
-use Rattle.tg_model.specs.Opened.{start_of}
 use Rattle.tg_model.specs.Rules.{answer_of, step, with_subject}
 use Rattle.tg_model.proofs.NameLaws.{name_is_next}
 use Rattle.tg_journal.specs.declared.entry.Entry.{Entry}
@@ -19,6 +18,7 @@ use Rattle.tg_passes.specs.declared.signed.Maker.TheVariants.{Session}
 use Rattle.tg_passes.specs.declared.signed.Signed.{Signed}
 use Rattle.tg_passes.specs.Passes.{BeginsWith, sign}
 use Rattle.tg_passes.proofs.Signing.{longer}
+use Rattle.tg_store.specs.Origin.{start_at}
 use Rattle.tg_store.specs.Store.{StoreState, graph_of_store}
 use Rattle.tg_shared.specs.Laws.{HasNotLeft, IsSpawnedIn}
 use Rattle.tg_shared.specs.Sessions.{IsAnswered, IsNobodyAtSeen, SessionState, SharedStart, graph_seen}
@@ -51,9 +51,9 @@ not_gone : (start : SharedStart) (all : List Signed) (session : SessionState) (f
 not_gone start all session front begins here stays gone =
     gone.3.1 (stays_made start gone.0 all gone.1 gone.2 gone.3.0 session.worker session.made front begins.0 stays.alone.sees.own (none_of start gone.0 all gone.3.0 session.worker stays.alone.alone) stays.none begins.1 here)
 
-pub from_the_start : (start : SharedStart) (all : List Signed) (session : SessionState) → IsSubject (graph_after (start_of start.opening) start.entries) session.worker → HasNotLeft start all session → ¬ IsNobodyAtSeen start all session.worker
+pub from_the_start : (start : SharedStart) (all : List Signed) (session : SessionState) → IsSubject (graph_after (start_at start.opening) start.entries) session.worker → HasNotLeft start all session → ¬ IsNobodyAtSeen start all session.worker
 from_the_start start all session here stays =
-    not_gone start all session [] (all, refl) (subst (λ (l : List Entry). IsSubject (graph_after (start_of start.opening) l) session.worker) (sym (append-nil start.entries)) here) stays
+    not_gone start all session [] (all, refl) (subst (λ (l : List Entry). IsSubject (graph_after (start_at start.opening) l) session.worker) (sym (append-nil start.entries)) here) stays
 
 pub from_a_spawn : (start : SharedStart) (all : List Signed) (session : SessionState) → IsSpawnedIn start all session.worker → HasNotLeft start all session → ¬ IsNobodyAtSeen start all session.worker
 from_a_spawn start all session told stays =

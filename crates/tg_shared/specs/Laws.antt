@@ -6,7 +6,6 @@ use Rattle.tg_model.specs.declared.command.Deed.TheVariants.{Spawn}
 use Rattle.tg_model.specs.declared.law.Law.{Law}
 use Rattle.tg_model.specs.declared.reply.Reply.TheVariants.{Name}
 use Rattle.tg_model.specs.Graph.{ProtectionGraph, IsReachable, IsSubject}
-use Rattle.tg_model.specs.Opened.{start_of}
 use Rattle.tg_space.specs.declared.kind.Kind.{Kind}
 use Rattle.tg_space.specs.declared.kind.Kind.TheVariants.{Full}
 use Rattle.tg_graph.specs.Heap.{content_of}
@@ -16,6 +15,7 @@ use Rattle.tg_journal.specs.Journal.{Entries}
 use Rattle.tg_passes.specs.declared.signed.Signed.{Signed}
 use Rattle.tg_passes.specs.Passes.{BeginsWith, entries_of, own_entries}
 use Rattle.tg_store.specs.Leaving.{left_by}
+use Rattle.tg_store.specs.Origin.{start_at}
 use Rattle.tg_store.specs.Store.{StoreState, IsCountOf, graph_of_store}
 use Rattle.tg_shared.specs.declared.receipt.Receipt.{Receipt}
 use Rattle.tg_shared.specs.Receipts.{AreParts}
@@ -91,7 +91,7 @@ pub record ClosesOver (start : SharedStart) (seen : List Signed) (closed : Store
 
 -- the graph of its journal after as many entries since the start as were seen
 abbrev pub graph_up_to : SharedStart → List Signed → StoreState → ProtectionGraph
-graph_up_to start seen closed = graph_after (start_of closed.opening) (take (length start.entries + length seen) closed.entries)
+graph_up_to start seen closed = graph_after (start_at closed.opening) (take (length start.entries + length seen) closed.entries)
 
 -- So many vertices the store has. After a full collection so many can be reached.
 pub record IsCountLeft (kind : Kind) (number : ℕ) (s : StoreState) : Type 0 where

@@ -10,7 +10,6 @@ use Rattle.tg_model.specs.declared.reply.Reply.{Reply}
 use Rattle.tg_model.specs.declared.reply.Reply.TheVariants.{Name, VerticesFull, WorkersFull}
 use Rattle.tg_model.specs.declared.value.Value.{Value}
 use Rattle.tg_model.specs.Graph.{IsSubject, ProtectionGraph, listing_of}
-use Rattle.tg_model.specs.Opened.{Plan, start_of}
 use Rattle.tg_model.specs.Rules.{IsAllowed}
 use Rattle.tg_word.specs.Word.{nursery_space}
 use Rattle.tg_space.specs.SpaceTable.{BlockLimits}
@@ -29,6 +28,7 @@ use Rattle.tg_store.specs.declared.fault.ApplyFault.TheVariants as apply
 use Rattle.tg_store.specs.declared.fault.CreateFault.{CreateFault}
 use Rattle.tg_store.specs.declared.fault.CreateFault.TheVariants as fault
 use Rattle.tg_store.specs.declared.fault.CreateRefused.{CreateRefused}
+use Rattle.tg_store.specs.Origin.{Origin, start_at}
 use Rattle.tg_store.specs.Store.{StoreState, Enters, IsFaithful, IsUnchanged, graph_of_store}
 use Rattle.tg_passes.specs.declared.signed.Maker.TheVariants.{Keeper, Session}
 use Rattle.tg_passes.specs.declared.signed.Signed.{Signed}
@@ -80,10 +80,10 @@ pub record KeeperState : Type 0 where
 abbrev pub keeper_knowledge : KeeperState → PassState
 keeper_knowledge k = record { maker = Keeper; made = k.made; seen = k.seen }
 
--- What a store was when it was shared: its opening, the entries that its journal had, how many of them were handed out, and its
+-- What a store was when it was shared: where it began, the entries that its journal had, how many of them were handed out, and its
 -- limits; whether the journal may be handed out in parts while it is shared, and whether its keeper may end workers.
 pub record SharedStart : Type 0 where
-  pub opening : Plan
+  pub opening : Origin
   pub entries : List Entry
   pub handed : ℕ
   pub limits : BlockLimits
@@ -120,7 +120,7 @@ ledger_names blanks = record { handed = blanks.handed.name; roll = blanks.roll }
 -- that of the keeper has two, and the round starts from the store.
 pub record MayShare (ledger whole : ℕ) (keeper : KeeperNames) (first : SharedStart) (blanks : Blanks) (store : StoreState) : Type 0 where
   pub name : blanks.sessions.name ≡ ledger
-  pub parts : (blanks.sessions.parts ≡ whole) × (blanks.sessions.parts ≡ store.opening.limit + 1)
+  pub parts : (blanks.sessions.parts ≡ whole) × (blanks.sessions.parts ≡ store.opening.plan.limit + 1)
   pub handed_name : blanks.handed.name ≡ keeper.handed
   pub keeper_parts : blanks.handed.parts ≡ 2
   pub roll : blanks.roll ≡ keeper.roll
@@ -130,7 +130,7 @@ pub record MayShare (ledger whole : ℕ) (keeper : KeeperNames) (first : SharedS
 
 -- the subjects that were active when the store was shared
 abbrev pub subjects_at : SharedStart → List ℕ
-subjects_at start = (graph_after (start_of start.opening) start.entries).subjects
+subjects_at start = (graph_after (start_at start.opening) start.entries).subjects
 
 -- a deed with this reply made a subject
 abbrev pub made_subject : Deed → Reply → Bool
@@ -205,7 +205,7 @@ IsHeldAtSeen start seen worker target label = AtSeen start seen (λ s. IsHeldOve
 
 -- that graph
 abbrev pub graph_seen : SharedStart → List Signed → ProtectionGraph
-graph_seen start seen = graph_after (start_of start.opening) (start.entries ++ entries_of seen)
+graph_seen start seen = graph_after (start_at start.opening) (start.entries ++ entries_of seen)
 
 -- After these entries since the start the worker has been made, and is no subject any more.
 abbrev pub IsGone : SharedStart → List Signed → ℕ → Type 0
@@ -397,7 +397,7 @@ AreFresh subjects sessions = (map (λ s. s.worker) sessions ≡ subjects) × All
 pub record IsBalanced (store : StoreState) (start sessions total rest parts : ℕ) : Type 0 where
   pub counted : length store.entries ≡ start + total
   pub cut : sessions + rest ≡ parts
-  pub enough : parts ≡ store.opening.limit + 1
+  pub enough : parts ≡ store.opening.plan.limit + 1
   pub made : sessions ≤ (graph_of_store store).made
 
 -- the reply that a refusal has in the journal, if it makes an entry

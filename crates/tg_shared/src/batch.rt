@@ -41,10 +41,10 @@ impl<L: Round, P: Payload> Locked<L, P> {
 
 impl<L: Round> Session<L> {
     /// Asks for the commands one after the other, each as [`call`](Session::call) does, in one taking of the lock.
-    /// Returns how many they were. Each command has an entry and a receipt of its own, in the order of the commands, at
-    /// places that follow one another: no other session's entry is between them. The replies are in the last receipts.
-    /// A denial is a reply, and the next command is asked for after it. While the batch is done, no other session is
-    /// served.
+    /// Returns how many they were. Each command has an entry and a receipt of its own, in the order of the commands.
+    /// Their places follow one another, without an entry of another session between them. The replies are in the last
+    /// receipts. A denial is a reply, and the next command is asked for after it. While the batch is done, no other
+    /// session is served.
     ///
     /// Refusals, in the order in which they are looked for:
     ///

@@ -23,20 +23,20 @@ impl<L: Round> Session<L> {
     ghost use Rattle.tg_shared.specs.contracts.session.Session.{the_row};
 
     /// Asks the shared store for a command of the session's subject, by one call of
-    /// [`Locked::apply`](crate::Locked::apply) under the lock. Answers the reply, lent from the receipt: exactly one
-    /// was added, with this command and this reply. Its entry came next after the entries since the start that the
-    /// session has then seen, and was legal there: the reply is the rules' on the graph after them.
+    /// [`Locked::apply`](crate::Locked::apply) under the lock. Returns the reply, lent from the receipt. Exactly one
+    /// receipt was added, with this command and this reply. Its entry came next after the entries since the start that
+    /// the session has then seen. It was legal there, so the reply is the rules' on the graph after those entries.
     ///
-    /// A refused call keeps the receipts, and its refusal was due of a store with exactly the entries that the session
-    /// has then seen (`AtSeen`): there was no such worker, or the command was allowed and a cell was lacking. Memory
-    /// may run out at any call. After a retire that the session entered itself, the call always reports that there is
-    /// no such worker, and takes no lock.
+    /// A refused call keeps the receipts. Its reason is one of a store with exactly the entries that the session has
+    /// then seen (`AtSeen`). There was no such worker, or the command was allowed and a cell was lacking. Memory may
+    /// run out at any call. After a retire that the session entered itself, the call always reports that there is no
+    /// such worker, and takes no lock.
     ///
-    /// What a session has seen has who made each entry, and begins with what it had seen before. The session's own
-    /// among these entries are exactly those that its calls made, and [`close`](crate::close) compares what each
+    /// A session knows who made each entry that it has seen. These entries begin with those that it had seen before.
+    /// The session's own among them are exactly those that its calls made. [`close`](crate::close) compares what each
     /// session has seen with the journal. So a worker that entered no retire, and that the keeper didn't end, is never
-    /// reported missing:
-    /// [`a_session_without_a_retire_is_a_subject`](crate::laws::a_session_without_a_retire_is_a_subject).
+    /// reported missing
+    /// ([`a_session_without_a_retire_is_a_subject`](crate::laws::a_session_without_a_retire_is_a_subject)).
     pub fn call<P: Payload, R: Wait>(
         &mut self,
         rt: &R,
@@ -63,8 +63,8 @@ impl<L: Round> Session<L> {
     /// Makes a vertex of the session's subject, by one call of [`Locked::create`](crate::Locked::create) under the
     /// lock. A name, and `VerticesFull`, have added exactly one receipt, with this create and that answer. Its entry
     /// came next after the entries since the start that the session has then seen, and was legal there. A call that is
-    /// refused otherwise keeps the receipts, and its refusal was due of a store with exactly the entries that the
-    /// session has then seen, unless memory ran out. What the session knows of these [`call`](Session::call) says. A
+    /// refused otherwise keeps the receipts. Unless memory ran out, its reason is one of a store with exactly the
+    /// entries that the session has then seen. [`call`](Session::call) says what the session knows of these entries. A
     /// refused draft is handed back.
     pub fn create<P: Payload, R: Wait>(
         &mut self,
@@ -91,16 +91,16 @@ impl<L: Round> Session<L> {
         created
     }
 
-    /// Makes a subject, by one call of [`Locked::spawn`](crate::Locked::spawn) under the lock, and answers its session,
+    /// Makes a subject, by one call of [`Locked::spawn`](crate::Locked::spawn) under the lock, and returns its session,
     /// which has no receipt. The session that asks then has exactly one more, with this spawn and the new name. Its
     /// entry came next after the entries since the start that the session has then seen, and was legal there. The new
-    /// session goes to [`close`](crate::close) with the others: a round does not end without it, so it is kept where
-    /// nothing else is refused.
+    /// session goes to [`close`](crate::close) with the others. A round ends only with all sessions, so the caller
+    /// keeps it.
     ///
     /// `VerticesFull` and `WorkersFull` have added a receipt with that answer. A call that is refused otherwise keeps
-    /// the receipts, and its refusal was due of a store with exactly the entries that the session has then seen, unless
-    /// memory ran out. What the session knows of these [`call`](Session::call) says. The new session has seen what the
-    /// session that asks has seen then (`fresh_seen`). A refused draft is handed back.
+    /// the receipts. Unless memory ran out, its reason is one of a store with exactly the entries that the session has
+    /// then seen. [`call`](Session::call) says what the session knows of these entries. The new session has seen what
+    /// the session that asks has seen then (`fresh_seen`). A refused draft is handed back.
     pub fn spawn<P: Payload, R: Wait>(
         &mut self,
         rt: &R,
@@ -149,15 +149,15 @@ impl<L: Round> Session<L> {
         Ok(())
     }
 
-    /// The session's worker leaves, by one call of [`Locked::leave`](crate::Locked::leave) under the lock: it gives up
-    /// each edge that it has, by rising name, and retires. Answers how many edges these were. Exactly the receipts of
-    /// these entries were added, which came next after the entries since the start that the session has then seen, and
-    /// were legal there. From then on each call of the session answers that there is no such worker; its receipts are
-    /// taken or closed with as before.
+    /// The session's worker leaves, by one call of [`Locked::leave`](crate::Locked::leave) under the lock. It gives up
+    /// each edge that it has, by rising name, and retires. Returns how many edges these were. Exactly the receipts of
+    /// these entries were added. They came next after the entries since the start that the session has then seen, and
+    /// were legal there. From then on each call of the session reports that there is no such worker. Its receipts are
+    /// taken, or closed with, as before.
     ///
-    /// A refused leave keeps the receipts, and the worker holds what it held: there was no such worker in a store with
-    /// exactly the entries that the session has then seen, or memory ran out. What the session knows of these
-    /// [`call`](Session::call) says. Nothing is refused on the way.
+    /// A refused leave keeps the receipts, and the worker holds what it held. There was no such worker in a store with
+    /// exactly the entries that the session has then seen, or memory ran out. [`call`](Session::call) says what the
+    /// session knows of these entries. A leave is done as a whole, or is refused before its first entry.
     pub fn leave<P: Payload, R: Wait>(
         &mut self,
         rt: &R,
@@ -183,10 +183,10 @@ impl<L: Round> Session<L> {
     }
 
     /// The rights that the session's subject holds over a vertex, by one call of
-    /// [`Locked::label`](crate::Locked::label) under the lock: the label of the graph after exactly the entries since
-    /// the start that the session has then seen. It makes no entry and no receipt. [`close`](crate::close) compares
-    /// these entries with the journal, so the label is of the journal up to there:
-    /// [`an_answer_is_of_the_closed_journal`](crate::laws::an_answer_is_of_the_closed_journal).
+    /// [`Locked::label`](crate::Locked::label) under the lock. It is the label of the graph after exactly the entries
+    /// since the start that the session has then seen. It makes no entry and no receipt. [`close`](crate::close)
+    /// compares these entries with the journal, so the label is of the journal up to there
+    /// ([`an_answer_is_of_the_closed_journal`](crate::laws::an_answer_is_of_the_closed_journal)).
     pub fn label<P: Payload, R: Wait>(
         &mut self,
         rt: &R,
@@ -203,9 +203,10 @@ impl<L: Round> Session<L> {
     }
 
     /// Collects the heap of the shared store, by one call of [`Locked::collect`](crate::Locked::collect) under the
-    /// lock, and answers how many vertices it then has: the number of a store with exactly the entries that the session
-    /// has then seen, which this collection left of another with the same entries. After a full one it is the number of
-    /// vertices that can be reached in the graph after these entries. It makes no entry and no receipt.
+    /// lock. Returns how many vertices the heap then has. This is the number of a store with exactly the entries that
+    /// the session has then seen, which this collection left of another store with the same entries. After a full
+    /// collection it is the number of vertices that can be reached in the graph after these entries. It makes no entry
+    /// and no receipt.
     pub fn collect<P: Payload, R: Wait>(
         &mut self,
         rt: &R,

@@ -16,16 +16,16 @@ use thiserror::Error;
 /// Why a round does not end. Nothing is changed by it.
 #[derive(Clone, Copy, PartialEq, Eq, Debug, Error)]
 pub enum CloseFault {
-    /// There are fewer sessions than were made. One that took others over stands for these too.
+    /// There are fewer sessions than were made. A session that took others over counts for these too.
     #[error("sessions are missing")]
     SessionsMissing,
-    /// The receipts of a session don't match the journal, or one is of an entry that was made before the store was
+    /// The receipts of a session differ from the journal, or one is of an entry that was made before the store was
     /// shared, or two sessions are of one worker.
     #[error("receipts don't match the journal")]
     ReceiptMismatch,
 }
 
-/// A round did not end. What is behind the lock comes back with the sessions.
+/// A round that did not end. The locked value comes back with the sessions.
 #[derive(Drop)]
 pub struct LockedRefused<L: Round, P: Payload> {
     pub locked: Locked<L, P>,
@@ -37,25 +37,25 @@ impl<L: Round, P: Payload> Locked<L, P> {
     ghost use Rattle.tg_shared.specs.Closing.{EndsRound};
     ghost use Rattle.tg_shared.specs.Sessions.{AddsUp, MayCloseWith, SharesOut, count_of, handed_of, parts_of};
 
-    /// Ends a round: hands out the store, where all sessions are given back and their receipts are right. Then the
-    /// journal has grown by as many entries as there are receipts, and they are shared out among the sessions. What the
+    /// Ends a round. It hands out the store if all sessions are given back and their receipts are right. The journal
+    /// has then grown by as many entries as there are receipts, and they are shared out among the sessions. What the
     /// keeper entered for workers that it ended is counted beside the receipts, and shared out to nobody.
     ///
-    /// `SessionsMissing` is answered exactly where the sessions stand for fewer than were made, and looked for first;
-    /// `ReceiptMismatch` exactly where they stand for as many, and may not close. What was handed in then comes back,
-    /// and the sessions may be in another order. Takes no memory, and for n sessions time as n log n.
+    /// `SessionsMissing` is looked for first. It is returned exactly if the sessions count for fewer than were made.
+    /// `ReceiptMismatch` is returned exactly if they count for as many, and may not close. What was handed in then
+    /// comes back, and the sessions may be in another order. Takes no memory, and for n sessions time as n log n.
     ///
-    /// Of a store that was shared whole (`whole` of `shared_out`) no session has handed out a receipt: where the keeper
-    /// ended no worker, each entry made since stands in exactly one receipt, and the receipts of each session are all
-    /// its entries.
+    /// In a store that was shared whole (`whole` of `shared_out`) no session has handed out a receipt. If the keeper
+    /// ended no worker, each entry made since is in exactly one receipt, and the receipts of each session are all its
+    /// entries.
     ///
     /// `ends` says this of each single session whose worker the keeper didn't end, whatever the other sessions did
     /// (`single`). A session that handed out no receipt and took over nobody has receipts of all entries of its worker
     /// since the store was shared.
     ///
     /// It also says who made each entry since the store was shared (`signed`). Each session made exactly its own, and
-    /// the entries begin with those that the session has seen. So what a session was answered after the entries that it
-    /// had seen is an answer on the journal up to there.
+    /// the entries begin with those that the session has seen. So an answer to a session is an answer on the journal up
+    /// to the entries that the session had seen.
     pub fn close(self, sessions: Vec<Session<L>>) -> Result<Store<P>, LockedRefused<L, P>>
         ensures ends { EndsRound L.start self sessions.items result }
         ensures all { OnOk result (parts_of sessions.items ≡ self.sessions) }
@@ -76,11 +76,11 @@ impl<L: Round, P: Payload> Locked<L, P> {
         self.reclaim(sessions)
     }
 
-    /// Ends a round whose sessions may be lost: hands out the store, where the receipts of those given back are right.
-    /// The journal has then grown by as many entries at least as these have receipts and the keeper entered for workers
-    /// that it ended; if none is missing, all that [`close`](Locked::close) says is so.
+    /// Ends a round whose sessions may be lost. It hands out the store if the receipts of the returned sessions are
+    /// right. The journal has then grown by at least as many entries as these have receipts and the keeper entered for
+    /// workers that it ended. If no session is missing, all holds that [`close`](Locked::close) says.
     ///
-    /// `ReceiptMismatch` is answered exactly where the sessions that are there may not close, and nothing else. What
+    /// `ReceiptMismatch` is the only refusal. It is returned exactly if the sessions that are there may not close. What
     /// was handed in then comes back, with the sessions in the order of their workers' names. Takes no memory, and for
     /// n sessions time as n log n.
     pub fn reclaim(mut self, mut sessions: Vec<Session<L>>) -> Result<Store<P>, LockedRefused<L, P>>

@@ -18,12 +18,12 @@ use tg_passes::{Pass, Roll};
 use tg_payload::Payload;
 use tg_store::ApplyFault;
 
-/// Who may take the entries of a shared store, see its whole graph, and end a worker. There is one for each:
-/// [`SharedStore::new`] makes it with the sessions, and nothing else does. So who made the shared store decides who has
-/// it, and no session can take the journal away, or end another's worker. It takes no memory. [`close`](crate::close)
-/// doesn't ask for it, since what it did is counted behind the lock too.
+/// Who may take the entries of a shared store, see its whole graph, and end a worker. A shared store has one keeper,
+/// which only [`SharedStore::new`] makes, with the sessions. So the maker of the shared store decides who has it. A
+/// session can neither take the journal away nor end another's worker. A keeper takes no memory.
+/// [`close`](crate::close) works without it, because the locked value counts what it did.
 ///
-/// It knows where its last part of the journal ended, and which entries it made, both of which change by its own calls
+/// A keeper knows where its last part of the journal ended, and which entries it made. Both change by its own calls
 /// alone. Each of its calls of the store looks at all entries since the store was shared, so the keeper knows of which
 /// entries the answer speaks. Contracts see a `KeeperState`.
 #[derive(Drop)]
@@ -59,7 +59,7 @@ impl<L: Round> Keeper<L> {
         }
     }
 
-    /// The place at which the last part of the journal ended that it took: the next one begins there.
+    /// The place at which the keeper's last part of the journal ended. The next part begins there.
     pub fn next(&self) -> u64
         ensures { result ≡ self.now.next }
     {
@@ -95,11 +95,11 @@ impl<L: Round> Keeper<L> {
         self.entered += 1;
     }
 
-    /// Hands out the entries that the store behind the lock holds, by one call of
-    /// [`Locked::take_journal`](crate::Locked::take_journal) under the lock, at any moment and whatever the sessions
-    /// do. What is handed out begins where the part before it ended (`joined`), so no entry is in two parts or in none:
-    /// all parts, in the order in which they were taken, are the journal. It ends with the last entry that the keeper
-    /// has then seen (`held`). The store has to be shared so as to be handed out in parts. Takes no memory.
+    /// Hands out the entries that the locked store holds, by one call of
+    /// [`Locked::take_journal`](crate::Locked::take_journal) under the lock. It works at any moment, whatever the
+    /// sessions do. The part begins where the part before it ended (`joined`). So each entry is in exactly one part,
+    /// and all parts, in the order in which they were taken, are the journal. It ends with the last entry that the
+    /// keeper has then seen (`held`). The store has to be shared so that it is handed out in parts. Takes no memory.
     pub fn take_journal<P: Payload, R: Wait>(
         &mut self,
         rt: &R,
@@ -117,13 +117,13 @@ impl<L: Round> Keeper<L> {
         locked.take_journal(self)
     }
 
-    /// Gives up the entries before a place that the store behind the lock still holds, by one call of
-    /// [`Locked::forget`](crate::Locked::forget) under the lock. The journal keeps their room, so a service that has
+    /// Gives up the entries before a place that the locked store still holds, by one call of
+    /// [`Locked::forget`](crate::Locked::forget) under the lock. The journal keeps their room. So a service that has
     /// written these entries out, from the receipts of all sessions, takes no more memory for later ones. All entries
     /// are given up if the place is after the last one, and none if the last part ended after the place. The next part
     /// begins after what was given up, and the keeper has then seen all entries. As after
     /// [`take_journal`](Keeper::take_journal), a session that still has a receipt of such an entry can't be closed. The
-    /// store has to be shared so as to be handed out in parts. Takes no memory.
+    /// store has to be shared so that it is handed out in parts. Takes no memory.
     pub fn forget<P: Payload, R: Wait>(&mut self, rt: &R, store: &SharedStore<L, P>, upto: u64)
         requires in_parts { L.start.in_parts ≡ true }
         ensures next { self.new.next ≡ max self.old.next (min upto (length L.start.entries + length self.new.seen)) }
@@ -138,17 +138,18 @@ impl<L: Round> Keeper<L> {
         let _ = locked.store();
     }
 
-    /// Ends a worker whose session is elsewhere, whether that comes back or not, by one call of
-    /// [`Locked::end`](crate::Locked::end) under the lock: the worker gives up each edge that it has, by rising name,
-    /// and retires. Answers how many edges these were. The entries by which this worker leaves came next after all
+    /// Ends a worker whose session is elsewhere, also if the session is lost, by one call of
+    /// [`Locked::end`](crate::Locked::end) under the lock. The worker gives up each edge that it has, by rising name,
+    /// and retires. Returns how many edges these were. The entries by which this worker leaves came next after all
     /// entries that the keeper had seen then, and were legal there (`ended`). They are exactly what the keeper made
-    /// more, so the named worker stopped being a subject, and no other did. [`close_with`](crate::close_with) compares
-    /// what the keeper made with the journal. From then on each call of the worker's session answers that there is no
-    /// such worker; the receipts that it has stay right, and it is closed with as before, or the store is had back
-    /// without it ([`reclaim`](crate::reclaim)). The store has to be shared so that its keeper may end workers.
+    /// more. So the named worker stopped being a subject, and no other did. [`close_with`](crate::close_with) compares
+    /// what the keeper made with the journal. From then on each call of the worker's session reports that there is no
+    /// such worker. Its receipts stay right. It is closed with as before, or the store is recovered without it
+    /// ([`reclaim`](crate::reclaim)). The store has to be shared so that its keeper may end workers.
     ///
     /// If the call is refused, the keeper has made no entry, so nobody is ended (`refused`). Memory ran out, or there
-    /// was no such worker after exactly the entries that the keeper has then seen. Nothing is refused on the way.
+    /// was no such worker after exactly the entries that the keeper has then seen. An end is done as a whole, or is
+    /// refused before its first entry.
     pub fn end<P: Payload, R: Wait>(
         &mut self,
         rt: &R,
@@ -172,9 +173,9 @@ impl<L: Round> Keeper<L> {
     }
 
     /// The picture of what the active subjects reach, by one call of [`Locked::picture`](crate::Locked::picture) under
-    /// the lock: that of the graph after exactly the entries that the keeper has then seen. Sessions wait while all
-    /// rows that are reached are gone over; questions are asked of the picture afterwards, without the lock. It makes
-    /// no entry and no receipt. Fails only when out of memory.
+    /// the lock. It is that of the graph after exactly the entries that the keeper has then seen. Sessions wait while
+    /// all reached rows are read. Questions are asked of the picture afterwards, without the lock. It makes no entry
+    /// and no receipt. Fails only when out of memory.
     pub fn picture<P: Payload, R: Wait>(
         &mut self,
         rt: &R,

@@ -20,7 +20,7 @@ ghost use Rattle.tg_store.specs.Leaving.{HasLeft};
 ghost use Rattle.tg_store.specs.Store.{IsFaithful, StoreState, graph_of_store};
 
 /// The entry of each receipt that matches a legal history was answered by the rules, on the graph after all entries
-/// before it; and among these are the entries of all earlier receipts. So what a session reads stands after all that it
+/// before it. Among these are the entries of all earlier receipts. So what a session reads comes after all that it
 /// wrote before.
 pub fn receipts_stand_in_order()
     ensures answered { (g : ProtectionGraph) (entries : List Entry) (worker : ℕ) (receipts : List Receipt) →
@@ -29,9 +29,8 @@ pub fn receipts_stand_in_order()
         ReceiptsMatch entries worker receipts → AllPairs (λ r later. Contains (take later.at entries) r.entry) receipts }
 {}
 
-/// Where a journal was handed out in parts, each of which begins where the last one ends, and a worker's receipts of
-/// each part match it, all its receipts match the journal: those of the first part, then those of the second, and so
-/// on.
+/// If a journal was handed out in parts that join, and a worker's receipts of each part match the part, then all its
+/// receipts match the journal. They are those of the first part, then those of the second, and so on.
 pub fn receipts_of_parts_match()
     ensures { (entries : List Entry) (parts : List Entries) (worker first : ℕ) (lists : List (List Receipt)) →
         AreParts first entries parts → MatchParts parts worker lists →
@@ -45,9 +44,10 @@ pub fn as_many_receipts_share_out()
 {}
 
 /// What [`close`](crate::close) says of receipts, for who has kept all parts of a journal and all receipts of each of
-/// its sessions, whether these were taken over or not: where the receipts match part by part, no two sessions are of
-/// one worker, and there are as many receipts as entries, each entry stands in exactly one of them, and the receipts of
-/// each session are all its entries, in their order. The last part may be what the store still holds.
+/// its sessions, whether these were taken over or not. Suppose that the receipts match part by part, that no two
+/// sessions are of one worker, and that there are as many receipts as entries. Then each entry is in exactly one
+/// receipt, and the receipts of each session are all its entries, in their order. The last part may be what the store
+/// still holds.
 pub fn kept_parts_share_out()
     ensures { (entries : List Entry) (first : ℕ) (sessions : List SessionState) →
         AreKeptInParts entries first sessions → length entries ≡ first + count_of sessions → AreSharedOut (drop first entries) sessions }
@@ -59,33 +59,33 @@ pub fn a_whole_journal_is_held()
     ensures { (start : SharedStart) (s : StoreState) → StaysWhole start s → held_from start s ≡ length start.entries }
 {}
 
-/// What a close says of the receipts of a store that was shared whole: where they may close, and there are as many as
-/// entries were made since, each of these entries stands in exactly one of them, and the receipts of each session are
-/// all its entries, in their order. No session of such a store can hand out a receipt. So
-/// [`Locked::close`](crate::Locked::close) and [`close_with`](crate::close_with) have all of this wherever the keeper
+/// What a close says of the receipts of a store that was shared whole. Suppose that they may close, and that as many
+/// entries were made since. Then each of these entries is in exactly one receipt, and the receipts of each session are
+/// all its entries, in their order. A session of such a store can't hand out a receipt. So
+/// [`Locked::close`](crate::Locked::close) and [`close_with`](crate::close_with) have all of this whenever the keeper
 /// ended no worker, whatever the sessions' holders did.
 pub fn a_whole_round_is_shared_out()
     ensures { (start : SharedStart) (s : StoreState) (sessions : List SessionState) → StaysWhole start s →
         MayCloseWith start s sessions → length s.entries ≡ length start.entries + count_of sessions → AreSharedOut (since start s) sessions }
 {}
 
-/// Sessions that took no other over stand for as many as they are.
+/// Sessions that took no other over count for as many as they are.
 pub fn each_stands_for_itself()
     ensures { (sessions : List SessionState) → All (λ s. s.parts ≡ 1) sessions → parts_of sessions ≡ length sessions }
 {}
 
-/// Who has left a store as its subject, by its own session or ended by the keeper, is no subject of the store again,
-/// whatever entries come behind it. So each later call of its session is answered that there is no such worker.
+/// A subject that has left a store, by its own session or ended by the keeper, is never a subject of the store again,
+/// whatever entries follow. So each later call of its session reports that there is no such worker.
 pub fn who_left_stays_away()
     ensures { (old new later : StoreState) (worker : ℕ) → IsFaithful old → IsSubject (graph_of_store old) worker →
         HasLeft worker old new → GrowsInto new later → ¬ IsSubject (graph_of_store later) worker }
 {}
 
-/// What a session knows bounds what its calls are refused for. Its worker was a subject when the store was shared, or
-/// was made by a spawn whose entry the session has seen. While no retire is among the entries that the session made,
-/// and the keeper made none of its worker, the worker is a subject of each store whose entries the session sees. A
-/// session that has looked sees those that it has seen, so none of its calls is answered that there is no such worker.
-/// A round whose keeper may end nobody needs no premise on the keeper.
+/// What a session knows bounds the reasons for which its calls are refused. Its worker was a subject when the store was
+/// shared, or was made by a spawn whose entry the session has seen. While no retire is among the entries that the
+/// session made, and the keeper made none of its worker, the worker is a subject of each store whose entries the
+/// session sees. A session that has looked sees the entries that it has seen. So none of its calls reports that there
+/// is no such worker. A round whose keeper may end nobody needs no premise on the keeper.
 pub fn a_session_without_a_retire_is_a_subject()
     ensures from_the_start { (start : SharedStart) (all : List Signed) (s : SessionState) →
         Contains (subjects_at start) s.worker → HasNotLeft start all s → ¬ IsNobodyAtSeen start all s.worker }
@@ -110,37 +110,37 @@ pub fn what_a_session_has_seen_grows()
     ensures { (start : SharedStart) (old new : SessionState) (deed : Deed) (reply : Reply) → IsAnswered start old new deed reply → BeginsWith new.seen old.seen }
 {}
 
-/// What a session knows of a store whose entries it sees, if the keeper made none of its worker: the entries of its
+/// What a session knows of a store whose entries it sees, if the keeper made none of its worker. The entries of its
 /// worker since the start are exactly those that its own calls made, and all begin with those that it has seen.
 pub fn a_session_knows_its_own_entries()
     ensures { (start : SharedStart) (all : List Signed) (x : SessionState) (s : StoreState) →
         HasGrownBy start s all → IsOnItsOwn start all x → KnowsItsOwn (since start s) x }
 {}
 
-/// An answer without an entry is an answer on the closed journal. Of a store with exactly the entries that a session,
-/// or the keeper, has seen there is one graph. When the round is closed, and the entries since the start begin with
-/// these, that graph is the one after so many entries of the journal.
+/// An answer without an entry is an answer on the closed journal. A store with exactly the entries that a session, or
+/// the keeper, has seen has one graph. When the round is closed, the entries since the start begin with these. Then
+/// that graph is the one after so many entries of the journal.
 pub fn an_answer_is_of_the_closed_journal()
     ensures seen { (start : SharedStart) (seen : List Signed) (s : StoreState) → HasExactly start seen s → graph_of_store s ≡ graph_seen start seen }
     ensures closed { (start : SharedStart) (seen : List Signed) (s closed : StoreState) →
         HasExactly start seen s → ClosesOver start seen closed → graph_of_store s ≡ graph_up_to start seen closed }
 {}
 
-/// The label that a session was answered is the one that the closed journal's graph has, after as many entries since
-/// the store was shared as the session had seen then.
+/// The label that a session received is that of the closed journal's graph, after as many entries since the store was
+/// shared as the session had seen then.
 pub fn a_label_is_of_the_closed_journal()
     ensures { (start : SharedStart) (seen : List Signed) (s : StoreState) → ClosesOver start seen s →
         (worker target : ℕ) (label : Option RightSet) → IsHeldAtSeen start seen worker target label → IsHeldOver (graph_up_to start seen s) worker target label }
 {}
 
-/// Who is ended by the keeper stops being a subject, and nobody else does: the graph after the entries that the keeper
-/// has then seen is the one before, without the named worker and what it held.
+/// A subject that the keeper ends stops being a subject, and nobody else does. The graph after the entries that the
+/// keeper has then seen is the one before, without the named worker and what it held.
 pub fn an_end_is_of_the_named_worker()
     ensures { (start : SharedStart) (old new : KeeperState) (worker count : ℕ) → HasEnded start worker old new count → EndsOnly start new.seen worker }
 {}
 
-/// What a collection of a session answers is how many vertices a store has that may have been behind the lock when
-/// exactly these entries had been made, and after a full one how many can be reached in the graph after them.
+/// What a collection of a session returns is the number of vertices of a store with exactly these entries. After a full
+/// one it is the number of vertices that can be reached in the graph after them.
 pub fn what_is_left_is_counted()
     ensures { (start : SharedStart) (seen : List Signed) (kind : Kind) (number : ℕ) → LeavesAtSeen start seen kind number → AtSeen start seen (IsCountLeft kind number) }
 {}

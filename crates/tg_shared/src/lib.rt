@@ -1,7 +1,7 @@
 //! The locked store: a store that many threads use, and a proof at the end that nothing was lost.
 //!
-//! [`SharedStore::new`] puts a store behind a lock and gives one [`Session`] for each active subject. A session may go
-//! to a thread of its own. Each of its calls takes the lock, makes one call of the store, and lets go:
+//! [`SharedStore::new`] puts a store into a lock and gives one [`Session`] for each active subject. A session may go to
+//! a thread of its own. Each of its calls takes the lock, makes one call of the store, and releases the lock:
 //!
 //! ```text
 //!     session 0   [receipts, pass] --call--+
@@ -12,40 +12,41 @@
 //!                                                 +------------------------------------+
 //! ```
 //!
-//! A call that makes an entry of the journal leaves a [`Receipt`] with the session: the entry and its place. So a
-//! session has what it was answered, and [`close`] compares: it takes all sessions back, looks whether each receipt is
-//! the journal's entry at its place, and hands out the store.
+//! A call that makes an entry of the journal leaves a [`Receipt`] with the session. The receipt has the entry and its
+//! place. So a session has all answers that it got, and [`close`] compares. It takes all sessions back, looks whether
+//! each receipt is the journal's entry at its place, and hands out the store.
 //!
-//! What a call does to the value behind the lock stands in the contracts of [`Locked`], the type that is locked: each
-//! of its calls is one call of the store and makes at most one receipt. The clauses of a session speak of its own
-//! receipts, and of a store with exactly the entries that the session has then seen since the start: its answer was
-//! right of such a store ('What a session can know' in docs/inside/ARCHITECTURE.md). Its own entries among these are
-//! exactly those that its calls made, by its pass (see 'How a session knows its own entries' there), and [`close`] says
-//! that the journal begins with what each session has seen. Whenever the lock is free, the store is the shared one,
-//! gone on, and keeps its promise ([`Locked::store`]), and the book that stands beside it has counted each entry since.
+//! The contracts of [`Locked`], the type in the lock, say what a call does to the value there. Each call of a session
+//! is one call of the store and makes at most one receipt. [`Session::call_all`] makes several in a row. The clauses of
+//! a session speak of its own receipts, and of a store with exactly the entries that the session has then seen since
+//! the start. The answer was right for such a store ('What a session can know' in docs/inside/ARCHITECTURE.md). Its
+//! pass shows that its own entries among these are exactly those that its calls made ('How a session knows its own
+//! entries' there). [`close`] says that the journal begins with what each session has seen. Whenever the lock is free,
+//! the store has gone on from the shared one and keeps its promise ([`Locked::store`]). The book beside it has then
+//! counted each entry since.
 //!
-//! A session may make a subject, and is answered its session ([`Session::spawn`]), which is owed to [`close`] like the
-//! others. A subject that retires makes no entry any more; its session is owed all the same.
+//! A session may make a subject, and gets its session ([`Session::spawn`]), which is owed to [`close`] like the others.
+//! A subject that retires makes no more entries. Its session is owed all the same.
 //!
-//! A service that goes on for years takes the journal and the receipts in parts: who shares the store so has its
-//! [`Keeper`], who takes the entries while the sessions go on, and each session hands its receipts out
-//! ([`Session::take_receipts`]), to be looked at with the part that has their entries ([`receipts_match`]; [`laws`]
-//! join the parts). [`Keeper::forget`] and [`Session::forget_receipts`] give entries and receipts up, and keep their
-//! room. Each part begins where the keeper's last one ended ([`Keeper::next`]). One that is done goes into
-//! another ([`Session::take_over`]). Of a store that is shared whole nothing is handed out before it is closed, neither
-//! entries nor receipts.
+//! **For years.** A service takes the journal and the receipts in parts. It shares the store in parts, and gets a
+//! [`Keeper`]. The keeper takes the entries while the sessions go on. Each session hands its receipts out
+//! ([`Session::take_receipts`]). They are compared with the part that has their entries ([`receipts_match`]), and
+//! [`laws`] join the parts. [`Keeper::forget`] and [`Session::forget_receipts`] give entries and receipts up, and keep
+//! their room. Each part begins at the end of the keeper's last one ([`Keeper::next`]). A session that is done goes
+//! into another one ([`Session::take_over`]). A store that is shared whole hands out entries and receipts only at the
+//! close.
 //!
-//! A client may hang, and its session with it. The keeper ends its worker by its name, where the store was shared so
-//! ([`Keeper::end`]). What was entered for it is the keeper's in the roll, so who has the keeper knows of each entry at
-//! the close who made it ([`close_with`]). And a store is had back though a session is lost ([`reclaim`]): then
-//! the receipts that came are no more than the entries.
+//! **A client that hangs.** The keeper ends its worker by its name, if the store was shared so ([`Keeper::end`]). In
+//! the roll the entries of such an end are the keeper's. So the owner of the keeper knows at the close who made each
+//! entry ([`close_with`]). A store is also recovered if a session is lost ([`reclaim`]). Then the returned receipts are
+//! at most as many as the entries.
 //!
-//! The book is that of a ledger ([`std::sync::ledger`]). That there are as many receipts as entries, where a close
-//! succeeds, is told by 'Why the count is known at the close' in docs/inside/ARCHITECTURE.md.
+//! The book is that of a ledger ([`std::sync::ledger`]). After a successful close there are as many receipts as entries
+//! ('Why the count is known at the close' in docs/inside/ARCHITECTURE.md).
 //!
 //! **Why nothing is refused between an entry and its receipt.** A session makes room for the receipt, and copies the
-//! state of a vertex to be made, before it takes the lock ([`Session::make_room`]); the reply moves into the receipt.
-//! So under the lock memory is wanted by the store's call alone, which is refused before it makes an entry.
+//! state of a vertex to be made, before it takes the lock ([`Session::make_room`]). The reply moves into the receipt.
+//! So under the lock only the store's call takes memory, and it is refused before it makes an entry.
 #![tactic(auto)]
 
 mod batch;

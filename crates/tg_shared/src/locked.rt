@@ -20,12 +20,12 @@ use tg_rights::Label;
 use tg_store::{ApplyFault, CreateFault, CreateRefused, Kind, RoomFault, Store};
 use tg_subjects::Subject;
 
-/// What is behind the lock: the store, the book that counts its entries since it was shared, the roll that has them
-/// with who made each, and the parts of the ledger that no session has. Each call is one call of the store, with its
-/// contract; one of a session makes a receipt of each entry.
+/// The locked value. It has the store, the book that counts its entries since it was shared, the roll of them with who
+/// made each, and the parts of the ledger that no session has. Each call is one call of the store, with its contract. A
+/// call for a session makes a receipt of each entry.
 ///
-/// Contracts see a `LockedState`: the store, how many sessions were made, how many entries the keeper made for workers
-/// that it ended, and all entries since the start with who made each.
+/// Contracts see a `LockedState`. It has the store, how many sessions were made, how many entries the keeper made for
+/// workers that it ended, and all entries since the start with who made each.
 #[derive(Drop)]
 pub struct Locked<L: Round, P: Payload> {
     pub(crate) store: Store<P>,
@@ -63,10 +63,10 @@ impl<L: Round, P: Payload> Locked<L, P> {
     ghost use Rattle.tg_shared.specs.Sessions.{AreFresh, HoldsWhenFree, MayNote, MayShare, held_after, keeper_knowledge, knowledge};
 
     /// The store, and what holds whenever the lock is free (`held`). The store keeps its own promise: its journal is a
-    /// legal history of its opening, and its heap stands for the graph after it. It is the store that was shared, gone
-    /// on: with its opening and its limits, with all entries from before, and with exactly those since that the roll
-    /// has (`grown_by`). One session was made for each subject that it had then, and one for each that was made since.
-    /// No worker was ended if its start lets nobody.
+    /// legal history of its opening, and its heap represents the graph after it. It has gone on from the shared store.
+    /// It has the same opening, limits and earlier entries, and since then exactly the entries that the roll has
+    /// (`grown_by`). One session was made for each subject that it had then, and one for each that was made since. If
+    /// its start lets the keeper end nobody, no worker was ended.
     pub fn store(&self) -> &Store<P>
         ensures same { result.now ≡ self.now.store }
         ensures held { HoldsWhenFree L.start self.now }
@@ -77,7 +77,7 @@ impl<L: Round, P: Payload> Locked<L, P> {
         &self.store
     }
 
-    /// How many sessions were made. So many are there, if none is missing: each stands for itself and for those that it
+    /// How many sessions were made. If none is missing, so many are there. Each counts for itself and for those that it
     /// took over.
     pub fn sessions(&self) -> u64
         ensures { result ≡ self.now.sessions }
@@ -85,17 +85,17 @@ impl<L: Round, P: Payload> Locked<L, P> {
         self.sessions
     }
 
-    /// How many entries the keeper made for workers that it ended: no session has a receipt of these.
+    /// How many entries the keeper made for workers that it ended. No session has a receipt of these.
     pub fn entered(&self) -> u64
         ensures { result ≡ self.now.entered }
     {
         self.entered
     }
 
-    /// The keeper looks at all entries since the start, and has then seen them. It is otherwise as it was, and so is
-    /// what is behind the lock. The entries that the keeper made are exactly the keeper's among all, which begin with
-    /// those that it had seen (`sees`). What holds whenever the lock is free is shown too (`held`). The store holds its
-    /// entries from the place on at which the keeper's last part ended.
+    /// The keeper looks at all entries since the start, and has then seen them. All else stays as it was. The entries
+    /// that the keeper made are exactly the keeper's among all, which begin with those that it had seen (`sees`). What
+    /// holds whenever the lock is free is shown too (`held`). The store holds its entries from the place at which the
+    /// keeper's last part ended.
     pub fn tell(&mut self, keeper: &mut Keeper<L>)
         ensures looks { IsLookedAt L.start self.old self.new (keeper_knowledge keeper.old) }
         ensures next { keeper.old.next ≡ self.old.store.handed }
@@ -107,9 +107,9 @@ impl<L: Round, P: Payload> Locked<L, P> {
         self.handed.tell(&mut keeper.next);
     }
 
-    /// The session looks at all entries since the start, and has then seen them. It is otherwise as it was, and so is
-    /// what is behind the lock. The entries that its own calls made are exactly its own among all, which begin with
-    /// those that it had seen (`sees`). What holds whenever the lock is free is shown too (`held`).
+    /// The session looks at all entries since the start, and has then seen them. All else stays as it was. The entries
+    /// that its own calls made are exactly its own among all, which begin with those that it had seen (`sees`). What
+    /// holds whenever the lock is free is shown too (`held`).
     pub fn look(&mut self, session: &mut Session<L>)
         ensures looks { IsLookedAt L.start self.old self.new (knowledge session.old) }
         ensures session { session.new ≡ record session.old { seen = self.old.signed } }
@@ -119,9 +119,9 @@ impl<L: Round, P: Payload> Locked<L, P> {
         session.look(&mut self.register.roll);
     }
 
-    /// Shares a store: the value to be locked, a session for each subject of the graph that the store stands for, and
-    /// its one keeper. The blanks are spent, and that of the sessions has to have one part more than vertices may be
-    /// made. Fails only when out of memory, and hands the store back.
+    /// Shares a store. Makes the value to be locked, a session for each subject of the store's graph, and its one
+    /// keeper. The blanks are spent, and that of the sessions has to have one part more than vertices may be made.
+    /// Fails only when out of memory, and hands the store back.
     pub fn open(
         alloc: Global,
         blanks: Blanks,
@@ -161,8 +161,8 @@ impl<L: Round, P: Payload> Locked<L, P> {
     }
 
     /// Takes a command of the session's subject, by one call of the store. A call that makes an entry adds a receipt
-    /// with the reply, which is that of the rules on the graph that the store stands for; a call that is refused leaves
-    /// the store and the receipts as they were. There has to be room for the receipt.
+    /// with the reply, which is that of the rules on the store's graph. A refused call leaves the store and the
+    /// receipts as they were. There has to be room for the receipt.
     pub fn apply(&mut self, session: &mut Session<L>, command: Command) -> Result<(), ApplyFault>
         requires room { 0 < session.old.spare }
         ensures served { ServesCommand command self.old.store self.new.store session.old session.new result }
@@ -186,9 +186,9 @@ impl<L: Round, P: Payload> Locked<L, P> {
         Ok(())
     }
 
-    /// Makes a vertex of the session's subject, by one call of the store. A call that makes an entry adds a receipt; so
-    /// does `VerticesFull`. Any other refusal leaves the store and the receipts as they were. There has to be room for
-    /// the receipt, and the session has to have a copy of the draft's state.
+    /// Makes a vertex of the session's subject, by one call of the store. A call that makes an entry adds a receipt,
+    /// and so does `VerticesFull`. Any other refusal leaves the store and the receipts as they were. There has to be
+    /// room for the receipt, and the session has to have a copy of the draft's state.
     pub fn create(
         &mut self,
         session: &mut Session<L>,
@@ -215,11 +215,11 @@ impl<L: Round, P: Payload> Locked<L, P> {
         )
     }
 
-    /// Makes a subject, by one call of the store, and a session for it: with no receipt, and with one part of the
-    /// ledger, cut from the rest behind the lock. A call that makes an entry adds a receipt to the session that asks;
-    /// so do `VerticesFull` and `WorkersFull`. Any other refusal leaves the store and the receipts as they were. There
-    /// has to be room for the receipt, and the session has to have a copy of the draft's state. The new session takes
-    /// no memory, so nothing is refused behind the store's call.
+    /// Makes a subject by one call of the store, and a session for it. The session has no receipt, and one part of the
+    /// ledger, which comes from the locked rest. A call that makes an entry adds a receipt to the session that asks,
+    /// and so do `VerticesFull` and `WorkersFull`. Any other refusal leaves the store and the receipts as they were.
+    /// There has to be room for the receipt, and the session has to have a copy of the draft's state. The new session
+    /// takes no memory, so nothing is refused after the store's call.
     pub fn spawn(
         &mut self,
         session: &mut Session<L>,
@@ -253,13 +253,13 @@ impl<L: Round, P: Payload> Locked<L, P> {
         Ok(Session::new(session.alloc(), name, share, pass))
     }
 
-    /// The session's worker leaves, by one call of the store: it gives up each edge that it has, by rising name, and
-    /// retires. Each of these entries adds a receipt. Answers how many edges these were.
+    /// The session's worker leaves, by one call of the store. It gives up each edge that it has, by rising name, and
+    /// retires. Each of these entries adds a receipt. Returns how many edges these were.
     ///
-    /// Room for all entries and receipts is made first, behind the lock, since the row may grow until then: 168 bytes
-    /// for each edge, and 32 for its listing. `NoSuchWorker` is answered exactly where the session's subject is none
-    /// any more; else `OutOfMemory` alone. The store and the receipts are then as they were, and nothing is refused on
-    /// the way.
+    /// Room for all entries and receipts is made first, under the lock, because the row may grow until then. It takes
+    /// 168 bytes for each edge, and 32 for its listing. `NoSuchWorker` is returned exactly if the session's subject is
+    /// active no more, and the only other refusal is `OutOfMemory`. The store and the receipts are then as they were. A
+    /// leave is done as a whole, or is refused before its first entry.
     pub fn leave(&mut self, session: &mut Session<L>) -> Result<u64, ApplyFault>
         ensures ended { EndsWorker session.old.worker self.old.store self.new.store result }
         ensures noted { NotesLeaving self.old.store session.old session.new result }
@@ -277,14 +277,14 @@ impl<L: Round, P: Payload> Locked<L, P> {
         Ok(count)
     }
 
-    /// Ends a worker, whose session may be anywhere, by one call of the store: it gives up each edge that it has, by
-    /// rising name, and retires. Answers how many edges these were. Each of these entries is noted as the keeper's, and
-    /// no session has a receipt of it; the worker's own is answered that there is no such worker from then on. Whether
-    /// it is refused or not, the keeper has then seen all entries.
+    /// Ends a worker, whose session may be anywhere, by one call of the store. The worker gives up each edge that it
+    /// has, by rising name, and retires. Returns how many edges these were. Each of these entries is noted as the
+    /// keeper's, and no session has a receipt of it. From then on the worker's own session receives that there is no
+    /// such worker. Whether the call is refused or not, the keeper has then seen all entries.
     ///
-    /// Room for all entries is made first: 80 bytes for each edge, and 16 for its listing. `NoSuchWorker` is answered
-    /// exactly where no worker has the name; else `OutOfMemory` alone. What is behind the lock is then as it was, and
-    /// nothing is refused on the way.
+    /// Room for all entries is made first. It takes 80 bytes for each edge, and 16 for its listing. `NoSuchWorker` is
+    /// returned exactly if no worker has the name, and the only other refusal is `OutOfMemory`. The locked value is
+    /// then as it was. An end is done as a whole, or is refused before its first entry.
     pub fn end(&mut self, keeper: &mut Keeper<L>, worker: u64) -> Result<u64, ApplyFault>
         requires may_end { L.start.may_end ≡ true }
         ensures ended { EndsWorker worker self.old.store self.new.store result }
@@ -317,18 +317,18 @@ impl<L: Round, P: Payload> Locked<L, P> {
         self.store.label(session.worker(), target)
     }
 
-    /// The picture of what the active subjects reach, by one call of the store: that of the graph that it stands for.
-    /// It changes nothing, and makes no entry and no receipt. The lock is held while all rows that are reached are gone
-    /// over. Fails only when out of memory.
+    /// The picture of what the active subjects reach on the store's graph, by one call of the store. It changes
+    /// nothing, and makes no entry and no receipt. The lock is held while all reached rows are read. Fails only when
+    /// out of memory.
     pub fn picture(&self, alloc: Global) -> Result<Picture, AllocError>
         ensures { (g : ProtectionGraph) → StandsFor self.now.store g → IfOk result (λ picture. IsReachedPicture picture g) }
     {
         self.store.picture(alloc)
     }
 
-    /// Hands out the entries that the store holds, by one call of the store, where it was shared so as to be handed out
-    /// in parts. They begin where the part before ended that the keeper took. No session is touched: its receipts are
-    /// of the entries that they were of, wherever these are.
+    /// Hands out the entries that the store holds, by one call of the store, if it was shared so that it is handed out
+    /// in parts. They begin at the end of the keeper's part before. Sessions stay as they are. Their receipts are of
+    /// the same entries as before, wherever these are.
     pub fn take_journal(&mut self, keeper: &mut Keeper<L>) -> Journal
         requires in_parts { L.start.in_parts ≡ true }
         ensures joined { result.start ≡ keeper.old.next }

@@ -13,8 +13,8 @@ use tg_payload::{Draft, Payload};
 use tg_rights::Label;
 use tg_store::{CreateFault, CreateRefused, Store};
 
-/// Makes a vertex of a kind for the session's subject, by one call of the store, and notes the receipt of the entry
-/// that came of it, if one did.
+/// Makes a vertex of a kind for the session's subject, by one call of the store. If an entry was made, its receipt is
+/// noted.
 pub(crate) fn make<L: Round, P: Payload>(
     store: &mut Store<P>,
     register: &mut Register<L>,

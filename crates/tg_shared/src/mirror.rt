@@ -4,9 +4,9 @@ ghost use Rattle.std.specs.Prelude.{◌≡◌, ◌<◌, ◌+◌, ◌^◌};
 use std::marker::Model;
 use std::sync::ledger::{Blank, Book, Ledger, Share};
 
-/// A number behind the lock, of which there is one mirror outside. The two are always the same: each has one of the two
-/// parts of a ledger, whose total is the number. So the number can only change together with its mirror. Contracts see
-/// the number.
+/// A locked number, which has one mirror outside. The two are always the same, because each has one of the two parts of
+/// a ledger whose total is the number. So the number can only change together with its mirror. Contracts see the
+/// number.
 #[derive(Drop)]
 pub(crate) struct Mirrored<K: Ledger> {
     number: u64,
@@ -24,7 +24,7 @@ impl<K: Ledger> Model for Mirrored<K> {
     ghost invariant = { λ m. (m.book.total ≡ m.number) × (m.rest.parts ≡ 1) × (m.rest.amount ≡ 0) × (K.parts ≡ 2) };
 }
 
-/// The mirror of a number that is behind the lock. Contracts see the number.
+/// The mirror of a locked number. Contracts see the number.
 #[derive(Drop)]
 pub(crate) struct Mirror<K: Ledger> {
     number: u64,
@@ -70,7 +70,7 @@ impl<K: Ledger> Mirrored<K> {
         self.number
     }
 
-    /// Changes nothing, and tells that the mirror has the number.
+    /// Changes nothing, and shows that the mirror has the number.
     pub(crate) fn tell(&mut self, mirror: &mut Mirror<K>)
         ensures equal { mirror.old ≡ self.old }
         ensures same { self.new ≡ self.old }

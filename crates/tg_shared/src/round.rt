@@ -10,21 +10,22 @@ use tg_passes::{BlankRoll, Board, Roll};
 /// One shared store, from [`SharedStore::new`](crate::SharedStore::new) to [`close`](crate::close). Its parameter ties
 /// the sessions to the store. A function that shares a store is generic in it, and is called with `Brand`.
 pub trait Round: Ledger {
-    /// What the store was when it was shared; and whether until it is closed its journal may be handed out in parts,
-    /// and its keeper may end workers.
+    /// What the store was when it was shared. It also says whether its journal may be handed out in parts until the
+    /// close, and whether its keeper may end workers.
     ghost start: { SharedStart };
 
-    /// The name of the ledger by which its keeper and what is behind the lock know the same number. The table by which
-    /// its sessions, its keeper and what is behind the lock know of the same entries.
+    /// The name of the ledger by which the keeper and the locked value know the same number. The table by which the
+    /// sessions, the keeper and the locked value know of the same entries.
     ghost keeper: { KeeperNames };
 }
 
 impl Round for Brand {
     ghost use Rattle.tg_passes.specs.Passes.{no_table};
+    ghost use Rattle.tg_store.specs.Origin.{opened_by};
 
     ghost keeper = { record { handed = 0; roll = no_table } };
 
-    ghost start = { record { opening = record { workers = 0; edges = []; values = []; limit = 0 }; entries = []; handed = 0; limits = record { max_blocks = 0; space_blocks = 0 }; in_parts = false; may_end = false } };
+    ghost start = { record { opening = opened_by (record { workers = 0; edges = []; values = []; limit = 0 }); entries = []; handed = 0; limits = record { max_blocks = 0; space_blocks = 0 }; in_parts = false; may_end = false } };
 }
 
 /// The ledger of the place at which the last part of the journal ended that the keeper took.
@@ -38,7 +39,7 @@ impl<L: Round> Ledger for HandedOut<L> {
     ghost parts = { 2 };
 }
 
-/// The board of the roll behind the lock, and of the passes of the sessions and of the keeper.
+/// The board of the locked roll, and of the passes of the sessions and of the keeper.
 pub(crate) struct Rolled<L: Round> {
     of: PhantomData<L>,
 }
@@ -47,7 +48,7 @@ impl<L: Round> Board for Rolled<L> {
     ghost board = { L.keeper.roll };
 }
 
-/// What is noted of each entry behind the lock: the book counts it, and the roll has it.
+/// What is noted of each entry under the lock. The book counts it, and the roll has it.
 #[derive(Drop)]
 pub(crate) struct Register<L: Round> {
     pub(crate) book: Book<L>,

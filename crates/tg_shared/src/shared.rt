@@ -25,7 +25,7 @@ const TRIES: u32 = 2_000;
 
 const PAUSES: u32 = 8;
 
-/// A store behind a lock, which many threads use through their sessions.
+/// A store in a lock, which many threads use through their sessions.
 pub struct SharedStore<L: Round, P: Payload> {
     pub(crate) locked: Mutex<Locked<L, P>>,
 }
@@ -45,7 +45,7 @@ pub struct Shared<L: Round, P: Payload> {
     pub keeper: Keeper<L>,
 }
 
-/// There was no memory for the sessions. The store comes back as it was; the blank is spent.
+/// There was no memory for the sessions. The store comes back as it was, and the blank is spent.
 #[derive(Drop)]
 pub struct SharedRefused<P: Payload> {
     pub store: Store<P>,
@@ -64,14 +64,14 @@ impl<L: Round, P: Payload> SharedStore<L, P> {
     ghost use Rattle.tg_store.specs.Store.{StandsFor};
     ghost use Rattle.tg_shared.specs.Sessions.{MayShare};
 
-    /// Shares a store: puts it behind a lock, and makes a session for each active subject of the graph that it stands
-    /// for. The blanks are spent, and that of the sessions has to have one part more than vertices may be made. Fails
-    /// only when out of memory.
+    /// Shares a store. Puts it into a lock, and makes a session for each active subject of its graph. The blanks are
+    /// spent, and that of the sessions has to have one part more than vertices may be made. Fails only when out of
+    /// memory.
     ///
     /// The round's start says whether the journal stays whole (`start_of_store`), or may be handed out in parts while
-    /// it is shared (`start_in_parts`); and whether the keeper may end workers (`start_with_ends`,
-    /// `start_in_parts_with_ends`). The keeper's first part of the journal begins where the store's begins, and it has
-    /// ended nobody.
+    /// it is shared (`start_in_parts`). It also says whether the keeper may end workers (`start_with_ends`,
+    /// `start_in_parts_with_ends`). The keeper's first part of the journal begins where the store's journal begins, and
+    /// it has ended nobody.
     pub fn new(
         alloc: Global,
         blanks: Blanks,
@@ -106,9 +106,9 @@ impl<L: Round, P: Payload> SharedStore<L, P> {
         self.locked.lock(rt)
     }
 
-    /// What was behind the lock, for a caller who wants to name it: [`Locked::close`] then tells exactly whether the
+    /// Returns the locked value, for a caller who needs to name it. [`Locked::close`] then says exactly whether the
     /// round ends. What holds whenever the lock is free holds of it (`held`), as of [`Locked::store`]. Takes no memory,
-    /// and no lock is waited for.
+    /// and waits for no lock.
     pub fn into_locked(self) -> Locked<L, P>
         ensures held { HoldsWhenFree L.start result }
     {
@@ -119,10 +119,10 @@ impl<L: Round, P: Payload> SharedStore<L, P> {
         locked
     }
 
-    /// What was behind the lock, as [`into_locked`](SharedStore::into_locked) hands it out, for who still has the
-    /// keeper: the entries that were made for workers that were ended are exactly those that the keeper made (`sees`),
-    /// and the store holds its entries from that place on at which the keeper's last part ended. The keeper has then
-    /// seen all entries, and is otherwise as it was.
+    /// Returns the locked value, as [`into_locked`](SharedStore::into_locked) does, for who still has the keeper. The
+    /// entries that were made for ended workers are exactly those that the keeper made (`sees`). The store holds its
+    /// entries from the place at which the keeper's last part ended. The keeper has then seen all entries, and is
+    /// otherwise as it was.
     pub fn into_locked_with(self, keeper: &mut Keeper<L>) -> Locked<L, P>
         ensures held { HoldsWhenFree L.start result }
         ensures entered { result.entered ≡ length keeper.old.made }
@@ -136,32 +136,32 @@ impl<L: Round, P: Payload> SharedStore<L, P> {
     }
 }
 
-/// Ends a round: hands out the store, where all sessions are given back and their receipts are right. The store's
-/// journal has then grown by as many entries as there are receipts: each entry since the store was shared stands in
-/// exactly one of them, and the receipts of each session are all its entries, in their order. It is the store that was
-/// shared, with its opening, its limits and the entries that it had. It is [`SharedStore::into_locked`] and
-/// [`Locked::close`] in a row.
+/// Ends a round. It hands out the store if all sessions are given back and their receipts are right. The store's
+/// journal has then grown by as many entries as there are receipts. Each entry since the store was shared is in exactly
+/// one of them. The receipts of each session are all its entries, in their order. It is the store that was shared, with
+/// its opening, its limits and its earlier entries. The call is [`SharedStore::into_locked`] and [`Locked::close`] in a
+/// row.
 ///
-/// `SessionsMissing` is looked for first. Where it is answered, more sessions were made than those handed in stand for,
-/// by a journal that may have been behind the lock; fewer than there were subjects when the store was shared are always
-/// refused so; and where a round ends, they stand for exactly as many as its journal says: one for each subject of
-/// then, and one for each that was made since. `ReceiptMismatch` is answered only where the sessions may not close with
-/// some journal that may have been behind the lock, and that has grown by as many entries at least as they have
-/// receipts. A caller who wants to know of the very journal takes the two calls. Store and sessions then come back, and
-/// the sessions may be in another order. Takes no memory, for n sessions time as n log n, and no lock is waited for.
+/// `SessionsMissing` is looked for first. If it is returned, more sessions were made than those handed in count for, by
+/// a journal that may have been in the lock. Fewer sessions than there were subjects when the store was shared are
+/// always refused so. If a round ends, the sessions count for exactly as many as its journal says: one for each subject
+/// of the start, and one for each that was made since. `ReceiptMismatch` is returned only if the sessions may not close
+/// with some journal that may have been in the lock. That journal has grown by at least as many entries as they have
+/// receipts. A caller who needs to know of the very journal makes the two calls. Store and sessions then come back, and
+/// the sessions may be in another order. Takes no memory, for n sessions time as n log n, and waits for no lock.
 ///
-/// Of a store that was shared whole no session can hand out a receipt. So that each entry made since stands in exactly
-/// one receipt (`whole` of `shared_out`) has no other condition there than that the keeper may end no worker.
+/// In a store that was shared whole no session can hand out a receipt. Then each entry made since is in exactly one
+/// receipt (`whole` of `shared_out`), on the one condition that the keeper may end no worker.
 ///
-/// Where the keeper may end workers, the journal may have grown by more than there are receipts: by what the keeper
-/// entered for them. [`close_with`] tells how much that is.
+/// If the keeper may end workers, the journal may have grown by more entries than there are receipts, because the
+/// keeper made entries for them. [`close_with`] says how many these are.
 ///
 /// If the keeper may end nobody, `single` speaks of each single session. A session that handed out no receipt and took
 /// over nobody has receipts of all entries of its worker since the store was shared, whatever the other sessions did.
 ///
 /// In every round `signed` says who made each entry since the store was shared. Each session made exactly its own of
-/// these, and they begin with those that the session has seen. So the graph of which a session was answered is that of
-/// the journal up to there: [`an_answer_is_of_the_closed_journal`](crate::laws::an_answer_is_of_the_closed_journal).
+/// these, and they begin with those that the session has seen. So the graph of an answer to a session is that of the
+/// journal up to there ([`an_answer_is_of_the_closed_journal`](crate::laws::an_answer_is_of_the_closed_journal)).
 pub fn close<L: Round, P: Payload>(
     store: SharedStore<L, P>,
     sessions: Vec<Session<L>>,
@@ -180,17 +180,16 @@ pub fn close<L: Round, P: Payload>(
     }
 }
 
-/// Ends a round as [`close`] does, for who still has the keeper: then which entries each made is said exactly, though
-/// workers were ended. It is [`SharedStore::into_locked_with`] and [`Locked::close`] in a row.
+/// Ends a round as [`close`] does, for who still has the keeper. It says exactly which entries each made, also if
+/// workers were ended. The call is [`SharedStore::into_locked_with`] and [`Locked::close`] in a row.
 ///
 /// The journal has grown by as many entries as the keeper made for workers that it ended, and as there are receipts. Of
-/// the entries since the store was shared the keeper made exactly those that it has, each session exactly its own, and
-/// all begin with those that each has seen (`signed`). A session whose worker isn't among those that the keeper ended
-/// has receipts of all entries of its worker, if it handed out none and took over nobody (`single`). Of a store that
-/// was shared whole, if the keeper ended nobody, each entry made since stands in exactly one receipt, and the receipts
-/// of each session are all its entries (`whole`). The store holds its entries from that place on at which the keeper's
-/// last part ended. The keeper has then seen all entries, and is otherwise as it was. What is refused is refused as by
-/// [`close`].
+/// the entries since the store was shared the keeper made exactly those that it has, and each session exactly its own.
+/// All begin with those that each has seen (`signed`). A session whose worker wasn't ended by the keeper has receipts
+/// of all entries of its worker, if it handed out none and took over nobody (`single`). If a store was shared whole,
+/// and the keeper ended nobody, each entry made since is in exactly one receipt, and the receipts of each session are
+/// all its entries (`whole`). The store holds its entries from the place at which the keeper's last part ended. The
+/// keeper has then seen all entries, and is otherwise as it was. Refusals are those of [`close`].
 pub fn close_with<L: Round, P: Payload>(
     store: SharedStore<L, P>,
     sessions: Vec<Session<L>>,
@@ -213,15 +212,16 @@ pub fn close_with<L: Round, P: Payload>(
     }
 }
 
-/// Takes a store back whose sessions may be lost, where the receipts of those given back are right: each matches the
-/// journal, and no two sessions are of one worker. The journal has then grown by as many entries at least as these have
-/// receipts (`back`), and by exactly as many where none is missing and no worker was ended. It is
-/// [`SharedStore::into_locked`] and [`Locked::reclaim`] in a row, and the store that was shared, gone on.
+/// Takes a store back whose sessions may be lost, if the receipts of the returned sessions are right. Each receipt
+/// matches the journal, and no two sessions are of one worker. The journal has then grown by at least as many entries
+/// as these have receipts (`back`). It has grown by exactly as many if none is missing and no worker was ended. The
+/// call is [`SharedStore::into_locked`] and [`Locked::reclaim`] in a row, and the store has gone on from the shared
+/// one.
 ///
-/// `ReceiptMismatch` is answered only where the sessions may not close with some journal that may have been behind the
-/// lock, as [`close`] does, and nothing else. Store and sessions then come back, and the sessions may be in another
-/// order. A lost session can't act any more: it wants the shared store, which is gone. Takes no memory, and no lock is
-/// waited for.
+/// `ReceiptMismatch` is the only refusal. It is returned only if the sessions may not close with some journal that may
+/// have been in the lock, as [`close`] does. Store and sessions then come back, and the sessions may be in another
+/// order. A lost session can't act any more, because it needs the shared store, which is gone. Takes no memory, and
+/// waits for no lock.
 pub fn reclaim<L: Round, P: Payload>(
     store: SharedStore<L, P>,
     sessions: Vec<Session<L>>,

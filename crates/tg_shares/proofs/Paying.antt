@@ -7,11 +7,11 @@ use Rattle.tg_model.specs.declared.command.Deed.TheVariants.{Create, Plain, Spaw
 use Rattle.tg_model.specs.declared.reply.Reply.{Reply}
 use Rattle.tg_model.specs.declared.reply.Reply.TheVariants.{WorkersFull}
 use Rattle.tg_model.specs.Graph.{ProtectionGraph, listing_of}
-use Rattle.tg_model.specs.Opened.{Plan, start_of}
 use Rattle.tg_model.specs.Rules.{step}
 use Rattle.tg_model.proofs.AllowedLaws.{create_cases, plain_cases, spawn_cases}
 use Rattle.tg_journal.specs.History.{graph_after}
 use Rattle.tg_journal.proofs.HistoryLaws.{graph_after-limit}
+use Rattle.tg_store.specs.Origin.{Origin, start_at}
 use Rattle.tg_store.specs.Store.{StoreState, Enters, graph_of_store}
 use Rattle.tg_store.specs.Leaving.{HasLeft, leaving}
 use Rattle.tg_store.proofs.StandLaws.{graph-entered}
@@ -33,13 +33,14 @@ one_at_most g x (Plain command) = plain_cases g x (λ k. k.made ≤ g.made + 1) 
 none_made : (g : ProtectionGraph) (x : ℕ) (command : Command) → (step g x (Plain command)).made ≤ g.made
 none_made g x command = plain_cases g x (λ k. k.made ≤ g.made) command (omega arith) (λ allowed. omega arith)
 
-limit_kept : (old new : StoreState) → new.opening ≡ old.opening → new.opening.limit ≡ old.opening.limit
-limit_kept old new opening = ap (λ (p : Plan). p.limit) opening
+limit_kept : (old new : StoreState) → new.opening ≡ old.opening → (graph_of_store new).limit ≡ (graph_of_store old).limit
+limit_kept old new opening =
+    graph_after-limit (start_at new.opening) new.entries ∙ ap (λ (o : Origin). (start_at o).limit) opening ∙ sym (graph_after-limit (start_at old.opening) old.entries)
 
 -- the same opening and the same entries
 pub covered_alike : (left : ℕ) (old new : StoreState) → IsCovered left old → new.opening ≡ old.opening → new.entries ≡ old.entries → IsCovered left new
 covered_alike left old new held opening entries =
-    let made : (graph_of_store new).made ≡ (graph_of_store old).made = λ i. (graph_after (start_of (opening i)) (entries i)).made in
+    let made : (graph_of_store new).made ≡ (graph_of_store old).made = λ i. (graph_after (start_at (opening i)) (entries i)).made in
     let limit = limit_kept old new opening in
     omega (arith, made, limit, held)
 
@@ -64,8 +65,7 @@ covered_one left next old new worker deed reply held entry opening paid =
 -- who has a vertex in its purse finds a name
 pub name_left : (left vertices : ℕ) (s : StoreState) → IsCovered left s → 0 < vertices → vertices ≤ left → (graph_of_store s).limit ≤ (graph_of_store s).made → ⊥
 name_left left vertices s held some within full =
-    let limit : (graph_of_store s).limit ≡ s.opening.limit = graph_after-limit (start_of s.opening) s.entries in
-    omega (arith, limit, held, some, within, full)
+    omega (arith, held, some, within, full)
 
 -- ---- entries
 

@@ -79,11 +79,11 @@ pub record LeavesPaying (old new : StoreState) (before after : SessionState) (fu
 pub record MayShareOut (vertices vertex_parts entries entry_parts : ℕ) (blanks : PurseBlanks) (whole : Portion) (store : StoreState) : Type 0 where
   pub of_vertices : (blanks.vertices.name ≡ vertices) × (blanks.vertices.parts ≡ vertex_parts) × (blanks.vertices.parts ≡ whole.vertices)
   pub of_entries : (blanks.entries.name ≡ entries) × (blanks.entries.parts ≡ entry_parts) × (blanks.entries.parts ≡ whole.entries)
-  pub within : (graph_of_store store).made + whole.vertices ≤ store.opening.limit
+  pub within : (graph_of_store store).made + whole.vertices ≤ (graph_of_store store).limit
 
 -- so many vertices, which are left in all purses, may still be made
 abbrev pub IsCovered : ℕ → StoreState → Type 0
-IsCovered left s = (graph_of_store s).made + left ≤ s.opening.limit
+IsCovered left s = (graph_of_store s).made + left ≤ (graph_of_store s).limit
 
 -- ---- under the lock
 

@@ -18,8 +18,8 @@ use tg_rights::Label;
 use tg_shared::{Round, Session};
 use tg_store::{ApplyFault, CreateFault, CreateRefused, Kind, RoomFault};
 
-/// A session with the purse that pays for its calls. Its holder reaches the store by the calls below, and by no other:
-/// a session alone wants a store without shares.
+/// A session with the purse that pays for its calls. Its holder reaches the store only by the calls below, because a
+/// session alone needs a store without shares.
 #[derive(Drop)]
 pub struct Client<L: Round, V: Ledger, E: Ledger> {
     pub session: Session<L>,
@@ -28,10 +28,10 @@ pub struct Client<L: Round, V: Ledger, E: Ledger> {
 
 impl<L: Round, V: Ledger, E: Ledger> Client<L, V, E> {
     /// Takes a command of the session's subject, under the lock. A served or denied command adds exactly one receipt,
-    /// the last of the session's, which has the reply of the rules; the purse pays one entry for it. A refused command
-    /// adds none and costs nothing.
+    /// the last of the session's, which has the reply of the rules. The purse pays one entry for it. A refused command
+    /// adds no receipt and costs nothing.
     ///
-    /// The purse needs an entry: [`Purse::may_enter`] is the test. The refusals are those of
+    /// The purse needs an entry, and [`Purse::may_enter`] is the test. The refusals are those of
     /// [`Session::call`](tg_shared::Session::call).
     pub fn call<P: Payload, R: Wait>(
         &mut self,
@@ -165,8 +165,9 @@ impl<L: Round, V: Ledger, E: Ledger> Client<L, V, E> {
         left
     }
 
-    /// The rights that the session's subject holds over a vertex, under the lock: the label of the graph after exactly
-    /// the entries since the start that the session has then seen. It makes no entry and no receipt, and costs nothing.
+    /// The rights that the session's subject holds over a vertex, under the lock. It is the label of the graph after
+    /// exactly the entries since the start that the session has then seen. It makes no entry and no receipt, and costs
+    /// nothing.
     pub fn label<P: Payload, R: Wait>(
         &mut self,
         rt: &R,
@@ -183,8 +184,9 @@ impl<L: Round, V: Ledger, E: Ledger> Client<L, V, E> {
         metered.label(self, target)
     }
 
-    /// Collects the heap of the store, under the lock, and returns how many vertices it then has: the number of a store
-    /// with exactly the entries that the session has then seen. It makes no entry and no receipt, and costs nothing.
+    /// Collects the heap of the store, under the lock, and returns how many vertices it then has. It is the number of a
+    /// store with exactly the entries that the session has then seen. It makes no entry and no receipt, and costs
+    /// nothing.
     pub fn collect<P: Payload, R: Wait>(
         &mut self,
         rt: &R,

@@ -1,10 +1,10 @@
 //! Shares of what all workers of a store need: of the vertices that may be made, and of the entries of its journal.
 //!
-//! Behind a lock one worker may use up all names, and then each create of the others is refused. [`MeteredStore::new`]
-//! shares a store as [`SharedStore::new`](tg_shared::SharedStore::new) does, and hands out a [`Purse`] besides: with as
-//! many vertices as its caller says, all of which may still be made, and as many entries. Who has a purse hands parts
-//! of it on ([`Purse::split_off`]), and takes back what is free ([`Purse::merge`]). A [`Client`] is a session with a
-//! purse. Each of its calls is paid for:
+//! Under a lock one worker may use up all names, and then each create of the others is refused. [`MeteredStore::new`]
+//! shares a store as [`SharedStore::new`](tg_shared::SharedStore::new) does, and also hands out a [`Purse`]. The purse
+//! has as many vertices and entries as its caller says, and all these vertices may still be made. The owner of a purse
+//! hands parts of it on ([`Purse::split_off`]), and takes back what is free ([`Purse::merge`]). A [`Client`] is a
+//! session with a purse. Each of its calls is paid for:
 //!
 //! ```text
 //!     a create, a spawn            a vertex and an entry
@@ -13,25 +13,24 @@
 //!     a refused call, a label, a collection      nothing
 //! ```
 //!
-//! A spawn that is refused since too many subjects are active has an entry, so it pays for that.
+//! A spawn that is refused because too many subjects are active has an entry, so it pays for that.
 //!
 //! A command, a create or a spawn may be asked for only by a purse that can pay. [`Purse::may_make`] and
-//! [`Purse::may_enter`] are the tests: they refuse a purse that can't pay, and name the worker and what is used up. A
-//! leave is the test itself, since the worker's row may grow until the lock is taken.
+//! [`Purse::may_enter`] are the tests. They refuse a purse that is short, and name the worker and what is used up. A
+//! leave makes this test itself, because the worker's row may grow until the lock is taken.
 //!
-//! **The law.** No create and no spawn that is paid for is answered that no more vertices may be made (`never_full` of
-//! [`Client::create`], [`Client::spawn`]), whatever was done in between, by whomever. All clients together never make
-//! more entries than the first purse had (`within` of [`MeteredStore::into_locked`]). And no call changes a purse but
-//! its own: a purse is its holder's alone.
+//! **The law.** A create or a spawn that is paid for never meets the limit of vertices (`never_full` of
+//! [`Client::create`], [`Client::spawn`]). This holds for everything that anybody did in between. All clients together
+//! make at most as many entries as the first purse had (`within` of [`MeteredStore::into_locked`]). A call changes its
+//! own purse alone.
 //!
 //! **Who may do what.** A client reaches the store by its own calls. The store's lock, its locked value and the till
-//! are private to this crate. The one [`Keeper`](tg_shared::Keeper) takes the journal and ends workers, and nobody pays
-//! for that.
+//! are private to this crate. The one [`Keeper`](tg_shared::Keeper) takes the journal and ends workers, free of charge.
 //!
-//! A purse is a share of two ledgers ([`std::sync::ledger`]): with a part of the first for each vertex, and a part of
-//! the second for each entry. In the [`Till`] are the parts of those that were made. So all purses together have no
-//! more vertices than may still be made, and no more entries than the first purse had without those that clients made.
-//! Nothing counts them, and parts take no bytes.
+//! A purse is a share of two ledgers ([`std::sync::ledger`]). It has a part of the first for each vertex, and a part of
+//! the second for each entry. The [`Till`] has the parts of those that were made. So all purses together have at most
+//! the vertices that may still be made. They also have at most the entries of the first purse, less those that clients
+//! made. Parts are counted in proofs alone, and take no bytes.
 #![tactic(auto)]
 
 mod client;

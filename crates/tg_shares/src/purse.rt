@@ -214,10 +214,10 @@ impl<V: Ledger, E: Ledger> Purse<V, E> {
     }
 }
 
-/// What purses have paid into: the parts of the two ledgers for vertices that were made and entries that were made.
+/// What purses have paid into: the parts of the two ledgers for vertices and entries that were made.
 ///
-/// Contracts see what is left in all purses, those that were dropped among them, how many entries there were before,
-/// and how many were given out then.
+/// Contracts see what is left in all purses, also in those that were dropped. They see how many entries there were
+/// before, and how many were given out then.
 #[derive(Drop)]
 pub struct Till<L: Round, V: Ledger, E: Ledger> {
     made: Share<V>,

@@ -15,9 +15,9 @@ use tg_payload::Payload;
 use tg_shared::{Blanks, Keeper, Locked, Round, Session};
 use tg_store::{ApplyFault, Store};
 
-/// A store behind a lock, whose vertices are shared out. Clients reach it by the calls of
-/// [`Client`](crate::Client), each of which is paid for. Its keeper takes the journal and ends workers, which nobody
-/// pays for. Nobody else has the lock.
+/// A store in a lock, whose vertices are shared out. Clients reach it by the calls of [`Client`](crate::Client), each
+/// of which is paid for. Its keeper takes the journal and ends workers, which nobody pays for. Nobody else has the
+/// lock.
 pub struct MeteredStore<L: Round, V: Ledger, E: Ledger, P: Payload> {
     pub(crate) metered: Mutex<Metered<L, V, E, P>>,
 }
@@ -29,7 +29,7 @@ impl<L: Round, V: Ledger, E: Ledger, P: Payload> Drop for MeteredStore<L, V, E, 
     }
 }
 
-/// A store with shares; a session for each active subject, by rising name; the purse that has all shares; and the one
+/// A store with shares, a session for each active subject by rising name, the purse that has all shares, and the one
 /// keeper.
 #[derive(Drop)]
 pub struct SharedOut<L: Round, V: Ledger, E: Ledger, P: Payload> {
@@ -80,10 +80,9 @@ impl<L: Round, V: Ledger, E: Ledger, P: Payload> MeteredStore<L, V, E, P> {
         }
     }
 
-    /// Hands out the entries that the store behind the lock holds, as [`Keeper::take_journal`] does of a store without
-    /// shares. What is handed out begins where the part before it ended, and ends with the last entry that the keeper
-    /// has then seen. The store has to be shared so that its journal is handed out in parts. Nobody pays for it. Takes
-    /// no memory.
+    /// Hands out the entries that the locked store holds, as [`Keeper::take_journal`] does of a store without shares.
+    /// The part begins where the part before it ended, and ends with the last entry that the keeper has then seen. The
+    /// store has to be shared so that its journal is handed out in parts. Nobody pays for it. Takes no memory.
     pub fn take_journal<R: Wait>(&self, rt: &R, keeper: &mut Keeper<L>) -> Journal
         requires in_parts { L.start.in_parts ≡ true }
         ensures joined { result.start ≡ keeper.old.next }
@@ -97,7 +96,7 @@ impl<L: Round, V: Ledger, E: Ledger, P: Payload> MeteredStore<L, V, E, P> {
         metered.take_journal(keeper)
     }
 
-    /// Ends a worker by its name, wherever its session is, as [`Keeper::end`] does of a store without shares: the
+    /// Ends a worker by its name, wherever its session is, as [`Keeper::end`] does in a store without shares. The
     /// worker gives up each edge that it has, by rising name, and retires. Returns how many edges these were. No purse
     /// pays for these entries. The store has to be shared so that its keeper may end workers.
     ///
@@ -125,10 +124,10 @@ impl<L: Round, V: Ledger, E: Ledger, P: Payload> MeteredStore<L, V, E, P> {
         ended
     }
 
-    /// What was behind the lock, without the shares: the store that was shared, gone on.
+    /// Returns the locked value without the shares: the shared store, which has gone on.
     /// [`Locked::close`](tg_shared::Locked::close) ends the round with the clients' sessions, and
-    /// [`Locked::reclaim`](tg_shared::Locked::reclaim) ends it if some are lost. All clients together have made no more
-    /// entries than the first purse had (`within`). Takes no memory, and no lock is waited for.
+    /// [`Locked::reclaim`](tg_shared::Locked::reclaim) ends it if some are lost. All clients together have made at most
+    /// as many entries as the first purse had (`within`). Takes no memory, and waits for no lock.
     pub fn into_locked(self) -> Locked<L, P>
         ensures held { HoldsWhenFree L.start result }
         ensures within { length result.store.entries ≤ length L.start.entries + result.entered + E.parts }

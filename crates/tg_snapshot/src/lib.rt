@@ -1,7 +1,7 @@
 //! Snapshots: what is kept of a graph to go on from it.
 //!
 //! A store can be opened again from its opening and all entries since. That takes as long as its whole life. A
-//! [`Snapshot`] is the short way. It has what the active subjects reach: each vertex with what it stores, and each
+//! [`Snapshot`] is the short way. It has what the active subjects reach, each vertex with what it stores, and each
 //! edge. It also has how many vertices were made, the most that may be, and how many entries were made before.
 //!
 //! ```text
@@ -11,19 +11,19 @@
 //!     counts      9 made, at most 1000000, after 77 entries
 //! ```
 //!
-//! All lists rise, and a pair of ends stands once. So one graph has one snapshot, and two snapshots can be compared as
-//! texts (`one_graph_has_one_snapshot` of [`laws`]). [`Snapshot::new`] looks at the form of the lists, and returns the
-//! first fault with its place ([`SnapshotFault`]). It can look at nothing else: **whoever can write to a snapshot
-//! gives rights**. A right that somebody writes into its text is a right in the store that goes on from it.
+//! All lists rise, and each pair of ends occurs once. So one graph has one snapshot, and two snapshots can be compared
+//! as texts (`one_graph_has_one_snapshot` of [`laws`]). [`Snapshot::new`] looks at the form of the lists, and returns
+//! the first fault with its place ([`SnapshotFault`]). It can't look at anything else. **Whoever can write to a
+//! snapshot gives rights**. A right that somebody writes into its text is a right in the store that goes on from it.
 //!
-//! What a reader has to believe stands in `specs/`: `Snapshot` (which lists are one, `IsSnapshot`; the graph that it
-//! shows, `graph_shown`; of which graph it is one, `IsSnapshotOf`) and `Faults` (`IsFault`). A vertex that was made and
-//! isn't shown stores a Cell with 0 in `graph_shown`. No command reaches such a vertex, so the choice is never seen.
-//! Without it the graph wouldn't be sound.
+//! The definitions to believe are in `specs/`. `Snapshot` says which lists are a snapshot (`IsSnapshot`), which graph
+//! it shows (`graph_shown`), and of which graph it is the snapshot (`IsSnapshotOf`). `Faults` has `IsFault`. A vertex
+//! that was made and isn't shown stores a Cell with 0 in `graph_shown`, which keeps the graph sound. No command reaches
+//! such a vertex, so the choice is never seen.
 //!
-//! `tg_journal` has the promise: later entries are legal after a snapshot exactly if they are legal after all entries
-//! before it, and each later reply is the one that would have been given there. Its auditor opens from a snapshot, and
-//! hands one out.
+//! `tg_journal` has the promise. Later entries are legal after a snapshot exactly if they are legal after all entries
+//! before it. Each later reply is the one that would have been given there. The auditor of `tg_journal` opens from a
+//! snapshot, and hands one out.
 #![tactic(auto)]
 
 mod check;

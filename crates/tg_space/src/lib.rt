@@ -1,7 +1,7 @@
-//! Spaces of blocks of cells: the ground that the heap's graph and its collections stand on.
+//! Spaces of blocks of cells, on which the heap's graph and its collections are built.
 //!
 //! A heap is a list of spaces. Space 0 is Old, space 1 is Aged, and space 2 + k is the nursery with number k. A space
-//! is a list of blocks, which only grows, until a collection takes all its blocks away; a block is 64 cells of 8 words.
+//! is a list of blocks. It only grows, until a collection takes all its blocks away. A block is 64 cells of 8 words.
 //!
 //! ```text
 //!   space 0  Old         [block 0] [block 1] [block 2]
@@ -11,27 +11,27 @@
 //! ```
 //!
 //! A place names a cell by its space, its block and its number in the block. Its flat number counts the cells of Old,
-//! then Aged, then the nurseries, space by space and block by block, 64 a block. Both name the same cells, and a flat
-//! number takes one sum to find: the number of blocks before each space is kept.
+//! then Aged, then the nurseries, space by space and block by block, 64 a block. Both name the same cells. A flat
+//! number takes one sum to find, because the number of blocks before each space is kept.
 //!
-//! The cells of a nursery are handed out one after the other. Those that were not handed out are free, so a cell that
-//! is handed out is always a free one. A nursery grows by one block at a time, within the `Limits`.
+//! The cells of a nursery are handed out one after the other, and the others are free. So a cell that is handed out is
+//! always a free one. A nursery grows by one block at a time, within the `Limits`.
 //!
-//! What contracts see of `Spaces` is a record: the words of all cells as a list of lists, how many cells of each
-//! nursery were handed out, and the limits.
+//! Contracts see `Spaces` as a record. It has the words of all cells as a list of lists, how many cells of each nursery
+//! were handed out, and the limits.
 //!
-//! **Who may call.** The heap's graph reads and writes words and allocates; a collection only reads, builds new
-//! blocks in a `Space` of its own, and hands them over by `adopt`. So a collection that is refused leaves all as it
-//! was. Only `new`, `add_block`, `adopt`, `ForwardingTable::new`, and of a `Space` `with_capacity`, `push`, `add_block`
-//! and `append` take memory.
+//! **Who may call.** The heap's graph reads and writes words and allocates. A collection only reads. It builds new
+//! blocks in a `Space` of its own, and hands them over by `adopt`. So a refused collection leaves everything as it was.
+//! These calls take memory: `new`, `add_block`, `adopt`, `ForwardingTable::new`, and of a `Space` `with_capacity`,
+//! `push`, `add_block` and `append`.
 //!
-//! **While a collection's blocks are put in place** the old cells may be gone already. `Numbering` keeps which numbers
-//! they had, and `Moves` tells by it where the collection has what a word or a place named.
+//! **While a collection's blocks are put in place**, the old cells may be gone already. `Numbering` keeps their
+//! numbers. With it, `Moves` says where the collection has put what a word or a place named.
 //!
-//! **What stands here for several crates above**, as definitions in `specs/`: the targets of cells and roots, the
-//! closure of the roots as the least set, the image of a cell under a map to new places, which spaces and roots are
-//! sound, and what a collection of either kind leaves. The module `laws` says what follows from them, above all the law
-//! of tracing: what was traced from the roots, and is complete, is exactly the closure.
+//! **Definitions for several crates above** are in `specs/`. They are the targets of cells and roots, the closure of
+//! the roots as the least set, and the image of a cell under a map to new places. Others say which spaces and roots are
+//! sound, and what a collection of either kind leaves. The module `laws` has what follows from them. The main law is
+//! that of tracing: what was traced from the roots, and is complete, is exactly the closure.
 #![tactic(auto)]
 
 pub use adoption::Adoption;

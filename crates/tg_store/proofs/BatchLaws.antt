@@ -1,5 +1,5 @@
 -- What one command more makes of a batch, and where a batch stops.
-use Rattle.std.proofs.Common.{◌≡◌, ◌↔◌, ◌∙◌, ℕ, ◌+◌, ◌<◌, List, [], ◌∷◌, ◌++◌, Some, length, map, take, get_or, append_assoc, ap, refl, subst, sym}
+use Rattle.std.proofs.Common.{◌≡◌, ◌↔◌, ◌∙◌, ℕ, ◌+◌, ◌<◌, List, [], ◌∷◌, ◌++◌, Some, length, take, get_or, append_assoc, ap, refl, subst, sym}
 use Rattle.std.specs.Prelude.{Result, Err}
 use Rattle.std.proofs.lemmas.List.{append-nil, map-append, take_more}
 use Rattle.std.proofs.lemmas.List.Elements.{All-append, All-cons, All-nil}
@@ -9,7 +9,6 @@ use Rattle.tg_model.specs.declared.command.Deed.{Deed}
 use Rattle.tg_model.specs.declared.command.Deed.TheVariants.{Plain}
 use Rattle.tg_model.specs.declared.reply.Reply.{Reply}
 use Rattle.tg_model.specs.Graph.{ProtectionGraph, IsSubject}
-use Rattle.tg_model.specs.Opened.{Plan, start_of}
 use Rattle.tg_model.specs.Rules.{IsAllowed}
 use Rattle.tg_journal.specs.declared.entry.Entry.{Entry}
 use Rattle.tg_journal.specs.History.{IsLegal, graph_after}
@@ -22,20 +21,21 @@ use Rattle.tg_rules.specs.Effect.{AddsEdge, LacksCellsToServe}
 use Rattle.tg_store.specs.declared.fault.ApplyFault.{ApplyFault}
 use Rattle.tg_store.specs.declared.fault.ApplyFault.TheVariants.{HeapFull, NoSuchWorker}
 use Rattle.tg_store.specs.Batch.{Applies, AreOfCommands, IsRefusedAt}
+use Rattle.tg_store.specs.Origin.{Origin, start_at}
 use Rattle.tg_store.specs.Store.{StoreState, Enters, IsFaithful, IsUnchanged, StandsFor, graph_of_store}
 use Rattle.tg_store.proofs.StandLaws.{graph-grown}
 
 -- the entries that a store got were legal, if the store is faithful then
 pub legal_grown : (old new : StoreState) (es : List Entry) → new.opening ≡ old.opening → new.entries ≡ old.entries ++ es → IsFaithful new → IsLegal (graph_of_store old) es
 legal_grown old new es opening entries faithful =
-    let legal : IsLegal (start_of old.opening) new.entries = subst (λ (p : Plan). IsLegal (start_of p) new.entries) opening faithful.legal in
-    (IsLegal-cut (start_of old.opening) old.entries es (subst (IsLegal (start_of old.opening)) entries legal)).1
+    let legal : IsLegal (start_at old.opening) new.entries = subst (λ (o : Origin). IsLegal (start_at o) new.entries) opening faithful.legal in
+    (IsLegal-cut (start_at old.opening) old.entries es (subst (IsLegal (start_at old.opening)) entries legal)).1
 
 pub err_same : {T E : Type 0} {e f : E} → ◌≡◌ {A = Result T E} (Err e) (Err f) → e ≡ f
 err_same is = cc
 
 pub graph_still : (old new : StoreState) → IsUnchanged old new → graph_of_store new ≡ graph_of_store old
-graph_still old new same = λ i. graph_after (start_of (same.opening i)) (same.entries i)
+graph_still old new same = λ i. graph_after (start_at (same.opening i)) (same.entries i)
 
 -- opening, limits, counts and what was handed out are as they were
 pub record KeepsRest (old new : StoreState) : Type 0 where

@@ -2,12 +2,11 @@
 use Rattle.std.proofs.Common.{◌≡◌, ℕ, Option, None, refl, sym, ap, subst, ◌∙◌}
 use Rattle.tg_rights.specs.RightSet.{RightSet, label_of}
 use Rattle.tg_model.specs.Graph.{ProtectionGraph}
-use Rattle.tg_journal.proofs.HistoryLaws.{IsSound-opened}
 use Rattle.tg_graph.specs.Heap.{IsActive, content_of}
 use Rattle.tg_graph.proofs.StandingLaws.{StandsFor-near}
 use Rattle.tg_store.specs.Held.{IsHeldOver}
 use Rattle.tg_store.specs.Store.{StoreState, StandsFor, IsFaithful, graph_of_store}
-use Rattle.tg_store.proofs.StandLaws.{active_here, subject_here}
+use Rattle.tg_store.proofs.StandLaws.{active_here, sound_of, subject_here}
 
 module _ (s : StoreState) (faithful : IsFaithful s) (x y : ℕ) (told : Option RightSet) where
   -- of an active subject
@@ -19,7 +18,7 @@ module _ (s : StoreState) (faithful : IsFaithful s) (x y : ℕ) (told : Option R
     held_here = record {
       subject = λ _. is ∙ ap label_of same_label;
       other = λ none. absurd (none (subject_here s faithful (graph_of_store s) x refl active));
-      itself = λ one. is ∙ ap label_of (same_label ∙ ap ((graph_of_store s).label x) (sym one) ∙ (IsSound-opened s.opening s.entries faithful.plan faithful.legal).no_loop x);
+      itself = λ one. is ∙ ap label_of (same_label ∙ ap ((graph_of_store s).label x) (sym one) ∙ (sound_of s faithful).no_loop x);
     }
 
     pub held_by_subject : (g : ProtectionGraph) → StandsFor s g → IsHeldOver g x y told

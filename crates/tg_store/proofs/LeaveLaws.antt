@@ -21,9 +21,9 @@ use Rattle.tg_model.proofs.AllowedLaws.{no_denial-permits, step-allowed}
 use Rattle.tg_model.proofs.SoundLaws.{command-subjects}
 use Rattle.tg_journal.specs.declared.entry.Entry.{Entry}
 use Rattle.tg_journal.specs.History.{IsLegal, IsLegalEntry, graph_after}
-use Rattle.tg_journal.proofs.HistoryLaws.{IsLegal-push, IsSound-opened, graph_after-push}
+use Rattle.tg_journal.proofs.HistoryLaws.{IsLegal-push, graph_after-push}
 use Rattle.tg_store.specs.Leaving.{leaving, left_by, removal, retiring}
-use Rattle.tg_store.proofs.StandLaws.{IsStore-grown, graph-grown}
+use Rattle.tg_store.proofs.StandLaws.{IsStore-grown, graph-grown, sound_of}
 
 -- ---- sets of rights
 
@@ -262,7 +262,7 @@ module _ (old new : StoreState) (x : ℕ) (faithful : IsFaithful old) (subject :
   graph = graph_of_store old
 
   pub sound_before : IsSound graph
-  sound_before = IsSound-opened old.opening old.entries faithful.plan faithful.legal
+  sound_before = sound_of old faithful
 
   pub graph_of_left : graph_of_store new ≡ left_by graph x
   graph_of_left = graph-grown old new (leaving graph x) opening entries ∙ graph_left graph x sound_before subject

@@ -6,11 +6,14 @@ mod MakingLaws
 mod DifferenceLaws
 mod HeldLaws
 pub mod HistoryLaws
+pub mod OriginLaws
 mod ReadLaws
 pub mod RoomLaws
 pub mod StandLaws
 mod ReachingLaws
 mod PictureLaws
 mod LeaveLaws
+mod HandLaws
 pub mod BatchLaws
 mod AuditLaws
+mod AgainLaws

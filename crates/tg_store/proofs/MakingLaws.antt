@@ -16,7 +16,6 @@ use Rattle.tg_model.specs.Rules.{DeedFits, IsAllowed, answer_of, step}
 use Rattle.tg_model.proofs.MakingLaws.{HasRoom, answer-made, answer-subjects, answer-vertices, step-full, step-made}
 use Rattle.tg_subjects.specs.declared.subject.Subject.{Subject as SubjectAt}
 use Rattle.tg_journal.specs.declared.entry.Entry.{Entry}
-use Rattle.tg_journal.proofs.HistoryLaws.{IsSound-opened}
 use Rattle.tg_rows.specs.Content.{Content, IsNamed, OnlyNamedHold}
 use Rattle.tg_graph.specs.Heap.{IsActive, content_of, subject_names}
 use Rattle.tg_graph.specs.Standing as standing
@@ -33,7 +32,7 @@ use Rattle.tg_store.specs.Faults.{create_fault_of}
 use Rattle.tg_model.specs.Making.{deed_making, subjects_making}
 use Rattle.tg_store.specs.Making.{IsCreated, IsLimitMet, fault_at, reply_at}
 use Rattle.tg_store.specs.Store.{StoreState, StandsFor, Enters, IsStore, graph_of_store}
-use Rattle.tg_store.proofs.StandLaws.{IsStore-entered, StandsFor-entered, subject_here}
+use Rattle.tg_store.proofs.StandLaws.{IsStore-entered, StandsFor-entered, sound_of, subject_here}
 
 -- ---- on a graph
 
@@ -142,7 +141,7 @@ module _ (old : StoreState) (made : ℕ) (is : IsStore old made) (x : ℕ) (acti
       (subst (λ (n : ℕ). All (λ name. name < n) (graph_of_store old).subjects) (sym is.is_made) below)
     where
       sound : IsSound (graph_of_store old)
-      sound = IsSound-opened old.opening old.entries is.faithful.plan is.faithful.legal
+      sound = sound_of old is.faithful
 
       below : All (λ name. name < (graph_of_store old).made) (graph_of_store old).subjects
       below k d inside = sound.subjects_made _ (All-contains_itself (graph_of_store old).subjects k d inside)
@@ -161,7 +160,7 @@ module _ (old : StoreState) (made : ℕ) (is : IsStore old made) (x : ℕ) (acti
         let there : IsCreated (content_of old.heap) (content_of new.heap) x graph.made label value = subst (λ n. IsCreated (content_of old.heap) (content_of new.heap) x n label value) is.is_made created in
         let made_step = step-made graph x label value kind (has_room graph x label value kind room) in
         let stands = stands_made graph x label value (content_of old.heap) (content_of new.heap) kind is.faithful.stands
-        (content.OnlyNamedHold-content_of old.heap) (IsSound-opened old.opening old.entries is.faithful.plan is.faithful.legal) subject room there in
+        (content.OnlyNamedHold-content_of old.heap) (sound_of old is.faithful) subject room there in
         IsStore-entered old new x (deed_making kind label value) (Name made) opening entry (made + 1) is.faithful subject (fits_made graph x label value kind fits)
         (sym answer-name) stands
         (names ∙ ap (λ (names : List ℕ). subjects_making kind names made) is.faithful.subjects ∙ ap (λ (n : ℕ). subjects_making kind graph.subjects n) is.is_made ∙ sym (ap (λ (h : ProtectionGraph). h.subjects) made_step))

@@ -9,13 +9,12 @@ use Rattle.tg_model.specs.Graph.{ProtectionGraph, IsSound}
 use Rattle.tg_model.specs.Picture.{Shown}
 use Rattle.tg_journal.proofs.Decided.{contains}
 use Rattle.tg_could.specs.Reached.{IsReachedEdge, IsReachedPicture}
-use Rattle.tg_journal.proofs.HistoryLaws.{IsSound-opened}
 use Rattle.tg_rows.specs.Content.{Content}
 use Rattle.tg_graph.specs.Heap.{content_of, subject_names}
 use Rattle.tg_graph.proofs.StandingLaws.{IsReachable-IsReached, IsReached-IsReachable, OnlyNamedHold-content_of}
 use Rattle.tg_store.specs.Inner.Reaching.{AreBelow, IsReachedEdgeOf}
 use Rattle.tg_store.specs.Store.{StoreState, StandsFor, IsFaithful, graph_of_store}
-use Rattle.tg_store.proofs.StandLaws.{limit_of}
+use Rattle.tg_store.proofs.StandLaws.{limit_of, sound_of}
 
 pub all_below : (c : Content) (n : ℕ) → AreBelow c n → All (λ x. x < n) c.names
 all_below c n below k d low = below.names (get_or c.names k d) (Contains-get_or c.names k d low)
@@ -28,7 +27,7 @@ module _ (s : StoreState) (faithful : IsFaithful s) where
   content = content_of s.heap
 
   sound : IsSound graph
-  sound = IsSound-opened s.opening s.entries faithful.plan faithful.legal
+  sound = sound_of s faithful
 
   pub below_made : AreBelow content graph.made
   below_made = record {
@@ -53,7 +52,7 @@ module _ (s : StoreState) (faithful : IsFaithful s) where
         is = record { there = ap is_none_held same ∙ is.there; rights = is.label ∙ sym same };
       }
 
-  pub pictured : (p : Shown) → p.subjects ≡ subject_names s.heap → p.made ≡ graph.made → p.limit ≡ s.opening.limit → ((edge : Edge) → Contains p.edges edge ↔ IsReachedEdgeOf content (subject_names s.heap) edge) → (g : ProtectionGraph) → StandsFor s g → IsReachedPicture p g
+  pub pictured : (p : Shown) → p.subjects ≡ subject_names s.heap → p.made ≡ graph.made → p.limit ≡ s.opening.plan.limit → ((edge : Edge) → Contains p.edges edge ↔ IsReachedEdgeOf content (subject_names s.heap) edge) → (g : ProtectionGraph) → StandsFor s g → IsReachedPicture p g
   pictured p subjects made limit edges g stands =
       let here : IsReachedPicture p graph = record {
         subjects = sym faithful.subjects ∙ sym subjects;

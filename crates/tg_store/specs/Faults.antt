@@ -7,6 +7,8 @@ use Rattle.tg_space.specs.declared.room_fault.RoomFault.{RoomFault}
 use Rattle.tg_space.specs.declared.room_fault.RoomFault.TheVariants as no_room
 use Rattle.tg_store.specs.declared.fault.OpenFault.{OpenFault}
 use Rattle.tg_store.specs.declared.fault.OpenFault.TheVariants as opened
+use Rattle.tg_store.specs.declared.fault.ReopenFault.{ReopenFault}
+use Rattle.tg_store.specs.declared.fault.ReopenFault.TheVariants as again
 use Rattle.tg_store.specs.declared.fault.ApplyFault.{ApplyFault}
 use Rattle.tg_store.specs.declared.fault.ApplyFault.TheVariants as apply
 use Rattle.tg_store.specs.declared.fault.CreateFault.{CreateFault}
@@ -17,6 +19,10 @@ use Rattle.tg_store.specs.declared.fault.StoreAuditFault.TheVariants as own
 abbrev pub open_fault_of : RoomFault → OpenFault
 open_fault_of no_room.OutOfMemory = opened.OutOfMemory
 open_fault_of no_room.HeapFull = opened.HeapFull
+
+abbrev pub reopen_fault_of : RoomFault → ReopenFault
+reopen_fault_of no_room.OutOfMemory = again.OutOfMemory
+reopen_fault_of no_room.HeapFull = again.HeapFull
 
 abbrev pub apply_fault_of : RoomFault → ApplyFault
 apply_fault_of no_room.OutOfMemory = apply.OutOfMemory

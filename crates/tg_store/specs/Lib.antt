@@ -1,3 +1,4 @@
+pub mod Origin
 pub mod Store
 pub mod Batch
 pub mod Counts
@@ -8,5 +9,7 @@ pub mod Room
 pub mod Collecting
 pub mod Made
 pub mod Leaving
+pub mod Handing
 pub mod Holding
+pub mod Again
 pub mod Inner

@@ -1,10 +1,9 @@
--- What a store is to its callers: an opening, the journal of what was decided since, and a heap. What holds of every store.
+-- What a store is to its callers: where it began, the journal of what was decided since, and a heap. What holds of every store.
 use Rattle.std.specs.Prelude.{◌≡◌, ◌↔◌, ◌≤◌, ◌⊎◌, ◌+◌, ◌*◌, ℕ, ◌==◌, List, [], ◌∷◌, ◌++◌, length, map}
 use Rattle.std.specs.List.{Contains, IsDistinct}
 use Rattle.tg_model.specs.declared.command.Deed.{Deed}
 use Rattle.tg_model.specs.declared.reply.Reply.{Reply}
 use Rattle.tg_model.specs.Graph.{ProtectionGraph}
-use Rattle.tg_model.specs.Opened.{Plan, IsPlan, start_of}
 use Rattle.tg_journal.specs.declared.entry.Entry.{Entry}
 use Rattle.tg_journal.specs.History.{IsLegal, graph_after}
 use Rattle.tg_space.specs.SpaceList.{block_count, space_of}
@@ -17,30 +16,31 @@ use Rattle.tg_graph.specs.Heap.{HeapState, content_of}
 use Rattle.tg_graph.specs.Kept.{AreWritten, rewritten_at}
 use Rattle.tg_graph.specs.Standing as standing
 use Rattle.tg_store.specs.declared.census.Collections.{Collections}
+use Rattle.tg_store.specs.Origin.{Origin, IsOrigin, start_at}
 
--- What a store is: the opening that it was opened with, all entries that were made since, oldest first, how many of these were handed
--- out or given up, its heap, and how many collections were done. The store holds the entries from that number on; which those before
--- it are, clauses alone say.
+-- What a store is: where it began, all entries of its journal, oldest first, how many of these were handed out or given up, its heap,
+-- and how many collections were done. The store holds the entries from that number on; which those before it are, clauses alone say.
+-- Of a store that was opened again, the entries before its snapshot are placeholders: listings, which change nothing (tg_journal, Journal).
 pub record StoreState : Type 0 where
-  pub opening : Plan
+  pub opening : Origin
   pub entries : List Entry
   pub handed : ℕ
   pub heap : HeapState
   pub collections : Collections
 
--- the graph that was never collected: the opening's, after the deeds of all entries
+-- the graph that was never collected: the one that the store began with, after the deeds of all entries
 abbrev pub graph_of_store : StoreState → ProtectionGraph
-graph_of_store s = graph_after (start_of s.opening) s.entries
+graph_of_store s = graph_after (start_at s.opening) s.entries
 
 -- The store stands for that graph, and for no other. It is the word by which all calls of a store are told.
 abbrev pub StandsFor : StoreState → ProtectionGraph → Type 0
 StandsFor s g = graph_of_store s ≡ g
 
--- What holds of every store: its journal is a legal history of its opening, and its heap stands for the graph after it, whose
+-- What holds of every store: its journal is a legal history from where it began, and its heap stands for the graph after it, whose
 -- subjects are the heap's active ones.
 pub record IsFaithful (s : StoreState) : Type 0 where
-  pub plan : IsPlan s.opening
-  pub legal : IsLegal (start_of s.opening) s.entries
+  pub origin : IsOrigin s.opening
+  pub legal : IsLegal (start_at s.opening) s.entries
   pub stands : standing.IsContentOf (content_of s.heap) (graph_of_store s)
   pub subjects : graph.subject_names s.heap ≡ (graph_of_store s).subjects
 

@@ -49,7 +49,12 @@ pub(crate) fn answer_command<P: Payload>(
 
 // Enters a command that is denied, and answers the denial.
 #[inline(always)]
-fn deny(journal: &mut TalliedJournal, subject: Subject, command: &Command, denial: &Denial) -> Reply
+pub(crate) fn deny(
+    journal: &mut TalliedJournal,
+    subject: Subject,
+    command: &Command,
+    denial: &Denial,
+) -> Reply
     requires room { 0 < journal.old.spare }
     ensures reply { result ≡ Reply.Denied denial.now }
     ensures entered { Adds (entry_answered subject command.now result) journal.old journal.new }

@@ -45,7 +45,7 @@ pub struct Collections {
 }
 
 /// A refusal that has an entry.
-#[derive(Clone, Copy, PartialEq, Eq, Debug)]
+#[derive(Clone, Copy, PartialEq, Eq)]
 pub(crate) enum Refusal {
     Denied,
     VerticesFull,

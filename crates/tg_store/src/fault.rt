@@ -30,6 +30,30 @@ pub struct OpenRefused<P: Payload> {
     pub why: OpenFault,
 }
 
+/// Why a store was not opened again from a snapshot.
+#[derive(Clone, Copy, PartialEq, Eq, Debug, Error)]
+pub enum ReopenFault {
+    /// The opening and the snapshot have different limits of how many vertices may be made.
+    #[error("the opening has another limit of vertices than the snapshot: take the first store's opening")]
+    LimitDiffers,
+    /// The snapshot has no active subject, so nobody could ever act in the store.
+    #[error("the snapshot has no active subject, so nobody can act")]
+    NoSubject,
+    /// There was no memory for the cells and payloads, or the maker had none.
+    #[error("out of memory")]
+    OutOfMemory,
+    /// The heap may have fewer blocks than the vertices and edges of the snapshot need.
+    #[error("heap full")]
+    HeapFull,
+}
+
+/// A store was not opened again. The opening is handed back.
+#[derive(Drop)]
+pub struct ReopenRefused {
+    pub opening: Opening,
+    pub why: ReopenFault,
+}
+
 /// Why a command was refused. The store is as it was.
 #[derive(Clone, Copy, PartialEq, Eq, Debug, Error)]
 pub enum ApplyFault {
@@ -75,7 +99,8 @@ pub struct CreateRefused<P: Payload> {
 /// Why a store's own journal was not audited.
 #[derive(Clone, Copy, PartialEq, Eq, Debug, Error)]
 pub enum StoreAuditFault {
-    /// Entries were handed out or given up, so the store doesn't hold all that there were from its opening on.
+    /// Entries were handed out or given up, or the store was opened again from a snapshot. So the store doesn't hold
+    /// all entries since its opening.
     #[error("entries were given up")]
     NotWhole,
     /// There was no memory for the replay, which says nothing of the entries.
@@ -96,6 +121,20 @@ impl From<RoomFault> for OpenFault {
         match fault {
             RoomFault::OutOfMemory => OpenFault::OutOfMemory,
             RoomFault::HeapFull => OpenFault::HeapFull,
+        }
+    }
+}
+
+impl From<RoomFault> for ReopenFault {
+    ghost use Rattle.std.specs.Prelude.{◌≡◌};
+    ghost use Rattle.tg_store.specs.Faults.{reopen_fault_of};
+
+    ghost from_gives = { λ fault e. e ≡ reopen_fault_of fault };
+
+    fn from(fault: RoomFault) -> ReopenFault {
+        match fault {
+            RoomFault::OutOfMemory => ReopenFault::OutOfMemory,
+            RoomFault::HeapFull => ReopenFault::HeapFull,
         }
     }
 }

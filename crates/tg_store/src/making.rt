@@ -22,7 +22,7 @@ use tg_rights::Label;
 use tg_space::RoomFault;
 
 /// A limit that is reached.
-#[derive(Clone, Copy, PartialEq, Eq, Debug)]
+#[derive(Clone, Copy, PartialEq, Eq)]
 pub(crate) enum Limit {
     /// As many vertices were made as may be.
     Vertices,

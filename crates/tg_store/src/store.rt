@@ -4,14 +4,17 @@ ghost use Rattle.tg_model.specs.Rules.{step};
 ghost use Rattle.tg_store.specs.Faults.{IsFirstDifference};
 
 mod audit;
+mod hand;
 mod holders;
 mod leave;
 mod picture;
+mod reopen;
 
 use crate::answer::answer_command;
 use crate::census::{Census, Collections};
 use crate::fault::{ApplyFault, CreateFault, CreateRefused, OpenFault, OpenRefused};
 use crate::making::{Limit, add_vertex, deed_to_enter};
+use crate::origin::StoreOrigin;
 use crate::tallied::TalliedJournal;
 use std::alloc::{AllocError, Global};
 use std::marker::Model;
@@ -27,11 +30,11 @@ use tg_subjects::Subject;
 use tg_word::OLD;
 
 /// An object store with access control, over payloads that its callers hand in. Contracts see it as a `StoreState`,
-/// and tell each call by the protection graph that this stands for: that of its opening, after the deeds of all entries
-/// that were made. No collection enters it.
+/// and tell each call by the protection graph that this stands for: that of its origin, after the deeds of all entries
+/// since. The origin is its opening, or a snapshot from which it was opened again. No collection enters it.
 pub struct Store<P: Payload> {
     alloc: Global,
-    opening: Opening,
+    opening: StoreOrigin,
     // How many vertices were ever made, which is the name of the next.
     made: u64,
     heap: Heap<P>,
@@ -86,11 +89,12 @@ impl<P: Payload> Store<P> {
     ghost use Rattle.tg_store.specs.Counts.{no_collections, refusals_in};
     ghost use Rattle.tg_store.specs.Held.{IsHeldOver};
     ghost use Rattle.tg_store.specs.Made.{IsCrowdedOut, IsMadeFor, MayRefuse};
+    ghost use Rattle.tg_store.specs.Origin.{opened_by};
     ghost use Rattle.tg_model.specs.Making.{deed_making};
     ghost use Rattle.tg_store.specs.Making.{IsLimitMet};
     ghost use Rattle.tg_store.specs.declared.making.Limit.{Limit as LimitOf};
     ghost use Rattle.tg_store.specs.Room.{LacksRoomToCollect};
-    ghost use Rattle.tg_store.specs.Store.{Enters, HandsOut, HasAdopted, HasFewBlocks, HoldsFrom, IsFaithful, IsUnchanged, OnlyEnters, StandsFor, graph_of_store};
+    ghost use Rattle.tg_store.specs.Store.{Enters, HandsOut, HasAdopted, HasFewBlocks, HoldsFrom, IsFaithful, IsStore, IsUnchanged, OnlyEnters, StandsFor, graph_of_store};
 
     /// A store that starts from the opening, with the payloads of the drafts, one for each worker, and with no entry in
     /// its journal. Its heap takes a block for each worker and no more. `PayloadMismatch` is answered exactly where the
@@ -104,7 +108,7 @@ impl<P: Payload> Store<P> {
         drafts: Vec<Draft<P>>,
     ) -> Result<Store<P>, OpenRefused<P>>
         ensures start { IfOk result (λ store. StandsFor store (start_of opening)) }
-        ensures opening { IfOk result (λ store. store.opening ≡ opening) }
+        ensures opening { IfOk result (λ store. store.opening ≡ opened_by opening) }
         ensures no_entry { IfOk result (λ store. store.entries ≡ []) }
         ensures none_handed { IfOk result (λ store. store.handed ≡ 0) }
         ensures none_collected { IfOk result (λ store. store.collections ≡ no_collections) }
@@ -123,17 +127,11 @@ impl<P: Payload> Store<P> {
             });
         }
         match Heap::open(alloc, &opening, limits, drafts) {
-            Ok(heap) => Ok(Store {
-                alloc,
-                made: opening.workers(),
-                opening,
-                heap,
-                journal: TalliedJournal::new(alloc),
-                collections: Collections {
-                    nursery: 0,
-                    full: 0,
-                },
-            }),
+            Ok(heap) => {
+                let made = opening.workers();
+                let origin = StoreOrigin::first(opening);
+                Ok(Store::begin(alloc, origin, made, heap, TalliedJournal::new(alloc)))
+            }
             Err(refused) => {
                 let HeapRefused { drafts, why } = refused;
                 Err(OpenRefused {
@@ -145,11 +143,35 @@ impl<P: Payload> Store<P> {
         }
     }
 
+    // The store with this origin, this heap and this journal. It hasn't collected yet.
+    fn begin(
+        alloc: Global,
+        opening: StoreOrigin,
+        made: u64,
+        heap: Heap<P>,
+        journal: TalliedJournal,
+    ) -> Store<P>
+        requires { IsStore (record { opening = opening; entries = journal.entries; handed = journal.start; heap = heap; collections = no_collections }) made }
+        ensures { result ≡ record { opening = opening; entries = journal.entries; handed = journal.start; heap = heap; collections = no_collections } }
+    {
+        Store {
+            alloc,
+            opening,
+            made,
+            heap,
+            journal,
+            collections: Collections {
+                nursery: 0,
+                full: 0,
+            },
+        }
+    }
+
     /// The opening, as it was handed in. Takes no memory.
     pub fn opening(&self) -> &Opening
-        ensures { result.now ≡ self.now.opening }
+        ensures { result.now ≡ self.now.opening.plan }
     {
-        &self.opening
+        self.opening.opening()
     }
 
     /// The active subjects, by rising name: those of the graph that the store stands for. Takes no memory.
@@ -169,7 +191,8 @@ impl<P: Payload> Store<P> {
     }
 
     /// What was decided since the store was opened. What holds of every store is told here: the journal is a legal
-    /// history of the opening, and the heap stands for the graph after it. Takes no memory.
+    /// history from the store's origin, and the heap stands for the graph after it. If the store was opened again from
+    /// a snapshot, places go on after those before it, and no entry from before is held. Takes no memory.
     pub fn journal(&self) -> &Journal
         ensures entries { result.now.entries ≡ self.now.entries }
         ensures start { result.now.start ≡ self.now.handed }

@@ -1,5 +1,6 @@
 //! A journal that counts the refusals that are entered.
 ghost use Rattle.std.specs.Prelude.{◌≡◌, ◌≤◌, [], length, None, Some};
+ghost use Rattle.tg_journal.specs.Journal.{GoesOnAfter};
 ghost use Rattle.tg_store.specs.Counts.{refusals_in};
 ghost use Rattle.tg_store.specs.Inner.Entering.{Adds, HoldsFromPlace, MakesRoom, MayBeAdded};
 
@@ -7,6 +8,7 @@ use crate::census::{Refusal, Refusals};
 use std::alloc::{AllocError, Global};
 use std::marker::Model;
 use tg_journal::{Entry, Journal};
+use tg_snapshot::Snapshot;
 
 /// A journal, and how many of all entries that were made tell of each refusal. Contracts see the journal alone.
 #[derive(Drop)]
@@ -35,6 +37,21 @@ impl TalliedJournal {
     {
         TalliedJournal {
             journal: Journal::new(alloc),
+            refusals: Refusals {
+                denied: 0,
+                vertices_full: 0,
+                workers_full: 0,
+            },
+        }
+    }
+
+    /// A journal that goes on after a snapshot, as [`Journal::after`] makes it. No entry before counts as a refusal.
+    /// Takes no memory.
+    pub(crate) fn after(alloc: Global, snapshot: &Snapshot) -> TalliedJournal
+        ensures { GoesOnAfter snapshot.now result }
+    {
+        TalliedJournal {
+            journal: Journal::after(alloc, snapshot),
             refusals: Refusals {
                 denied: 0,
                 vertices_full: 0,

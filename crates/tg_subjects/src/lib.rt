@@ -9,13 +9,13 @@
 //!      9         1   ..          so the next subject got nursery 1
 //! ```
 //!
-//! The table goes by rising name. A name is given once, and each is above all that were given before, so a new subject
-//! comes last. Where no subject was retired, a name is also the number of its row in the table, and there `find` looks
-//! first. Else it looks at the one who came last, and then searches the names by halves. A bit for each nursery that is
-//! held tells the least one that is free.
+//! The table is sorted by name. A name is given once, and each is above all that were given before, so a new subject
+//! comes last. If no subject was retired, a name is also the number of its row in the table, and `find` looks there
+//! first. Else it looks at the last subject, and then searches the names by halves. A bit for each nursery in use shows
+//! the least free nursery.
 //!
-//! `new` makes room for all subjects that there may be, and nothing else here takes memory: whoever changes the table
-//! is never refused behind the change.
+//! `new` makes room for all subjects that there may be, and is the only call that takes memory. So whoever changes the
+//! table is never refused after the change.
 #![tactic(auto)]
 
 mod subject;

@@ -1,18 +1,19 @@
 -- What comes of a whole race, from what its parts did.
 use mathlib.Core.Bool.{false≢true}
-use Rattle.std.proofs.Common.{Bool, ◌≡◌, ◌⊎◌, ◌+◌, ◌<◌, ◌≤◌, arith, inl, inr, ℕ, List, [], ◌∷◌, ◌++◌, Option, Some, Result, Ok, Err, refl, sym, ap, ◌∙◌, subst, append-nil, length}
-use Rattle.std.specs.Prelude.{IfErr, IsErrAnd, IsOk, OnOk, map}
+use Rattle.std.proofs.Common.{Bool, ◌≡◌, ◌⊎◌, ◌+◌, ◌<◌, ◌≤◌, arith, inl, inr, ℕ, List, [], ◌∷◌, ◌++◌, Option, Some, None, Result, Ok, Err, refl, sym, ap, ◌∙◌, subst, append-nil, length}
+use Rattle.std.specs.Prelude.{IfErr, IsErrAnd, IsOk, IsSome, OnOk, map}
 use Rattle.std.specs.List.{All, filter, range_with_len}
 use Rattle.std.proofs.lemmas.List.{length-map}
 use Rattle.std.proofs.lemmas.List.Elements.{All-head, All-weaker}
 use Rattle.std.proofs.lemmas.List.FromFn.{length-map-range_with_len, length-range_with_len}
 use Rattle.tg_model.specs.declared.edge.Edge.{Edge}
 use Rattle.tg_model.specs.declared.value.Value.{Value}
-use Rattle.tg_model.specs.Opened.{IsPlan, Plan, start_of}
+use Rattle.tg_model.specs.Opened.{IsPlan}
 use Rattle.tg_journal.specs.History.{IsLegal}
 use Rattle.tg_journal.specs.declared.entry.Entry.{Entry}
 use Rattle.tg_store.specs.declared.fault.StoreAuditFault.{StoreAuditFault}
 use Rattle.tg_store.specs.declared.fault.StoreAuditFault.TheVariants as audit
+use Rattle.tg_store.specs.Origin.{Origin, opened_by, start_at}
 use Rattle.tg_store.specs.Store.{StoreState}
 use Rattle.tg_text.specs.declared.line.Line.{Line}
 use Rattle.tg_text.specs.declared.line.Line.TheVariants as line
@@ -100,19 +101,19 @@ unclosed closing.ReceiptMismatch missing mismatch = inr (mismatch refl)
 -- ---- the whole
 
 -- what the lines came to, with a legal history, is an output
-raced_output : (race_text : RaceText) (start : Start) (shared : SharedStart) (lines : List Line) (s : StoreState) (ts : List Told) → IsNewStore (plan_of start lines) start.blocks shared → s.opening ≡ plan_of start lines → AreRaced (arena_of shared start.helpers s.entries) start.workers (boxed start.stock (commands_of lines)) s.entries ts → HasHistory s →
-    IsRaceOutput race_text start lines (race_text s.opening s.entries (text_of_told s.entries ts))
+raced_output : (race_text : RaceText) (start : Start) (shared : SharedStart) (lines : List Line) (s : StoreState) (ts : List Told) → IsNewStore (opened_by (plan_of start lines)) start.blocks shared → s.opening ≡ opened_by (plan_of start lines) → AreRaced (arena_of shared start.helpers s.entries) start.workers (boxed start.stock (commands_of lines)) s.entries ts → HasHistory s →
+    IsRaceOutput race_text start lines (race_text s.opening.plan s.entries (text_of_told s.entries ts))
 raced_output race_text start shared lines s ts new opening raced history = record {
   shared = shared;
   new = new;
   entries = s.entries;
   made = raced.made;
   replies = text_of_told s.entries ts;
-  plan = subst IsPlan opening history.0;
-  legal = subst (λ (p : Plan). IsLegal (start_of p) s.entries) opening history.1;
+  plan = subst (λ (o : Origin). IsPlan o.plan) opening history.0;
+  legal = subst (λ (o : Origin). IsLegal (start_at o) s.entries) opening history.1;
   told = raced.told;
   each = raced.each;
-  text_is = ap (λ (p : Plan). race_text p s.entries (text_of_told s.entries ts)) opening;
+  text_is = ap (λ (o : Origin). race_text o.plan s.entries (text_of_told s.entries ts)) opening;
 }
 
 pub raced_same : (arena : Arena) (n workers : ℕ) (stock : List Value) (lent lines : List Line) (entries : List Entry) (ts : List Told) → n ≡ workers → lent ≡ lines → AreRaced arena n (boxed stock lent) entries ts → AreRaced arena workers (boxed stock lines) entries ts
@@ -120,10 +121,10 @@ raced_same arena n workers stock lent lines entries ts same is h =
     let P : ℕ → List Line → Type 0 = λ k ls. AreRaced arena k (boxed stock ls) entries ts in
     subst (P workers) is (subst (λ k. P k lent) same h)
 
-pub race_told : {T : Type 0} (r : Result T RaceFault) (race_text : RaceText) (start : Start) (shared : SharedStart) (bytes before left : List ℕ) (lines : List Line) (s : StoreState) (ts : List Told) (after : Option (List ℕ)) → IsWhole start bytes lines left → IsNewStore (plan_of start lines) start.blocks shared → s.opening ≡ plan_of start lines →
-    AreRaced (arena_of shared start.helpers s.entries) start.workers (boxed start.stock (commands_of lines)) s.entries ts → TellsRace s (race_text s.opening s.entries (text_of_told s.entries ts)) before r after → HasRaced race_text start bytes before r left after
+pub race_told : {T : Type 0} (r : Result T RaceFault) (race_text : RaceText) (start : Start) (shared : SharedStart) (bytes before left : List ℕ) (lines : List Line) (s : StoreState) (ts : List Told) (after : Option (List ℕ)) → IsWhole start bytes lines left → IsNewStore (opened_by (plan_of start lines)) start.blocks shared → s.opening ≡ opened_by (plan_of start lines) →
+    AreRaced (arena_of shared start.helpers s.entries) start.workers (boxed start.stock (commands_of lines)) s.entries ts → TellsRace s (race_text s.opening.plan s.entries (text_of_told s.entries ts)) before r after → HasRaced race_text start bytes before r left after
 race_told (Ok done) race_text start shared bytes before left lines s ts after whole new opening raced h =
-    (lines, race_text s.opening s.entries (text_of_told s.entries ts), whole, raced_output race_text start shared lines s ts new opening raced h.0, h.1)
+    (lines, race_text s.opening.plan s.entries (text_of_told s.entries ts), whole, raced_output race_text start shared lines s ts new opening raced h.0, h.1)
 race_told (Err (fault.Script f)) race_text start shared bytes before left lines s ts after whole new opening raced h = absurd h
 race_told (Err fault.AuditFailed) race_text start shared bytes before left lines s ts after whole new opening raced h = absurd h
 race_told (Err fault.WriteFailed) race_text start shared bytes before left lines s ts after whole new opening raced h =
@@ -138,10 +139,14 @@ unshared {T} r race_text start bytes before left lines after is whole kept =
     subst P (sym is) (lines, whole, kept)
 
 -- the audit of a store that gave no entry up is refused for want of memory alone
-pub own_audit_fault : {A : Type 0} (handed : ℕ) (r : Result A StoreAuditFault) (f : StoreAuditFault) → r ≡ Err f → handed ≡ 0 → (r ≡ Err audit.NotWhole → 0 < handed) → (f ≡ audit.NotWhole) ⊎ (f ≡ audit.OutOfMemory) → f ≡ audit.OutOfMemory
-own_audit_fault handed r f was none gave (inl not_whole) =
-    let some = gave (was ∙ ap (λ (why : StoreAuditFault). Err why) not_whole) in absurd (omega (arith, none, some))
-own_audit_fault handed r f was none gave (inr memory) = memory
+pub own_audit_fault : {A B : Type 0} (handed : ℕ) (shown : Option B) (r : Result A StoreAuditFault) (f : StoreAuditFault) → r ≡ Err f → handed ≡ 0 → shown ≡ None → (r ≡ Err audit.NotWhole → (0 < handed) ⊎ IsSome shown)
+    → (f ≡ audit.NotWhole) ⊎ (f ≡ audit.OutOfMemory) → f ≡ audit.OutOfMemory
+own_audit_fault handed shown r f was none first gave (inl not_whole) = lacks (gave (was ∙ ap (λ (why : StoreAuditFault). Err why) not_whole))
+  where
+    lacks : (0 < handed) ⊎ IsSome shown → f ≡ audit.OutOfMemory
+    lacks (inl some) = absurd (omega (arith, none, some))
+    lacks (inr again) = absurd (cc (first, again))
+own_audit_fault handed shown r f was none first gave (inr memory) = memory
 
 -- and then nothing is written
 pub unaudited : {T : Type 0} (s : StoreState) (text : List ℕ) (f : StoreAuditFault) (r : Result T RaceFault) (before : List ℕ) (after : Option (List ℕ)) → f ≡ audit.OutOfMemory → IsErrAnd r (λ why. why ≡ race_fault_of_audit f) → after ≡ Some before →

@@ -18,6 +18,7 @@ use Rattle.tg_rows.specs.Spots.{LacksCellsFor}
 use Rattle.tg_rules.specs.Effect.{AddsEdge, LacksCellsToServe}
 use Rattle.tg_store.specs.Collecting.{IsSwept}
 use Rattle.tg_store.specs.Room.{LacksRoomToCollect}
+use Rattle.tg_store.specs.Origin.{Origin, opened_by}
 use Rattle.tg_store.specs.Store.{StoreState, graph_of_store}
 use Rattle.tg_passes.specs.Passes.{BeginsWith}
 use Rattle.tg_shared.specs.Sessions.{AtSome, SharedStart, since}
@@ -56,7 +57,7 @@ abbrev pub LeavesAtFront : SharedStart → List Entry → Kind → ℕ → Type 
 LeavesAtFront shared entries k number = AtFront shared entries (λ old. AtFront shared entries (λ new. (new.entries ≡ old.entries) × IsSwept k old new number))
 
 -- the store had this opening, so many blocks at most, and no entry when it was shared
-pub record IsNewStore (opening : Plan) (blocks : ℕ) (shared : SharedStart) : Type 0 where
+pub record IsNewStore (opening : Origin) (blocks : ℕ) (shared : SharedStart) : Type 0 where
   pub opened : shared.opening ≡ opening
   pub limits : shared.limits.max_blocks ≡ blocks
   pub none : shared.entries ≡ []
@@ -174,7 +175,7 @@ pub record IsRaceOutput (race_text : RaceText) (start : Start) (lines : List Lin
   pub entries : List Entry
   pub made : List Entry
   pub replies : List ℕ
-  pub new : IsNewStore (plan_of start lines) start.blocks shared
+  pub new : IsNewStore (opened_by (plan_of start lines)) start.blocks shared
   pub plan : IsPlan (plan_of start lines)
   pub legal : IsLegal (scene_of start lines).graph entries
   pub told : AreTold (arena_of shared start.helpers entries) (has_thread start.workers) (boxed start.stock (commands_of lines)) made replies

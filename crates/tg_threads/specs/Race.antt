@@ -2,7 +2,7 @@
 use Rattle.std.specs.Prelude.{◌≡◌, ◌⊎◌, ℕ, ◌+◌, ◌<◌, ◌≤◌, Bool, true, false, List, [], ◌++◌, length, map, Option, Some, None, Result, Ok, Err, IsOk, IfErr, IfOk, OnOk}
 use Rattle.std.specs.List.{All}
 use Rattle.tg_model.specs.declared.value.Value.{Value}
-use Rattle.tg_model.specs.Opened.{IsPlan, Plan, start_of}
+use Rattle.tg_model.specs.Opened.{IsPlan}
 use Rattle.tg_journal.specs.declared.entry.Entry.{Entry}
 use Rattle.tg_journal.specs.History.{IsLegal}
 use Rattle.tg_text.specs.declared.line.Line.{Line}
@@ -16,6 +16,7 @@ use Rattle.tg_script.specs.Script.{Start, CanOpen, HasRoomForWorkers, commands_o
 use Rattle.tg_script.specs.Running.{IsDue}
 use Rattle.tg_store.specs.declared.fault.StoreAuditFault.{StoreAuditFault}
 use Rattle.tg_store.specs.declared.fault.StoreAuditFault.TheVariants as audit
+use Rattle.tg_store.specs.Origin.{Origin, opened_by, start_at}
 use Rattle.tg_store.specs.Store.{StoreState}
 use Rattle.tg_threads.specs.declared.fault.RaceFault.{RaceFault}
 use Rattle.tg_threads.specs.declared.fault.RaceFault.TheVariants as fault
@@ -150,24 +151,25 @@ pub record OpensSilently {S K T : Type 0} (asks read_fails : S → ℕ) (taken :
   pub counts : CountsRace asks read_fails write_fails source source' sink sink' result
 
 -- these lines may be raced in a store of this opening and these entries: it has a worker and no entry, and each of them is a command
-pub record MayRace (opening : Plan) (entries : List Entry) (lines : List Line) : Type 0 where
-  pub new : (1 ≤ opening.workers) × (entries ≡ [])
+pub record MayRace (opening : Origin) (entries : List Entry) (lines : List Line) : Type 0 where
+  pub new : (1 ≤ opening.plan.workers) × (entries ≡ [])
+  pub first : opening.shown ≡ None
   pub commands : All IsCommand lines
 
 -- The lines were run in a store of this opening, within so many blocks, each collection with so many helpers, and it has them all in
 -- its journal, of which nothing was handed out; or else a fault came before anything was written.
-pub record RunsRace {P : Type 0} (helpers blocks : ℕ) (opening : Plan) (stock : List Value) (lines : List Line)
+pub record RunsRace {P : Type 0} (helpers blocks : ℕ) (opening : Origin) (stock : List Value) (lines : List Line)
     (result : Result (Raced P) RaceFault) : Type 0 where
   pub raced : IfOk result (λ raced. (shared : SharedStart) × IsNewStore opening blocks shared × (raced.store.opening ≡ opening)
-      × AreRaced (arena_of shared helpers raced.store.entries) opening.workers (boxed stock lines) raced.store.entries raced.told.items
+      × AreRaced (arena_of shared helpers raced.store.entries) opening.plan.workers (boxed stock lines) raced.store.entries raced.told.items
       × (raced.store.handed ≡ 0))
   pub fault : IfErr result IsBeforeWriting
 
 -- Each worker's session ran its lines, with this stock; what they came to stands in script order, and all of the sessions come back.
 pub record HasRanLines (start : SharedStart) (helpers : ℕ) (stock : List Value) (lines : List Line) (ran : RanLines SessionState) : Type 0 where
   pub finished : List (Finished SessionState)
-  pub each : AllBring start helpers start.opening.workers (all_assigned start.opening.workers (boxed stock lines)) finished
-  pub order : IsInScriptOrder start.opening.workers lines (map (λ f. f.told.items) finished) ran.told.items
+  pub each : AllBring start helpers start.opening.plan.workers (all_assigned start.opening.plan.workers (boxed stock lines)) finished
+  pub order : IsInScriptOrder start.opening.plan.workers lines (map (λ f. f.told.items) finished) ran.told.items
   pub sessions : ran.sessions.items ≡ all_sessions finished
 
 -- the sessions of a store that is shared for a race, in which no worker is ended: it had no entry, and nothing of it was handed out
@@ -195,13 +197,13 @@ pub record IsClosedRace (start : SharedStart) (sessions : List SessionState) (st
 -- the whole script was read, and a store of its opening has no entry yet
 abbrev pub OpensRace : {P : Type 0} → Start → List ℕ → Result (OpenedRace P) RaceFault → List ℕ → Type 0
 OpensRace start bytes (Ok opened) left =
-    (lines : List Line) × IsWhole start bytes lines left × (opened.lines.items ≡ commands_of lines) × (opened.store.opening ≡ plan_of start lines)
+    (lines : List Line) × IsWhole start bytes lines left × (opened.lines.items ≡ commands_of lines) × (opened.store.opening ≡ opened_by (plan_of start lines))
 OpensRace start bytes (Err (fault.Script f)) left = IsNotRun start bytes f left
 OpensRace start bytes (Err f) left = ⊥
 
 -- the store's journal is a legal history of its opening, which was accepted
 abbrev pub HasHistory : StoreState → Type 0
-HasHistory s = IsPlan s.opening × IsLegal (start_of s.opening) s.entries
+HasHistory s = IsPlan s.opening.plan × IsLegal (start_at s.opening) s.entries
 
 -- The store's journal is such a history, and this text was written behind what stood there, or a front of it; or nothing.
 abbrev pub TellsRace : {T : Type 0} → StoreState → List ℕ → List ℕ → Result T RaceFault → Option (List ℕ) → Type 0

@@ -1,5 +1,5 @@
 //! A whole script, whose workers run their lines side by side.
-ghost use Rattle.std.specs.Prelude.{◌≡◌, ◌⊎◌, ◌+◌, ◌<◌, ◌≤◌, ℕ, List, [], Some, false, IfErr, IfOk, length};
+ghost use Rattle.std.specs.Prelude.{◌≡◌, ◌⊎◌, ◌+◌, ◌<◌, ◌≤◌, ℕ, List, [], None, Some, false, IfErr, IfOk, length};
 ghost use Rattle.std.specs.List.{All, range_with_len};
 ghost use Rattle.tg_model.specs.declared.value.Value.{Value};
 ghost use Rattle.tg_script.specs.Opening.{IsCommand};
@@ -135,7 +135,7 @@ fn open_race<P: Payload, S: Source, K: Sink>(
 ) -> Result<OpenedRace<P>, RaceFault>
     requires startable { MayStart settings workers.items }
     ensures limits { IfOk result (λ opened. opened.store.heap.table.limits ≡ settings.limits) }
-    ensures new { IfOk result (λ opened. (opened.store.opening.workers ≡ settings.workers) × (opened.store.entries ≡ [])) }
+    ensures new { IfOk result (λ opened. (opened.store.opening.plan.workers ≡ settings.workers) × (opened.store.entries ≡ []) × (opened.store.opening.shown ≡ None)) }
     ensures commands { IfOk result (λ opened. All IsCommand opened.lines.items) }
     ensures output { (bytes : List ℕ) → S.left source.old ≡ Some bytes →
         (left : List ℕ) × (S.left source.new ≡ Some left) × OpensRace (start_with settings workers.items []) bytes result left }
@@ -158,7 +158,7 @@ struct Raced<P: Payload> {
 }
 
 impl<P: Payload> Raced<P> {
-    ghost use Rattle.std.specs.Prelude.{◌≡◌, ◌+◌, List, ℕ, Some, IfErr};
+    ghost use Rattle.std.specs.Prelude.{◌≡◌, ◌+◌, List, ℕ, None, Some, IfErr};
     ghost use Rattle.std.specs.List.{All};
     ghost use Rattle.tg_threads.specs.Race.{IsOfTelling, TellsRace, race_read_failures, race_write_failures};
     ghost use Rattle.tg_threads.specs.Telling.{IsThere, text_of_told};
@@ -167,11 +167,12 @@ impl<P: Payload> Raced<P> {
     fn tell<T: RaceTelling, K: Sink>(&self, alloc: Global, sink: &mut K) -> Result<(), RaceFault>
         requires there { All (IsThere self.now.store.entries) self.now.told.items }
         requires none_handed { self.now.store.handed ≡ 0 }
+        requires first { self.now.store.opening.shown ≡ None }
         ensures fault { IfErr result IsOfTelling }
         ensures read { race_read_failures result ≡ 0 }
         ensures write_failed { K.failures sink.new ≡ K.failures sink.old + race_write_failures result }
         ensures told { (before : List ℕ) → K.taken sink.old ≡ Some before →
-            TellsRace self.now.store (T.race_text self.now.store.opening self.now.store.entries (text_of_told self.now.store.entries self.now.told.items)) before result (K.taken sink.new) }
+            TellsRace self.now.store (T.race_text self.now.store.opening.plan self.now.store.entries (text_of_told self.now.store.entries self.now.told.items)) before result (K.taken sink.new) }
     {
         let audited = self.store.audit(alloc)?;
         let opening = self.store.opening();
@@ -228,7 +229,7 @@ fn run_shared<
 ) -> Result<Raced<P>, RaceFault>
     requires none_ended { L.start.may_end ≡ false }
     requires raceable { MayRace L.start.opening L.start.entries lines.now }
-    requires fresh { AreFresh (range_with_len 0 L.start.opening.workers) shared.sessions.items }
+    requires fresh { AreFresh (range_with_len 0 L.start.opening.plan.workers) shared.sessions.items }
     ensures run { RunsRace helpers L.start.limits.max_blocks L.start.opening stock.items lines.now result }
 {
     let Shared {
@@ -269,8 +270,8 @@ fn run_lines<
     stock: Vec<Draft<P>>,
     lines: &[Line],
 ) -> Result<RanLines<Session<L>>, RaceFault>
-    requires some { 1 ≤ L.start.opening.workers }
-    requires fresh { AreFresh (range_with_len 0 L.start.opening.workers) sessions.items }
+    requires some { 1 ≤ L.start.opening.plan.workers }
+    requires fresh { AreFresh (range_with_len 0 L.start.opening.plan.workers) sessions.items }
     ensures ran { IfOk result (HasRanLines L.start context.now.helpers stock.items lines.now) }
     ensures fault { IfErr result IsBeforeWriting }
 {

@@ -1,8 +1,8 @@
-//! Audits the text of a history: an opening and the entries behind it, as hosts of the library write them.
+//! Audits the text of a history: an opening and the entries after it, as hosts of the library write them.
 //!
-//! It reads the text from standard input, line by line, and answers how many entries it has where all of them are a
-//! legal history of its opening; else which line is the first at fault. `tg_entries` reads and replays it: this is the
-//! command line and the two answers.
+//! It reads the text from standard input, line by line. If all entries are a legal history of the opening, it prints
+//! how many there are. Else it prints the first line at fault. `tg_entries` reads the text and replays it. This crate
+//! has the command line and the two answers.
 #![tactic(auto)]
 
 mod words;

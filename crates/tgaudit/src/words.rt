@@ -1,27 +1,28 @@
 //! The words of the command line.
 
 /// The version of all that this repository has. The file `VERSION` says the same.
-pub const VERSION: &str = "0.3.0";
+pub const VERSION: &str = "0.4.0";
 
 /// The help.
 pub const HELP: &str =
     "Audits the text of a history: its opening, and a line for each entry with its reply
 
-Reads from standard input which form the text has, an opening, a line for each entry, and how many these are. Replays
-the entries on the plain graph of the opening, and compares each reply. Writes 'audit ok, N entries' where all is as the
-rules have it. Else standard error names the first line at fault, counted from 1; an entry by its place, from 0.
+Reads a text from standard input. It has a line with its form, an opening, a line for each entry, and the number of
+entries. tgaudit replays the entries on the plain graph of the opening, and compares each reply. It writes 'audit ok, N
+entries' if every reply is the answer of the rules. Otherwise standard error names the first line at fault. Lines are
+counted from 1, and entries from 0.
 
-A history can be cut into parts. A snapshot stands in the place of the opening then: it has what the active subjects
-reach after the entries before. With --snapshot, tgaudit prints the snapshot after the last entry. The next part begins
-with it. So each part is audited alone. The snapshot of a part is right if tgaudit printed it for the part before.
+A history can be cut into parts. A later part begins with a snapshot in the place of the opening. The snapshot has what
+the active subjects reach after the entries before. tgaudit --snapshot prints it for the part before. So each part is
+audited alone. The snapshot of a part is right if tgaudit printed the same one for the part before.
 
-It takes memory by what the subjects reach, by the edges of the opening and by the lines of the snapshot, and not by the
-entries.
+The memory of tgaudit grows with what the subjects reach, with the edges of the opening and with the lines of the
+snapshot. It does not grow with the entries.
 
 Usage: tgaudit [OPTIONS]
 
 Options:
-      --snapshot  Print the snapshot after the last entry, and not the number of entries
+      --snapshot  Prints the snapshot after the last entry in the place of the number of entries [default: the number]
   -h, --help      Print help
   -V, --version   Print version
 
@@ -33,8 +34,8 @@ The form:
   0 create r c0 = ok 5        for each entry: a line of a script, what a new vertex stores, and the reply
   entries N                   the last line: how many entries this text has
 
-  A vertex stores a law's letter and its numbers: c7 a cell, s7 a sum, m7 a maximum, l4:1,2 a log of at most 4, and l4
-  one that is empty.
+  What a vertex stores is the letter of its law and its numbers. c7 is a cell, s7 a sum, and m7 a maximum. l4:1,2 is a log
+  of at most 4 numbers, and l4 is an empty one.
 
 The form of a snapshot:
   kovshenul picture 1         the first line
@@ -53,7 +54,7 @@ Faults:
 
 Exit status:
   0  all entries are legal
-  1  a line is at fault, or reading or writing failed, or memory was wanting
+  1  a line is at fault, or reading or writing failed, or memory ran out
   2  the words of the command line were not accepted
 
 Example:
@@ -61,10 +62,10 @@ Example:
   writes 'audit ok, 2 entries'.
 
   tgaudit --snapshot < part1.txt > part2.txt
-  makes the head of the next part, behind which its entries come.
+  makes the head of the next part. Its entries come after that.
 ";
 
-/// What stands behind a fault of the words.
+/// What is said after a fault of the words.
 pub const MORE: &str = "For more information, try '--help'.";
 
 /// What the first line has to be.

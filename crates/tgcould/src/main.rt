@@ -1,12 +1,12 @@
 //! Answers whether x could ever come to hold a right over y, on the graph that a script leaves.
 //!
 //! It reads the script that `tgstore` reads, with the same options `--workers`, `--vertices` and `--stock`. `tg_plain`
-//! runs it on the plain graph, and `tg_could` answers of its picture; what is printed is that answer's text.
+//! runs it on the plain graph, and `tg_could` answers about its picture. The program prints the text of that answer.
 //!
-//! The words of the command line are `options`' matter, `checks` says which of them is none, and `supposed` has what
-//! they suppose. What is asked is `query`'s. `ask` asks it and tells the answer, whose texts are in `text`, and
-//! `stars` lists who and what. `answers` has those to all questions, and `notes` what standard error says of them.
-//! `refused` has what it says of lines of the script that were denied or refused. `verdict` has the exit status.
+//! `options` reads the words of the command line, `checks` reports a word that isn't valid, and `supposed` has what the
+//! words suppose. `query` has the question. `ask` asks it and writes the answer with the texts of `text`, and `stars`
+//! lists who and what. `answers` has the answers to all questions, and `notes` has the lines about them on standard
+//! error. `refused` reports lines of the script that were denied or refused. `verdict` has the exit status.
 #![tactic(auto)]
 
 ghost use Rattle.std.specs.Prelude.{◌≡◌, ◌⊎◌, IfOk};

@@ -80,6 +80,7 @@ pub const COMMAND_LINE: CommandLine = CommandLine {
     name: "tgcould",
     about: help::ABOUT,
     manual: help::MANUAL,
+    advice: help::ADVICE,
     choices: CHOICES,
 };
 

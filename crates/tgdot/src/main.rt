@@ -1,17 +1,17 @@
 //! Draws the graph that a script leaves, or the graph after each line, in the language of GraphViz's `dot`.
 //!
-//! It reads the script that `tgstore` reads, with the same options `--workers`, `--vertices` and `--stock`, and runs it
-//! on the plain graph of `tg_model`: no heap and no journal. Then it prints a digraph: a box for each subject, with a
-//! dashed border where it retired, and a circle for each object, an arrow with its rights for each edge, and grey for
-//! what no subject reaches any more, which is what a collection of the whole heap frees. With `--steps` it prints a
-//! digraph for each line.
+//! It reads the script that `tgstore` reads, with the same options `--workers`, `--vertices` and `--stock`. It runs the
+//! script on the plain graph of `tg_model`, without heap and journal. Then it prints a digraph. A box is a subject,
+//! with a dashed border if it retired. A circle is an object, and an arrow with its rights is an edge. What no subject
+//! reaches any more is grey, and a collection of the whole heap frees it. With `--steps` it prints a digraph for each
+//! line.
 //!
-//! The words of the command line are `options`' matter. `tg_plain` reads the script and runs its lines; `run` follows
-//! them, and knows which edges there are, so that no pair of vertices is asked for its edge in vain; `reach` says what
-//! subjects reach. `drawing` writes the last graph. Of the steps, `shot` says what is shown at one, `marks` what stands
-//! out and `look` how that looks, `frame` what all have in common, `picture` writes one, and `steps` all. What they
-//! write is a `PlainText`, which is printed at once. A line of the grammar has a place in `run`, where it is taken and
-//! followed, and in `named` of `marks`.
+//! `options` reads the words of the command line. `tg_plain` reads the script and runs its lines. `run` follows them,
+//! and knows which edges there are, so that only pairs of vertices with an edge are asked for. `reach` says what
+//! subjects reach. `drawing` writes the last graph. For the steps, `shot` says what is shown at a step, `marks` what is
+//! marked and `look` how it looks. `frame` has what all steps share, `picture` writes one, and `steps` writes all. They
+//! write into a `PlainText`, which is printed at once. A new line of the grammar needs a place in `run`, which takes
+//! and follows it, and in `named` of `marks`.
 #![tactic(auto)]
 
 mod drawing;

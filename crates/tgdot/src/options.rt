@@ -8,27 +8,37 @@ use tg_plain::{
 
 const ABOUT: &str = "Draws the graph that a script leaves, for GraphViz's dot
 
-Reads a script of tgstore's from standard input, runs it, and writes a digraph to standard output: subjects as boxes,
-with a dashed border where they retired, objects as circles, or ellipses where the text is long, an arrow with its rights for each edge,
-and grey what no subject reaches.
+Reads a script of tgstore from standard input, runs it, and writes a digraph to standard output. A subject is a box, with
+a dashed border if it retired. An object is a circle, or an ellipse if its text is long. Each edge is an arrow with its
+rights. A vertex that no subject reaches is grey.
 
-With --steps it writes a digraph for each line that is no edge line, and one before the first of them. Each names the same vertices and
-edges, and hides what isn't there, so that dot puts a vertex at one place in all of them. A vertex shows its law and its state. Bold are
-the vertices that the line names and the edge that it changed; of a denied line the edge that lacks the rights is red and dashed, and a
-vertex red that should store a log. Neither the heap nor memory refuses a line here.";
+With --steps it writes a digraph before the first command, and one after each command. All of them name the same vertices
+and edges, and hide what isn't there. So dot puts a vertex at one place in all of them. A vertex shows its law and its
+state. The vertices that the line names are bold, and so is the edge that it changed. If the line was denied, the edge that
+lacks the rights is red and dashed. A vertex that should store a log is red. No line is refused for room or memory.";
 
-const EXAMPLE: &str = "Example:
+const MANUAL: &str = "Exit status:
+  0  the digraphs were written
+  1  the run stopped, and standard error says where and why
+  2  the words of the command line were not accepted
+
+Example:
   printf '0 create rw\\n0 list\\n' | tgdot --workers 1 --stock c | dot -Tsvg > graph.svg";
+
+const ADVICE: &str =
+    "a script comes from standard input, and dot has options of its own, as in tgdot < script.txt | dot -Tsvg";
 
 // The number of a line, as an option has it.
 const LINE: ValueParser<'static> = ValueParser::Unsigned(1, i64::MAX as u64);
 
 const STEPS: &str =
-    "A digraph for each line, of at most 400 lines, and one before the first; 100000 vertices in all";
+    "Draws the graph after each line, of at most 400 lines, and before the first. All
+of them together have at most 100000 vertices";
 
-const FROM: &str = "With --steps: the first line that is shown, not above --to [default: 1]";
+const FROM: &str =
+    "Sets the first line that --steps shows, from 1 to the number of --to [default: 1]";
 
-const TO: &str = "With --steps: the last line that is shown [default: the last of all]";
+const TO: &str = "Sets the last line that --steps shows [default: the last line of the script]";
 
 // The options: two numbers, a text, a flag, and with the flag the numbers of two lines.
 const CHOICES: &[Choice] = &[
@@ -65,7 +75,8 @@ const CHOICES: &[Choice] = &[
 pub const COMMAND_LINE: CommandLine = CommandLine {
     name: "tgdot",
     about: ABOUT,
-    manual: EXAMPLE,
+    manual: MANUAL,
+    advice: ADVICE,
     choices: CHOICES,
 };
 

@@ -1,4 +1,5 @@
-//! The program: a script from standard input, replies to standard output. All that it does stands in `tg_program`.
+//! The program: it reads a script from standard input and writes replies to standard output. `tg_program` has all its
+//! parts.
 #![tactic(auto)]
 
 use std::process::ExitCode;

@@ -1,7 +1,7 @@
 """What is read of Rattle sources."""
 import unittest
 
-from ..rattle import clauses, definitions, functions, types
+from ..rattle import clauses, definitions, functions, head_of, types
 
 SOURCE = '''
 //! fn in_a_comment(a: u64) {}
@@ -27,6 +27,13 @@ trait Shown {
 }
 '''
 
+HEAD = """//! Places of cells.
+//!
+//! - `Place` names a cell.
+use crate::place;
+//! No part of the head.
+"""
+
 SPECS = """-- A comment.
 use Rattle.std.specs.Prelude.{ℕ}
 use Rattle.tg_model.specs.Graph.{ProtectionGraph, label as label_in}
@@ -49,6 +56,10 @@ class Sources(unittest.TestCase):
 
     def test_types_are_named(self):
         self.assertEqual(types(SOURCE), ["Pair", "Way"])
+
+    def test_a_head_ends_at_the_first_line_of_code(self):
+        self.assertEqual(head_of(HEAD), "Places of cells.\n\n- `Place` names a cell.")
+        self.assertEqual(head_of(SOURCE), "")
 
     def test_a_clause_is_one_text_however_it_is_broken(self):
         found = [(it.text, it.key) for it in clauses(SOURCE)]

@@ -23,7 +23,7 @@ fn opening_of(alloc: Global, drafts: &[Draft<CellPayload>]) -> Result<Opening, S
 
 /// A store of two tenants, in which two more vertices may be made.
 pub fn open_store(alloc: Global) -> Result<Store<CellPayload>, StoreFault>
-    ensures { IfOk result (λ store. (graph_of_store store).made + 2 ≤ store.opening.limit) }
+    ensures { IfOk result (λ store. (graph_of_store store).made + 2 ≤ (graph_of_store store).limit) }
 {
     let limits = limits()?;
     let drafts = cells(alloc)?;

@@ -45,7 +45,7 @@ fn share_out<R: Wait + Print + AllocGlobal>(
     rt: &R,
     store: Store<CellPayload>,
 ) -> Result<(), StoryFault>
-    requires { (graph_of_store store).made + 2 ≤ store.opening.limit }
+    requires { (graph_of_store store).made + 2 ≤ (graph_of_store store).limit }
 {
     match Blanks::new(rt.alloc(), store.opening().max_vertices() + 1) {
         Ok(blanks) => share::<Brand, Brand, Brand, R>(rt, blanks, PurseBlanks::new(WHOLE), store),

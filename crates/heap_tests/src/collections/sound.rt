@@ -8,6 +8,7 @@ ghost use Rattle.tg_space.specs.Soundness.{AreSound, HasLayout, HasLayoutOf, IsK
 ghost use Rattle.tg_space.specs.Rows.{link_of};
 ghost use Rattle.tg_space.specs.Targets.{cell_numbered};
 ghost use Rattle.tg_word.specs.Word.{is_present, place_in};
+ghost use Rattle.heap_tests.specs.Links.{HaveOwnLinks};
 
 use tg_block::{CHUNK_TAG, OBJECT_TAG, WORDS};
 use tg_space::{Root, Spaces};
@@ -36,7 +37,7 @@ fn have_layouts(spaces: &Spaces) -> bool
 
 // Whether no chunk is linked to twice.
 fn have_own_links(spaces: &Spaces) -> bool
-    ensures { IsTrue result → (c d : ℕ) → c < length (cells_of spaces.now.spaces) → d < length (cells_of spaces.now.spaces) → link_of (cell_numbered spaces.now.spaces c) ≢ 0 → link_of (cell_numbered spaces.now.spaces c) ≡ link_of (cell_numbered spaces.now.spaces d) → c ≡ d }
+    ensures { IsTrue result → HaveOwnLinks spaces.now.spaces }
 {
     for number in 0..spaces.cells() {
         let words = *spaces.numbered_words(number);

@@ -1,6 +1,7 @@
 //! The audit that an auditor's handle leads to.
 use crate::refusal::CallRefusal;
 use tg_journal::{Auditor, Journal};
+use tg_snapshot::Snapshot;
 
 /// An audit of a history, which has come to a place, and ends at the first bad entry.
 #[derive(Drop)]
@@ -10,6 +11,7 @@ pub struct Audit {
 
 impl Audit {
     ghost use Rattle.tg_c.specs.Audits.{FeedsJournal, SweepsAudit};
+    ghost use Rattle.tg_c.specs.Saved.{IsShownAudit};
 
     /// Replays what the journal holds from the audit's place on, and returns how many entries passed by then in all.
     /// Nothing is replayed if the journal doesn't hold that place, or if a bad entry was found before. Otherwise the
@@ -28,5 +30,16 @@ impl Audit {
         ensures { SweepsAudit self.old self.new result }
     {
         Ok(self.auditor.sweep()?)
+    }
+
+    /// The snapshot of the graph that it has come to, at its place. After a bad entry there is none. Else it fails only
+    /// when out of memory.
+    pub fn show(&self) -> Result<Snapshot, CallRefusal>
+        ensures { IsShownAudit self.now result }
+    {
+        match self.auditor.snapshot()? {
+            Some(snapshot) => Ok(snapshot),
+            None => Err(CallRefusal::BadEntry),
+        }
     }
 }

@@ -4,7 +4,7 @@ ghost use Rattle.std.specs.Prelude.{◌≡◌, IsOk};
 
 use std::alloc::{AllocError, Global};
 
-/// Pushes an item, unless memory was wanting before; notes whether it was now.
+/// Pushes an item, unless memory ran out before. Notes whether it ran out now.
 #[inline]
 pub(crate) fn push<T: Drop>(list: &mut Vec<T>, item: T, grown: &mut Result<(), AllocError>) {
     if grown.is_ok() {
@@ -12,14 +12,14 @@ pub(crate) fn push<T: Drop>(list: &mut Vec<T>, item: T, grown: &mut Result<(), A
     }
 }
 
-/// Notes whether memory was wanting elsewhere, unless it was before.
+/// Notes whether memory ran out elsewhere, unless it ran out before.
 pub(crate) fn note(grown: &mut Result<(), AllocError>, elsewhere: Result<(), AllocError>) {
     if grown.is_ok() {
         *grown = elsewhere;
     }
 }
 
-/// A list of so many times an item; an empty one where memory is wanting, which is noted.
+/// A list of so many times an item. It is empty if memory runs out, which is noted.
 pub(crate) fn table<T: Copy + Drop>(
     alloc: Global,
     item: T,
@@ -35,7 +35,7 @@ pub(crate) fn table<T: Copy + Drop>(
     }
 }
 
-/// A list of these numbers; an empty one where memory is wanting, which is noted.
+/// A list of these numbers. It is empty if memory runs out, which is noted.
 pub(crate) fn copied(alloc: Global, numbers: &[u64], grown: &mut Result<(), AllocError>) -> Vec<u64>
     ensures { IsOk grown.new → result.items ≡ numbers.now }
 {

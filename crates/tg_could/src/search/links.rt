@@ -21,7 +21,7 @@ pub(crate) fn number_of(vertex: u64) -> Option<u32> {
 pub(crate) struct Link {
     /// Four times the other end, two more where the edge leads it into the first set, one more where into the second.
     pub(crate) packed: u32,
-    /// The place of the next link of the same vertex, `NONE` where there is none; but until the links are tied the
+    /// The place of the next link of the same vertex, or `NONE` if there is none. Until the links are tied it is the
     /// vertex.
     pub(crate) next: u32,
 }
@@ -33,8 +33,8 @@ impl Link {
     }
 }
 
-/// For each vertex the place of its last link, and all links. They are added first, and tied when all are there: so the
-/// edges are gone over without a look at a place that may be far from the processor.
+/// For each vertex the place of its last link, and all links. They are added first, and tied when all are there. So the
+/// walk over the edges never looks at a place that may be far from the processor.
 #[derive(Drop)]
 pub(crate) struct Links {
     first: Vec<u32>,
@@ -43,7 +43,7 @@ pub(crate) struct Links {
 }
 
 impl Links {
-    /// No vertex has a link; there is room for so many. Notes whether memory was wanting.
+    /// Links of no vertex, with room for so many. Notes whether memory ran out.
     pub(crate) fn with_room(
         alloc: Global,
         made: usize,
@@ -70,7 +70,7 @@ impl Links {
         }
     }
 
-    /// Ties the links of each vertex, the last in front; notes whether memory was wanting for one of them.
+    /// Ties the links of each vertex, the last in front. Notes whether memory ran out for one of them.
     pub(crate) fn tie(&mut self, grown: &mut Result<(), AllocError>) {
         let first = self.first.as_mut_slice();
         for (at, link) in self.links.iter_mut().enumerate() {

@@ -16,7 +16,7 @@ pub(crate) struct Pairs {
 }
 
 impl Pairs {
-    /// Sets for so many numbers, which none is in. Notes whether memory was wanting.
+    /// Empty sets of so many numbers. Notes whether memory ran out.
     pub(crate) fn none(alloc: Global, count: usize, grown: &mut Result<(), AllocError>) -> Pairs {
         let words = count.div_ceil(PAIRS as usize);
         Pairs {
@@ -24,7 +24,7 @@ impl Pairs {
         }
     }
 
-    /// The two bits of a number, with those of the numbers behind it above them.
+    /// The two bits of a number, with those of the following numbers above them.
     #[tactic(auto, unfolding(crate::specs::Separation::pair_in))]
     pub(crate) fn pair(&self, number: u64) -> u64
         ensures { result ≡ pair_in self.now.words.items number }

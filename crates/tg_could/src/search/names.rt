@@ -16,8 +16,8 @@ const SPARSE: u64 = 4;
 pub(crate) enum Names {
     /// Each of so many names is its own number: the picture shows a good part of them.
     Each(u64),
-    /// The names that the picture shows, rising, of which each one's number is its place; and in how many halvings one
-    /// is found. All others have the number behind the last.
+    /// The names that the picture shows, rising, whose numbers are their places. The second number says in how many
+    /// halvings a name is found. All other names have the number after the last.
     Few(Vec<u64>, u32),
 }
 
@@ -32,7 +32,7 @@ impl Drop for Names {
 }
 
 impl Names {
-    /// Numbers for the names of a picture. Notes whether memory was wanting.
+    /// Numbers for the names of a picture. Notes whether memory ran out.
     pub(crate) fn of(
         alloc: Global,
         picture: &Picture,
@@ -47,7 +47,7 @@ impl Names {
         Names::Few(names, steps)
     }
 
-    /// The same numbers in memory of their own. Notes whether memory was wanting.
+    /// The same numbers in memory of their own. Notes whether memory ran out.
     pub(crate) fn copy(&self, alloc: Global, grown: &mut Result<(), AllocError>) -> Names {
         match self {
             Names::Each(made) => Names::Each(*made),

@@ -36,7 +36,7 @@ impl Drop for LedNames {
     }
 }
 
-/// Whether x could come to hold a right over y, after turns that aren't told; else it never does. Goes over all edges
+/// Whether x could come to hold a right over y, after turns that aren't shown. Else it never does. Goes over all edges
 /// as often as something is new. Fails only when out of memory.
 pub(crate) fn may_come_about(
     alloc: Global,

@@ -13,8 +13,8 @@ use crate::view::words::{add, are_bridged, is_single, is_within, meets, word_of}
 use std::alloc::{AllocError, Global};
 use tg_rights::Right;
 
-/// For each number the islands from which a walk of take edges leads to its vertex, and those from which one leads to
-/// one that has grant over it: a bit for each island.
+/// Two sets of islands for each number, with a bit for each island. From the first, a walk of take edges leads to its
+/// vertex. From the second, one leads to a vertex that has grant over it.
 #[derive(Drop)]
 pub(crate) struct Islands {
     pub(crate) reached: Vec<u64>,
@@ -22,7 +22,7 @@ pub(crate) struct Islands {
 }
 
 impl Islands {
-    /// The islands of those who act, of whom the first 64 count. Notes whether memory was wanting.
+    /// The islands of those who act, of whom the first 64 count. Notes whether memory ran out.
     pub(crate) fn of(
         alloc: Global,
         names: &Names,

@@ -13,7 +13,7 @@ use std::alloc::{AllocError, Global};
 use tg_rights::Right;
 
 /// For each number a word of those of `actors` who walk to its vertex, of whom the first 64 count. Notes whether memory
-/// was wanting.
+/// ran out.
 pub(crate) fn walks(
     alloc: Global,
     names: &Names,

@@ -5,7 +5,7 @@ use crate::search::names::Names;
 use std::alloc::{AllocError, Global};
 use tg_model::{Edge, Picture};
 
-/// Behind the last link of a chain, and the place of an edge past the most that are numbered, 2^32 - 1.
+/// The end of a chain, and the place of an edge past the most that are numbered, 2^32 - 1.
 pub(crate) const NONE: u32 = u32::MAX;
 
 /// The number as a place, `NONE` where it is past the last.
@@ -36,8 +36,8 @@ pub(crate) struct Chained {
     pub(crate) next: u32,
 }
 
-/// For each vertex the place of its last link, all links, and how many edges the picture has. Vertices that came since
-/// have the numbers behind those of the picture.
+/// For each vertex the place of its last link, all links, and how many edges the picture has. Vertices that were added
+/// since have the numbers after those of the picture.
 #[derive(Drop)]
 pub(crate) struct Chains {
     names: Names,
@@ -45,7 +45,7 @@ pub(crate) struct Chains {
     first: Vec<u32>,
     links: Vec<Chained>,
     edges: usize,
-    /// Whether memory was wanting once; who follows the chains tells it.
+    /// Whether memory ran out once. Who follows the chains reports it.
     pub(crate) grown: Result<(), AllocError>,
 }
 
@@ -62,7 +62,7 @@ impl Chains {
         chains
     }
 
-    /// No chain has an edge of a picture; `grown` tells whether memory was wanting for the names.
+    /// Chains without an edge of a picture. `grown` says whether memory ran out for the names.
     pub(crate) fn none(
         alloc: Global,
         names: Names,

@@ -16,8 +16,8 @@ fn both_and(right: Right) -> Label {
     Label::new(both.union(Rights::of(right))).unwrap()
 }
 
-/// The right that is asked for, over whom, and who holds it at first; and the labels of turns: take, grant, both of
-/// these, and both with the right.
+/// The right that is asked for, over whom, and who holds it at first. The labels of turns: take, grant, both of these,
+/// and both with the right.
 #[derive(Clone, Copy, Drop)]
 struct Goal {
     asked: Label,
@@ -45,7 +45,7 @@ impl Goal {
     }
 }
 
-/// Turns, how many vertices are made behind them, and the edges from each vertex as they were before.
+/// Turns, how many vertices are made after them, and the edges from each vertex as they were before.
 #[derive(Drop)]
 pub(crate) struct Planned {
     pub(crate) turns: Vec<(u64, Deed)>,
@@ -565,9 +565,9 @@ fn giver_to(picture: &Picture, found: &Findings, x: u64) -> Option<Hop> {
     None
 }
 
-/// Turns after which x is to hold the right over y, by what the search has found; `rows` are the edges from x and from
-/// whom it found, and note whether memory was wanting. The turns make the names that are asked about first. If not
-/// enough names are left for that, these are turns that do with 64 other names.
+/// Turns after which x is to hold the right over y, by what the search has found. `rows` are the edges from x and from
+/// those that it found, and note whether memory ran out. The turns make the names that are asked about first. If fewer
+/// names are left than that needs, the turns are those that do with 64 other names.
 pub(crate) fn turns_to<'a>(
     alloc: Global,
     picture: &'a Picture,

@@ -21,7 +21,7 @@ use std::alloc::{AllocError, Global};
 use tg_model::{Command, Deed, Edge, Making, Picture};
 use tg_rights::{Label, Right, Rights};
 
-/// What turns have changed of a picture's graph: the edges that came since, the subjects, and the vertices made.
+/// What turns have changed in a picture's graph: the edges that were added, the subjects, and the vertices made.
 #[derive(Drop)]
 pub(crate) struct Trial {
     pub(crate) rows: Chains,
@@ -70,7 +70,7 @@ pub(crate) fn leave_out(names: &mut Vec<u64>, name: u64)
 }
 
 impl Trial {
-    /// The graph of a picture; `rows` are the edges from each vertex, and note whether memory was wanting.
+    /// The graph of a picture. `rows` are the edges from each vertex, and note whether memory ran out.
     pub(crate) fn new(alloc: Global, picture: &Picture, mut rows: Chains) -> Trial
         ensures { IsOk result.rows.grown → (g : ProtectionGraph) → IsPictureOf picture.now g → Stands picture.now.edges result g }
     {
@@ -175,9 +175,9 @@ impl Trial {
         Ok(true)
     }
 
-    /// Takes a turn of one who acts, where it is allowed and adds rights, makes a vertex or retires. Whether it was
-    /// taken; else the graph is as it was. Silent is who is in the list and has a name below `first`. Fails only when
-    /// out of memory.
+    /// Takes a turn of one who acts, if it is allowed and adds rights, makes a vertex or retires. Returns whether it
+    /// was taken, and else the graph is as it was. A subject is silent if it is in the list and has a name below
+    /// `first`. Fails only when out of memory.
     pub(crate) fn take_turn(
         &mut self,
         edges: &[Edge],

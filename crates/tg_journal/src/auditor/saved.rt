@@ -11,9 +11,9 @@ use std::alloc::{AllocError, Global};
 use tg_snapshot::Snapshot;
 
 impl Auditor {
-    /// An audit that goes on from a snapshot: of a history of the graph that the snapshot shows, and so of each graph
-    /// of which it is a snapshot. Its place is the snapshot's number of entries. Nobody has to believe a snapshot that
-    /// another auditor handed out after the entries before. Fails only when out of memory.
+    /// An audit that goes on from a snapshot. It audits a history of the graph that the snapshot shows, and so of each
+    /// graph of which it is a snapshot. Its place is the snapshot's number of entries. A snapshot that another auditor
+    /// handed out after the entries before needs no trust. Fails only when out of memory.
     pub fn reopen(alloc: Global, snapshot: &Snapshot) -> Result<Auditor, AllocError>
         ensures stands { IfOk result (StandsAt (graph_shown snapshot.now)) }
         ensures of { IfOk result (λ auditor. (g : ProtectionGraph) → IsSound g → IsSnapshotOf snapshot.now g → StandsAt g auditor) }

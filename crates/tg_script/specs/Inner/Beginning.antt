@@ -3,6 +3,7 @@ use Rattle.std.specs.Prelude.{◌≡◌, ◌≢◌, ◌⊎◌, ℕ, ◌+◌, ◌
 use Rattle.std.specs.List.{All}
 use Rattle.tg_model.specs.declared.edge.Edge.{Edge}
 use Rattle.tg_model.specs.Opened.{Plan, JoinsWorkers, start_of}
+use Rattle.tg_store.specs.Origin.{opened_by}
 use Rattle.tg_text.specs.declared.fault.ScriptFault.{ScriptFault}
 use Rattle.tg_text.specs.declared.fault.ScriptFault.TheVariants as fault
 use Rattle.tg_text.specs.declared.line.Line.{Line}
@@ -68,9 +69,9 @@ scene_with start edges = record { graph = start_of (plan_with start edges); stoc
 -- the store was opened with the edges, and no line behind them was run
 pub record IsBegun {P : Type 0} (start : Start) (begun : Begun P) : Type 0 where
   pub can : CanOpen start
-  pub opening : begun.run.store.opening ≡ plan_with start begun.run.store.opening.edges
+  pub opening : begun.run.store.opening ≡ opened_by (plan_with start begun.run.store.opening.plan.edges)
   pub none : begun.run.store.entries ≡ []
-  pub shows : Shows begun.run (scene_with start begun.run.store.opening.edges)
+  pub shows : Shows begun.run (scene_with start begun.run.store.opening.plan.edges)
   pub first : IsBehindEdges begun.script begun.first
 
 -- Why no run has begun, and what is left of the script then: a fault at the edge lines, or behind them the limits, or want of memory or
@@ -84,7 +85,7 @@ Unbegun start bytes f left = StopsAtEdges start.workers bytes f left
 
 -- what is read of a script where its run has begun, or hasn't
 abbrev pub Begins : {P : Type 0} → Start → List ℕ → Result (Begun P) ScriptFault → List ℕ → Type 0
-Begins start bytes (Ok begun) rest = ReadsFirst start.workers bytes (edge_lines begun.run.store.opening.edges) begun.first begun.script rest
+Begins start bytes (Ok begun) rest = ReadsFirst start.workers bytes (edge_lines begun.run.store.opening.plan.edges) begun.first begun.script rest
 Begins start bytes (Err f) rest = Unbegun start bytes f rest
 
 -- the same by what source and sink tell beside the bytes that are left

@@ -133,4 +133,4 @@ RunsCommands left taken told source source' sink sink' begun begun' result =
 abbrev pub EntersCommands : {S K P T : Type 0} → (S → Option (List ℕ)) → (K → Option (List ℕ)) → S → S → K → K → Begun P → Result T ScriptFault → Type 0
 EntersCommands left taken source source' sink sink' begun result =
     (t : Scene) (rest before : List ℕ) → Shows begun.run t → left source ≡ Some rest → taken sink ≡ Some before →
-    (last : List ℕ) × (left source' ≡ Some last) × EntersAll begun.script rest t begun.first begun.run.store.opening before result last (taken sink')
+    (last : List ℕ) × (left source' ≡ Some last) × EntersAll begun.script rest t begun.first begun.run.store.opening.plan before result last (taken sink')

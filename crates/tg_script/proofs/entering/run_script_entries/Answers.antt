@@ -1,5 +1,6 @@
-use Rattle.std.proofs.Common.{arith, subst, Err}
+use Rattle.std.proofs.Common.{ap, arith, subst, Err}
 use Rattle.tg_model.specs.Opened.{Plan}
+use Rattle.tg_store.specs.Origin.{Origin}
 use Rattle.tg_script.specs.Inner.Beginning.{scene_with}
 use Rattle.tg_script.specs.Inner.Telling.{EntersAll}
 use Rattle.tg_script.specs.Script.{start_of_setup}
@@ -12,7 +13,7 @@ returns-in-Ok-clause-entered g c =
     let k = g.K.Sink in
     let start = start_of_setup c.args.setup in
     let begun = c.in-Ok.begun in
-    let edges = begun.run.store.opening.edges in
+    let edges = begun.run.store.opening.plan.edges in
     let is = c.in-Ok.ensures.begun in
     let all = c.enter_all-outcome in
     let ended = c.finish.ensures.outcome in
@@ -22,7 +23,7 @@ returns-in-Ok-clause-entered g c =
       told.0,
       told.1,
       ran_entering all.result start begun.script bytes rest edges begun.first before told.0 (k.taken all.new.sink) is.can is.first reads
-          (subst (λ (p : Plan). EntersAll begun.script rest (scene_with start edges) begun.first p before all.result told.0 (k.taken all.new.sink)) is.opening told.2),
+          (subst (λ (p : Plan). EntersAll begun.script rest (scene_with start edges) begun.first p before all.result told.0 (k.taken all.new.sink)) (ap (λ (o : Origin). o.plan) is.opening) told.2),
     )))
     ended (λ bytes before rest ran. entering_finished all.result c.finish.result start bytes before rest (k.taken all.new.sink) (k.taken c.finish.new.sink) (k.failures all.new.sink) (k.failures c.finish.new.sink) ran ended)
 

@@ -1,6 +1,7 @@
 use Rattle.std.proofs.Common.{◌≡◌, ◌∙◌, ap, arith, refl, subst, sym, List}
 use Rattle.tg_model.specs.declared.edge.Edge.{Edge}
-use Rattle.tg_model.specs.Opened.{Plan, start_of}
+use Rattle.tg_model.specs.Opened.{start_of}
+use Rattle.tg_store.specs.Origin.{Origin, opened_by}
 use Rattle.tg_store.specs.Store.{StandsFor}
 use Rattle.tg_script.specs.Opening.{edge_lines, plan_by}
 use Rattle.tg_script.specs.Inner.Beginning.{ReadsFirst, plan_with}
@@ -57,11 +58,11 @@ returns g c =
     let store = c.in_ok-store.store in
     let opened = c.in_ok-store.ensures.opened in
     let reading = c.in_ok-edges.ensures.reading in
-    let edges : front.edges.items ≡ store.opening.edges = sym (ap (λ (p : Plan). p.edges) opened.3) in
+    let edges : front.edges.items ≡ store.opening.plan.edges = sym (ap (λ (o : Origin). o.plan.edges) opened.3) in
     record {
       begun = record {
         can = (opened.0, opened.1);
-        opening = opened.3 ∙ ap (λ (x : List Edge). plan_with start x) edges;
+        opening = opened.3 ∙ ap (λ (x : List Edge). opened_by (plan_with start x)) edges;
         none = opened.4;
         shows = (subst (λ (x : List Edge). StandsFor store (start_of (plan_with start x))) edges opened.2, c.new-supply.ensures, refl);
         first = c.in_ok-edges.ensures.front.first;

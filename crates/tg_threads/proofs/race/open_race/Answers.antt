@@ -1,6 +1,7 @@
 use Rattle.std.proofs.Common.{◌++◌, List, ap, sym, ◌∙◌}
 use Rattle.tg_model.specs.declared.edge.Edge.{Edge}
 use Rattle.tg_model.specs.Opened.{Plan}
+use Rattle.tg_store.specs.Origin.{opened_by}
 use Rattle.tg_script.specs.Opening.{edge_lines, plan_by}
 use Rattle.tg_threads.proofs.RaceLaws.{commands_behind, edges_before}
 use Rattle.tg_threads.proofs.race.open_race.Goals as goal
@@ -19,6 +20,6 @@ returns-clause-output g c = λ bytes known.
         edge_lines edges ++ lines,
         (read.2, (opens.0, opens.1)),
         sym (commands_behind edges lines commands),
-        opens.3 ∙ ap plan (sym (edges_before edges lines commands)),
+        opens.3 ∙ ap (λ es. opened_by (plan es)) (sym (edges_before edges lines commands)),
       ),
     )

@@ -1,6 +1,7 @@
 use Rattle.std.proofs.Common.{◌∙◌, Err, List, ap, subst, sym, arith}
 use Rattle.std.proofs.lemmas.Result.{err_from_is_err_and}
 use Rattle.std.specs.List.{All}
+use Rattle.tg_store.specs.Origin.{opened_by}
 use Rattle.tg_text.specs.declared.line.Line.{Line}
 use Rattle.tg_script.specs.Opening.{IsCommand}
 use Rattle.tg_script.specs.Script.{commands_of, start_of_setup}
@@ -23,12 +24,12 @@ returns-clause-output g c = λ bytes before known taken.
     let ts = c.in_ok-raced.raced.told.items in
     let came = c.in_ok-raced.ensures.run.raced in
     let shared = came.0 in
-    let new : IsNewStore (plan_of start lines) start.blocks shared = record {
+    let new : IsNewStore (opened_by (plan_of start lines)) start.blocks shared = record {
       opened = came.1.opened ∙ whole.3;
       limits = came.1.limits ∙ ap (λ (l : BlockLimits). l.max_blocks) c.in_ok-opened.ensures.limits;
       none = came.1.none;
     } in
-    let same = raced_same (arena_of shared start.helpers store.entries) opened.store.opening.workers start.workers start.stock opened.lines.items (commands_of lines) store.entries ts
+    let same = raced_same (arena_of shared start.helpers store.entries) opened.store.opening.plan.workers start.workers start.stock opened.lines.items (commands_of lines) store.entries ts
     c.in_ok-opened.ensures.new.0 whole.2 came.3 in (
       opens.0,
       opens.1,
@@ -49,5 +50,6 @@ returns-in_err-opened-clause-due g c =
 pub race_opened-requires-clause-raceable : goal.race_opened-requires-clause-raceable
 race_opened-requires-clause-raceable g c κs within = record {
   new = (omega (arith, c.in_ok-opened.ensures.new.0, c.requires.startable.number.0), c.in_ok-opened.ensures.new.1);
+  first = c.in_ok-opened.ensures.new.2;
   commands = c.in_ok-opened.ensures.commands;
 }

@@ -16,13 +16,13 @@ close_ran-requires g c =
     record {
       new = c.requires.raceable.new.1;
       none_ended = c.requires.none_ended;
-      none_handed = ap handed_of ran.sessions ∙ brought_none_handed g.L.Round.start c.args.helpers g.L.Round.start.opening.workers (boxed c.args.stock.items c.args.lines.now) ran.finished ran.each;
+      none_handed = ap handed_of ran.sessions ∙ brought_none_handed g.L.Round.start c.args.helpers g.L.Round.start.opening.plan.workers (boxed c.args.stock.items c.args.lines.now) ran.finished ran.each;
     }
 
 pub returns-in-Ok : goal.returns-in-Ok
 returns-in-Ok g c =
     let start = g.L.Round.start in
-    let workers = start.opening.workers in
+    let workers = start.opening.plan.workers in
     let lines = c.args.lines.now in
     let stock = c.args.stock.items in
     let ran = c.in-Ok.ensures.ran in

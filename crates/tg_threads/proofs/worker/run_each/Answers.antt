@@ -47,7 +47,7 @@ loop-task-init g c = record {
     worker = refl;
     handed = c.requires.fresh.1;
     runs = (c.requires.none.0, c.requires.fresh.0);
-    behind = lt-ltb c.args.finished.now.session.worker g.L.Round.start.opening.workers low;
+    behind = lt-ltb c.args.finished.now.session.worker g.L.Round.start.opening.plan.workers low;
   };
 }
 
@@ -60,7 +60,7 @@ loop-task-preserved g c =
       spawned = c.in_ok-one.ensures.spawned.each c.loop-task.invariant.spawned;
       room = room_left (may_make_subject c.in-Some.task) c.in-Some.task c.next.new.self.rest.items c.loop-task.task-iterator.rest.items _ _ _ _ refl c.in-Some.ensures.steps.0 c.loop-task.invariant.room c.run_task.ensures.spawned.fits c.run_task.ensures.spawned.kept;
       runs = λ low all.
-          let workers = g.L.Round.start.opening.workers in
+          let workers = g.L.Round.start.opening.plan.workers in
           let asked : c.worker-in-loop-task.result ≡ c.run_task.new.session.worker = c.worker-in-loop-task.ensures in
           let by = mapped_at boxed_of (IsRunBy workers x) c.loop-task.yielded c.in-Some.task c.next.new.self.rest.items c.args.tasks.items left all in
           let more = run_more g.L.Round.start c.args.context.now.helpers workers x c.loop-task.served c.is_served_past-served.result (map boxed_of c.loop-task.yielded) c.loop-task.finished.told.items c.loop-task.finished.session c.run_task.new.session (boxed_of c.in-Some.task) c.in_ok-one.one
@@ -74,6 +74,6 @@ pub returns-clause-ran : goal.returns-clause-ran
 returns-clause-ran g c =
     let all : c.loop-task.yielded ≡ c.args.tasks.items = all_came c.loop-task.yielded c.loop-task.task-iterator.rest.items c.args.tasks.items c.loop-task.invariant.left (sym c.loop-task.task-iterator.rest.ok.0 ∙ c.in-None.ensures.steps.0) in
     λ low by.
-    let workers = g.L.Round.start.opening.workers in
+    let workers = g.L.Round.start.opening.plan.workers in
     let i = c.loop-task.invariant.runs low by in
     (i.worker, subst (λ (ts : List (Task _)). Runs (arena_now g.L.Round.start c.args.context.now.helpers c.loop-task.finished.session) (has_thread workers) (map boxed_of ts) c.loop-task.finished.told.items c.loop-task.finished.session.receipts) all i.runs, c.loop-task.invariant.spawned, i.handed)

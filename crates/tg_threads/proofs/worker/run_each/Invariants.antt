@@ -12,6 +12,6 @@ invariant-loop-task g l = record {
   left : l.yielded ++ l.task-iterator.rest.items ≡ l.fn.tasks.items;
   spawned : AreFresh (subjects_spawned l.finished.session.receipts) l.finished.spawned.items;
   room : vec_len l.finished.spawned + count_by may_make_subject l.task-iterator.rest.items ≤ vec_capacity l.finished.spawned;
-  runs : let workers : ℕ = g.L.Round.start.opening.workers in l.fn.finished.session.worker < workers → All (IsRunBy workers l.fn.finished.session.worker) (map boxed_of l.fn.tasks.items) →
+  runs : let workers : ℕ = g.L.Round.start.opening.plan.workers in l.fn.finished.session.worker < workers → All (IsRunBy workers l.fn.finished.session.worker) (map boxed_of l.fn.tasks.items) →
       HasRunSo g.L.Round.start l.fn.context.helpers workers l.fn.finished.session.worker l.served (map boxed_of l.yielded) l.finished.told.items l.finished.session;
 }

@@ -4,7 +4,7 @@ use Rattle.tg_model.specs.Graph.{ProtectionGraph, IsSound}
 use Rattle.tg_model.specs.declared.command.Deed.TheVariants.{Create}
 use Rattle.tg_model.specs.declared.command.Deed.{Deed}
 use Rattle.tg_model.proofs.NameLaws.{name_is_next}
-use Rattle.tg_journal.proofs.HistoryLaws.{IsSound-opened}
+use Rattle.tg_store.proofs.StandLaws.{sound_of}
 use Rattle.tg_store.specs.Store.{StoreState, graph_of_store}
 use Rattle.examples.specs.declared.stand_in.desk.TheConstants.{OWNER}
 use Rattle.examples.specs.Alone.{IsAlone}
@@ -16,7 +16,7 @@ returns-clause-made g c = λ which.
     let s : StoreState = c.args.store.now in
     let graph : ProtectionGraph = graph_of_store s in
     let faithful = c.journal.ensures.faithful in
-    let sound : IsSound graph = IsSound-opened s.opening s.entries faithful.plan faithful.legal in
+    let sound : IsSound graph = sound_of s faithful in
     let made = c.in_ok-create.ensures.made in
     subst (λ (h : ProtectionGraph). IsAlone which OWNER c.in_ok-create.field-0 h) (sym (made.step graph refl))
     (alone-made which OWNER graph sound c.requires.untaken c.in_ok-create.field-0 c.args.rights c.args.draft.law c.args.draft.state (made.name graph refl))

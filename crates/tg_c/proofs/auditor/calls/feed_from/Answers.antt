@@ -1,6 +1,6 @@
 use Rattle.std.proofs.Common.{◌≡◌, ◌∙◌, ℕ, List, refl, sym, ap, subst}
-use Rattle.tg_model.specs.Opened.{start_of}
 use Rattle.tg_journal.specs.declared.entry.Entry.{Entry}
+use Rattle.tg_store.specs.Origin.{start_at}
 use Rattle.tg_store.specs.Store.{IsFaithful, StoreState}
 use Rattle.tg_c.specs.declared.auditor.audit.Audit.{Audit}
 use Rattle.tg_c.specs.Audits.{FeedsJournal}
@@ -25,6 +25,6 @@ returns c =
         told = refl;
         same_store = ap (λ s. s.store) (c.put.ensures.opened ∙ c.in-Some.ensures.taken.1);
         part = part;
-        own = λ stands is. finds_none (start_of store.opening) old.auditor new.auditor store.handed store.entries part.fed (subst (λ (s : StoreState). IsFaithful s) same c.journal.ensures.faithful).legal part.part stands (sym part.told ∙ is);
+        own = λ stands is. finds_none (start_at store.opening) old.auditor new.auditor store.handed store.entries part.fed (subst (λ (s : StoreState). IsFaithful s) same c.journal.ensures.faithful).legal part.part stands (sym part.told ∙ is);
       };
     }

@@ -1,6 +1,6 @@
 use Rattle.std.proofs.Common.{refl}
 use Rattle.tg_model.specs.Graph.{ProtectionGraph}
-use Rattle.tg_journal.proofs.HistoryLaws.{IsSound-opened}
+use Rattle.tg_store.proofs.StandLaws.{sound_of}
 use Rattle.tg_store.specs.Store.{graph_of_store}
 use Rattle.tg_c.proofs.law_store.LawStore.scene.Goals as goal
 
@@ -11,7 +11,7 @@ returns c =
     record {
       told = record {
         active = c.are_workers.ensures.0 c.if-not-are_workers.false;
-        sound = IsSound-opened s.opening s.entries c.journal.ensures.faithful.plan c.journal.ensures.faithful.legal;
+        sound = sound_of s c.journal.ensures.faithful;
         picture = c.in_ok-picture.ensures g refl;
         edges = c.in_ok-as_if.ensures.edges.1;
       };

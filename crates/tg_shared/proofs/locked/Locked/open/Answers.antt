@@ -5,9 +5,9 @@ use Rattle.std.proofs.lemmas.List.Elements.{All-cons, All-head, All-nil, All-tai
 use Rattle.tg_subjects.specs.declared.subject.Subject.{Subject}
 use Rattle.tg_subjects.specs.Subjects.{names_of}
 use Rattle.tg_model.specs.Graph.{IsSound}
-use Rattle.tg_journal.proofs.HistoryLaws.{IsSound-opened, made-opened}
 use Rattle.tg_journal.specs.declared.entry.Entry.{Entry}
 use Rattle.tg_store.specs.Store.{StoreState, IsFaithful, graph_of_store}
+use Rattle.tg_store.proofs.StandLaws.{made_of, sound_of}
 use Rattle.tg_shared.specs.Sessions.{SessionState, SharedStart, AreFresh, sessions_made, subjects_at}
 use Rattle.tg_shared.proofs.Balances.{active_made, goes_on_start, sessions_start, within_word}
 use Rattle.tg_shared.proofs.Knowing.{rolled_start}
@@ -25,7 +25,7 @@ mapped_each f P (x ∷ xs) h = All-cons (λ x. P (f x)) x xs (All-head P (f x) (
 
 names_low : (s : StoreState) (subjects : List Subject) → IsFaithful s → names_of subjects ≡ (graph_of_store s).subjects → All (λ x. x.name < (graph_of_store s).made) subjects
 names_low s subjects faithful names =
-    let sound : IsSound (graph_of_store s) = IsSound-opened s.opening s.entries faithful.plan faithful.legal in
+    let sound : IsSound (graph_of_store s) = sound_of s faithful in
     let low : All (λ n. n < (graph_of_store s).made) (graph_of_store s).subjects = λ i d inside. sound.subjects_made _ (Contains-get_or (graph_of_store s).subjects i d inside) in
     mapped_each (λ (x : Subject). x.name) (λ n. n < (graph_of_store s).made) subjects (subst (All (λ n. n < (graph_of_store s).made)) (sym names) low)
 
@@ -46,10 +46,10 @@ sessions_of-requires g c =
     let faithful = c.journal.ensures.faithful in
     let names : length c.subjects.result.now ≡ length (graph_of_store c.args.store).subjects = sym (length-map c.subjects.result.now (λ (s : Subject). s.name)) ∙ ap (λ (l : List ℕ). length l) (c.subjects.ensures.names (graph_of_store c.args.store) refl) in
     let low : length c.subjects.result.now ≤ (graph_of_store c.args.store).made = at_most (length c.subjects.result.now) (length (graph_of_store c.args.store).subjects) (graph_of_store c.args.store).made names (active_made c.args.store faithful) in
-    let within = made-opened c.args.store.opening c.args.store.entries faithful.plan in
-    let parts : c.open-book.result.1.parts ≡ c.args.store.opening.limit + 1 = c.open-book.ensures.parts ∙ (sym c.requires.shareable.parts.0 ∙ c.requires.shareable.parts.1) in
+    let within = made_of c.args.store faithful in
+    let parts : c.open-book.result.1.parts ≡ c.args.store.opening.plan.limit + 1 = c.open-book.ensures.parts ∙ (sym c.requires.shareable.parts.0 ∙ c.requires.shareable.parts.1) in
     record {
-      parts = (few_enough (length c.subjects.result.now) (graph_of_store c.args.store).made c.args.store.opening.limit c.open-book.result.1.parts low within parts, c.open-book.ensures.amount, within_word c.args.store.opening.limit g.L.Ledger.parts faithful.plan.limits.1 (sym c.requires.shareable.parts.0 ∙ c.requires.shareable.parts.1));
+      parts = (few_enough (length c.subjects.result.now) (graph_of_store c.args.store).made c.args.store.opening.plan.limit c.open-book.result.1.parts low within parts, c.open-book.ensures.amount, within_word c.args.store.opening.plan.limit g.L.Ledger.parts faithful.origin.plan.limits.1 (sym c.requires.shareable.parts.0 ∙ c.requires.shareable.parts.1));
       rising = c.subjects.ensures.well_formed;
       none_yet = c.open-roll.ensures.roll;
     }

@@ -8,7 +8,7 @@ use Rattle.tg_shared.specs.declared.session.Session.{Session}
 use Rattle.tg_shared.specs.Serving.{HasNoted, IsMadeAndNoted, NotesRefusal, RefusesCrowd}
 use Rattle.tg_shared.specs.Sessions.{LockedState, made_subject}
 use Rattle.tg_journal.specs.declared.entry.Entry.{Entry}
-use Rattle.tg_journal.proofs.HistoryLaws.{IsSound-opened}
+use Rattle.tg_store.proofs.StandLaws.{sound_of}
 use Rattle.tg_passes.specs.declared.signed.Maker.{Maker}
 use Rattle.tg_passes.specs.declared.signed.Maker.TheVariants as maker
 use Rattle.tg_passes.specs.declared.signed.Signed.{Signed}
@@ -99,19 +99,19 @@ not_next worker name made low is same = omega arith
 
 pub new-requires : goal.new-requires
 new-requires g c =
-    let limit = c.journal.ensures.faithful.plan.limits.1 in
+    let limit = c.journal.ensures.faithful.origin.plan.limits.1 in
     let old : StoreState = c.self.inside.store in
     let graph = graph_of_store old in
     let told = c.in_ok-name.ensures in
     let noted = told.noted (Reply.Name c.in_ok-name.name) refl in
     let next : c.in_ok-name.name ≡ graph.made = named_next old c.make.new.store (length g.L.Round.start.entries) c.self.inside.sessions c.self.inside.register.book.total c.self.inside.rest.parts g.L.Ledger.parts _ _ c.args.label c.args.draft.law c.args.draft.state c.self.invariant.0.0 noted.0.entry (told.made.name graph refl) told.refusals.opening in
     let apart : c.args.session.now.worker ≢ c.in_ok-name.name = λ same. (told.refusals.no_such_worker graph refl).1
-    (λ here. not_next c.args.session.now.worker c.in_ok-name.name graph.made ((IsSound-opened old.opening old.entries c.journal.ensures.faithful.plan c.journal.ensures.faithful.legal).subjects_made c.args.session.now.worker here) next same) in
+    (λ here. not_next c.args.session.now.worker c.in_ok-name.name graph.made ((sound_of old c.journal.ensures.faithful).subjects_made c.args.session.now.worker here) next same) in
     let none : entries_by (maker.Session c.in_ok-name.name) c.self.inside.register.roll.signed ≡ [] =
     none_named g.L.Round.start old c.self.inside.register.roll.signed c.self.invariant.0.3 c.journal.ensures.faithful c.self.invariant.1.grown c.in_ok-name.name (at_least c.in_ok-name.name graph.made next) in
     let seen : c.issue-pass.result.seen ≡ c.make.new.register.roll.signed = ap (λ (p : PassState). p.seen) c.issue-pass.ensures.pass in
     record {
-      share = (c.split_off-share.ensures.parts, c.split_off-share.ensures.amount, within_word c.self.inside.store.opening.limit g.L.Ledger.parts limit c.self.invariant.0.0.enough);
+      share = (c.split_off-share.ensures.parts, c.split_off-share.ensures.amount, within_word c.self.inside.store.opening.plan.limit g.L.Ledger.parts limit c.self.invariant.0.0.enough);
       pass = (
         ap (λ (p : PassState). p.maker) c.issue-pass.ensures.pass,
         ap (λ (p : PassState). p.made) c.issue-pass.ensures.pass,

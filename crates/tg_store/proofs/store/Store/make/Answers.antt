@@ -8,7 +8,7 @@ use Rattle.tg_model.specs.declared.reply.Reply.TheVariants.{Name, VerticesFull, 
 use Rattle.tg_model.specs.Graph.{ProtectionGraph}
 use Rattle.tg_model.specs.declared.opening.TheConstants.{MAX_WORKERS}
 use Rattle.tg_model.specs.Rules.{IsAllowed, answer_of}
-use Rattle.tg_model.specs.Opened.{start_of}
+use Rattle.tg_store.specs.Origin.{start_at}
 use Rattle.tg_journal.specs.History.{graph_after}
 use Rattle.tg_word.specs.Word.{nursery_space}
 use Rattle.tg_space.specs.SpaceTable.{SpaceTable}
@@ -132,7 +132,7 @@ returns-in_err-add_vertex-clause-refusals g c =
                 (subst (λ n. LacksCellsFor c.args.self.now.heap.table (nursery_space (nursery_of c.args.self.now.heap c.args.worker)) 1 c.args.worker n) c.self.invariant.is_made
                 (subst (λ (s : StoreState). LacksCellsFor s.heap.table (nursery_space (nursery_of s.heap c.args.worker)) 1 c.args.worker c.self.inside.made) c.self.view_is (c.in_err-add_vertex.ensures.full ((making.fault_told _).3 e)))),
           )));
-      same_graph = (λ graph stands. rw given.1 (ap (λ es. graph_after (start_of c.self.inside.opening) es) c.deed_to_enter.ensures.room.entries ∙ stands_inside c.self.invariant c.self.view_is stands));
+      same_graph = (λ graph stands. rw given.1 (ap (λ es. graph_after (start_at c.self.inside.opening) es) c.deed_to_enter.ensures.room.entries ∙ stands_inside c.self.invariant c.self.view_is stands));
       handed_back = rw (given.1, given.2) c.in_err-add_vertex.ensures.handed_back;
       opening = ap (λ (s : StoreState). s.opening) c.self.view_is;
       handed = c.deed_to_enter.ensures.room.start ∙ ap (λ (s : StoreState). s.handed) c.self.view_is;
@@ -194,7 +194,7 @@ returns-in_default-deed_to_enter-clause-refusals g c =
       no_more = λ _ _ e. absurd (memory_not_vertices e);
       exhausted = (λ graph stands subject _. (inr refl));
       full = λ _ _ e. absurd (memory_not_heap e);
-      same_graph = (λ graph stands. (ap (λ es. graph_after (start_of c.self.inside.opening) es) c.deed_to_enter.ensures.room.entries ∙ stands_inside c.self.invariant c.self.view_is stands));
+      same_graph = (λ graph stands. (ap (λ es. graph_after (start_at c.self.inside.opening) es) c.deed_to_enter.ensures.room.entries ∙ stands_inside c.self.invariant c.self.view_is stands));
       handed_back = refl;
       opening = ap (λ (s : StoreState). s.opening) c.self.view_is;
       handed = c.deed_to_enter.ensures.room.start ∙ ap (λ (s : StoreState). s.handed) c.self.view_is;
@@ -264,4 +264,4 @@ pub overflow_add-self : goal.overflow_add-self
 overflow_add-self g c =
     let room = has_room g (goal.at.overflow_add-self g c).In_default-met in
     let faithful = c.self.invariant.faithful in
-    omega (arith, room.0, limit_of _ faithful, faithful.plan.limits.1, c.self.invariant.is_made)
+    omega (arith, room.0, limit_of _ faithful, faithful.origin.plan.limits.1, c.self.invariant.is_made)

@@ -6,11 +6,11 @@ pub returns-in_err-audited-clause-told : goal.returns-in_err-audited-clause-told
 returns-in_err-audited-clause-told g c = λ before taken.
     let s = c.args.self.now.store in
     let f = c.in_err-audited.field-0.0 in
-    let memory = own_audit_fault s.handed c.audit.result f c.in_err-audited.was c.requires.none_handed c.audit.ensures.not_whole.0 c.in_err-audited.ensures.fault in
-    unaudited s (g.T.RaceTelling.race_text s.opening s.entries (text_of_told s.entries c.args.self.now.told.items)) f c.from_residual.result before (g.K.Sink.taken c.args.sink.now) memory c.from_residual.ensures.1 taken
+    let memory = own_audit_fault s.handed s.opening.shown c.audit.result f c.in_err-audited.was c.requires.none_handed c.requires.first c.audit.ensures.not_whole.0 c.in_err-audited.ensures.fault in
+    unaudited s (g.T.RaceTelling.race_text s.opening.plan s.entries (text_of_told s.entries c.args.self.now.told.items)) f c.from_residual.result before (g.K.Sink.taken c.args.sink.now) memory c.from_residual.ensures.1 taken
 
 pub returns-in_err-audited-clause-fault : goal.returns-in_err-audited-clause-fault
 returns-in_err-audited-clause-fault g c =
     let f = c.in_err-audited.field-0.0 in
-    let memory = own_audit_fault c.args.self.now.store.handed c.audit.result f c.in_err-audited.was c.requires.none_handed c.audit.ensures.not_whole.0 c.in_err-audited.ensures.fault in
+    let memory = own_audit_fault c.args.self.now.store.handed c.args.self.now.store.opening.shown c.audit.result f c.in_err-audited.was c.requires.none_handed c.requires.first c.audit.ensures.not_whole.0 c.in_err-audited.ensures.fault in
     unaudited_fault f c.from_residual.result memory c.from_residual.ensures.1

@@ -1,0 +1,70 @@
+//! The calls on a snapshot in its place, in Rattle's own types, and those of an auditor on one.
+ghost use Rattle.std.specs.Prelude.{◌≡◌, IfErr, IfOk, Err, Ok};
+ghost use Rattle.tg_saved.specs.Texts.{snapshot_text};
+ghost use Rattle.tg_c.specs.Saved.{AsksText, IsReadFault, IsReopenedAudit, IsShownAudit, ReopensAudit, Shows, line_told, read_refusal};
+ghost use Rattle.tg_c.specs.declared.refusal.CallRefusal.TheVariants.{OutOfMemory};
+
+use crate::auditor::audit::Audit;
+use crate::auditor::place::AuditorPlace;
+use crate::held::Holder;
+use crate::refusal::CallRefusal;
+use crate::saved::kept::Kept;
+use crate::saved::place::SnapshotPlace;
+use std::alloc::Global;
+use tg_journal::Auditor;
+use tg_saved::{SnapshotLineFault, SnapshotTextFault, read_snapshot, snapshot_bytes};
+
+/// The snapshot whose text the bytes are, which no place has yet. The number of a line at fault goes to `line`.
+pub fn read(alloc: Global, text: &[u8], line: &mut u64) -> Result<Box<Kept>, CallRefusal>
+    ensures read { IfOk result (λ kept. text.now ≡ snapshot_text kept.value.snapshot) }
+    ensures line { IfOk result (λ _. line.new ≡ line.old) }
+    ensures refused { IfErr result (IsReadFault line.old line.new) }
+{
+    match read_snapshot(alloc, text) {
+        Ok(snapshot) => Ok(Box::new(alloc, Kept { snapshot })?),
+        Err(fault) => Err(told_of(fault, line)),
+    }
+}
+
+// What is told of a text that is none of a snapshot. Want of memory says nothing of a line.
+fn told_of(fault: SnapshotTextFault, line: &mut u64) -> CallRefusal
+    ensures refusal { result ≡ read_refusal fault }
+    ensures line { line.new ≡ line_told fault line.old }
+{
+    match fault {
+        SnapshotTextFault::Line {
+            why: SnapshotLineFault::OutOfMemory,
+            ..
+        } => CallRefusal::OutOfMemory,
+        SnapshotTextFault::Line { line: at, .. } | SnapshotTextFault::CutOff { line: at } => {
+            *line = at;
+            CallRefusal::BadValues
+        }
+    }
+}
+
+/// The text of the snapshot.
+pub fn text(alloc: Global, snapshot: &mut SnapshotPlace) -> Result<Vec<u8>, CallRefusal>
+    ensures text { IfOk result (λ bytes. AsksText snapshot.old snapshot.new (Ok bytes.items)) }
+    ensures refused { IfErr result (λ why. AsksText snapshot.old snapshot.new (Err why)) }
+{
+    Ok(snapshot.with_open(alloc, |kept| snapshot_bytes(alloc, &kept.snapshot))??)
+}
+
+/// The snapshot of what the auditor has come to, which no place has yet.
+pub fn show(alloc: Global, auditor: &mut AuditorPlace) -> Result<Box<Kept>, CallRefusal>
+    ensures shown { IfOk result (λ kept. Shows auditor.old auditor.new (Ok kept.value.snapshot)) }
+    ensures refused { IfErr result (λ why. Shows auditor.old auditor.new (Err why)) }
+{
+    let shown = auditor.with_open(alloc, |audit| audit.show())?;
+    Ok(Box::new(alloc, Kept { snapshot: shown? })?)
+}
+
+/// An audit that goes on from the snapshot, which no place has yet.
+pub fn reopen(alloc: Global, snapshot: &mut SnapshotPlace) -> Result<Box<Audit>, CallRefusal>
+    ensures reopened { IfOk result (λ audit. ReopensAudit snapshot.old snapshot.new (Ok audit.value)) }
+    ensures refused { IfErr result (λ why. ReopensAudit snapshot.old snapshot.new (Err why)) }
+{
+    let auditor = snapshot.with_open(alloc, |kept| Auditor::reopen(alloc, &kept.snapshot))??;
+    Ok(Box::new(alloc, Audit { auditor })?)
+}

@@ -1,0 +1,80 @@
+//! The place of a snapshot in the memory of C, as `crate::held` tells.
+ghost use Rattle.std.specs.Prelude.{◌≡◌, Bool};
+ghost use Rattle.tg_c.specs.declared.saved.kept.Kept.{Kept as KeptValue};
+ghost use Rattle.tg_c.specs.contracts.saved.kept.Kept.{the_row};
+ghost use Rattle.tg_c.specs.Held.{held_by};
+ghost use Rattle.tg_c.specs.Inner.Places.{Holds};
+
+use crate::handle::Handle;
+use crate::held::{Held, Holder};
+use crate::saved::kept::Kept;
+use std::alloc::Global;
+use std::marker::Model;
+
+/// The box of an open snapshot as its pointer, or none. 8 bytes.
+#[repr(C)]
+#[derive(Drop)]
+pub struct SnapshotHandle {
+    at: *mut u8,
+    alloc: Global,
+    pub ghost is_open: { Bool },
+    pub ghost opened: { KeptValue } by { the_row.coded },
+}
+
+impl Model for SnapshotHandle {
+    ghost also_owns = { λ h. held_by the_row h.is_open h.alloc h.at h.opened };
+}
+
+impl SnapshotHandle {
+    // Returns the handle with this box, or none, and the box that the handle had. C doesn't see the pointer's type.
+    fn exchange(self, with: Handle<Kept, Global>) -> (SnapshotHandle, Handle<Kept, Global>)
+        ensures { Holds self.is_open self.opened result.1.opened × Holds result.0.is_open result.0.opened with.opened }
+    {
+        let SnapshotHandle { at, alloc } = self;
+        let had = Handle {
+            at: at as *mut Kept,
+            alloc,
+        };
+        let Handle { at, alloc } = with;
+        let handle = SnapshotHandle {
+            at: at as *mut u8,
+            alloc,
+        };
+        (handle, had)
+    }
+}
+
+/// A snapshot that C holds, in 16 bytes. All bytes zero is a closed one. It may be moved, and of two copies only one
+/// may be used: nothing checks that.
+#[repr(C)]
+#[derive(Drop)]
+pub struct SnapshotPlace {
+    /// Whether there is a snapshot.
+    pub is_open: bool,
+    /// The snapshot's handle, or none.
+    pub handle: SnapshotHandle,
+    pub ghost agrees: { handle.is_open ≡ is_open },
+}
+
+impl Holder<Kept> for SnapshotPlace {
+    ghost is_open = { λ p. p.is_open };
+
+    ghost opened = { λ p. p.handle.opened };
+
+    fn exchange(self, with: Held<Kept>) -> (SnapshotPlace, Held<Kept>)
+        ensures { Holds self.is_open self.handle.opened result.1.handle.opened × Holds result.0.is_open result.0.handle.opened with.handle.opened }
+    {
+        let (handle, had) = self.handle.exchange(with.handle);
+        let place = SnapshotPlace {
+            is_open: with.is_open,
+            handle,
+        };
+        (
+            place,
+            Held {
+                is_open: self.is_open,
+                handle: had,
+            },
+        )
+    }
+}

@@ -1,0 +1,165 @@
+//! Texts for C: the lines in front of a history's entries, the line of an entry, and the last line.
+//!
+//! `tg_entries` writes them, and `tgaudit` reads them. Each is written to memory first. Then C gets as much of it as
+//! there is room for.
+ghost use Rattle.std.specs.Prelude.{◌≡◌, ◌<◌, IfOk, IfErr, Ok};
+ghost use Rattle.tg_c.specs.Calls.{IsRefusedFor};
+ghost use Rattle.tg_c.specs.Texts.{IsEntryText, IsOpeningText, IsUnreadEntry, TellsText, WritesText, written_text, text_out};
+ghost use Rattle.tg_entries.specs.Texts.{end_text};
+ghost use Rattle.tg_text.specs.Sinks.{Writes};
+
+use crate::entered::{entry_read, is_told};
+use crate::forms::{EdgeIn, EdgeOut, LimitsIn, ValueIn};
+use crate::opening::asked_for;
+use crate::records::RecordOut;
+use crate::refusal::CallRefusal;
+use crate::tell::DONE;
+use std::alloc::{AllocError, Global};
+use std::marker::Brand;
+use std::sync::ledger::{Blank, Ledger};
+use tg_entries::{write_end, write_entry, write_opening};
+use tg_journal::Entry;
+use tg_model::Opening;
+use tg_text::{Count, Sink, WriteFailed, Written};
+
+/// What is written.
+#[derive(Clone, Copy)]
+pub enum Text<'a> {
+    /// The lines in front of the entries of a store that was opened so.
+    Opening(&'a Opening),
+    /// The line of an entry.
+    Entry(&'a Entry),
+    /// The last line, behind so many entries.
+    End(u64),
+}
+
+/// Writes the lines in front of the entries of a store that is opened by the same words: the form, the limits, each
+/// worker's value and each edge. As many bytes as there is room for go to `text`, and how many there are to `length`.
+/// What is asked for is looked at as `tg_open` does, with its statuses in their order. A refusal writes nothing.
+#[unsafe(no_mangle)]
+pub extern "C" fn tg_opening_text(
+    alloc: Global,
+    workers: &[ValueIn],
+    edges: &[EdgeIn],
+    limits: &LimitsIn,
+    text: &mut [u8],
+    length: &mut u64,
+) -> u32
+    ensures { WritesText (IsOpeningText workers.now edges.now limits.now) (IsRefusedFor workers.now edges.now limits.now)
+        (TellsText result (text_out length.old text.old) (text_out length.new text.new)) }
+{
+    match opening_bytes(alloc, workers, edges, limits) {
+        Ok(bytes) => tell_text(bytes.as_slice(), text, length),
+        Err(refusal) => refusal.status(),
+    }
+}
+
+/// Writes the line of an entry, with its line feed. The entry is handed in as `tg_entry` told it. As many bytes as
+/// there is room for go to `text`, and how many there are to `length`. `BadValues` is answered exactly where no entry
+/// is told so, and else nothing but want of memory is refused. A refusal writes nothing.
+#[unsafe(no_mangle)]
+pub extern "C" fn tg_entry_text(
+    alloc: Global,
+    written: &RecordOut,
+    numbers: &[u64],
+    edges: &[EdgeOut],
+    text: &mut [u8],
+    length: &mut u64,
+) -> u32
+    ensures { WritesText (IsEntryText written.now numbers.now edges.now) (IsUnreadEntry written.now numbers.now edges.now)
+        (TellsText result (text_out length.old text.old) (text_out length.new text.new)) }
+{
+    match entry_bytes(alloc, written, numbers, edges) {
+        Ok(bytes) => tell_text(bytes.as_slice(), text, length),
+        Err(refusal) => refusal.status(),
+    }
+}
+
+/// Writes the last line of a history that has so many entries. As many bytes as there is room for go to `text`, and how
+/// many there are to `length`. Refused for want of memory alone, and then nothing is written.
+#[unsafe(no_mangle)]
+pub extern "C" fn tg_end_text(alloc: Global, count: u64, text: &mut [u8], length: &mut u64) -> u32
+    ensures { WritesText (λ line. line ≡ end_text count) (λ why. why ≡ CallRefusal.OutOfMemory)
+        (TellsText result (text_out length.old text.old) (text_out length.new text.new)) }
+{
+    match bytes_of(alloc, &Text::End(count)) {
+        Ok(bytes) => tell_text(bytes.as_slice(), text, length),
+        Err(_) => CallRefusal::OutOfMemory.status(),
+    }
+}
+
+// The lines in front of the entries.
+fn opening_bytes(
+    alloc: Global,
+    workers: &[ValueIn],
+    edges: &[EdgeIn],
+    limits: &LimitsIn,
+) -> Result<Vec<u8>, CallRefusal>
+    ensures lines { IfOk result (λ bytes. IsOpeningText workers.now edges.now limits.now bytes.items) }
+    ensures refused { IfErr result (IsRefusedFor workers.now edges.now limits.now) }
+{
+    let opening = asked_for(alloc, workers, edges, limits)?.opening;
+    Ok(bytes_of(alloc, &Text::Opening(&opening))?)
+}
+
+// The line of the entry that is told by a record, its numbers and its edges.
+fn entry_bytes(
+    alloc: Global,
+    written: &RecordOut,
+    numbers: &[u64],
+    edges: &[EdgeOut],
+) -> Result<Vec<u8>, CallRefusal>
+    ensures line { IfOk result (λ bytes. IsEntryText written.now numbers.now edges.now bytes.items) }
+    ensures refused { IfErr result (IsUnreadEntry written.now numbers.now edges.now) }
+{
+    if !is_told(alloc, written, numbers, edges) {
+        return Err(CallRefusal::BadValues);
+    }
+    let entry = entry_read(alloc, written, numbers, edges)?;
+    Ok(bytes_of(alloc, &Text::Entry(&entry))?)
+}
+
+// The bytes of a text. Fails only when out of memory.
+fn bytes_of(alloc: Global, text: &Text) -> Result<Vec<u8>, AllocError>
+    ensures { IfOk result (λ bytes. bytes.items ≡ written_text text.now) }
+{
+    bytes_named::<Brand>(alloc, Blank::new(1), text)
+}
+
+// The ledger names the buffer.
+fn bytes_named<L: Ledger>(alloc: Global, blank: Blank, text: &Text) -> Result<Vec<u8>, AllocError>
+    requires name { blank.name ≡ L.name }
+    requires parts { blank.parts ≡ L.parts }
+    requires some { 0 < blank.parts }
+    ensures { IfOk result (λ bytes. bytes.items ≡ written_text text.now) }
+{
+    let mut sink = Written::new(alloc, Count::<L>::new(blank));
+    let written = write_text(&mut sink, text);
+    let Written { bytes, .. } = sink;
+    match written {
+        Ok(()) => Ok(bytes),
+        Err(WriteFailed) => Err(AllocError),
+    }
+}
+
+// Writes a text, or a front of it where the sink fails.
+fn write_text<K: Sink>(sink: &mut K, text: &Text) -> Result<(), WriteFailed>
+    ensures { Writes (K.taken sink.old) (K.failures sink.old) (written_text text.now) result
+        (K.taken sink.new) (K.failures sink.new) }
+{
+    match text {
+        Text::Opening(opening) => write_opening(sink, opening),
+        Text::Entry(entry) => write_entry(sink, entry),
+        Text::End(count) => write_end(sink, *count),
+    }
+}
+
+/// Tells a text: as many of its bytes as there is room for, and how many there are.
+pub fn tell_text(bytes: &[u8], text: &mut [u8], length: &mut u64) -> u32
+    ensures { TellsText result (text_out length.old text.old) (text_out length.new text.new) (Ok bytes.now) }
+{
+    let count = bytes.len().min(text.len());
+    text[..count].copy_from_slice(&bytes[..count]);
+    *length = bytes.len() as u64;
+    DONE
+}

@@ -1,0 +1,9 @@
+pub mod Adding
+pub mod Joined
+pub mod LineLaws
+pub mod Putting
+pub mod Reading
+pub mod SumLaws
+pub mod TableLaws
+pub mod Writing
+pub mod Ready

@@ -1,0 +1,32 @@
+//! A file of lines that a crash can't tear: how lines are written and read, and how a batch of them is put into a file.
+//!
+//! ```text
+//!     kovshenul kept 1 @c4b942f6
+//!     0 create rw c0 = ok 2 @1a4b1ddd     the first line of a batch
+//!     0 write 2 5 = ok #c9d42721          and another one
+//! ```
+//!
+//! A line has a text, a mark and a sum. The sum covers the sum of the line before, so a line that is lost, moved or
+//! there twice is noticed. The mark is `@` at the first line of a batch, and else `#`. After the last line the file
+//! has zeros.
+//!
+//! `history_of` in `specs/Lines` says what the bytes of a file say: the texts of the lines, up to the first that isn't
+//! whole. A batch is written over zeros that are on the disk, and then synced ([`LineFile::put`]). A crash in between
+//! leaves of each byte the zero or the new one. No line has a zero. Therefore what is read then is what the file said
+//! before and a front of the batch ([`a_crash_leaves_a_front`]), and no sum has to be believed for that.
+#![tactic(auto)]
+
+mod batch;
+mod file;
+mod laws;
+mod line;
+mod reader;
+mod sum;
+mod table;
+
+pub use batch::{Batch, BatchFault};
+pub use file::LineFile;
+pub use laws::{a_crash_leaves_a_front, what_is_written_is_read};
+pub use line::write_line;
+pub use reader::LineReader;
+pub use sum::{LineSum, sum_after};
