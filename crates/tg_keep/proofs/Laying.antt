@@ -1,7 +1,7 @@
 -- What zeros after the end of a file leave of its lines.
-use Rattle.std.proofs.Common.{◌≡◌, inl, inr, ℕ, ◌+◌, ◌*◌, ◌<◌, ◌≤◌, List, [], ◌∷◌, ◌++◌, length, get_or, take, drop, sym, ◌∙◌, ap, subst, arith, refl, ◌-◌}
+use Rattle.std.proofs.Common.{◌≡◌, inl, inr, ℕ, ◌+◌, ◌<◌, ◌≤◌, List, [], length, get_or, take, sym, ◌∙◌, ap, subst, arith, refl, ◌-◌}
 use Rattle.std.proofs.lemmas.Bool.{cases_lt}
-use Rattle.std.proofs.lemmas.List.{append-nil, drop_more, ext_get_or, get_or-take, get_or_past, length-take-le, take-append-drop}
+use Rattle.std.proofs.lemmas.List.{ext_get_or, get_or-take, get_or_past, length-take-le}
 use Rattle.sqlite_disk.specs.Disk.{Follows, Holds, Only, Torn}
 use Rattle.tg_keep.specs.Lines.{first_sum, history_of, last_sum_after, length_after, texts_after}
 use Rattle.tg_keep.specs.Files.{IsSynced}

@@ -1,7 +1,6 @@
 -- A run of batches, step by step.
 use Rattle.std.proofs.Common.{◌≡◌, ℕ, ◌+◌, ◌<◌, ◌≤◌, List, [], ◌∷◌, ◌++◌, length, get_or, take, drop, sym, ◌∙◌, ap, subst, arith, length-append}
-use Rattle.std.specs.List.{flat_map}
-use Rattle.std.proofs.lemmas.List.{append-nil, append_assoc, drop_more, drop_all, flat_map_more, take_all, take_more, take-append-le}
+use Rattle.std.proofs.lemmas.List.{append-nil, drop_more, flat_map_more, take_all, take_more, take-append-le}
 use Rattle.tg_keep.specs.Batches.{batch_texts}
 use Rattle.tg_keep.specs.Fronts.{AddsFront}
 use Rattle.tg_keep.specs.Lines.{history_of}

@@ -1,5 +1,5 @@
 -- How the lines of a file are passed, and what comes after them is looked at.
-use Rattle.std.proofs.Common.{◌≡◌, ℕ, ◌+◌, ◌-◌, ◌<◌, ◌≤◌, Bool, true, false, ◌&&◌, ◌||◌, List, [], ◌∷◌, length, get_or, drop, map, refl, sym, ◌∙◌, ap, arith}
+use Rattle.std.proofs.Common.{◌≡◌, ℕ, ◌+◌, ◌-◌, ◌<◌, ◌≤◌, true, false, ◌&&◌, ◌||◌, List, [], ◌∷◌, length, get_or, drop, map, refl, sym, ◌∙◌, ap, arith}
 use Rattle.std.specs.Prelude.{sum_by, fold, bytes_eq, codes, Option, Some, None, MatchOption, Result, OnOk, Ok, Err}
 use Rattle.std.proofs.lemmas.List.{drop-drop, length-drop, ext_get_or}
 use Rattle.sqlite_disk.specs.Disk.{Holds}

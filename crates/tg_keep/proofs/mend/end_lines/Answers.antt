@@ -1,4 +1,4 @@
-use Rattle.std.proofs.Common.{◌≡◌, ℕ, ◌+◌, List, sym, subst, arith}
+use Rattle.std.proofs.Common.{ℕ, ◌+◌, List, sym, subst, arith}
 use Rattle.sqlite_disk.specs.Disk.{Cut}
 use Rattle.tg_keep.specs.Opened.{HasLinesTo, IsEndedAt}
 use Rattle.tg_keep.proofs.Mending.{cut_crash, ended_at, marked, write_crash}

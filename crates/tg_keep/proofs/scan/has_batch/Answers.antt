@@ -1,6 +1,6 @@
-use Rattle.std.proofs.Common.{◌≡◌, ◌+◌, ℕ, List, length, take, drop, sym, ◌∙◌, ap, arith}
+use Rattle.std.proofs.Common.{◌+◌, ℕ, List, length, take, drop, sym, ◌∙◌, ap, arith}
 use Rattle.std.proofs.lemmas.List.{length-drop}
-use Rattle.tg_keep.specs.Lines.{raw_lines, sum_in}
+use Rattle.tg_keep.specs.Lines.{raw_lines}
 use Rattle.tg_keep.specs.Opened.{has_batch}
 use Rattle.tg_keep.proofs.LineLaws.{tail_is}
 use Rattle.tg_keep.proofs.Scanning.{batch_found, batch_none, batch_other, none_of}

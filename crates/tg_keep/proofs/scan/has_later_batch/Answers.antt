@@ -1,4 +1,4 @@
-use Rattle.std.proofs.Common.{◌≡◌, ◌+◌, ◌-◌, ℕ, List, length, take, drop, sym, ◌∙◌, ap}
+use Rattle.std.proofs.Common.{◌+◌, ◌-◌, ℕ, List, length, take, drop, sym, ◌∙◌, ap}
 use Rattle.tg_keep.specs.Lines.{raw_lines, sum_in}
 use Rattle.tg_keep.specs.Opened.{has_batch}
 use Rattle.tg_keep.proofs.LineLaws.{tail_is}

@@ -1,8 +1,8 @@
-use Rattle.std.proofs.Common.{◌≡◌, ◌+◌, ℕ, List, length, sym, ◌∙◌, ap, arith}
+use Rattle.std.proofs.Common.{◌+◌, ℕ, List, length, sym, ◌∙◌, ap, arith}
 use Rattle.std.proofs.lemmas.List.{length-drop}
 use Rattle.tg_keep.specs.Lines.{length_after, raw_lines}
 use Rattle.tg_keep.specs.Opened.{has_later_batch}
-use Rattle.tg_keep.proofs.Scanning.{count_is, left_is, place_is, size_is, sum_is}
+use Rattle.tg_keep.proofs.Scanning.{count_is, left_is, place_is, sum_is}
 use Rattle.tg_keep.proofs.scan.lines_end.Goals as goal
 
 pub returns-then-has_later_batch-clause-refused : goal.returns-then-has_later_batch-clause-refused

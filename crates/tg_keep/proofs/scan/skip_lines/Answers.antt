@@ -1,4 +1,4 @@
-use Rattle.std.proofs.Common.{◌≡◌, ◌∙◌, ap}
+use Rattle.std.proofs.Common.{◌∙◌, ap}
 use Rattle.tg_keep.proofs.Scanning.{all_counted, all_few, all_left, all_summed, all_within, none_of, reads_shorter, skips_more, skips_none}
 use Rattle.tg_keep.proofs.scan.skip_lines.Goals as goal
 

@@ -1,4 +1,4 @@
-use Rattle.std.proofs.Common.{◌≡◌, ℕ, List, drop, ◌∙◌, ap}
+use Rattle.std.proofs.Common.{drop, ◌∙◌, ap}
 use Rattle.tg_keep.specs.Lines.{sum_in}
 use Rattle.tg_keep.proofs.LineLaws.{tail_is}
 use Rattle.tg_keep.proofs.scan.sum_in.Goals as goal

@@ -1,4 +1,4 @@
-use Rattle.std.proofs.Common.{◌≡◌, ◌*◌, refl, ◌∙◌, subst, arith}
+use Rattle.std.proofs.Common.{◌*◌, refl, subst, arith}
 use Rattle.std.specs.Prelude.{IsTrue}
 use Rattle.tg_keep.proofs.Laying.{laid_says, laid_synced, laying_crash}
 use Rattle.tg_keep.proofs.file.LineFile.add_zeros.Goals as goal

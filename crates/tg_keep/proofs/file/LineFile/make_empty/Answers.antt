@@ -1,4 +1,4 @@
-use Rattle.std.proofs.Common.{◌≡◌, length, refl, sym, ap, subst, arith}
+use Rattle.std.proofs.Common.{length, refl, sym, ap, subst, arith}
 use Rattle.std.specs.Prelude.{IsTrue}
 use Rattle.tg_keep.proofs.Laying.{empty_says, empty_synced}
 use Rattle.tg_keep.proofs.file.LineFile.make_empty.Goals as goal

@@ -1,9 +1,8 @@
-use Rattle.std.proofs.Common.{◌≡◌, ◌+◌, inl, inr, List, ℕ, refl, sym, ◌∙◌, ap, subst, arith}
+use Rattle.std.proofs.Common.{inl, inr, refl, sym, ◌∙◌, ap, subst, arith}
 use Rattle.std.specs.Prelude.{IsTrue}
 use Rattle.std.proofs.lemmas.Result.{err_from_is_err_and}
-use Rattle.sqlite_disk.specs.Disk.{Only}
-use Rattle.tg_keep.specs.Lines.{first_sum, history_of, last_sum_after, length_after}
-use Rattle.tg_keep.specs.Opened.{HasLinesTo, MayOpen}
+use Rattle.tg_keep.specs.Lines.{first_sum, history_of, last_sum_after}
+use Rattle.tg_keep.specs.Opened.{MayOpen}
 use Rattle.tg_keep.proofs.Mending.{ended_says, ended_synced}
 use Rattle.tg_keep.proofs.Opening.{caused_by_text, lines_to}
 use Rattle.tg_keep.proofs.file.LineFile.open.Goals as goal

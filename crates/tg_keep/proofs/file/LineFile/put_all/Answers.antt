@@ -1,4 +1,4 @@
-use Rattle.std.proofs.Common.{◌≡◌, ◌+◌, ℕ, List, ◌++◌, ◌∙◌, sym, ap, subst, arith, drop}
+use Rattle.std.proofs.Common.{◌≡◌, ◌+◌, ℕ, ◌++◌, ◌∙◌, sym, ap, subst, arith, drop}
 use Rattle.std.specs.Prelude.{IsTrue}
 use Rattle.tg_keep.specs.Lines.{history_of}
 use Rattle.tg_keep.specs.Runs.{FollowOn, SaysAnswered, all_texts}

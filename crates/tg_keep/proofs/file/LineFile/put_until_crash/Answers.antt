@@ -1,4 +1,3 @@
-use Rattle.std.proofs.Common.{sym, subst, List, ℕ}
 use Rattle.std.proofs.lemmas.Result.{on_ok_weaker}
 use Rattle.std.specs.Prelude.{IsTrue}
 use Rattle.tg_keep.specs.Files.{SaysLeft}

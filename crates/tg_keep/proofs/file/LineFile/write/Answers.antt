@@ -1,4 +1,4 @@
-use Rattle.std.proofs.Common.{◌≡◌, ◌+◌, ◌∙◌, length, ap, arith, sym, subst}
+use Rattle.std.proofs.Common.{◌≡◌, ◌+◌, ◌∙◌, length, ap, arith, subst}
 use Rattle.std.specs.Prelude.{IsTrue}
 use Rattle.tg_keep.specs.Lines.{history_of}
 use Rattle.tg_keep.proofs.Ready.{begun, done, ready, settled_again}
