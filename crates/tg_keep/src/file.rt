@@ -80,9 +80,9 @@ impl<D: Disk> LineFile<D> {
         Ok(())
     }
 
-    /// Puts the lines of the batch after those of the file, by one write and one sync, and lays zeros before that if too
-    /// few are left. At `Ok` each crash leaves a file that has the lines. An error is one of the disk, unless the file
-    /// has more than 2^62 bytes. Then a crash leaves a front of them, and the file may not be used any more.
+    /// Puts the lines of the batch after those of the file, by one write and one sync, and lays zeros before that if
+    /// too few are left. At `Ok` each crash leaves a file that has the lines. An error is one of the disk, unless the
+    /// file has more than 2^62 bytes. Then a crash leaves a front of them, and the file may not be used any more.
     pub fn put(&mut self, batch: &Batch) -> io::Result<()>
         requires settled { AwaitsBatch D.seen D.may_leave D.is_usable D.is_clean self.old }
         requires mixing { AlwaysMixes D.is_mixing }

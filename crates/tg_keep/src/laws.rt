@@ -15,8 +15,9 @@ pub fn what_is_written_is_read()
     ensures { (before text : List ℕ) (begins : Bool) → is_text text ≡ true → texts_after before (sealed_line before begins text) ≡ text ∷ [] }
 {}
 
-/// A batch was written over zeros after whole lines, and a crash left of each byte the zero or the one that was written.
-/// That is no damage, so the file opens. The premise on the batch is that only its first line has the mark `@`.
+/// A batch was written over zeros after whole lines, and a crash left of each byte the zero or the one that was
+/// written. That is no damage, so the file opens. The premise on the batch is that only its first line has the mark
+/// `@`.
 pub fn a_torn_batch_is_no_damage()
     ensures { (front written left : List ℕ) → length_after first_sum front ≡ length front → BeginsOnce written → IsZeroOr written left → is_damaged (front ++ left) ≡ false }
 {}

@@ -19,14 +19,14 @@
 //!
 //! | Call | What it does |
 //! |---|---|
-//! | [`LineFile::begin`] | makes a new file of an empty one, under a name that no program reads yet |
+//! | [`LineFile::begin`] | makes a new file of an empty one, under a name of its own |
 //! | [`LineFile::open`] | opens a file that a crash may have left, drops a torn end, and refuses damage |
 //! | [`LineReader`] | reads the lines of the bytes that `open` returns |
 //! | [`Batch::add`] | adds a line to a batch |
 //! | [`LineFile::put`], [`LineFile::put_all`] | put batches into the file. At `Ok` each crash leaves their lines |
 //!
-//! After an error of `put` the file may not be used any more. The program drops it and opens it anew. Not there yet are a
-//! mark that a file was closed, files over a disk that may tear any byte, and the calls that reach a real file.
+//! After an error of `put` the program drops the file and opens it anew. Still missing are a mark that a file was
+//! closed, files over a disk that may tear any byte, and the calls that reach a real file.
 #![tactic(auto)]
 
 mod batch;

@@ -11,10 +11,11 @@ use sqlite_disk::{Crash, Disk};
 use std::alloc::Global;
 
 impl<D: Disk> LineFile<D> {
-    /// Opens a file that a crash may have left, and returns its bytes, of which a [`LineReader`](crate::LineReader) reads
-    /// the lines. What comes after the last whole line was never answered, so it is cut off. The file says the same then,
-    /// and so does each content that a crash inside of the call may leave. `NotKept` says that the file isn't one of ours,
-    /// and `Damaged` that bytes which were on the disk aren't there any more. Then the file is as it was.
+    /// Opens a file that a crash may have left, and returns its bytes, of which a [`LineReader`](crate::LineReader)
+    /// reads the lines. What comes after the last whole line was never answered, so it is cut off. The file says the
+    /// same then, and so does each content that a crash inside of the call may leave. `NotKept` says that the file
+    /// isn't one of ours, and `Damaged` that bytes which were on the disk aren't there any more. Then the file is as
+    /// it was.
     pub fn open(&mut self, alloc: Global) -> Result<Vec<u8>, FileFault>
         requires usable { IsTrue (D.is_usable self.old.disk) }
         requires mixing { AlwaysMixes D.is_mixing }

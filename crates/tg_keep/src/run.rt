@@ -11,8 +11,8 @@ use std::alloc::Global;
 use std::io;
 
 impl<D: Disk> LineFile<D> {
-    /// Puts batch after batch, as [`LineFile::put`] does, and counts in `answered` how many are on the disk. A crash at any
-    /// moment leaves all lines of these, and a front of the others.
+    /// Puts batch after batch, as [`LineFile::put`] does, and counts in `answered` how many are on the disk. A crash
+    /// at any moment leaves all lines of these, and a front of the others.
     pub fn put_all(&mut self, batches: &[Batch], answered: &mut usize) -> io::Result<()>
         requires settled { AwaitsBatch D.seen D.may_leave D.is_usable D.is_clean self.old }
         requires mixing { AlwaysMixes D.is_mixing }
@@ -33,8 +33,8 @@ impl<D: Disk> LineFile<D> {
 }
 
 impl<D: Crash> LineFile<D> {
-    /// The whole ladder: batches are put, the machine crashes, and the file is opened again. Then it says all batches that
-    /// were answered, and after them a front of the others.
+    /// The whole ladder: batches are put, the machine crashes, and the file is opened again. Then it says all batches
+    /// that were answered, and after them a front of the others.
     pub fn put_until_crash(
         &mut self,
         alloc: Global,
