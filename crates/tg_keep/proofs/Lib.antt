@@ -1,8 +1,15 @@
 pub mod Adding
+pub mod Cutting
+pub mod Damage
 pub mod Joined
+pub mod Laying
+pub mod Mending
 pub mod LineLaws
+pub mod Opening
 pub mod Putting
 pub mod Reading
+pub mod Running
+pub mod Scanning
 pub mod SumLaws
 pub mod TableLaws
 pub mod Writing

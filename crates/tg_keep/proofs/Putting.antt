@@ -1,11 +1,11 @@
 -- What a write of whole lines over zeros leaves, if a crash mixes old and new bytes.
-use Rattle.std.proofs.Common.{◌≡◌, ◌⊎◌, inl, inr, ℕ, zero, suc, ◌+◌, ◌-◌, ◌<◌, ◌≤◌, List, [], ◌++◌, length, get_or, take, drop, refl, sym, ◌∙◌, ap, subst, arith, append_assoc, length-append}
+use Rattle.std.proofs.Common.{◌≡◌, ◌⊎◌, inl, inr, ℕ, zero, suc, ◌+◌, ◌-◌, ◌<◌, ◌≤◌, List, [], ◌++◌, length, get_or, take, drop, map, refl, sym, ◌∙◌, ap, subst, arith, append_assoc, length-append}
 use Rattle.std.proofs.lemmas.Bool.{cases_lt}
-use Rattle.std.proofs.lemmas.List.{append-nil, drop-drop, ext_get_or, get_or-drop, get_or-take, get_or_past, length-drop, length-take-le, take-append-drop, take_at}
+use Rattle.std.proofs.lemmas.List.{append-nil, drop-drop, drop_more, ext_get_or, get_or-drop, get_or-take, get_or_past, length-drop, length-take-le, take-append-drop, take_at}
 use Rattle.sqlite_disk.specs.Disk.{Follows, Mixed, Only, Torn}
-use Rattle.tg_keep.specs.Lines.{first_sum, history_of, last_sum_after, length_after, texts_after}
+use Rattle.tg_keep.specs.Lines.{first_sum, history_of, last_sum_after, length_after, text_in, texts_after, whole_lines}
 use Rattle.tg_keep.specs.Fronts.{AddsFront, IsZeroOr}
-use Rattle.tg_keep.proofs.Reading.{no_texts, texts_fronts}
+use Rattle.tg_keep.proofs.Reading.{no_texts, texts_fronts, zero_byte_ends}
 use Rattle.tg_keep.proofs.Joined.{AreWhole, last_sum_joined, length_joined, texts_joined}
 
 take_nothing : (n : ℕ) → ◌≡◌ {A = List (List ℕ)} (take n []) []
@@ -13,10 +13,23 @@ take_nothing zero = refl
 take_nothing (suc n) = refl
 
 -- zeros say nothing
-zeros_say_nothing : (before bytes : List ℕ) → ((i : ℕ) → get_or bytes i 0 ≡ 0) → texts_after before bytes ≡ []
+pub zeros_say_nothing : (before bytes : List ℕ) → ((i : ℕ) → get_or bytes i 0 ≡ 0) → texts_after before bytes ≡ []
 zeros_say_nothing before bytes zeros =
     let front = texts_fronts before [] bytes (λ i. inl (zeros i)) in
     front.2 ∙ ap (take front.0) (no_texts before) ∙ take_nothing front.0
+
+-- whole lines, and then a zero
+pub ends_at_zero : (file : List ℕ) (end : ℕ) → end < length file → get_or file end 0 ≡ 0 → length_after first_sum (take end file) ≡ end → history_of file ≡ texts_after first_sum (take end file)
+unfolding texts_after
+ends_at_zero file end room blank whole =
+    let sum = last_sum_after first_sum (take end file) in
+    let lines : AreWhole first_sum (take end file) = whole ∙ sym (length-take-le end file (omega arith)) in
+    let rest : texts_after sum (drop end file) ≡ [] =
+    ap (λ l. map text_in (whole_lines sum l)) (drop_more file end 0 room) ∙ ap (map text_in) (zero_byte_ends sum [] (drop (end + 1) file) (get_or file end 0) blank) in
+    ap history_of (sym (take-append-drop end file))
+    ∙ texts_joined first_sum (take end file) (drop end file) lines
+    ∙ ap (λ l. texts_after first_sum (take end file) ++ l) rest
+    ∙ append-nil (texts_after first_sum (take end file))
 
 -- a file with whole lines up to `end`, and zeros from there on
 module _ (file : List ℕ) (end : ℕ) (within : end ≤ length file) (zeros : (i : ℕ) → end ≤ i → get_or file i 0 ≡ 0) (whole : length_after first_sum (take end file) ≡ end) where

@@ -34,14 +34,14 @@ pub whole_from_other : (before line : List ℕ) (lines : List (List ℕ)) → is
 unfolding whole_from
 whole_from_other before line lines is = grind (arith, nat_tests)
 
-has_zero-append : (line : List ℕ) (byte : ℕ) → has_zero line ≡ true → has_zero (line ++ byte ∷ []) ≡ true
+pub has_zero-append : (line : List ℕ) (byte : ℕ) → has_zero line ≡ true → has_zero (line ++ byte ∷ []) ≡ true
 has_zero-append [] byte has = cc
 has_zero-append (b ∷ line) byte has = elim (cases_Bool (b == 0)) [
   | inl here ↦ rw here refl
   | inr later ↦ rw later (has_zero-append line byte (rw later at has))
 ]
 
-has_zero_last : (line : List ℕ) → has_zero (line ++ 0 ∷ []) ≡ true
+pub has_zero_last : (line : List ℕ) → has_zero (line ++ 0 ∷ []) ≡ true
 has_zero_last [] = refl
 has_zero_last (b ∷ line) = elim (cases_Bool (b == 0)) [
   | inl here ↦ rw here refl

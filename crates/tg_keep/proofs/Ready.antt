@@ -1,6 +1,5 @@
 -- A put, by what it needs and what its calls of the disk ensure.
-use Rattle.std.proofs.Common.{◌≡◌, ℕ, ◌+◌, ◌<◌, ◌≤◌, Bool, List, ◌++◌, length, get_or, take, sym, ◌∙◌, ap, subst, arith}
-use Rattle.std.specs.Prelude.{IsTrue}
+use Rattle.std.proofs.Common.{◌≡◌, ℕ, ◌+◌, ◌<◌, ◌≤◌, List, ◌++◌, length, get_or, take, sym, ◌∙◌, ap, subst, arith}
 use Rattle.sqlite_disk.specs.Disk.{Follows, Holds, Mixed, Only, Torn}
 use Rattle.tg_keep.specs.Lines.{first_sum, history_of, last_sum_after, length_after, texts_after}
 use Rattle.tg_keep.specs.Fronts.{AddsFront}
@@ -18,10 +17,10 @@ pub record IsReady (file : List ℕ) (end : ℕ) (bytes before : List ℕ) : Typ
   pub last : before ≡ last_sum_after first_sum (take end file)
   pub batch : AreWhole before bytes
 
-pub ready : {D : Type 0} (seen : D → List ℕ) (may_leave : D → List ℕ → Type 0) (is_usable : D → Bool) (file : LineFile D) (bytes before : List ℕ)
-    → IsSynced seen may_leave is_usable file → before ≡ file.sum.digits → file.end + length bytes < file.length → AreWhole before bytes → IsReady (seen file.disk) file.end bytes before
-ready seen may_leave is_usable file bytes before settled follows room batch = record {
-  within = omega (arith, settled.room, settled.size);
+pub ready : {D : Type 0} (seen : D → List ℕ) (may_leave : D → List ℕ → Type 0) (file : LineFile D) (bytes before : List ℕ)
+    → IsSynced seen may_leave file → before ≡ file.sum.digits → file.end + length bytes < file.length → AreWhole before bytes → IsReady (seen file.disk) file.end bytes before
+ready seen may_leave file bytes before settled follows room batch = record {
+  within = omega (arith, room, settled.size);
   zeros = settled.zeros;
   whole = settled.whole;
   fits = omega (arith, room, settled.size);
@@ -60,15 +59,13 @@ done file end bytes before given c r is torn holds =
     }
 
 -- and synced: the file is settled again
-pub settled_again : {D : Type 0} (seen : D → List ℕ) (may_leave : D → List ℕ → Type 0) (is_usable : D → Bool) (new : LineFile D) (file : List ℕ) (end : ℕ) (bytes before c : List ℕ)
+pub settled_again : {D : Type 0} (seen : D → List ℕ) (may_leave : D → List ℕ → Type 0) (new : LineFile D) (file : List ℕ) (end : ℕ) (bytes before c : List ℕ)
     → IsReady file end bytes before → IsDone file end bytes before c → new.end ≡ end + length bytes → new.length ≡ length file → new.sum.digits ≡ last_sum_after before bytes
-    → seen new.disk ≡ c → IsTrue (is_usable new.disk) → Only c (may_leave new.disk) → IsSynced seen may_leave is_usable new
-settled_again seen may_leave is_usable new file end bytes before c r d at size sum shown usable only =
+    → seen new.disk ≡ c → Only c (may_leave new.disk) → IsSynced seen may_leave new
+settled_again seen may_leave new file end bytes before c r d at size sum shown only =
     let P : List ℕ → Type 0 = λ f. Only f (may_leave new.disk) in
     record {
-      usable = usable;
       size = size ∙ sym d.size ∙ ap length (sym shown);
-      room = omega (arith, r.fits, at, size);
       whole = ap (λ f. length_after first_sum (take new.end f)) shown ∙ ap (λ n. length_after first_sum (take n c)) at ∙ d.whole ∙ sym at;
       last = sum ∙ d.last ∙ sym (ap (λ f. last_sum_after first_sum (take new.end f)) shown ∙ ap (λ n. last_sum_after first_sum (take n c)) at);
       zeros = λ i le. ap (λ f. get_or f i 0) shown ∙ d.zeros i (omega (arith, le, at));

@@ -2,5 +2,8 @@ pub mod Batches
 pub mod Files
 pub mod Fronts
 pub mod Lines
+pub mod Opened
 pub mod Reads
+pub mod Runs
 pub mod Sums
+pub mod Zeros

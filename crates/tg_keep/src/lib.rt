@@ -14,19 +14,39 @@
 //! whole. A batch is written over zeros that are on the disk, and then synced ([`LineFile::put`]). A crash in between
 //! leaves of each byte the zero or the new one. No line has a zero. Therefore what is read then is what the file said
 //! before and a front of the batch ([`a_crash_leaves_a_front`]), and no sum has to be believed for that.
+//!
+//! What can be used now, over any [`Disk`](sqlite_disk::Disk):
+//!
+//! | Call | What it does |
+//! |---|---|
+//! | [`LineFile::begin`] | makes a new file of an empty one, under a name of its own |
+//! | [`LineFile::open`] | opens a file that a crash may have left, drops a torn end, and refuses damage |
+//! | [`LineReader`] | reads the lines of the bytes that `open` returns |
+//! | [`Batch::add`] | adds a line to a batch |
+//! | [`LineFile::put`], [`LineFile::put_all`] | put batches into the file. At `Ok` each crash leaves their lines |
+//!
+//! After an error of `put` the program drops the file and opens it anew. Still missing are a mark that a file was
+//! closed, files over a disk that may tear any byte, and the calls that reach a real file.
 #![tactic(auto)]
 
 mod batch;
+mod fault;
 mod file;
 mod laws;
 mod line;
+mod mend;
+mod open;
 mod reader;
+mod run;
+mod scan;
 mod sum;
 mod table;
+mod zeros;
 
 pub use batch::{Batch, BatchFault};
+pub use fault::FileFault;
 pub use file::LineFile;
-pub use laws::{a_crash_leaves_a_front, what_is_written_is_read};
+pub use laws::{a_crash_leaves_a_front, a_torn_batch_is_no_damage, what_is_written_is_read};
 pub use line::write_line;
 pub use reader::LineReader;
 pub use sum::{LineSum, sum_after};

@@ -1,16 +1,17 @@
 //! One line: how it is written, and what is read of it.
 ghost use Rattle.std.specs.Prelude.{◌≡◌, ◌++◌, ◌∷◌, [], true, false, take, vec_len, bytes_eq, IfOk, OnOk, OnErr, IfSome, MatchOption};
-ghost use Rattle.tg_keep.specs.Lines.{has_zero, is_whole, sealed_line, mark_of, text_in, sum_in};
+ghost use Rattle.tg_keep.specs.Lines.{begins_in, has_zero, is_whole, sealed_line, mark_of, text_in, sum_in};
 ghost use Rattle.tg_keep.specs.Sums.{sum_after};
 
 use crate::sum::{LineSum, sum_after};
 use std::alloc::AllocError;
 
-// The text of a line and its sum.
+// The text of a line, its sum, and whether it begins a batch.
 #[derive(Clone, Copy, Drop)]
 pub(crate) struct LineParts<'a> {
     pub(crate) text: &'a [u8],
     pub(crate) sum: LineSum,
+    pub(crate) begins: bool,
 }
 
 fn mark_of(begins: bool) -> u8
@@ -75,7 +76,7 @@ pub(crate) fn has_zero(line: &[u8]) -> bool
 // The parts of a line, which comes without its line feed, if it is whole after the digits `before`.
 pub(crate) fn parts_of<'a>(before: &[u8], line: &'a [u8]) -> Option<LineParts<'a>>
     ensures whole { MatchOption result (is_whole before.now line.now ≡ false) (λ parts. is_whole before.now line.now ≡ true) }
-    ensures parts { IfSome result (λ parts. (parts.text.now ≡ text_in line.now) × (parts.sum.digits ≡ sum_in line.now)) }
+    ensures parts { IfSome result (λ parts. (parts.text.now ≡ text_in line.now) × (parts.sum.digits ≡ sum_in line.now) × (parts.begins ≡ begins_in line.now)) }
 {
     if line.len() < 10 {
         return None;
@@ -90,5 +91,5 @@ pub(crate) fn parts_of<'a>(before: &[u8], line: &'a [u8]) -> Option<LineParts<'a
     if !is_end(&line[length..], begins, &sum) {
         return None;
     }
-    Some(LineParts { text, sum })
+    Some(LineParts { text, sum, begins })
 }

@@ -42,7 +42,7 @@ impl<'a> LineReader<'a> {
 
 // How many bytes are in front of the first line feed.
 #[tactic(auto, using(crate::proofs::Reading::feed_at, crate::proofs::Reading::feed_step, crate::proofs::Reading::feed_none))]
-fn first_length(bytes: &[u8]) -> Option<usize>
+pub(crate) fn first_length(bytes: &[u8]) -> Option<usize>
     ensures lines { MatchOption result (raw_lines bytes.now ≡ []) (λ n. raw_lines bytes.now ≡ take n bytes.now ∷ raw_lines (drop (n + 1) bytes.now)) }
     ensures within { IfSome result (λ n. n < length bytes.now) }
 {
