@@ -1,5 +1,5 @@
 -- The entries that are made of a session's hand: their receipts, the store behind the lock, and what the session knows then.
-use Rattle.std.proofs.Common.{◌≡◌, ◌≢◌, ◌↔◌, ◌⊎◌, ◌∙◌, ℕ, ◌+◌, ◌<◌, Bool, false, List, [], ◌∷◌, ◌++◌, Option, Some, None, Result, Ok, Err, length, length-append, add-zero, ap, arith, inl, inr, refl, subst, sym, ⊎_elim}
+use Rattle.std.proofs.Common.{◌≡◌, ◌≢◌, ◌↔◌, ◌⊎◌, ◌∙◌, ℕ, ◌+◌, ◌<◌, Bool, false, true, List, [], ◌∷◌, ◌++◌, Option, Some, None, Result, Ok, Err, length, length-append, add-zero, ap, arith, inl, inr, refl, subst, sym, ⊎_elim}
 use Rattle.std.specs.Prelude.{IfErr}
 use Rattle.std.specs.List.{All}
 use Rattle.std.specs.Option.{option_or}
@@ -8,6 +8,7 @@ use Rattle.std.proofs.lemmas.List.Elements.{All-cons, All-nil}
 use Rattle.tg_rights.specs.RightSet.{RightSet}
 use Rattle.tg_space.specs.SpaceTable.{BlockLimits}
 use Rattle.tg_model.specs.declared.command.Command.{Command}
+use Rattle.tg_model.specs.declared.command.Command.TheVariants.{Retire}
 use Rattle.tg_model.specs.declared.command.Deed.TheVariants.{Plain}
 use Rattle.tg_model.specs.declared.reply.Denial.{Denial}
 use Rattle.tg_model.specs.Graph.{IsSubject}
@@ -63,6 +64,18 @@ noted_one {roll = roll} {now = now} {next = next} {total = total} {sum = sum} {a
       counted = omega (arith, long, more, before);
       spare = omega (arith, long, less, room);
     }
+
+-- who makes an entry of a command other than a retire has not retired by it
+pub not_retire : (e : Entry) (command : Command) → e.deed ≡ Plain command → retired_by false (Plain command) ≡ false → e.deed ≡ Plain Retire → ⊥
+not_retire e command is stays retires =
+    let both : false ≡ true = sym stays ∙ ap (retired_by false) (sym is ∙ retires) in
+    let no : ⊥ = cc both in no
+
+pub retired_before : (before after : Bool) (e : Entry) (command : Command) → after ≡ retired_by before e.deed → e.deed ≡ Plain command → retired_by false (Plain command) ≡ false → after ≡ true → before ≡ true
+retired_before true after e command by is stays now = refl
+retired_before false after e command by is stays now =
+    let both : false ≡ true = sym (by ∙ ap (retired_by false) is ∙ stays) ∙ now in
+    let no : ⊥ = cc both in absurd no
 
 -- ---- the entries of a hand
 

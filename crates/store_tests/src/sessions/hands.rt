@@ -2,7 +2,7 @@
 ghost use Rattle.std.specs.Prelude.{◌≡◌};
 ghost use Rattle.tg_shared.specs.Sessions.{MayShare};
 
-use super::opened::draft;
+use super::opened::{Counted, counted, draft};
 use crate::opened::{cells, open};
 use std::alloc::Global;
 use std::marker::Brand;
@@ -25,7 +25,9 @@ fn open_for_hands(alloc: Global) -> Option<Store<CellPayload>> {
     let mut store = open(alloc, cells(alloc, 1)?, limits, 10)?;
     let rights = Label::read_text(b"rw")?;
     store.spawn(0, Label::read_text(b"g")?, draft(alloc)?).ok()?;
-    store.create(0, Label::read_text(b"tg")?, draft(alloc)?).ok()?;
+    store
+        .create(0, Label::read_text(b"tg")?, draft(alloc)?)
+        .ok()?;
     store.create(0, rights, draft(alloc)?).ok()?;
     let grant = Command::Grant {
         rights: Label::read_text(b"r")?,
@@ -86,17 +88,18 @@ fn hand_of_two<L: Round, R: Wait>(
     }
 }
 
-// What is seen, and how many entries the store has that is had back. They are legal.
-type HandsTold = (HandSeen, Option<u64>);
+// What is seen, and of the store that is had back how many entries are legal, and what is counted.
+type HandsTold = (HandSeen, Option<(u64, Counted)>);
 
 const UNTOLD: HandsTold = ((None, false, [0, 0]), None);
 
-// How many entries are legal, if the store was had back.
-fn legal_of(alloc: Global, closed: Option<Store<CellPayload>>) -> Option<u64> {
+// How many entries are legal, and what is counted, if the store was had back.
+fn legal_of(alloc: Global, closed: Option<Store<CellPayload>>) -> Option<(u64, Counted)> {
     let store = closed?;
     let legal = store.audit(alloc).ok()?.entries();
+    let counted = counted(&store);
     store.let_go();
-    Some(legal)
+    Some((legal, counted))
 }
 
 fn told_of_store<L: Round, R: Wait>(
@@ -139,17 +142,17 @@ fn told<R: Wait>(rt: &R, alloc: Global, rights: &[u8]) -> HandsTold {
 }
 
 // A spawn, two creates, a grant and a remove come before the store is shared. The hand has three entries, with a receipt
-// of each, and then the second session may read.
+// of each, and then the second session may read. Nothing is collected.
 #[test]
 fn a_session_hands_on_to_another(rt: HostRuntime) {
     let removed = Label::read_text(b"r");
-    let wanted = ((Some(Ok(removed)), true, [3, 1]), Some(9));
+    let wanted = ((Some(Ok(removed)), true, [3, 1]), Some((9, [4, 0, 0])));
     assert_eq!(rt; told(&rt, rt.alloc(), b"r"), wanted);
 }
 
 // Object 2 may not write, so the take is denied. It has one receipt, and the second session's read is denied too.
 #[test]
 fn a_denied_hand_of_a_session_has_one_receipt(rt: HostRuntime) {
-    let wanted = ((Some(Err(Rule::Take)), false, [1, 1]), Some(7));
+    let wanted = ((Some(Err(Rule::Take)), false, [1, 1]), Some((7, [4, 0, 0])));
     assert_eq!(rt; told(&rt, rt.alloc(), b"w"), wanted);
 }
