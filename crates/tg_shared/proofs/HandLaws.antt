@@ -1,22 +1,22 @@
 -- The entries that are made of a session's hand: their receipts, the store behind the lock, and what the session knows then.
 use Rattle.std.proofs.Common.{◌≡◌, ◌≢◌, ◌↔◌, ◌⊎◌, ◌∙◌, ℕ, ◌+◌, ◌<◌, Bool, false, true, List, [], ◌∷◌, ◌++◌, Option, Some, None, Result, Ok, Err, length, length-append, add-zero, ap, arith, inl, inr, refl, subst, sym, ⊎_elim}
-use Rattle.std.specs.Prelude.{IfErr}
+use Rattle.std.specs.Prelude.{IfErr, IfOk}
 use Rattle.std.specs.List.{All}
 use Rattle.std.specs.Option.{option_or}
 use Rattle.std.proofs.lemmas.List.{append-nil}
 use Rattle.std.proofs.lemmas.List.Elements.{All-cons, All-nil}
-use Rattle.tg_rights.specs.RightSet.{RightSet}
-use Rattle.tg_space.specs.SpaceTable.{BlockLimits}
 use Rattle.tg_model.specs.declared.command.Command.{Command}
 use Rattle.tg_model.specs.declared.command.Command.TheVariants.{Retire}
 use Rattle.tg_model.specs.declared.command.Deed.TheVariants.{Plain}
 use Rattle.tg_model.specs.declared.reply.Denial.{Denial}
+use Rattle.tg_model.specs.declared.reply.Reply.TheVariants as reply
 use Rattle.tg_model.specs.Graph.{IsSubject}
 use Rattle.tg_graph.specs.Heap.{HeapState}
 use Rattle.tg_journal.specs.declared.entry.Entry.{Entry}
 use Rattle.tg_passes.specs.declared.signed.Maker.TheVariants.{Session}
 use Rattle.tg_passes.specs.Passes.{RollState, entries_by, sign_all}
-use Rattle.tg_store.specs.Handing.{ComesOfHand, LacksCellsToHand, denied_as, entries_of_hand, giving_back, grant_of, take_of}
+use Rattle.tg_store.specs.Handing.{ComesOfHand, LacksCellsToHand, denied_as, done_by, grant_of, take_of}
+use Rattle.tg_store.specs.Leaving.{removal}
 use Rattle.tg_store.specs.Store.{StoreState, graph_of_store}
 use Rattle.tg_store.specs.declared.fault.ApplyFault.{ApplyFault}
 use Rattle.tg_store.specs.declared.fault.ApplyFault.TheVariants.{HeapFull, NoSuchWorker, OutOfMemory}
@@ -79,7 +79,7 @@ retired_before false after e command by is stays now =
 
 -- ---- the entries of a hand
 
-first_or : Command → Option (Command × Denial) → Command
+abbrev first_or : Command → Option (Command × Denial) → Command
 first_or other None = other
 first_or other (Some denied) = denied.0
 
@@ -118,20 +118,19 @@ module _ (h : Hand) (old new : StoreState) where
   limits_come (Done back) come = come.limits
   limits_come (Denied command denial) come = ap (λ (x : HeapState). x.table.limits) come.entry.heap
 
+own_none : (x : ℕ) → All (λ (e : Entry). e.worker ≡ x) []
+own_none x = All-nil (λ (e : Entry). e.worker ≡ x)
+
+own_more : (x : ℕ) (e : Entry) (es : List Entry) → e.worker ≡ x → All (λ (e : Entry). e.worker ≡ x) es → All (λ (e : Entry). e.worker ≡ x) (e ∷ es)
+own_more x e es is more = All-cons (λ (e : Entry). e.worker ≡ x) e es is more
+
 -- each is of the one who hands on
 pub own_handed : (x : ℕ) (h : Hand) (handed : Handed) → h.via ≡ x → All (λ e. e.worker ≡ x) (entries_handed h handed)
-own_handed x h handed is = by_case handed
-  where
-    Own : Entry → Type 0
-    Own e = e.worker ≡ x
-
-    back : (given : Option RightSet) → All Own (giving_back h given)
-    back None = All-nil Own
-    back (Some rights) = All-cons Own _ [] is (All-nil Own)
-
-    by_case : (handed : Handed) → All Own (entries_handed h handed)
-    by_case (Done given) = All-cons Own _ _ is (All-cons Own _ _ is (back given))
-    by_case (Denied command denial) = All-cons Own _ [] is (All-nil Own)
+own_handed x h (Done None) is = own_more x (done_by h.via (take_of h)) (done_by h.via (grant_of h) ∷ []) is (own_more x (done_by h.via (grant_of h)) [] is (own_none x))
+own_handed x h (Done (Some rights)) is =
+    let last : Entry = removal h.via (h.target, rights) in
+    own_more x (done_by h.via (take_of h)) (done_by h.via (grant_of h) ∷ last ∷ []) is (own_more x (done_by h.via (grant_of h)) (last ∷ []) is (own_more x last [] is (own_none x)))
+own_handed x h (Denied command denial) is = own_more x (record { worker = h.via; deed = Plain command; reply = reply.Denied denial }) [] is (own_none x)
 
 pub none_spawned : (h : Hand) (handed : Handed) → spawned (entries_handed h handed) ≡ 0
 none_spawned h (Done None) = refl
@@ -172,7 +171,7 @@ longer es more some same =
     let long = length-append es more in
     omega (arith, some, l, long)
 
-pub hands_at_seen : (start : SharedStart) (v w : LockedState) (old ready new : SessionState) (hand : OwnHand) (handed : Handed) → IsReady start v old ready → HoldsWhenFree start w → HasNoted v w ready new → ComesOfHand (hand_by ready.worker hand) v.store w.store handed
+hands_at_seen : (start : SharedStart) (v w : LockedState) (old ready new : SessionState) (hand : OwnHand) (handed : Handed) → IsReady start v old ready → HoldsWhenFree start w → HasNoted v w ready new → ComesOfHand (hand_by ready.worker hand) v.store w.store handed
     → AddsReceipts ready new (length v.store.entries) (entries_handed (hand_by ready.worker hand) handed) → HandsAtSeen start hand old new handed
 hands_at_seen start v w old ready new hand handed is_so held noted come receipts =
     let keeps = is_so.looked.kept in
@@ -190,6 +189,10 @@ hands_at_seen start v w old ready new hand handed is_so held noted come receipts
       seen = seen ∙ noted.signed ∙ ap (λ (l : List Entry). v.signed ++ sign_all (Session ready.worker) l) (got_more v.store.entries w.store.entries more (entries_come h v.store w.store handed come))
           ∙ (λ i. v.signed ++ sign_all (Session (named i)) (entries_handed (hand_by (named i) hand) handed));
     }
+
+pub handed_at_seen : (start : SharedStart) (v w : LockedState) (old ready new : SessionState) (hand : OwnHand) (result : Result Handed ApplyFault) → IsReady start v old ready → HoldsWhenFree start w → HasNoted v w ready new → ServesHand hand v.store w.store ready new result → IfOk result (HandsAtSeen start hand old new)
+handed_at_seen start v w old ready new hand (Ok handed) is_so held noted served = hands_at_seen start v w old ready new hand handed is_so held noted served.comes served.receipts
+handed_at_seen start v w old ready new hand (Err why) is_so held noted served = tt
 
 pub refuses_hand : (start : SharedStart) (v : LockedState) (next : StoreState) (old ready new : SessionState) (hand : OwnHand) (result : Result Handed ApplyFault) → IsReady start v old ready → ServesHand hand v.store next ready new result → IfErr result (RefusesHand start hand old new)
 refuses_hand start v next old ready new hand (Ok handed) is_so served = tt
