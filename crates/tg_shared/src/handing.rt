@@ -1,5 +1,5 @@
 //! Rights that a session's subject hands on, in one taking of the lock.
-ghost use Rattle.std.specs.Prelude.{◌≡◌, ◌≢◌, ◌≤◌, ◌<◌, ◌+◌, ◌^◌, [], ◌∷◌, IfOk, IfErr, IsErrAnd, false, true, length};
+ghost use Rattle.std.specs.Prelude.{◌≡◌, ◌≢◌, ◌≤◌, ◌<◌, ◌+◌, ◌^◌, IfOk, IfErr, IsErrAnd, false, true, length};
 ghost use Rattle.tg_model.specs.declared.command.Deed.TheVariants.{Plain};
 ghost use Rattle.tg_store.specs.Handing.{entries_of_hand};
 ghost use Rattle.tg_shared.specs.Handing.{HandsAtSeen, RefusesHand, ServesHand, entries_handed, hand_by};

@@ -65,9 +65,9 @@ returns-in_default g c =
     let e1 : Entry = c.entry_by.result in
     let e2 : Entry = c.entry_by-2.result in
     let one = noted_one [] e1 (noted_nothing c.args.register.now.roll c.args.register.now.book.total c.args.at c.args.self.now) c.note.ensures.receipt c.note.ensures.signed c.note.ensures.spare c.note.ensures.book (sym (add-zero c.args.at))
-        (ap (λ (e : Entry). e.worker) c.entry_by.ensures ∙ c.requires.own) in
+    (ap (λ (e : Entry). e.worker) c.entry_by.ensures ∙ c.requires.own) in
     let two = noted_one (e1 ∷ []) e2 one c.note-2.ensures.receipt c.note-2.ensures.signed c.note-2.ensures.spare c.note-2.ensures.book refl
-        (ap (λ (e : Entry). e.worker) c.entry_by-2.ensures ∙ c.requires.own ∙ sym c.note.ensures.receipt.0) in
+    (ap (λ (e : Entry). e.worker) c.entry_by-2.ensures ∙ c.requires.own ∙ sym c.note.ensures.receipt.0) in
     let all : e1 ∷ e2 ∷ [] ≡ entries_of_hand h c.args.removed.now =
     (λ i. c.entry_by.ensures i ∷ c.entry_by-2.ensures i ∷ []) ∙ ap (entries_of_hand h) (sym (none_left c.args.removed.now c.in_default.not-Some)) in
     record {
@@ -83,11 +83,11 @@ returns-in-Some g c =
     let e2 : Entry = c.entry_by-2.result in
     let e3 : Entry = c.removal.result in
     let one = noted_one [] e1 (noted_nothing c.args.register.now.roll c.args.register.now.book.total c.args.at c.args.self.now) c.note.ensures.receipt c.note.ensures.signed c.note.ensures.spare c.note.ensures.book (sym (add-zero c.args.at))
-        (ap (λ (e : Entry). e.worker) c.entry_by.ensures ∙ c.requires.own) in
+    (ap (λ (e : Entry). e.worker) c.entry_by.ensures ∙ c.requires.own) in
     let two = noted_one (e1 ∷ []) e2 one c.note-2.ensures.receipt c.note-2.ensures.signed c.note-2.ensures.spare c.note-2.ensures.book refl
-        (ap (λ (e : Entry). e.worker) c.entry_by-2.ensures ∙ c.requires.own ∙ sym c.note.ensures.receipt.0) in
+    (ap (λ (e : Entry). e.worker) c.entry_by-2.ensures ∙ c.requires.own ∙ sym c.note.ensures.receipt.0) in
     let three = noted_one (e1 ∷ e2 ∷ []) e3 two c.note-in-Some.ensures.receipt c.note-in-Some.ensures.signed c.note-in-Some.ensures.spare c.note-in-Some.ensures.book refl
-        (ap (λ (e : Entry). e.worker) c.removal.ensures ∙ c.requires.own ∙ sym c.note.ensures.receipt.0 ∙ sym c.note-2.ensures.receipt.0) in
+    (ap (λ (e : Entry). e.worker) c.removal.ensures ∙ c.requires.own ∙ sym c.note.ensures.receipt.0 ∙ sym c.note-2.ensures.receipt.0) in
     let all : e1 ∷ e2 ∷ e3 ∷ [] ≡ entries_of_hand h c.args.removed.now =
     (λ i. c.entry_by.ensures i ∷ c.entry_by-2.ensures i ∷ c.removal.ensures i ∷ []) ∙ ap (entries_of_hand h) (sym c.in-Some.is) in
     record {
