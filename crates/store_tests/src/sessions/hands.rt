@@ -2,22 +2,23 @@
 ghost use Rattle.std.specs.Prelude.{◌≡◌};
 ghost use Rattle.tg_shared.specs.Sessions.{MayShare};
 
-use super::opened::{Counted, counted, draft};
+use super::opened::{Counted, counted, draft, is_answered};
 use crate::opened::{cells, open};
 use std::alloc::Global;
 use std::marker::Brand;
 use std::sync::Wait;
-use tg_model::{Command, Reply, Rule};
+use tg_model::{Cause, Command, Denial, Rule};
 use tg_payload::CellPayload;
-use tg_rights::Label;
+use tg_rights::{Label, Right, Rights};
 use tg_shared::{Blanks, OwnHand, Round, Session, Shared, SharedStore, close};
 use tg_store::{Handed, Limits, Store};
 
-// What comes of a hand: the rights that are removed again, or the rule that denies it.
-type Came = Option<Result<Option<Label>, Rule>>;
+// What comes of a hand: the rights that are removed again, or why it is denied.
+type Came = Option<Result<Option<Label>, Denial>>;
 
-// What comes of a hand, whether the second session then reads the target, and how many receipts both have.
-type HandSeen = (Came, bool, [usize; 2]);
+// What comes of a hand, what the worker of the second session then holds over the target, and how many receipts both
+// sessions have, once the second one asked to read the target.
+type HandSeen = (Came, Option<Label>, [usize; 2]);
 
 // Worker 0 may grant to worker 1 and take from object 2, which may read object 3.
 fn open_for_hands(alloc: Global) -> Option<Store<CellPayload>> {
@@ -54,19 +55,7 @@ fn hand<L: Round, R: Wait>(
     };
     match session.hand(rt, store, hand).ok()? {
         Handed::Done { removed } => Some(Ok(removed)),
-        Handed::Denied { denial, .. } => Some(Err(denial.rule)),
-    }
-}
-
-// Whether the session's command to read object 3 is served.
-fn reads<L: Round, R: Wait>(
-    rt: &R,
-    store: &SharedStore<L, CellPayload>,
-    session: &mut Session<L>,
-) -> bool {
-    match session.call(rt, store, Command::Read { target: 3 }) {
-        Ok(Reply::Values(_)) => true,
-        _ => false,
+        Handed::Denied { denial, .. } => Some(Err(denial)),
     }
 }
 
@@ -80,18 +69,19 @@ fn hand_of_two<L: Round, R: Wait>(
     match sessions {
         [first, second] => {
             let came = hand(rt, store, first, rights);
-            let is_read = reads(rt, store, second);
+            let held = second.label(rt, store, 3);
+            let _read = is_answered(rt, store, second, Command::Read { target: 3 });
             let receipts = [first.receipts().len(), second.receipts().len()];
-            (came, is_read, receipts)
+            (came, held, receipts)
         }
-        _ => (None, false, [0, 0]),
+        _ => (None, None, [0, 0]),
     }
 }
 
 // What is seen, and of the store that is had back how many entries are legal, and what is counted.
 type HandsTold = (HandSeen, Option<(u64, Counted)>);
 
-const UNTOLD: HandsTold = ((None, false, [0, 0]), None);
+const UNTOLD: HandsTold = ((None, None, [0, 0]), None);
 
 // How many entries are legal, and what is counted, if the store was had back.
 fn legal_of(alloc: Global, closed: Option<Store<CellPayload>>) -> Option<(u64, Counted)> {
@@ -142,17 +132,25 @@ fn told<R: Wait>(rt: &R, alloc: Global, rights: &[u8]) -> HandsTold {
 }
 
 // A spawn, two creates, a grant and a remove come before the store is shared. The hand has three entries, with a receipt
-// of each, and then the second session may read. Nothing is collected.
+// of each, and then worker 1 may read. Nothing is collected.
 #[test]
 fn a_session_hands_on_to_another(rt: HostRuntime) {
-    let removed = Label::read_text(b"r");
-    let wanted = ((Some(Ok(removed)), true, [3, 1]), Some((9, [4, 0, 0])));
+    let read = Label::read_text(b"r");
+    let wanted = ((Some(Ok(read)), read, [3, 1]), Some((9, [4, 0, 0])));
     assert_eq!(rt; told(&rt, rt.alloc(), b"r"), wanted);
 }
 
-// Object 2 may not write, so the take is denied. It has one receipt, and the second session's read is denied too.
+// Object 2 may not write, so the take is denied. It has one receipt, and worker 1 gets no right.
 #[test]
 fn a_denied_hand_of_a_session_has_one_receipt(rt: HostRuntime) {
-    let wanted = ((Some(Err(Rule::Take)), false, [1, 1]), Some((7, [4, 0, 0])));
+    let missing = Denial {
+        rule: Rule::Take,
+        cause: Cause::Missing {
+            rights: Rights::of(Right::W),
+            from: 2,
+            to: 3,
+        },
+    };
+    let wanted = ((Some(Err(missing)), None, [1, 1]), Some((7, [4, 0, 0])));
     assert_eq!(rt; told(&rt, rt.alloc(), b"w"), wanted);
 }
