@@ -2,9 +2,9 @@
 
 use crate::opened;
 use std::alloc::Global;
-use tg_model::{Cause, Command, Denial, Rule};
+use tg_model::{Command, Denial, Rule};
 use tg_payload::{CellPayload, Draft};
-use tg_rights::{Label, Right, Rights};
+use tg_rights::{Label, Right};
 use tg_store::{Hand, Handed, Limits, Store};
 
 // Worker 0 makes an object, over which it has rights with this text.
@@ -36,12 +36,12 @@ fn open(alloc: Global) -> Option<Store<CellPayload>> {
     Some(store)
 }
 
-// Worker 0 hands rights over object 2 on from object 1. What is removed of it again, or why it is denied.
+// Worker 0 hands rights over object 2 on from object 1. What is removed of it again, or the rule that denies it.
 fn hand(
     store: &mut Store<CellPayload>,
     to: u64,
     rights: &[u8],
-) -> Option<Result<Option<Label>, Denial>> {
+) -> Option<Result<Option<Label>, Rule>> {
     let hand = Hand {
         via: 0,
         from: 1,
@@ -51,49 +51,53 @@ fn hand(
     };
     match store.hand(hand).ok()? {
         Handed::Done { removed } => Some(Ok(removed)),
-        Handed::Denied { denial, .. } => Some(Err(denial)),
+        Handed::Denied { denial, .. } => Some(Err(denial.rule)),
     }
 }
 
-// What three hands come to: a read right to object 3, a write right that object 1 doesn't have, and a read right over
-// object 2 to object 2 itself. Then who may read object 2, whether worker 0 has a right over it, and how many entries
-// are legal.
-fn left_of_hands(
-    alloc: Global,
-) -> Option<([Option<Result<Option<Label>, Denial>>; 3], bool, bool, u64)> {
+// What comes of three hands: a read right to object 3, a write right that object 1 doesn't have, and a read right over
+// object 2 to object 2 itself.
+fn seen_of_hands(alloc: Global) -> Option<[Option<Result<Option<Label>, Rule>>; 3]> {
     let mut store = open(alloc)?;
     let seen = [
         hand(&mut store, 3, b"r"),
         hand(&mut store, 3, b"w"),
         hand(&mut store, 2, b"r"),
     ];
+    store.let_go();
+    Some(seen)
+}
+
+#[test]
+fn handed_on_or_denied(rt: HostRuntime) {
+    let seen = seen_of_hands(rt.alloc());
+    let read = Label::read_text(b"r");
+    assert_eq!(rt;
+        seen,
+        Some([
+            Some(Ok(read)),
+            Some(Err(Rule::Take)),
+            Some(Err(Rule::Grant))
+        ])
+    );
+}
+
+// After these hands: who may read object 2, whether worker 0 has a right over it, and how many entries are legal.
+fn left_of_hands(alloc: Global) -> Option<(bool, bool, u64)> {
+    let mut store = open(alloc)?;
+    for (to, rights) in [(3, b"r"), (3, b"w"), (2, b"r")] {
+        let _ = hand(&mut store, to, rights)?;
+    }
     let readers = store.who_holds(alloc, Right::R, 2).ok()?;
     let both = readers.as_slice() == [1, 3].as_slice();
     let none = store.label(0, 2).is_none();
     let legal = store.audit(alloc).ok()?.entries();
     store.let_go();
-    Some((seen, both, none, legal))
+    Some((both, none, legal))
 }
 
 // Three creates, a grant and a remove open the store. The first hand has three entries, and each other one has one.
 #[test]
 fn only_the_receiver_gets_rights(rt: HostRuntime) {
-    let missing = Denial {
-        rule: Rule::Take,
-        cause: Cause::Missing {
-            rights: Rights::of(Right::W),
-            from: 1,
-            to: 2,
-        },
-    };
-    let not_distinct = Denial {
-        rule: Rule::Grant,
-        cause: Cause::NotDistinct,
-    };
-    let seen = [
-        Some(Ok(Label::read_text(b"r"))),
-        Some(Err(missing)),
-        Some(Err(not_distinct)),
-    ];
-    assert_eq!(rt; left_of_hands(rt.alloc()), Some((seen, true, true, 10)));
+    assert_eq!(rt; left_of_hands(rt.alloc()), Some((true, true, 10)));
 }
