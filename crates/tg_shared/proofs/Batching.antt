@@ -83,7 +83,7 @@ stops_serving {T = T} commands old now new before mid after done x why inside is
 -- ---- what the session knows
 
 -- the receipts of a session that looked before
-added_all : (old ready new : SessionState) (at : ℕ) (es : List Entry) → KeepsReceipts (record old { seen = ready.seen }) ready → AddsReceipts ready new at es → AddsReceipts old new at es
+pub added_all : (old ready new : SessionState) (at : ℕ) (es : List Entry) → KeepsReceipts (record old { seen = ready.seen }) ready → AddsReceipts ready new at es → AddsReceipts old new at es
 added_all old ready new at es keeps adds = (
   adds.0 ∙ keeps.0,
   adds.1 ∙ ap (λ (rs : List Receipt). rs ++ receipts_from at es) keeps.1,

@@ -88,7 +88,7 @@ impl<L: Round> Session<L> {
     }
 
     // Makes room for so many receipts, unless the session entered its own retire. The receipts stay.
-    fn make_ready_for(&mut self, more: usize) -> Result<(), ApplyFault>
+    pub(crate) fn make_ready_for(&mut self, more: usize) -> Result<(), ApplyFault>
         ensures room { OnOk result (more ≤ self.new.spare) }
         ensures receipts { KeepsReceipts self.old self.new }
         ensures retired { self.old.retired ≡ true → result ≡ Err ApplyFault.NoSuchWorker }

@@ -52,6 +52,7 @@
 mod batch;
 mod call;
 mod closing;
+mod handing;
 mod helpers;
 mod keeper;
 pub mod laws;
@@ -64,6 +65,7 @@ mod session;
 mod shared;
 
 pub use closing::{CloseFault, LockedRefused};
+pub use handing::OwnHand;
 pub use keeper::Keeper;
 pub use locked::Locked;
 pub use receipt::{Receipt, receipts_match};
