@@ -25,8 +25,8 @@ pub record IsHandAnswered (h : Hand) (old new : StoreState) (answer : Result Han
   pub full : answer ≡ Err apply.HeapFull → LacksCellsToHand h old
   pub refused : OnErr answer (IsUnchanged old new)
 
-abbrev pub HandsOn : StorePlace → StorePlace → Hand → (Result Handed CallRefusal → Type 0) → Type 0
-HandsOn old new h = IsCall of_apply (IsHandAnswered h) old new
+abbrev pub HandsRights : StorePlace → StorePlace → Hand → (Result Handed CallRefusal → Type 0) → Type 0
+HandsRights old new h = IsCall of_apply (IsHandAnswered h) old new
 
 -- the hand that C asks for, with the label of its rights
 abbrev pub hand_of : HandIn → RightSet → Hand
@@ -34,7 +34,7 @@ hand_of form label = record { via = form.via; from = form.from; to = form.to; ta
 
 -- A hand, of which C tells the rights as bits: where they are none's it is refused, and else the store is asked.
 pub record HandsOfForm (old new : StorePlace) (form : HandIn) (tells : Result Handed CallRefusal → Type 0) : Type 0 where
-  pub asked : (label : RightSet) → label_at form.rights ≡ Some label → HandsOn old new (hand_of form label) tells
+  pub asked : (label : RightSet) → label_at form.rights ≡ Some label → HandsRights old new (hand_of form label) tells
   pub bad_rights : label_at form.rights ≡ None → Refuses old new tells refusal.BadRights
 
 -- the out parameters of a hand

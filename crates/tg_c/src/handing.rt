@@ -1,6 +1,6 @@
 //! How a worker hands rights on from C.
 ghost use Rattle.std.specs.Prelude.{◌≡◌};
-ghost use Rattle.tg_c.specs.Handing.{HandsOfForm, HandsOn, TellsHanded, hand_of, hand_out};
+ghost use Rattle.tg_c.specs.Handing.{HandsOfForm, HandsRights, TellsHanded, hand_of, hand_out};
 
 use crate::forms::{DenialOut, HandIn, denial_out, label_of, rights_out};
 use crate::held::Holder;
@@ -50,7 +50,7 @@ fn hand_with(form: &HandIn, rights: Label) -> Hand
 
 // A worker of the store in the place hands rights on.
 fn hand_on(alloc: Global, place: &mut StorePlace, hand: Hand) -> Result<Handed, CallRefusal>
-    ensures { HandsOn place.old place.new hand (λ told. result ≡ told) }
+    ensures { HandsRights place.old place.new hand (λ told. result ≡ told) }
 {
     let Some(mut opened) = place.take(alloc) else {
         return Err(CallRefusal::NotOpen);
