@@ -13,6 +13,7 @@ tg_status proved_tg_take(tg_store *store, uint64_t worker, uint64_t via, uint64_
 tg_status proved_tg_grant(tg_store *store, uint64_t worker, uint64_t via, uint64_t target, uint64_t rights,
                           tg_denial *denial);
 tg_status proved_tg_remove(tg_store *store, uint64_t worker, uint64_t target, uint64_t rights, tg_denial *denial);
+tg_status proved_tg_hand(tg_store *store, const tg_handing *handing, uint64_t *removed, tg_denial *denial);
 tg_status proved_tg_write(tg_store *store, uint64_t worker, uint64_t target, uint64_t value, tg_denial *denial);
 tg_status proved_tg_append(tg_store *store, uint64_t worker, uint64_t target, uint64_t value, tg_denial *denial);
 tg_status proved_tg_read(tg_store *store, uint64_t worker, uint64_t target, uint64_t *numbers, size_t room, uint64_t *count,
@@ -71,6 +72,12 @@ tg_status tg_grant(tg_store *store, uint64_t worker, uint64_t via, uint64_t targ
 tg_status tg_remove(tg_store *store, uint64_t worker, uint64_t target, uint64_t rights, tg_denial *denial) {
     tg_denial unwanted;
     return proved_tg_remove(store, worker, target, rights, denial == NULL ? &unwanted : denial);
+}
+
+tg_status tg_hand(tg_store *store, const tg_handing *handing, uint64_t *removed, tg_denial *denial) {
+    tg_denial unwanted;
+    uint64_t none;
+    return proved_tg_hand(store, handing, removed == NULL ? &none : removed, denial == NULL ? &unwanted : denial);
 }
 
 tg_status tg_write(tg_store *store, uint64_t worker, uint64_t target, uint64_t value, tg_denial *denial) {

@@ -15,7 +15,7 @@
    What the caller in C owes:
    - Each pointer is to memory of the stated type. No other argument of the call overlaps it, and nobody else uses it while the
      call runs. NULL is allowed for an array of 0 items, for a text with no room, for a denial that you don't need, for the
-     count of tg_auditor_feed, and for nothing else.
+     count of tg_auditor_feed, for the rights that tg_hand removes, and for nothing else.
    - A tg_store is all zero before tg_open, and only these functions change its bytes. You may move it. Don't copy it: of two
      copies only one may be used. The same holds of a tg_auditor, a tg_snapshot, a tg_answer and a tg_view.
    - A bool in these structs is 0 or 1.
@@ -61,7 +61,7 @@ typedef struct tg_auditor {
 
 #define TG_AUDITOR_INIT { false, { NULL } }
 
-/* A snapshot, from which an auditor goes on: 16 bytes, all zero while it is closed. */
+/* A snapshot, from which an auditor or a store goes on: 16 bytes, all zero while it is closed. */
 typedef struct tg_snapshot {
     bool is_open;
     struct {
@@ -107,14 +107,14 @@ enum {
     TG_BAD_LAW = 65,          /* no such law, or a log of 0 or of more than 64 numbers */
     TG_BAD_KIND = 66,         /* tg_collect: no such kind; tg_apply_all: no such command */
 
-    TG_BAD_WORKERS = 80,      /* tg_open: not from 1 to 64 workers */
-    TG_BAD_LIMITS = 81,       /* tg_open: a limit is out of its range; tg_apply_all: more than 1,024 commands */
+    TG_BAD_WORKERS = 80,      /* tg_open: not from 1 to 64 workers; tg_reopen: the snapshot has no worker */
+    TG_BAD_LIMITS = 81,       /* tg_open, tg_reopen: a limit is out of its range, or isn't the snapshot's; tg_apply_all: more than 1,024 commands */
     TG_BAD_EDGE = 82,         /* an edge from a vertex to itself; tg_open: an end that is no worker; as_if: an end that no worker reaches */
     TG_BAD_VALUES = 83,       /* tg_resume, tg_entry_text: exactly where tg_entry writes no entry so; tg_snapshot_read: no snapshot's text; tg_open: kept */
 
     TG_BAD_ENTRY = 96,        /* tg_auditor_feed, tg_resume: the entry at its place isn't legal; tg_audit: never, if no other wrote to its memory */
     TG_BAD_PLACE = 97,        /* tg_entry, tg_forget, tg_auditor_feed: no such entry is held; tg_resume: it isn't the next; tg_answer_turn: no such turn */
-    TG_NOT_WHOLE = 98,        /* tg_audit: exactly where the store is open, and gave up entries */
+    TG_NOT_WHOLE = 98,        /* tg_audit: exactly where the store is open, and gave up entries or was opened by tg_reopen */
     TG_NOT_AUDITED = 99       /* tg_auditor_forget: exactly where the auditor is open, and hasn't yet come to the place */
 };
 
@@ -137,6 +137,14 @@ typedef struct tg_value {
 typedef struct tg_edge {
     uint64_t from, to, rights;
 } tg_edge;
+
+/* Rights that a worker hands on, for tg_hand: 40 bytes. */
+typedef struct tg_handing {
+    uint64_t via;             /* the worker that hands them on */
+    uint64_t from, to;        /* who holds them over the target, and who is to hold them too */
+    uint64_t target;          /* the vertex that the rights are over */
+    uint64_t rights;
+} tg_handing;
 
 /* The limits of a store: 24 bytes. */
 typedef struct tg_limits {
@@ -283,6 +291,21 @@ tg_status tg_grant(tg_store *store, uint64_t worker, uint64_t via, uint64_t targ
 tg_status tg_remove(tg_store *store, uint64_t worker, uint64_t target, uint64_t rights, tg_denial *denial);
 tg_status tg_write(tg_store *store, uint64_t worker, uint64_t target, uint64_t value, tg_denial *denial);
 tg_status tg_append(tg_store *store, uint64_t worker, uint64_t target, uint64_t value, tg_denial *denial);
+
+/* Hands rights on. The worker `via` takes the rights over the target from `from`, grants them to `to`, and removes those of them
+   that it didn't hold before. This is done completely or left undone. Afterwards `to` holds the rights over the target too, and
+   all else is as it was. Each command has an entry of its own, as if the worker had asked for it: two entries, or three with the
+   remove. The rights that were removed go to *removed, 0 for none. `removed` and `denial` may be NULL. `from` and `to` may be
+   objects, or workers that retired.
+
+   The take is decided first. It is denied if `via`, `from` and the target aren't three vertices, if `via` has no t over `from`, or
+   if `from` lacks some of the rights. Then the grant is decided. It is denied if `to` is `via` or the target, or if `via` has no g
+   over `to`. Both are decided on the graph before the hand. After TG_DENIED the denied command has the only entry, and `rule` of
+   the denial is TG_RULE_TAKE or TG_RULE_GRANT.
+
+   It is refused in this order: TG_BAD_RIGHTS, TG_NOT_OPEN, TG_NO_SUCH_WORKER exactly where no worker has the name `via`, then
+   TG_OUT_OF_MEMORY, or TG_HEAP_FULL of a hand that is allowed. There is no entry then. */
+tg_status tg_hand(tg_store *store, const tg_handing *handing, uint64_t *removed, tg_denial *denial);
 
 /* Makes a vertex over which the worker has the rights. Its name goes to *name. */
 tg_status tg_create(tg_store *store, uint64_t worker, uint64_t rights, const tg_value *value, uint64_t *name);
@@ -438,7 +461,8 @@ tg_status tg_entry_text(const tg_record *record, const uint64_t *numbers, size_t
 tg_status tg_end_text(uint64_t count, char *text, size_t room, uint64_t *length);
 
 /* Replays the journal from the opening, on a plain graph that was never collected, and counts its entries. TG_NOT_WHOLE comes
-   exactly where the store is open and gave up entries. An auditor replays entries before they are given up. */
+   exactly where the store is open, and gave up entries or was opened by tg_reopen. An auditor replays entries before they are
+   given up. */
 tg_status tg_audit(tg_store *store, uint64_t *count);
 
 /* An auditor replays a journal part after part, so that a host may give up what was audited. The host feeds the auditor, and
@@ -481,7 +505,7 @@ tg_status tg_auditor_close(tg_auditor *auditor);
 
    A snapshot says what a graph is at a place of its history: the active workers, what they reach with what is stored there, and
    how many entries came before. An auditor goes on from a snapshot, so the parts of an archive are audited side by side, and
-   none of them from the first entry on. A host keeps a snapshot as its text. One graph has one text at a place, so two
+   none of them from the first entry on. A store goes on from one too, also in another process. A host keeps a snapshot as its text. One graph has one text at a place, so two
    snapshots are compared byte by byte. Whoever writes a snapshot can write a right into it: compare it with the snapshot after
    the part before (docs/LASTING.md).
 
@@ -498,6 +522,19 @@ tg_status tg_auditor_snapshot(tg_auditor *auditor, tg_snapshot *snapshot);
    of the graph that the snapshot shows. The snapshot is as it was. It is refused in this order: TG_ALREADY_OPEN exactly where
    the auditor is open, TG_NOT_OPEN exactly where the snapshot is closed, and TG_OUT_OF_MEMORY. */
 tg_status tg_auditor_reopen(tg_auditor *auditor, tg_snapshot *snapshot);
+
+/* Opens a store that goes on from the snapshot, as tg_open does from an opening. The store has the workers, edges and values that
+   the snapshot shows, and as many vertices were made, so its names go on. Each command is answered as by the store of which it is
+   a snapshot. Places in the journal go on too: the first entry gets the place of the snapshot (tg_entries, tg_first), and none
+   from before is held. An auditor for it is opened from the same snapshot (tg_auditor_reopen). What is stored is made by the four
+   laws. The snapshot is as it was.
+
+   It is refused in this order, and *store is then as it was:
+   - TG_ALREADY_OPEN exactly where the store is open, and TG_NOT_OPEN exactly where the snapshot is closed.
+   - TG_BAD_LIMITS where max_vertices isn't that of the first store, which the snapshot has, or another limit is out of its range.
+   - TG_BAD_WORKERS where the snapshot has no worker, so that nobody could ever ask.
+   - TG_OUT_OF_MEMORY, or TG_HEAP_FULL where the blocks don't hold all that the snapshot shows. */
+tg_status tg_reopen(tg_store *store, tg_snapshot *snapshot, const tg_limits *limits);
 
 /* Writes the text of the snapshot, a line for each thing that it shows, as `tgaudit --snapshot` prints it. Room, *length and
    the 0 are those of tg_entry_text. It is TG_NOT_OPEN exactly where the snapshot is closed. Otherwise it returns TG_DONE or

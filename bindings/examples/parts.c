@@ -1,5 +1,5 @@
 /* A host that keeps its journal short: every few commands it writes the new entries out, has an auditor replay them, and gives them
-   up. Another auditor goes on after the first part. Build it with: cc parts.c -lkovshenul */
+   up. Another store and another auditor go on after the first part. Build it with: cc parts.c -lkovshenul */
 #include "kovshenul.h"
 #include <inttypes.h>
 #include <stdio.h>
@@ -37,8 +37,9 @@ static tg_status hand_over(tg_store *store, tg_auditor *auditor) {
     return status;
 }
 
-/* Has an auditor go on from the snapshot of what it has come to, as another process does that has the text of the snapshot alone. */
-static tg_status go_on(tg_auditor *auditor) {
+/* Has a store and an auditor go on from the snapshot of what the auditor has come to, as another process does that has the text of the
+   snapshot alone. */
+static tg_status go_on(tg_store *store, tg_auditor *auditor, const tg_limits *limits) {
     char text[SNAPSHOT];
     uint64_t length, line;
     tg_snapshot snapshot = TG_SNAPSHOT_INIT;
@@ -47,8 +48,11 @@ static tg_status go_on(tg_auditor *auditor) {
         status = tg_snapshot_text(&snapshot, text, SNAPSHOT, &length);
     tg_snapshot_close(&snapshot);
     tg_auditor_close(auditor);
+    tg_close(store);
     if (status == TG_DONE)
         status = tg_snapshot_read(&snapshot, text, length, &line);
+    if (status == TG_DONE)
+        status = tg_reopen(store, &snapshot, limits);
     if (status == TG_DONE)
         status = tg_auditor_reopen(auditor, &snapshot);
     if (status == TG_DONE)
@@ -82,7 +86,7 @@ int main(void) {
         if (status <= TG_DENIED && (number % EVERY == 0 || number == COMMANDS))
             status = hand_over(&store, &auditor);
         if (status <= TG_DENIED && number == EVERY)
-            status = go_on(&auditor);
+            status = go_on(&store, &auditor, &limits);
     }
     if (status > TG_DENIED)
         puts(tg_status_text(status));

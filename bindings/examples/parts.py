@@ -1,5 +1,5 @@
 """A host that keeps its journal short: every few commands it writes the new entries out, has an auditor replay them, and gives them up.
-Another auditor goes on after the first part."""
+Another store and another auditor go on after the first part."""
 from kovshenul import GRANT, READ, WRITE, Auditor, Cell, Denied, Edge, Snapshot, Store, Sum
 
 HOST, GUEST = range(2)
@@ -16,12 +16,14 @@ def hand_over(store, auditor):
     print(audited, "entries audited and given up")
 
 
-def gone_on(auditor):
-    """Another auditor, which goes on from what this one has come to, as a process does that has the text of the snapshot alone."""
+def gone_on(store, auditor):
+    """Another store and another auditor, which go on from a snapshot, as a process does that has the text of the snapshot alone."""
     text = str(auditor.snapshot())
+    store.close()
     auditor.close()
     print(text)
-    return Auditor.reopen(Snapshot(text))
+    snapshot = Snapshot(text)
+    return Store.reopen(snapshot), Auditor.reopen(snapshot)
 
 
 def add(store, total, number):
@@ -32,15 +34,15 @@ def add(store, total, number):
         pass
 
 
-with Store(*OPENING) as store:
-    auditor = Auditor(*OPENING)
-    total = store.create(HOST, READ | WRITE, Sum(0))
-    store.grant(HOST, GUEST, total, WRITE)
-    for number in range(3, COMMANDS + 1):
-        add(store, total, number)
-        if number % EVERY == 0:
-            hand_over(store, auditor)
-        if number == EVERY:
-            auditor = gone_on(auditor)
-    hand_over(store, auditor)
-    auditor.close()
+store, auditor = Store(*OPENING), Auditor(*OPENING)
+total = store.create(HOST, READ | WRITE, Sum(0))
+store.grant(HOST, GUEST, total, WRITE)
+for number in range(3, COMMANDS + 1):
+    add(store, total, number)
+    if number % EVERY == 0:
+        hand_over(store, auditor)
+    if number == EVERY:
+        store, auditor = gone_on(store, auditor)
+hand_over(store, auditor)
+store.close()
+auditor.close()

@@ -1,5 +1,5 @@
 //! A host that keeps its journal short: every few commands it writes the new entries out, has an auditor replay them, and gives them
-//! up. Another auditor goes on after the first part.
+//! up. Another store and another auditor go on after the first part.
 use kovshenul::{Auditor, Edge, Error, Limits, Rights, Snapshot, Store, Value};
 
 const HOST: u64 = 0;
@@ -16,12 +16,13 @@ fn hand_over(store: &mut Store, auditor: &mut Auditor) -> Result<(), Error> {
     Ok(())
 }
 
-/// Another auditor, which goes on from what this one has come to, as a process does that has the text of the snapshot alone.
-fn gone_on(auditor: Auditor) -> Result<Auditor, Box<dyn std::error::Error>> {
+/// Another store and another auditor, which go on from a snapshot, as a process does that has the text of the snapshot alone.
+fn gone_on(store: Store, auditor: Auditor) -> Result<(Store, Auditor), Box<dyn std::error::Error>> {
     let text = auditor.snapshot()?.to_string();
-    drop(auditor);
+    drop((store, auditor));
     println!("{text}");
-    Ok(Auditor::reopen(&text.parse::<Snapshot>()?)?)
+    let snapshot: Snapshot = text.parse()?;
+    Ok((Store::reopen(&snapshot, &Limits::default())?, Auditor::reopen(&snapshot)?))
 }
 
 /// The guest adds to the host's sum, and once writes to what isn't its own.
@@ -46,7 +47,7 @@ fn main() -> Result<(), Box<dyn std::error::Error>> {
             hand_over(&mut store, &mut auditor)?;
         }
         if number == EVERY {
-            auditor = gone_on(auditor)?;
+            (store, auditor) = gone_on(store, auditor)?;
         }
     }
     Ok(hand_over(&mut store, &mut auditor)?)

@@ -11,17 +11,6 @@ def take_back(store, holder, target, rights):
         store.remove(holder, target, held)
 
 
-def hand_on(store, giver, receiver, target, rights):
-    """Hands rights on through the host, which has t over the giver and g over the receiver."""
-    had = store.label(HOST, target)
-    store.take(HOST, giver, target, rights)
-    try:
-        store.grant(HOST, receiver, target, rights)
-    finally:
-        if rights & ~had:
-            store.remove(HOST, target, rights & ~had)
-
-
 def grant_if_safe(store, receiver, target, rights, guarded):
     """Grants the rights, unless a subject other than the host could then ever come to read the guarded vertex."""
     with store.view(silent=[HOST], as_if=[(receiver, target, rights)]) as view:
@@ -78,7 +67,7 @@ def run_of_plugins(store):
     """Two plug-ins: rights that are handed on, refused and taken back; and an end."""
     giver, receiver = (store.spawn(HOST, TAKE | GRANT, Cell(0)) for _ in range(2))
     note = store.create(giver, READ | WRITE, Cell(7))
-    hand_on(store, giver, receiver, note, READ)
+    store.hand(HOST, giver, receiver, note, READ)
     show("handed on", store.read(receiver, note))
     show("the host kept", store.label(HOST, note).letters or "nothing")
     secret = store.create(HOST, READ, Cell(9))

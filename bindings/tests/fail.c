@@ -96,10 +96,11 @@ static void write_texts(tg_store *store, uint64_t entries, const tg_value *worke
     CALL(tg_end_text(entries, text, sizeof text, &length));
 }
 
-/* Another auditor goes on from a snapshot of the first, by way of its text. */
-static void go_on_from(tg_auditor *auditor) {
+/* Another auditor and another store go on from a snapshot of the first, by way of its text. */
+static void go_on_from(tg_auditor *auditor, const tg_limits *limits) {
     tg_snapshot snapshot = TG_SNAPSHOT_INIT, again = TG_SNAPSHOT_INIT;
     tg_auditor second = TG_AUDITOR_INIT;
+    tg_store store = TG_STORE_INIT;
     uint64_t length, at, line, place;
     static char text[4000];
     CALL(tg_auditor_snapshot(auditor, &snapshot));
@@ -108,7 +109,11 @@ static void go_on_from(tg_auditor *auditor) {
         stop(__LINE__, 0);
     CALL(tg_snapshot_read(&again, text, length, &line));
     CALL(tg_auditor_reopen(&second, &again));
+    CALL(tg_reopen(&store, &again, limits));
     CALL(tg_auditor_at(auditor, &at));
+    CALL(tg_entries(&store, &place));
+    if (at != place || tg_close(&store) != TG_DONE)
+        stop(__LINE__, 0);
     CALL(tg_auditor_at(&second, &place));
     if (at != place || tg_auditor_close(&second) || tg_snapshot_close(&again) || tg_snapshot_close(&snapshot))
         stop(__LINE__, 0);
@@ -165,6 +170,8 @@ static uint64_t tell_story(void) {
     /* A worker is spawned, makes a vertex and retires. Asking who there is takes no memory. */
     CALL(tg_spawn(&store, 0, TG_GRANT, &kinds[0], &name));
     CALL(tg_create(&store, name, TG_READ, &kinds[3], &count));
+    const tg_handing handing = { 0, 1, name, 2, TG_READ };
+    CALL(tg_hand(&store, &handing, &count, &why));
     long before = made;
     CALL(tg_subjects(&store, numbers, 64, &count));
     if (count != 3 || made != before)
@@ -203,7 +210,7 @@ static uint64_t tell_story(void) {
         stop(__LINE__, 0);
     CALL(tg_auditor_feed(&auditor, &store, &count));
     CALL(tg_auditor_sweep(&auditor));
-    go_on_from(&auditor);
+    go_on_from(&auditor, &limits);
     /* To give entries up takes no memory. */
     before = made;
     CALL(tg_auditor_forget(&auditor, &store, count));

@@ -1,9 +1,9 @@
 # Writes a C file that compiles exactly where kovshenul.h fits the library's text: each struct of numbers has the same
 # fields at the same offsets, each export the same parameters, each constant the number that the contracts give it.
 #
-# It reads crates/tg_c/src/forms.rt, records.rt, place.rt, answer.rt, exports.rt, could.rt, resuming.rt, text.rt, ending.rt, those of its
-# auditor, snapshot and view, crates/tg_c/specs/Forms.antt, Records.antt, Could.antt and View.antt, behind them crates/tg_model/specs/Commands.antt, and
-# crates/tg_rights/specs/RightSet.antt.
+# It reads crates/tg_c/src/forms.rt, records.rt, place.rt, answer.rt, exports.rt, could.rt, resuming.rt, text.rt, ending.rt,
+# handing.rt, those of its auditor, snapshot and view, crates/tg_c/specs/Forms.antt, Records.antt, Could.antt and View.antt, behind
+# them crates/tg_model/specs/Commands.antt, and crates/tg_rights/specs/RightSet.antt.
 
 function same(is, wanted) {
     printf "SAME(%s, %s);\n", is, wanted
@@ -60,7 +60,7 @@ BEGIN {
     types["u8"] = "char"; types["u32"] = "uint32_t"; types["u64"] = "uint64_t"; types["bool"] = "bool"
     types["EdgeIn"] = "tg_edge"; types["ValueIn"] = "tg_value"; types["LimitsIn"] = "tg_limits"
     types["DenialOut"] = "tg_denial"; types["EdgeOut"] = "tg_target"; types["CensusOut"] = "tg_counts"
-    types["RecordOut"] = "tg_record"
+    types["RecordOut"] = "tg_record"; types["HandIn"] = "tg_handing"
     types["StorePlace"] = "tg_store"; types["StoreHandle"] = "twin_StoreHandle"
     types["AnswerPlace"] = "tg_answer"; types["AnswerHandle"] = "twin_AnswerHandle"
     types["AuditorPlace"] = "tg_auditor"; types["AuditorHandle"] = "twin_AuditorHandle"

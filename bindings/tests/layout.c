@@ -37,6 +37,13 @@ SAME(offsetof(tg_edge, from), 0);
 SAME(offsetof(tg_edge, to), 8);
 SAME(offsetof(tg_edge, rights), 16);
 
+SAME(sizeof(tg_handing), 40);
+SAME(offsetof(tg_handing, via), 0);
+SAME(offsetof(tg_handing, from), 8);
+SAME(offsetof(tg_handing, to), 16);
+SAME(offsetof(tg_handing, target), 24);
+SAME(offsetof(tg_handing, rights), 32);
+
 SAME(sizeof(tg_limits), 24);
 SAME(offsetof(tg_limits, max_vertices), 0);
 SAME(offsetof(tg_limits, max_blocks), 8);

@@ -425,6 +425,40 @@ static void take_or_grant(struct run *run, int grants) {
         fputs("ok\n", run->replies);
 }
 
+/* Writes the line of a command that was done in one call with others. */
+static void put_done(struct run *run) {
+    fprintf(run->script, "%s\n", run->line);
+    fputs("ok\n", run->replies);
+}
+
+/* Rights are handed on. The script has the commands of a hand, or of a denied one the command that was denied. */
+static void hand_some(struct run *run) {
+    const uint64_t x = one_who_asks(run);
+    const tg_handing it = { x, neighbour_of(run, x), name_of_some(run), name_of_some(run), rights_of_some(run) };
+    uint64_t removed = UNTOUCHED;
+    char text[RIGHTS + 1];
+    long before = refused;
+    run->why = no_denial;
+    const tg_status status = tg_hand(store_of(run), &it, &removed, &run->why);
+    const tg_denial why = run->why;
+    const int is_grant = status == TG_DENIED && why.rule == TG_RULE_GRANT;
+    say(run, "%" PRIu64 " %s %" PRIu64 " %" PRIu64 " %s", x, is_grant ? "grant" : "take", is_grant ? it.to : it.from, it.target,
+        letters(it.rights, text));
+    run->why = why;
+    if (!is_done(run, status, before)) {
+        want(run, removed == UNTOUCHED, "rights that aren't removed");
+        return;
+    }
+    fputs("ok\n", run->replies);
+    say(run, "%" PRIu64 " grant %" PRIu64 " %" PRIu64 " %s", x, it.to, it.target, letters(it.rights, text));
+    put_done(run);
+    want(run, (removed & ~it.rights) == 0, "removed rights that weren't handed on");
+    if (removed == 0)
+        return;
+    say(run, "%" PRIu64 " remove %" PRIu64 " %s", x, it.target, letters(removed, text));
+    put_done(run);
+}
+
 static void give_up(struct run *run) {
     uint64_t x = one_who_asks(run), y = name_of_vertex(run), rights = rights_of_some(run);
     char text[RIGHTS + 1];
@@ -657,8 +691,10 @@ static void command(struct run *run) {
         retire(run);
     else if (which < 100)
         look_at_workers(run);
-    else if (which < 620)
+    else if (which < 540)
         take_or_grant(run, which % 2 == 0);
+    else if (which < 620)
+        hand_some(run);
     else if (which < 700)
         give_up(run);
     else if (which < 800)

@@ -543,6 +543,74 @@ static void a_worker_leaves(void) {
     WANT(tg_close(&store) == TG_DONE);
 }
 
+/* How many entries the store has. */
+static uint64_t entries_of(tg_store *store) {
+    uint64_t count = UNTOUCHED;
+    WANT(tg_entries(store, &count) == TG_DONE);
+    return count;
+}
+
+/* That the hand is denied, by this rule and on this edge, with one entry. */
+static void is_denied_hand(tg_store *store, tg_handing hand, tg_denial wanted) {
+    const uint64_t before = entries_of(store);
+    uint64_t removed = UNTOUCHED;
+    tg_record entry;
+    why = (tg_denial){ 99, 99, 99, 99, 99 };
+    WANT(tg_hand(store, &hand, &removed, &why) == TG_DENIED && removed == UNTOUCHED && memcmp(&why, &wanted, sizeof why) == 0);
+    WANT(entries_of(store) == before + 1 && tg_entry(store, before, &entry, NULL, 0, NULL, 0) == TG_DONE);
+    WANT(entry.worker == hand.via && entry.target == hand.target && entry.rights == hand.rights && entry.deed == wanted.rule);
+    WANT(entry.via == (wanted.rule == TG_RULE_TAKE ? hand.from : hand.to) && memcmp(&entry.denial, &wanted, sizeof why) == 0);
+}
+
+/* A worker hands rights on: one call has the entries of its commands, and a denied one has the denied command alone. */
+static void rights_are_handed_on(void) {
+    tg_store store = TG_STORE_INIT;
+    tg_record entry;
+    uint64_t owner, reader, document, rights, count, removed = UNTOUCHED;
+    tg_handing hand = { 0, 0, 0, 0, 0 };
+    WANT(tg_hand(&store, &hand, &removed, &why) == TG_BAD_RIGHTS);
+    hand.rights = 256;
+    WANT(tg_hand(&store, &hand, &removed, &why) == TG_BAD_RIGHTS);
+    hand.rights = TG_READ;
+    WANT(tg_hand(&store, &hand, &removed, &why) == TG_NOT_OPEN && removed == UNTOUCHED);
+    WANT(tg_open(&store, workers, 1, NULL, 0, &limits) == TG_DONE && tg_spawn(&store, 0, TG_TAKE, &sum, &owner) == TG_DONE);
+    WANT(tg_spawn(&store, 0, TG_GRANT, &sum, &reader) == TG_DONE);
+    WANT(tg_create(&store, owner, TG_READ | TG_WRITE, &sum, &document) == TG_DONE);
+    hand = (tg_handing){ 0, owner, reader, document, TG_READ | TG_WRITE };
+    WANT(tg_hand(&store, &hand, NULL, NULL) == TG_DONE && entries_of(&store) == 6);
+    WANT(tg_label(&store, reader, document, &rights) == TG_DONE && rights == (TG_READ | TG_WRITE));
+    WANT(tg_label(&store, 0, document, &rights) == TG_DONE && rights == 0);
+    WANT(tg_entry(&store, 3, &entry, NULL, 0, NULL, 0) == TG_DONE && entry.deed == TG_DEED_TAKE && entry.via == owner);
+    WANT(tg_entry(&store, 4, &entry, NULL, 0, NULL, 0) == TG_DONE && entry.deed == TG_DEED_GRANT && entry.via == reader);
+    WANT(tg_entry(&store, 5, &entry, NULL, 0, NULL, 0) == TG_DONE && entry.deed == TG_DEED_REMOVE);
+    WANT(entry.worker == 0 && entry.target == document && entry.rights == (TG_READ | TG_WRITE) && entry.reply == TG_REPLY_DONE);
+    /* What it holds by itself it keeps. */
+    WANT(tg_take(&store, 0, owner, document, TG_READ, &why) == TG_DONE);
+    WANT(tg_hand(&store, &hand, &removed, &why) == TG_DONE && entries_of(&store) == 10 && removed == TG_WRITE);
+    WANT(tg_entry(&store, 9, &entry, NULL, 0, NULL, 0) == TG_DONE && entry.rights == TG_WRITE);
+    hand.rights = TG_READ;
+    WANT(tg_hand(&store, &hand, &removed, &why) == TG_DONE && entries_of(&store) == 12 && removed == 0);
+    WANT(tg_label(&store, 0, document, &rights) == TG_DONE && rights == TG_READ);
+    /* Each check of the take, and then each of the grant. */
+    is_denied_hand(&store, (tg_handing){ 0, 0, reader, document, TG_READ }, (tg_denial){ TG_RULE_TAKE, TG_NOT_DISTINCT, 0, 0, 0 });
+    is_denied_hand(&store, (tg_handing){ 0, owner, reader, owner, TG_READ }, (tg_denial){ TG_RULE_TAKE, TG_NOT_DISTINCT, 0, 0, 0 });
+    is_denied_hand(&store, (tg_handing){ 0, owner, reader, 0, TG_READ }, (tg_denial){ TG_RULE_TAKE, TG_NOT_DISTINCT, 0, 0, 0 });
+    is_denied_hand(&store, (tg_handing){ 0, reader, owner, document, TG_READ }, (tg_denial){ TG_RULE_TAKE, TG_MISSING, 0, reader, TG_TAKE });
+    is_denied_hand(&store, (tg_handing){ 0, owner, reader, document, TG_READ | TG_APPEND }, (tg_denial){ TG_RULE_TAKE, TG_MISSING, owner, document, TG_APPEND });
+    is_denied_hand(&store, (tg_handing){ 0, owner, 0, document, TG_WRITE }, (tg_denial){ TG_RULE_GRANT, TG_NOT_DISTINCT, 0, 0, 0 });
+    is_denied_hand(&store, (tg_handing){ 0, owner, document, document, TG_WRITE }, (tg_denial){ TG_RULE_GRANT, TG_NOT_DISTINCT, 0, 0, 0 });
+    is_denied_hand(&store, (tg_handing){ 0, owner, owner, document, TG_WRITE }, (tg_denial){ TG_RULE_GRANT, TG_MISSING, 0, owner, TG_GRANT });
+    WANT(tg_label(&store, 0, document, &rights) == TG_DONE && rights == TG_READ);
+    /* Who retired may still be the giver or the receiver, and hands nothing on. */
+    WANT(tg_retire(&store, owner) == TG_DONE && tg_retire(&store, reader) == TG_DONE);
+    hand = (tg_handing){ 0, owner, reader, document, TG_WRITE };
+    WANT(tg_hand(&store, &hand, &removed, &why) == TG_DONE && removed == TG_WRITE);
+    hand.via = owner;
+    WANT(tg_hand(&store, &hand, &removed, &why) == TG_NO_SUCH_WORKER && entries_of(&store) == 25);
+    WANT(tg_audit(&store, &count) == TG_DONE && count == 25);
+    WANT(tg_close(&store) == TG_DONE);
+}
+
 /* Three clients that know each other leave: their empty rows stay, which their spawner has edges to, and nothing else. */
 static void three_leave(void) {
     const uint64_t know = TG_TAKE | TG_GRANT;
@@ -1447,6 +1515,52 @@ static void snapshots(void) {
     WANT(tg_close(&store) == TG_DONE && tg_close(&fresh) == TG_DONE);
 }
 
+/* A store goes on from a snapshot, with its names, values and places. */
+static void a_store_goes_on_from_a_snapshot(void) {
+    static const char nobody[] = "kovshenul picture 1\nmade 1 12 0\npicture 0\n";
+    tg_store store = TG_STORE_INIT;
+    tg_auditor auditor = TG_AUDITOR_INIT;
+    tg_snapshot snapshot = TG_SNAPSHOT_INIT;
+    tg_record entry;
+    tg_counts counts;
+    tg_limits other = limits;
+    uint64_t names[4], name, count, line;
+    WANT(tg_reopen(&store, &snapshot, &limits) == TG_NOT_OPEN && !store.is_open && store.handle.at == NULL);
+    WANT(tg_snapshot_read(&snapshot, nobody, sizeof nobody - 1, &line) == TG_DONE);
+    WANT(tg_reopen(&store, &snapshot, &limits) == TG_BAD_WORKERS && tg_snapshot_close(&snapshot) == TG_DONE);
+    WANT(tg_snapshot_read(&snapshot, shown, sizeof shown - 1, &line) == TG_DONE);
+    other.max_vertices++;
+    WANT(tg_reopen(&store, &snapshot, &other) == TG_BAD_LIMITS);
+    other.max_vertices = 0;
+    WANT(tg_reopen(&store, &snapshot, &other) == TG_BAD_LIMITS);
+    other = limits;
+    other.max_blocks = 0;
+    WANT(tg_reopen(&store, &snapshot, &other) == TG_BAD_LIMITS);
+    other.max_blocks = (1 << 20) + 1;
+    WANT(tg_reopen(&store, &snapshot, &other) == TG_BAD_LIMITS);
+    other = limits;
+    other.max_space_blocks = 0;
+    WANT(tg_reopen(&store, &snapshot, &other) == TG_BAD_LIMITS);
+    WANT(!store.is_open && store.handle.at == NULL && snapshot.is_open);
+    WANT(tg_reopen(&store, &snapshot, &limits) == TG_DONE && store.is_open && snapshot.is_open);
+    WANT(tg_reopen(&store, &snapshot, &limits) == TG_ALREADY_OPEN);
+    WANT(entries_of(&store) == 5 && tg_first(&store, &count) == TG_DONE && count == 5);
+    WANT(tg_entry(&store, 4, &entry, NULL, 0, NULL, 0) == TG_BAD_PLACE && tg_audit(&store, &count) == TG_NOT_WHOLE);
+    WANT(tg_subjects(&store, names, 4, &count) == TG_DONE && count == 2 && names[0] == 0 && names[1] == 1);
+    WANT(tg_census(&store, &counts) == TG_DONE && counts.vertices == 4 && counts.payloads == 4 && counts.held == 0 && counts.denied == 0);
+    WANT(tg_label(&store, 0, 1, &count) == TG_DONE && count == (TG_TAKE | TG_GRANT));
+    WANT(tg_label(&store, 1, 2, &count) == TG_DONE && count == TG_READ);
+    /* From here each command is answered as by the first store. */
+    WANT(tg_read(&store, 1, 2, numbers, 64, &count, &why) == TG_DONE && count == 1 && numbers[0] == 42);
+    WANT(tg_append(&store, 0, 3, 9, &why) == TG_DONE && tg_append(&store, 0, 3, 10, &why) == TG_DONE);
+    WANT(tg_read(&store, 0, 3, numbers, 64, &count, &why) == TG_DONE && count == 2 && numbers[0] == 9 && numbers[1] == 10);
+    WANT(tg_write(&store, 1, 2, 1, &why) == TG_DENIED && why.rights == TG_WRITE);
+    WANT(tg_create(&store, 1, TG_READ, &sum, &name) == TG_DONE && name == 4);
+    WANT(tg_auditor_reopen(&auditor, &snapshot) == TG_DONE && tg_auditor_feed(&auditor, &store, &count) == TG_DONE && count == 11);
+    WANT(tg_auditor_forget(&auditor, &store, 11) == TG_DONE && tg_collect(&store, TG_FULL, &count) == TG_DONE && count == 5);
+    WANT(tg_close(&store) == TG_DONE && tg_auditor_close(&auditor) == TG_DONE && tg_snapshot_close(&snapshot) == TG_DONE);
+}
+
 enum { MOST_COMMANDS = 1024 };
 
 /* Each command of a batch is done as its own call does it, and its answer is that of its entry. */
@@ -1558,6 +1672,7 @@ int main(void) {
     views();
     names_wanting();
     a_worker_leaves();
+    rights_are_handed_on();
     three_leave();
     entries_forgotten();
     parts_audited();
@@ -1569,6 +1684,7 @@ int main(void) {
     texts_of_histories();
     closed_snapshots();
     snapshots();
+    a_store_goes_on_from_a_snapshot();
     each_byte_altered();
     puts("statuses ok");
     return 0;

@@ -52,20 +52,26 @@ bool items_of(PyObject *word, size_t size, const void **items, size_t *count) {
     return true;
 }
 
-bool opening_of(PyObject *const *words, Py_ssize_t count, struct opening *opening) {
-    const void *workers, *edges, *limits;
-    size_t limit_count;
-    if (!has_words(count, 3) || !items_of(words[0], sizeof *opening->workers, &workers, &opening->worker_count) ||
-        !items_of(words[1], sizeof *opening->edges, &edges, &opening->edge_count) ||
-        !items_of(words[2], sizeof *opening->limits, &limits, &limit_count))
+bool limits_of(PyObject *word, const tg_limits **limits) {
+    const void *items;
+    size_t count;
+    if (!items_of(word, sizeof **limits, &items, &count))
         return false;
-    if (limit_count != 1) {
-        PyErr_SetString(PyExc_ValueError, "an opening has one set of limits");
+    if (count != 1) {
+        PyErr_SetString(PyExc_ValueError, "a store has one set of limits");
         return false;
     }
+    *limits = items;
+    return true;
+}
+
+bool opening_of(PyObject *const *words, Py_ssize_t count, struct opening *opening) {
+    const void *workers, *edges;
+    if (!has_words(count, 3) || !items_of(words[0], sizeof *opening->workers, &workers, &opening->worker_count) ||
+        !items_of(words[1], sizeof *opening->edges, &edges, &opening->edge_count) || !limits_of(words[2], &opening->limits))
+        return false;
     opening->workers = workers;
     opening->edges = edges;
-    opening->limits = limits;
     return true;
 }
 

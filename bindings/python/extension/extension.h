@@ -18,9 +18,9 @@
 
 /* The functions of the library, without tg_ before them. */
 #define EACH_CALL(DO) \
-    DO(open) DO(close) DO(take) DO(grant) DO(remove) DO(write) DO(append) DO(create) DO(spawn) DO(retire) DO(leave) \
-    DO(who_holds) DO(subjects) DO(read) DO(list) DO(inspect) DO(label) DO(collect) DO(census) DO(names) DO(entries) \
-    DO(first) DO(entry) DO(forget) DO(resume) DO(apply_all) DO(audit) DO(auditor_open) DO(auditor_feed) DO(auditor_at) DO(auditor_forget) \
+    DO(open) DO(close) DO(take) DO(grant) DO(remove) DO(hand) DO(write) DO(append) DO(create) DO(spawn) DO(retire) \
+    DO(leave) DO(who_holds) DO(subjects) DO(read) DO(list) DO(inspect) DO(label) DO(collect) DO(census) DO(names) DO(entries) \
+    DO(first) DO(entry) DO(forget) DO(resume) DO(reopen) DO(apply_all) DO(audit) DO(auditor_open) DO(auditor_feed) DO(auditor_at) DO(auditor_forget) \
     DO(auditor_sweep) DO(auditor_close) DO(auditor_snapshot) DO(auditor_reopen) DO(snapshot_text) DO(snapshot_read) \
     DO(snapshot_close) DO(could) DO(answer_kind) DO(answer_names) DO(answer_turns) DO(answer_turn) \
     DO(answer_close) DO(view_open) DO(view_could) DO(view_close)
@@ -71,7 +71,7 @@ struct view {
     tg_view place;
 };
 
-enum { SHORT_ROW = 64, MOST_NUMBERS = 64, MOST_WORKERS = 64, MOST_ASKED = 4, BITS = 64 };
+enum { SHORT_ROW = 64, MOST_NUMBERS = 64, MOST_WORKERS = 64, MOST_ASKED = 5, BITS = 64 };
 
 /* ---- locks.c. Each returns whether it was done. If not, an exception is set. */
 
@@ -107,6 +107,9 @@ struct opening {
 };
 
 bool opening_of(PyObject *const *words, Py_ssize_t count, struct opening *opening);
+
+/* The limits of a store. */
+bool limits_of(PyObject *word, const tg_limits **limits);
 
 /* Who is silent, and which edges are supposed. */
 struct scene {

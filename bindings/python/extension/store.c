@@ -65,6 +65,22 @@ static PyObject *touch(PyObject *it, call_on_target *call, PyObject *const *word
     return decided(self->state, status, &denial, asked, 2);
 }
 
+/* A denied hand has the denial of its take, which names who holds the rights, or of its grant, which names who is to hold them. */
+static PyObject *store_hand(PyObject *it, PyObject *const *words, Py_ssize_t count) {
+    struct store *self = (struct store *)it;
+    uint64_t asked[MOST_ASKED], removed = 0;
+    tg_denial denial;
+    if (!numbers_of(self->state, words, count, asked, 5) || !wait_for_others(self->state))
+        return NULL;
+    const tg_handing handing = { asked[0], asked[1], asked[2], asked[3], asked[4] };
+    tg_status status = self->state->library.hand(&self->place, &handing, &removed, &denial);
+    if (status == TG_DONE)
+        return PyLong_FromUnsignedLongLong(removed);
+    const bool is_grant = status == TG_DENIED && denial.rule == TG_RULE_GRANT;
+    const uint64_t named[] = { handing.via, is_grant ? handing.to : handing.from, handing.target };
+    return decided(self->state, status, &denial, named, 3);
+}
+
 /* A create or a spawn. */
 static PyObject *make(PyObject *it, call_that_makes *call, PyObject *const *words, Py_ssize_t count) {
     struct store *self = (struct store *)it;
@@ -236,6 +252,25 @@ static PyObject *store_resume(PyObject *it, PyObject *const *words, Py_ssize_t c
     return decided(self->state, status, NULL, NULL, 0);
 }
 
+/* Opens the store from the text of a snapshot. */
+static PyObject *store_reopen(PyObject *it, PyObject *const *words, Py_ssize_t count) {
+    struct store *self = (struct store *)it;
+    const struct library *library = &self->state->library;
+    tg_snapshot snapshot = TG_SNAPSHOT_INIT;
+    const tg_limits *limits;
+    const void *text;
+    size_t length;
+    uint64_t line = 0;
+    if (!has_words(count, 2) || !items_of(words[0], 1, &text, &length) || !limits_of(words[1], &limits) || !begin_long(self->state))
+        return NULL;
+    tg_status status = library->snapshot_read(&snapshot, text, length, &line);
+    if (status == TG_DONE) {
+        status = library->reopen(&self->place, &snapshot, limits);
+        library->snapshot_close(&snapshot);
+    }
+    return end_long(self->state) ? decided(self->state, status, NULL, NULL, 0) : NULL;
+}
+
 static PyObject *store_audit(PyObject *it, PyObject *unused) {
     struct store *self = (struct store *)it;
     uint64_t entries = 0;
@@ -250,11 +285,11 @@ static PyObject *store_audit(PyObject *it, PyObject *unused) {
 
 static PyMethodDef store_methods[] = {
     WITH_WORDS(store, open) WITH_WORDS(store, take) WITH_WORDS(store, grant) WITH_WORDS(store, remove)
-    WITH_WORDS(store, write) WITH_WORDS(store, append) WITH_WORDS(store, create) WITH_WORDS(store, spawn)
+    WITH_WORDS(store, hand) WITH_WORDS(store, write) WITH_WORDS(store, append) WITH_WORDS(store, create) WITH_WORDS(store, spawn)
     WITH_WORDS(store, read) WITH_WORDS(store, list) WITH_WORDS(store, inspect) WITH_WORDS(store, retire)
     WITH_WORDS(store, leave) WITH_WORDS(store, label) WITH_WORDS(store, who_holds) WITH_WORDS(store, could)
     WITH_WORDS(store, collect) WITH_WORDS(store, entry) WITH_WORDS(store, forget) WITH_WORDS(store, resume)
-    WITH_WORDS(store, apply_all) ALONE(store, close) ALONE(store, is_open)
+    WITH_WORDS(store, reopen) WITH_WORDS(store, apply_all) ALONE(store, close) ALONE(store, is_open)
     ALONE(store, subjects) ALONE(store, census) ALONE(store, names) ALONE(store, entries) ALONE(store, first)
     ALONE(store, audit)
     { NULL, NULL, 0, NULL },

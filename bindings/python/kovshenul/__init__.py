@@ -10,8 +10,8 @@ are an Error. A number that isn't from 0 to 2^64 - 1 raises OverflowError, and a
 Nothing happened then.
 
 `entry` and `journal` read a store's journal, and `forget` gives it up. An Auditor replays it before that, part after part. Another
-one goes on from its Snapshot. `Store.resume` opens a store that goes on from the entries of another process. `opening_text`, the
-`str` of each entry and `end_text` are the text that the program tgaudit reads. `kovshenul.journal` has the types of what an entry
+one goes on from its Snapshot. `Store.resume` opens a store that goes on from the entries of another process, and `Store.reopen` one
+that goes on from a Snapshot. `opening_text`, the `str` of each entry and `end_text` are the text that the program tgaudit reads. `kovshenul.journal` has the types of what an entry
 says. `kovshenul.outlook` has the types of what `could` answers about the future. A View, which `view` opens, answers many such
 questions. The module `kovshenul.plain` is a model of the store in plain Python, to test a host against.
 

@@ -17,18 +17,19 @@ from typing import Callable, ClassVar, List, NoReturn, Optional, Sequence, Tuple
 from ._library import BITS, PlaceOfC, library, number_in
 from ._lock import LOCK
 from ._packed import COMMAND_SIZE, EDGE_SIZE, NUMBER_SIZE, TARGET_SIZE, VALUE_SIZE
-from ._refusals import BadPlace, Numbers, denied, refusal
+from ._refusals import RULES, BadPlace, Numbers, denied, refusal
 from ._values import MOST_NUMBERS, RIGHTS, Target
 from .journal import DEEDS, REPLIES, Edges, Inspect, Record
 from .journal import List as Listed
 
 CALLS = (
-    "abi open close take grant remove write append create spawn retire leave who_holds subjects read list inspect label collect census names entries "
-    "first entry forget resume apply_all audit auditor_open auditor_feed auditor_at auditor_forget auditor_sweep auditor_close "
+    "abi open close take grant remove hand write append create spawn retire leave who_holds subjects read list inspect label collect census names entries "
+    "first entry forget resume reopen apply_all audit auditor_open auditor_feed auditor_at auditor_forget auditor_sweep auditor_close "
     "auditor_snapshot auditor_reopen snapshot_text snapshot_read snapshot_close could answer_kind answer_names answer_turns answer_turn answer_close view_open view_could view_close"
 ).split()
 
 DENIED = 1
+GRANTING = RULES.index("grant")
 MOST_WORKERS = 64
 MOST_ASKED = 4
 
@@ -65,6 +66,18 @@ class Denial(ctypes.Structure):
     def numbers(self) -> Numbers:
         """The same as numbers."""
         return self.rule, self.cause, self.source, self.target, self.rights
+
+
+class Handing(ctypes.Structure):
+    """Rights that a worker hands on."""
+
+    _fields_ = [
+        ("via", Number),
+        ("source", Number),
+        ("to", Number),
+        ("target", Number),
+        ("rights", Number),
+    ]
 
 
 class Entry(ctypes.Structure):
@@ -313,6 +326,16 @@ class Store(_Place):
             self._room = room
         _raise(status, *why)
 
+    def hand(self, via: int, source: int, to: int, target: int, rights: int) -> int:
+        handing, removed, why = Handing(*_numbers(via, source, to, target, rights)), Number(), Denial()
+        with LOCK:
+            status = short.tg_hand(self._at, byref(handing), byref(removed), byref(why))
+        if status:
+            # The take names who holds the rights, and the grant who is to hold them.
+            named = handing.to if status == DENIED and why.rule == GRANTING else handing.source
+            _raise(status, why.numbers(), (handing.via, named, handing.target))
+        return removed.value
+
     def remove(self, worker: int, target: int, rights: int) -> None:
         self._decide(short.tg_remove, worker, target, rights)
 
@@ -552,6 +575,12 @@ class Store(_Place):
             # After a bad entry there is no journal to read a row from.
             self.read_rows()
             self._ask(short.tg_resume, at_in, record, numbers, counts[0], edges, counts[1])
+
+    def reopen(self, text: bytes, limits: bytes) -> None:
+        shown = _Snapshot()
+        shown.read(text)
+        self._ask(library.tg_reopen, shown._at, limits)
+        shown.close()
 
     def apply_all(self, worker: int, commands: bytes) -> Tuple[int, List[Tuple[Record, List[int], List[Target]]]]:
         worker_in, count = _number(worker), c_size_t(len(commands) // COMMAND_SIZE)

@@ -37,10 +37,13 @@ def opening_in(
     workers: Iterable[Value], edges: Iterable[Tuple[int, int, int]], limits: Tuple[int, int, int]
 ) -> Tuple[bytes, bytes, bytes]:
     """What an opening asks for: values, edges and limits."""
-    values_in = b"".join([value_in(value) for value in workers])
-    pairs_in = edges_in(edges)
+    return b"".join([value_in(value) for value in workers]), edges_in(edges), limits_in(limits)
+
+
+def limits_in(limits: Tuple[int, int, int]) -> bytes:
+    """The limits of a store."""
     max_vertices, max_blocks, max_space_blocks = limits
-    return values_in, pairs_in, bytes_of((max_vertices, max_blocks, max_space_blocks))
+    return bytes_of((max_vertices, max_blocks, max_space_blocks))
 
 
 def scene_in(silent: Iterable[int], as_if: Iterable[Tuple[int, int, int]]) -> Tuple[bytes, bytes]:

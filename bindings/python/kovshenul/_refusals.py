@@ -166,13 +166,14 @@ class BadKind(Refused, ValueError):
 
 
 class BadWorkers(Refused, ValueError):
-    """Not from 1 to 64 workers."""
+    """Not from 1 to 64 workers. A snapshot from which a store is to go on has none."""
 
     status = 80
 
 
 class BadLimits(Refused, ValueError):
-    """A limit is out of its range, which `Limits` has. A batch has more than 1,024 commands."""
+    """A limit is out of its range, which `Limits` has. `max_vertices` isn't that of a snapshot. A batch has more than 1,024
+    commands."""
 
     status = 81
 
@@ -205,7 +206,8 @@ class BadPlace(Refused, IndexError):
 
 
 class NotWhole(Refused):
-    """Entries of the journal were given up, so that they can't all be audited any more."""
+    """The journal hasn't all entries since the opening, so that they can't be audited: some were given up, or the store goes on from
+    a snapshot."""
 
     status = 98
 

@@ -86,6 +86,14 @@ class Graph:
             other.add(x, y, rights)
         return other
 
+    @classmethod
+    def shown(cls, subjects: List[int], values: Dict[int, Stored], made: int, limit: int) -> Graph:
+        """The graph without edges in which so many vertices were made. Those without a value can't be reached, so what they store is
+        never read."""
+        graph = cls([values.get(name, Stored("cell", (0,))) for name in range(made)], (), limit)
+        graph.subjects = [*subjects]
+        return graph
+
     @property
     def made(self) -> int:
         """How many vertices were made. The next one gets this name."""
@@ -202,6 +210,18 @@ class Graph:
         self.values.append(value)
         self.add(x, self.made - 1, rights)
         return self.made - 1
+
+    # ---- rights that are handed on, by several commands that are done completely or left undone
+
+    def hand(self, x: int, giver: int, taker: int, z: int, rights: int) -> int:
+        """x takes rights over z from the giver, grants them to the taker, and removes those that it lacked, which are the answer."""
+        lacked = rights & ~self.label(x, z)
+        self.take(x, giver, z, rights)
+        try:
+            self.grant(x, taker, z, rights)
+        finally:
+            self.drop(x, z, lacked)
+        return lacked
 
     # ---- what is asked without an entry
 

@@ -6,10 +6,11 @@ from typing import Iterable, Iterator, List, Optional, Set, Tuple, Type, TypeVar
 
 from ._backend import back_end
 from ._held import Held
-from ._library import number_in
+from ._library import number_in, short_of
 from ._marks import Marked
-from ._packed import commands_in, entry_in, opening_in, scene_in, value_in
+from ._packed import commands_in, entry_in, limits_in, opening_in, scene_in, value_in
 from ._refusals import BadPlace, Denied, Refused, refusal
+from ._snapshot import Snapshot
 from ._values import RIGHTS, Counts, Kind, Limits, Rights, Target, Value
 from ._view import View
 from .journal import Deed, Entry, Reply, entry_of
@@ -91,6 +92,22 @@ class Store(Held, Marked):
                 refused.at = place
                 raise
 
+    @classmethod
+    def reopen(cls: Type[Own], snapshot: Snapshot, limits: Tuple[int, int, int] = Limits(), trusted: Iterable[int] = ()) -> Own:
+        """Opens a store that goes on from a snapshot: with its workers, edges and values. Names go on, and so do the places of the
+        journal, of which the store holds no entry from before. From there each command is answered as by the store of which it is a
+        snapshot. `Auditor.reopen` opens an auditor for it from the same snapshot.
+
+        It raises BadLimits if `max_vertices` isn't that of the first store, or another limit is out of its range, and BadWorkers if
+        the snapshot has no worker. A snapshot has no marks of the host: `trusted` are workers of the snapshot.
+        """
+        if not isinstance(snapshot, Snapshot):
+            raise TypeError(f"a snapshot is wanted, and not {short_of(snapshot)}")
+        store = cls.__new__(cls)
+        store._place.reopen(snapshot._packed(), limits_in(limits))
+        store._trust_each(trusted)
+        return store
+
     def take(self, worker: int, via: int, target: int, rights: int) -> None:
         """The worker takes rights over the target that `via` has."""
         try:
@@ -109,6 +126,20 @@ class Store(Held, Marked):
         """The worker gives up its own rights over the target."""
         try:
             self._place.remove(worker, target, rights)
+        except Denied as denial:
+            raise self._with_names(denial)
+
+    def hand(self, via: int, source: int, to: int, target: int, rights: int) -> Rights:
+        """Hands rights on. The worker `via` takes the rights over the target from `source`, grants them to `to`, and removes those
+        of them that it didn't hold before. This is done completely or left undone. Afterwards `to` holds the rights over the target
+        too, and all else is as it was. Each command has an entry: two, or three with the remove. Returns the rights that were
+        removed, which may be none.
+
+        The take is decided first, and then the grant, both on the graph before the hand. If one is denied, its entry is the only
+        one, and the exception's `rule` says which it is.
+        """
+        try:
+            return RIGHTS[self._place.hand(via, source, to, target, rights)]
         except Denied as denial:
             raise self._with_names(denial)
 

@@ -11,7 +11,7 @@ It has the same calls, with the same arguments and answers. It raises the same e
 `_rules.py`, written so that they can be read. The store is proved, and the model isn't. The package's tests compare the two.
 
 It is plain Python. The library for C, which the package loads, is asked for texts and for nothing else: those of refusals, of entries,
-of an opening and of a snapshot. `_rules.py` runs without the package.
+of an opening and of a snapshot. `reopen` reads a snapshot by itself. `_rules.py` runs without the package.
 
 What it leaves out:
 
@@ -30,7 +30,7 @@ from __future__ import annotations
 from typing import Callable, Iterable, Iterator, List, Optional, Set, Tuple, Type, TypeVar
 
 from . import journal, outlook
-from ._asked import Pair, edges_in, must_be_one, must_be_rights, must_be_written, must_fit, numbers_in, opened, stored_in
+from ._asked import Pair, edges_in, must_be_one, must_be_rights, must_be_written, must_fit, numbers_in, opened, shown_by, stored_in
 from ._foresight import Foresight
 from ._library import number_in, short_of
 from ._marks import Marked
@@ -50,7 +50,7 @@ from ._refusals import (
     WorkersFull,
     refusal,
 )
-from ._rules import Denial, Full
+from ._rules import Denial, Full, Graph
 from ._snapshot import Snapshot
 from ._texts import end_text, opening_text
 from ._values import MOST_NUMBERS, Cell, Counts, Edge, Kind, Limits, Log, Max, Rights, Sum, Target, Value
@@ -99,14 +99,19 @@ class Store(_Held, Marked):
     ) -> None:
         if not self.closed:
             raise AlreadyOpen
-        self._graph = opened(workers, edges, limits)
+        self._begin(opened(workers, edges, limits), 0)
+        self._trust_each(trusted)
+
+    def _begin(self, graph: Graph, at: int) -> None:
+        """Opens it on a graph. Its first entry gets this place, and the places before it are empty."""
+        self._graph = graph
         self._names, self._trusted = {}, set()
-        self._entries: List[Entry] = []
-        self._first = 0
+        self._entries: List[Optional[Entry]] = [None] * at
+        self._first = at
+        self._is_whole = True
         self._collections = {kind: 0 for kind in Kind}
         self._foreseen: Optional[Tuple[object, Foresight]] = None
         self.closed = False
-        self._trust_each(trusted)
 
     # ---- commands, each of which has its entry
 
@@ -127,6 +132,20 @@ class Store(_Held, Marked):
         worker, *named, rights = numbers_in(*words)
         must_be_rights(rights)
         self._ask(worker, kind(*named, Rights(rights)), *named, rights)
+
+    def hand(self, via: int, source: int, to: int, target: int, rights: int) -> Rights:
+        """`via` takes rights over the target from `source`, grants them to `to`, and removes those of them that it lacked."""
+        via, source, to, target, rights = numbers_in(via, source, to, target, rights)
+        must_be_rights(rights)
+        self._must_work(via)
+        take, grant = journal.Take(source, target, Rights(rights)), journal.Grant(to, target, Rights(rights))
+        try:
+            lacked = self._graph.hand(via, source, to, target, rights)
+        except Denial as why:
+            raise self._denied(via, take if why.rule == "take" else grant, why) from None
+        removal = [journal.Remove(target, Rights(lacked))] if lacked else []
+        self._entries += [Entry(via, deed, journal.Done()) for deed in (take, grant, *removal)]
+        return Rights(lacked)
 
     def read(self, worker: int, target: int) -> List[int]:
         """The state of the target."""
@@ -216,6 +235,17 @@ class Store(_Held, Marked):
             self.close()
             raise BadEntry
 
+    @classmethod
+    def reopen(cls: Type[Own], snapshot: Snapshot, limits: Tuple[int, int, int] = Limits(), trusted: Iterable[int] = ()) -> Own:
+        """Opens a store that goes on from a snapshot."""
+        if not isinstance(snapshot, Snapshot):
+            raise TypeError(f"a snapshot is wanted, and not {short_of(snapshot)}")
+        store = cls.__new__(cls)
+        store._begin(*shown_by(snapshot, limits))
+        store._is_whole = False
+        store._trust_each(trusted)
+        return store
+
     def apply_all(self, worker: int, commands: Iterable[Deed]) -> List[Reply]:
         """Takes commands of the worker one after the other, at most 1,024, and returns their replies. A denial is a reply."""
         asked = [*commands]
@@ -260,18 +290,22 @@ class Store(_Held, Marked):
         try:
             reply = _reply(deed, getattr(self._graph, type(deed).__name__.lower())(worker, *words))
         except Denial as why:
-            reply = journal.Denied(why.rule, why.cause, why.edge, Rights(why.rights))
+            raise self._denied(worker, deed, why) from None
         except Full as why:
             reply = journal.VerticesFull() if why.limit == "vertices" else journal.WorkersFull()
         self._entries.append(Entry(worker, deed, reply))
-        if isinstance(reply, journal.Denied):
-            named = [getattr(deed, name) for name in ("via", "target") if hasattr(deed, name)]
-            raise self._with_names(Denied(reply.rule, reply.cause, reply.edge, reply.rights, (worker, *named)))
         if isinstance(reply, journal.VerticesFull):
             raise VerticesFull
         if isinstance(reply, journal.WorkersFull):
             raise WorkersFull
         return reply
+
+    def _denied(self, worker: int, deed: Deed, why: Denial) -> Denied:
+        """Makes the entry of a denied command, and returns what it raises."""
+        reply = journal.Denied(why.rule, why.cause, why.edge, Rights(why.rights))
+        self._entries.append(Entry(worker, deed, reply))
+        named = [getattr(deed, name) for name in ("via", "target") if hasattr(deed, name)]
+        return self._with_names(Denied(reply.rule, reply.cause, reply.edge, reply.rights, (worker, *named)))
 
     # ---- questions, which have no entry
 
@@ -336,7 +370,7 @@ class Store(_Held, Marked):
     def census(self) -> Counts:
         """How many vertices, entries and collections were made."""
         self._must_be_open()
-        replies = [type(entry.reply) for entry in self._entries]
+        replies = [type(entry.reply) for entry in self._entries if entry is not None]
         refused = [replies.count(kind) for kind in (journal.Denied, journal.VerticesFull, journal.WorkersFull)]
         made, entries = self._graph.made, len(self._entries)
         by_kind = self._collections[NURSERY], self._collections[FULL]
@@ -376,8 +410,8 @@ class Store(_Held, Marked):
             at += 1
 
     def audit(self) -> int:
-        """How many entries the journal has. Where some were given up it raises NotWhole."""
-        if self.first() > 0:
+        """How many entries the journal has. It raises NotWhole if some were given up, or if the store was opened by `reopen`."""
+        if self.first() > 0 or not self._is_whole:
             raise NotWhole
         return self.entries()
 

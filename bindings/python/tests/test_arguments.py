@@ -52,6 +52,7 @@ TAKES = {
     "take": (4, False),
     "grant": (4, False),
     "remove": (3, False),
+    "hand": (5, False),
     "write": (3, False),
     "append": (3, False),
     "create": (2, True),

@@ -11,6 +11,7 @@ from kovshenul import (
     TAKE,
     Auditor,
     BadEntry,
+    BadLimits,
     BadPlace,
     BadValues,
     BadWorkers,
@@ -19,6 +20,7 @@ from kovshenul import (
     Limits,
     Log,
     Max,
+    NoSuchWorker,
     NotAudited,
     NotOpen,
     NotWhole,
@@ -420,6 +422,26 @@ class Snapshots(unittest.TestCase):
                     self.assertEqual(before, whole.snapshot())
                     self.assertEqual((part.at, whole.at), (store.entries(), store.entries()))
                 store.forget(store.entries())
+
+    def test_a_store_goes_on(self):
+        with opened() as first, Auditor(*opening()) as whole:
+            for seed in range(10):
+                told(first, seed, 50)
+                entries = whole.feed(first)
+                snapshot, limits = whole.snapshot(), opening()[2]
+                with Store.reopen(snapshot, limits, trusted=[0]) as again, Auditor.reopen(snapshot) as part:
+                    self.assertEqual((again.entries(), again.first(), again.trusted()), (entries, entries, [0]))
+                    self.assertRaises(NotWhole, again.audit)
+                    self.assertEqual(told(again, seed, 50), told(first, seed, 50)[entries:])
+                    self.assertEqual(part.feed(again), first.entries())
+            self.assertRaises(BadLimits, Store.reopen, snapshot, limits._replace(max_vertices=limits.max_vertices + 1))
+            self.assertRaises(BadLimits, Store.reopen, snapshot, limits._replace(max_blocks=0))
+            self.assertRaises(NoSuchWorker, Store.reopen, snapshot, limits, trusted=[10**6])
+            self.assertRaises(OverflowError, Store.reopen, snapshot, (-1, 1, 1))
+        nobody = Snapshot("kovshenul picture 1\nmade 1 20 0\npicture 0")
+        self.assertRaises(BadWorkers, Store.reopen, nobody, Limits(20, 8, 4))
+        for wrong in (None, str(nobody), 7):
+            self.assertRaises(TypeError, Store.reopen, wrong)
 
     def test_texts(self):
         with Auditor([Cell(7), Log(2)], [(0, 1, READ | GRANT)], Limits(9, 8, 4)) as auditor:

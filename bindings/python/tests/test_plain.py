@@ -20,6 +20,7 @@ from kovshenul import (
     TAKE,
     WRITE,
     AlreadyOpen,
+    Auditor,
     BadEdge,
     BadKind,
     BadLaw,
@@ -56,7 +57,7 @@ COULD = (outlook.Could, outlook.WantsNames, outlook.Open)
 
 NUMBERS = (0, 1, 7, 40, 2**63, 2**64 - 1)
 VALUES = (Cell(3), Sum(40), Sum(2**64 - 1), Max(9), Log(1), Log(2), Log(2))
-MAKING, MOVING, TOUCHING = ("create", "spawn"), ("take", "grant"), ("read", "write", "append", "inspect", "label", "who_holds")
+MAKING, MOVING, TOUCHING = ("create", "spawn"), ("take", "grant", "hand"), ("read", "write", "append", "inspect", "label", "who_holds")
 COMMANDS = (*MAKING, "create", *MOVING * 3, *TOUCHING, "append", "append", "remove", "list")
 RARE = ("retire", "leave", "wrong", "look_back")
 
@@ -127,15 +128,15 @@ class Draw:
         return (command, x) if command in ("list", "retire", "leave") else (command, x, target)
 
     def moved(self, graph, x, command):
-        """What a take or a grant names."""
-        via, _ = self.target(graph, x, TAKE if command == "take" else GRANT)
-        target, rights = self.target(graph, via if command == "take" else x)
-        return via, target, rights
+        """What a take, a grant or a hand names."""
+        via, _ = self.target(graph, x, GRANT if command == "grant" else TAKE)
+        target, rights = self.target(graph, x if command == "grant" else via)
+        return (via, self.target(graph, x, GRANT)[0], target, rights) if command == "hand" else (via, target, rights)
 
     def wrong(self, graph, x):
         """A call that is refused for what it is asked."""
         y = self.name(graph)
-        wrong = [("take", x, y, 0, 0), ("remove", x, y, 256), ("create", x, 0, Cell(0)), ("create", x, READ, Log(65))]
+        wrong = [("take", x, y, 0, 0), ("remove", x, y, 256), ("hand", x, y, y, 0, 0), ("hand", x, y, y, 0, 256), ("create", x, 0, Cell(0)), ("create", x, READ, Log(65))]
         wrong += [("spawn", x, READ, Log(0)), ("spawn", x, READ, None), ("read", x, -1), ("write", x, y, 2**64)]
         wrong += [("who_holds", 3, y), ("could", x, 3, y), ("entry", 999)]
         return self.rng.choice(wrong)
@@ -246,6 +247,33 @@ class Agreement(unittest.TestCase):
         causes = {(rule, cause) for rule in kovshenul.RULES for cause in ("not distinct", "missing")}
         self.assertEqual(denied, causes | {("append", "not log")})
         self.assertEqual((served, replies), (set(journal.DEEDS.values()), set(journal.REPLIES.values())))
+
+    def test_what_goes_on_from_a_snapshot(self):
+        gone_on = 0
+        for seed in range(RUNS // 2):
+            draw = Draw(seed)
+            workers, edges, limits = draw.opening()
+            with Store(workers, edges, limits) as store, plain.Store(workers, edges, limits) as model:
+                run = Run(draw, store, model)
+                run.play(draw.rng.choice([0, FEW, MANY]))
+                with Auditor(workers, edges, limits) as auditor:
+                    entries, snapshot = auditor.feed(store), auditor.snapshot()
+            other = limits._replace(max_vertices=limits.max_vertices + 1)
+            for kind in (Store, plain.Store):
+                self.assertRaises(BadLimits, kind.reopen, snapshot, other)
+            if not run.model._graph.subjects:
+                for kind in (Store, plain.Store):
+                    self.assertRaises(BadWorkers, kind.reopen, snapshot, limits)
+                continue
+            with Store.reopen(snapshot, limits) as store, plain.Store.reopen(snapshot, limits) as model:
+                run = Run(draw, store, model)
+                self.assertEqual(run.same("first"), entries)
+                self.assertEqual(run.same("audit")[0], NotWhole)
+                run.play(MANY)
+                run.look()
+                run.ask()
+                gone_on += run.same("entries") > entries
+        self.assertGreater(gone_on, RUNS // 4)
 
     def test_turns_of_the_model_lead_there(self):
         """The store serves each turn that the model shows, and then x holds the right."""
@@ -369,7 +397,7 @@ class Surface(unittest.TestCase):
             self.assertRaises(NotOpen, it.__enter__)
         self.assertRaises(NotOpen, view.could, 0, READ, 1)
         calls = [("read", 0, 1), ("list", 0), ("create", 0, READ, Cell(0)), ("leave", 0), ("label", 0, 1), ("subjects",)]
-        calls += [("who_holds", READ, 1), ("could", 0, READ, 1), ("view",), ("collect",), ("names",), ("census",)]
+        calls += [("hand", 0, 1, 1, 0, READ), ("who_holds", READ, 1), ("could", 0, READ, 1), ("view",), ("collect",), ("names",), ("census",)]
         calls += [("entries",), ("entry", 0), ("forget", 0), ("audit",), ("go_on", 0, [kovshenul.journal.Entry(0, kovshenul.journal.List(), kovshenul.journal.Done())])]
         for call, *arguments in calls:
             self.assertRaises(NotOpen, getattr(model, call), *arguments)
@@ -395,6 +423,8 @@ WRONG_RULES = {
     "a grant is one of any vertices": (Graph.grant, 'must_differ("grant", x, y, z)', 'must_differ("grant", x, y)'),
     "a remove of what isn't held": (Graph.remove, "x, y, rights)\n    self.drop", "x, y, 0)\n    self.drop"),
     "a remove of all": (Graph.remove, "self.drop(x, y, rights)", "self.drop(x, y, ALL_RIGHTS)"),
+    "who hands rights on keeps them": (Graph.hand, "    self.drop(x, z, lacked)", "    pass"),
+    "who hands rights on gives up its own": (Graph.hand, "rights & ~self.label(x, z)", "rights"),
     "a read asks for w": (Graph.read, "READ", "WRITE"),
     "a write without w": (Graph.write, "WRITE", "0"),
     "an append to any law": (Graph.append, 'self.must_log("append", y)', "pass"),
@@ -440,6 +470,8 @@ def with_wrong_edge(call, *arguments):
 WRONG_STORES = {
     "a take has r too": ("take", lambda it, x, y, z, rights: Store.take(it, x, y, z, rights | READ)),
     "a grant goes to the target": ("grant", lambda it, x, y, z, rights: Store.grant(it, x, z, y, rights)),
+    "a hand is a take and a grant": ("hand", lambda it, x, y, to, z, rights: [Store.take(it, x, y, z, rights), Store.grant(it, x, to, z, rights), rights][2]),
+    "a hand goes to the giver": ("hand", lambda it, x, y, to, z, rights: Store.hand(it, x, y, y, z, rights)),
     "a remove of all": ("remove", lambda it, x, y, rights: Store.remove(it, x, y, it.label(x, y) or rights)),
     "a read begins with the last": ("read", lambda it, x, y: Store.read(it, x, y)[::-1]),
     "a write is lost": ("write", lambda it, x, y, number: Store.read(it, x, y) and None),

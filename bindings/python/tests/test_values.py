@@ -157,6 +157,7 @@ class BackEnds(unittest.TestCase):
         """Memory that is refused too, which no test here can bring about."""
         with opened() as store, Auditor([Cell(0)] * 2, [(0, 1, GRANT)], LIMITS) as auditor, store.view() as view:
             calls = [(store.take, 0, 1, 2, 1), (store.grant, 0, 1, 2, 1), (store.remove, 0, 1, 1), (store.read, 0, 1)]
+            calls += [(store.hand, 0, 1, 1, 1, 1), (Store.reopen, auditor.snapshot(), LIMITS)]
             calls += [(store.write, 0, 1, 1), (store.append, 0, 1, 1), (store.create, 0, 1, Cell(0)), (store.spawn, 0, 1, Cell(0))]
             calls += [(store.list, 0), (store.inspect, 0, 1), (store.retire, 0), (store.leave, 0), (store.label, 0, 1)]
             calls += [(store.who_holds, 1, 1), (store.could, 0, 1, 1), (store.view,), (store.collect,), (store.census,)]
@@ -175,11 +176,11 @@ class BackEnds(unittest.TestCase):
         store, auditor, view = places
         for place in places:
             self.assertRaises(TypeError, place.open)
-        calls = [(store.take, 1, 2, 3), (store.read,), (store.list, 1), (store.could, b"", b"", 1, 2), (auditor.feed, None)]
+        calls = [(store.take, 1, 2, 3), (store.hand, 1, 2, 3, 4), (store.reopen, b""), (store.read,), (store.list, 1), (store.could, b"", b"", 1, 2), (auditor.feed, None)]
         calls += [(auditor.forget, store), (view.could, 1, 2), (view.open, auditor, b"", b""), (view.open, store, b"", "")]
         for call, *words in calls:
             self.assertRaises(TypeError, call, *words)
-        for call, *words in [(store.open, b"", b"", b""), (store.open, b"1", b"", bytes(24)), (store.create, 0, 1, bytes(32))]:
+        for call, *words in [(store.open, b"", b"", b""), (store.open, b"1", b"", bytes(24)), (store.create, 0, 1, bytes(32)), (store.reopen, b"", b"")]:
             with self.assertRaises(ValueError) as caught:
                 call(*words)
             # NotOpen is a ValueError too.
@@ -432,6 +433,32 @@ class Stores(unittest.TestCase):
             self.assertEqual([store.who_holds(READ, document) for document in documents], [[], [0], []])
             self.assertEqual(store.collect(), 4)
             self.assertEqual(store.audit(), store.entries())
+
+    def test_rights_are_handed_on(self):
+        with Store([Cell(0)]) as store:
+            owner, reader = store.spawn(0, TAKE, Cell(0)), store.spawn(0, GRANT, Cell(0))
+            document = store.create(owner, READ | WRITE, Cell(0))
+            self.assertEqual(store.hand(0, owner, reader, document, READ), READ)
+            self.assertEqual([store.label(x, document) for x in (0, owner, reader)], [0, READ | WRITE, READ])
+            asked = [f"take {owner}", f"grant {reader}", "remove"]
+            self.assertEqual([str(entry) for entry in [*store.journal()][3:]], [f"0 {word} {document} r = ok" for word in asked])
+            store.set_name(reader, "reader")
+            denials = {
+                (0, owner, owner, document, READ): f"grant: g is missing on 0->{owner}",
+                (0, owner, reader, document, GRANT): f"take: g is missing on {owner}->{document}",
+                (0, reader, owner, document, READ): f"take: t is missing on 0->reader ({reader})",
+                (0, 0, reader, document, READ): f"take: two vertices that must differ are one (0, 0, {document})",
+                (0, owner, document, document, READ): f"grant: two vertices that must differ are one (0, {document}, {document})",
+            }
+            for words, text in denials.items():
+                with self.assertRaises(Denied) as denied:
+                    store.hand(*words)
+                self.assertEqual(str(denied.exception), text)
+                self.assertEqual(store.entry(store.entries() - 1).reply.rule, denied.exception.rule)
+            self.assertEqual(store.entries(), 6 + len(denials))
+            self.assertRaises(NoSuchWorker, store.hand, document, owner, reader, document, READ)
+            self.assertRaises(kovshenul.BadRights, store.hand, 0, owner, reader, document, 0)
+            self.assertEqual(store.audit(), 6 + len(denials))
 
     def test_who_holds_is_asked_once(self):
         with Store([Cell(0)], [], Limits(400, 64, 64)) as store:

@@ -155,9 +155,9 @@ pub enum Error {
     BadLaw,
     /// A batch has a create or a spawn.
     BadKind,
-    /// Not from 1 to 64 workers.
+    /// Not from 1 to 64 workers. A snapshot from which a store is to go on has none.
     BadWorkers,
-    /// A limit is out of its range. A batch has more than 1,024 commands.
+    /// A limit is out of its range. `max_vertices` isn't that of a snapshot. A batch has more than 1,024 commands.
     BadLimits,
     /// An edge from a worker to itself, or with an end that is no worker; a supposed edge with an end that no worker
     /// reaches.
@@ -169,7 +169,8 @@ pub enum Error {
     BadEntry,
     /// The journal holds no entry at the place: it wasn't made yet, or it was given up. An entry to go on from isn't the next.
     BadPlace,
-    /// Entries of the journal were given up, so that they can't all be audited any more.
+    /// The journal hasn't all entries since the opening, so that they can't be audited: some were given up, or the store goes on
+    /// from a snapshot.
     NotWhole,
     /// Entries before the place weren't audited.
     NotAudited,

@@ -1,5 +1,5 @@
 //! The library's own functions, as `kovshenul.h` has them.
-use crate::{Counts, Edge, Limits, Value};
+use crate::{Counts, Edge, Hand, Limits, Value};
 use std::ffi::c_void;
 use std::os::raw::c_char;
 
@@ -121,6 +121,27 @@ impl From<&Edge> for RawEdge {
 }
 
 #[repr(C)]
+pub struct RawHanding {
+    via: u64,
+    from: u64,
+    to: u64,
+    target: u64,
+    rights: u64,
+}
+
+impl From<&Hand> for RawHanding {
+    fn from(hand: &Hand) -> RawHanding {
+        RawHanding {
+            via: hand.via,
+            from: hand.from,
+            to: hand.to,
+            target: hand.target,
+            rights: hand.rights.bits(),
+        }
+    }
+}
+
+#[repr(C)]
 #[derive(Clone, Copy, Default)]
 pub struct RawTarget {
     pub to: u64,
@@ -193,6 +214,7 @@ extern "C" {
     pub fn tg_take(store: *mut RawStore, worker: u64, via: u64, target: u64, rights: u64, why: &mut RawDenial) -> u32;
     pub fn tg_grant(store: *mut RawStore, worker: u64, via: u64, target: u64, rights: u64, why: &mut RawDenial) -> u32;
     pub fn tg_remove(store: *mut RawStore, worker: u64, target: u64, rights: u64, why: &mut RawDenial) -> u32;
+    pub fn tg_hand(store: *mut RawStore, handing: &RawHanding, removed: &mut u64, why: &mut RawDenial) -> u32;
     pub fn tg_write(store: *mut RawStore, worker: u64, target: u64, value: u64, why: &mut RawDenial) -> u32;
     pub fn tg_append(store: *mut RawStore, worker: u64, target: u64, value: u64, why: &mut RawDenial) -> u32;
     pub fn tg_create(store: *mut RawStore, worker: u64, rights: u64, value: &RawValue, name: &mut u64) -> u32;
@@ -324,6 +346,7 @@ extern "C" {
     pub fn tg_auditor_close(auditor: *mut RawAuditor) -> u32;
     pub fn tg_auditor_snapshot(auditor: *mut RawAuditor, snapshot: &mut RawSnapshot) -> u32;
     pub fn tg_auditor_reopen(auditor: *mut RawAuditor, snapshot: &mut RawSnapshot) -> u32;
+    pub fn tg_reopen(store: *mut RawStore, snapshot: &mut RawSnapshot, limits: &Limits) -> u32;
     pub fn tg_snapshot_text(snapshot: *mut RawSnapshot, text: *mut u8, room: usize, length: &mut u64) -> u32;
     pub fn tg_snapshot_read(snapshot: &mut RawSnapshot, text: *const u8, length: usize, line: &mut u64) -> u32;
     pub fn tg_snapshot_close(snapshot: &mut RawSnapshot) -> u32;

@@ -1,15 +1,15 @@
-//! Snapshots, from which an auditor goes on.
+//! Snapshots, from which an auditor and a store go on.
 use crate::error::served;
-use crate::raw::{self, RawAuditor, RawSnapshot};
+use crate::raw::{self, RawAuditor, RawSnapshot, RawStore};
 use crate::text::text_of;
-use crate::Error;
+use crate::{Error, Limits};
 use std::fmt;
 use std::ptr::null_mut;
 use std::str::FromStr;
 
 /// A snapshot of a graph, at a place of its history: the active workers, what they reach with what is stored there, and how many
 /// entries came before. An [`Auditor`](crate::Auditor) takes one ([`snapshot`](crate::Auditor::snapshot)), and another one goes on
-/// from it ([`reopen`](crate::Auditor::reopen)).
+/// from it ([`reopen`](crate::Auditor::reopen)). A store goes on from one too ([`Store::reopen`](crate::Store::reopen)).
 ///
 /// It is kept as its text, by `to_string` and `parse`. The text has a line for each thing that is shown, and no line feed after the
 /// last of them. One graph has one text at a place, so equal snapshots are of the same graph.
@@ -76,6 +76,12 @@ impl Snapshot {
         // The text is that of a snapshot, so only memory may be lacking.
         let mut place = self.place().map_err(|_| Error::OutOfMemory)?;
         served(unsafe { raw::tg_auditor_reopen(auditor, &mut place.0) })
+    }
+
+    // Opens a store from it.
+    pub(crate) fn reopen_store(&self, store: &mut RawStore, limits: &Limits) -> Result<(), Error> {
+        let mut place = self.place().map_err(|_| Error::OutOfMemory)?;
+        served(unsafe { raw::tg_reopen(store, &mut place.0, limits) })
     }
 
     // What its text says, in a place of the library.

@@ -1,8 +1,8 @@
 //! An open store.
 use crate::error::{decided, served};
 use crate::marks::Marks;
-use crate::raw::{self, RawDenial, RawEdge, RawRecord, RawStore, RawTarget, RawValue};
-use crate::{Counts, Edge, Entry, Error, Journal, Kind, Limits, Rights, Target, Value};
+use crate::raw::{self, RawDenial, RawEdge, RawHanding, RawRecord, RawStore, RawTarget, RawValue};
+use crate::{Counts, Edge, Entry, Error, Hand, Journal, Kind, Limits, Rights, Snapshot, Target, Value};
 use std::cell::UnsafeCell;
 use std::fmt;
 use std::panic::RefUnwindSafe;
@@ -79,10 +79,7 @@ impl Store {
         assert_eq!(abi, raw::ABI, "the library has another interface");
         let workers: Vec<RawValue> = workers.iter().map(RawValue::from).collect();
         let edges: Vec<RawEdge> = edges.iter().map(RawEdge::from).collect();
-        let mut place = RawStore {
-            is_open: false,
-            at: null_mut(),
-        };
+        let mut place = closed();
         let status = unsafe {
             raw::tg_open(
                 &mut place,
@@ -94,10 +91,45 @@ impl Store {
             )
         };
         served(status)?;
-        Ok(Store {
+        Ok(Store::over(place))
+    }
+
+    /// Opens a store that goes on from a snapshot: with its workers, edges and values. Names go on, and so do the places of the
+    /// journal, of which the store holds no entry from before. From there each command is answered as by the store of which it is a
+    /// snapshot. [`Auditor::reopen`](crate::Auditor::reopen) opens an auditor for it from the same snapshot.
+    ///
+    /// It is [`BadLimits`](Error::BadLimits) if `max_vertices` isn't that of the first store, or another limit is out of its range,
+    /// and [`BadWorkers`](Error::BadWorkers) if the snapshot has no worker. The snapshot has no marks of the host.
+    ///
+    /// ```
+    /// # use kovshenul::{Auditor, Limits, Rights, Snapshot, Store, Value};
+    /// # let (workers, limits) = ([Value::Cell(0)], Limits { max_vertices: 10, max_blocks: 8, max_space_blocks: 4 });
+    /// # let mut store = Store::open(&workers, &[], &limits)?;
+    /// let sum = store.create(0, Rights::READ | Rights::WRITE, Value::Sum(40))?;
+    /// let mut auditor = Auditor::open(&workers, &[], &limits)?;
+    /// auditor.feed(&store)?;
+    /// let kept = auditor.snapshot()?.to_string();
+    /// drop(store);
+    /// let snapshot: Snapshot = kept.parse()?;
+    /// let mut store = Store::reopen(&snapshot, &limits)?;
+    /// store.write(0, sum, 2)?;
+    /// assert_eq!(store.read(0, sum)?, [42]);
+    /// assert_eq!((store.first()?, store.entries()?), (1, 3));
+    /// assert_eq!(store.create(0, Rights::READ, Value::Cell(0))?, sum + 1);
+    /// # Ok::<(), Box<dyn std::error::Error>>(())
+    /// ```
+    pub fn reopen(snapshot: &Snapshot, limits: &Limits) -> Result<Store, Error> {
+        let mut place = closed();
+        snapshot.reopen_store(&mut place, limits)?;
+        Ok(Store::over(place))
+    }
+
+    // The store in an open place, without marks.
+    fn over(place: RawStore) -> Store {
+        Store {
             place: UnsafeCell::new(place),
             marks: Marks::default(),
-        })
+        }
     }
 
     // The place, as each call of the library takes it.
@@ -124,6 +156,35 @@ impl Store {
         let mut why = RawDenial::default();
         let status = unsafe { raw::tg_remove(self.at(), worker, target, rights.bits(), &mut why) };
         decided(status, &why)
+    }
+
+    /// Hands rights on. The worker `via` takes the rights over the target from `from`, grants them to `to`, and removes those of
+    /// them that it didn't hold before. This is done completely or left undone. Afterwards `to` holds the rights over the target too,
+    /// and all else is as it was. Each command has an entry: two, or three with the remove. Returns the rights that were removed, which
+    /// may be none.
+    ///
+    /// The take is decided first, and then the grant, both on the graph before the hand. If one is denied, its entry is the only one,
+    /// and the rule of the denial says which it is.
+    ///
+    /// ```
+    /// # use kovshenul::{Denial, Error, Hand, Limits, Rights, Rule, Store, Value};
+    /// # let mut store = Store::open(&[Value::Cell(0)], &[], &Limits::default())?;
+    /// let owner = store.spawn(0, Rights::TAKE, Value::Cell(0))?;
+    /// let reader = store.spawn(0, Rights::GRANT, Value::Cell(0))?;
+    /// let document = store.create(owner, Rights::READ | Rights::WRITE, Value::Cell(7))?;
+    /// let hand = Hand { via: 0, from: owner, to: reader, target: document, rights: Rights::READ };
+    /// assert_eq!(store.hand(&hand)?, Rights::READ);
+    /// assert_eq!(store.read(reader, document)?, [7]);
+    /// assert_eq!(store.label(0, document)?, Rights::NONE);
+    /// let denial = Denial::Missing { rule: Rule::Grant, from: 0, to: owner, rights: Rights::GRANT };
+    /// assert_eq!(store.hand(&Hand { to: owner, ..hand }), Err(Error::Denied(denial)));
+    /// # Ok::<(), Error>(())
+    /// ```
+    pub fn hand(&mut self, hand: &Hand) -> Result<Rights, Error> {
+        let (handing, mut removed, mut why) = (RawHanding::from(hand), 0, RawDenial::default());
+        let status = unsafe { raw::tg_hand(self.at(), &handing, &mut removed, &mut why) };
+        decided(status, &why)?;
+        Ok(Rights::told(removed))
     }
 
     /// The worker writes to the target.
@@ -401,11 +462,19 @@ impl Store {
     }
 
     /// Replays the journal, and returns how many entries it has. It is [`NotWhole`](Error::NotWhole) if entries were given
-    /// up. An [`Auditor`](crate::Auditor) replays entries before they are given up.
+    /// up, or if the store goes on from a snapshot. An [`Auditor`](crate::Auditor) replays entries before they are given up.
     pub fn audit(&self) -> Result<u64, Error> {
         let mut count = 0;
         served(unsafe { raw::tg_audit(self.at(), &mut count) })?;
         Ok(count)
+    }
+}
+
+// A place without a store.
+fn closed() -> RawStore {
+    RawStore {
+        is_open: false,
+        at: null_mut(),
     }
 }
 

@@ -27,6 +27,21 @@ pub struct Edge {
     pub rights: Rights,
 }
 
+/// Rights that a worker hands on ([`Store::hand`](crate::Store::hand)).
+#[derive(Clone, Copy, PartialEq, Eq, Hash, Debug)]
+pub struct Hand {
+    /// The worker that hands them on.
+    pub via: u64,
+    /// Who holds them over the target.
+    pub from: u64,
+    /// Who is to hold them too.
+    pub to: u64,
+    /// The vertex that the rights are over.
+    pub target: u64,
+    /// The rights: one at least.
+    pub rights: Rights,
+}
+
 /// How many vertices and blocks there may be.
 ///
 /// ```

@@ -359,6 +359,32 @@ fn an_auditor_goes_on_from_a_snapshot() {
 }
 
 #[test]
+fn a_store_goes_on_from_a_snapshot() {
+    let (mut first, mut whole) = (opened(20), auditor(20));
+    let mut dice = Dice(10);
+    for _ in 0..20 {
+        let snapshot = {
+            whole.feed(&first).unwrap();
+            whole.snapshot().unwrap()
+        };
+        let (mut again, mut part) = (Store::reopen(&snapshot, &limits(20)).unwrap(), Auditor::reopen(&snapshot).unwrap());
+        let at = first.entries().unwrap();
+        assert_eq!((again.entries(), again.first(), again.audit()), (Ok(at), Ok(at), Err(Error::NotWhole)));
+        for _ in 0..50 {
+            let (worker, deed) = (dice.below(2), dice.deed());
+            assert_eq!(call(&mut again, worker, deed), call(&mut first, worker, deed));
+        }
+        assert!(again.journal().eq(first.journal().skip(at as usize)));
+        assert_eq!(part.feed(&again), Ok(at + 50));
+    }
+    let snapshot = whole.snapshot().unwrap();
+    assert_eq!(Store::reopen(&snapshot, &limits(21)).err(), Some(Error::BadLimits));
+    assert_eq!(Store::reopen(&snapshot, &Limits { max_blocks: 0, ..limits(20) }).err(), Some(Error::BadLimits));
+    let nobody: Snapshot = "kovshenul picture 1\nmade 1 20 0\npicture 0".parse().unwrap();
+    assert_eq!(Store::reopen(&nobody, &limits(20)).err(), Some(Error::BadWorkers));
+}
+
+#[test]
 fn a_batch_is_answered_as_its_commands_alone() {
     let (mut one, mut other, mut dice) = (opened(20), opened(20), Dice(11));
     for size in [0, 1, 2, 64, 1024] {

@@ -1,5 +1,5 @@
 //! What users of Rust expect of the crate beside its answers.
-use kovshenul::{Denial, Edge, Error, Kind, Limits, NoRights, Rights, Rule, Store, Target, Value};
+use kovshenul::{Deed, Denial, Edge, Error, Hand, Kind, Limits, NoRights, Reply, Rights, Rule, Store, Target, Value};
 use std::collections::HashSet;
 use std::sync::mpsc;
 use std::sync::Mutex;
@@ -155,6 +155,38 @@ fn who_leaves_holds_nothing() {
     assert_eq!((store.who_holds(Rights::READ, documents[1]), store.who_holds(Rights::READ, documents[0])), (Ok(vec![0]), Ok(vec![])));
     assert_eq!(store.collect(Kind::Full), Ok(3));
     assert_eq!(store.entries(), store.audit());
+}
+
+#[test]
+fn rights_are_handed_on() {
+    let mut store = opened(1);
+    let owner = store.spawn(0, Rights::TAKE, Value::Cell(0)).unwrap();
+    let reader = store.spawn(0, Rights::GRANT, Value::Cell(0)).unwrap();
+    let document = store.create(owner, Rights::READ | Rights::WRITE, Value::Cell(0)).unwrap();
+    let (from, to, target) = (owner, reader, document);
+    let hand = Hand { via: 0, from, to, target, rights: Rights::READ };
+    assert_eq!(store.hand(&hand), Ok(Rights::READ));
+    let asked = |deed| (0, deed, Reply::Done);
+    let rights = Rights::READ;
+    let take = asked(Deed::Take { via: owner, target, rights });
+    let grant = asked(Deed::Grant { via: reader, target, rights });
+    let told: Vec<_> = store.journal().skip(3).map(|entry| (entry.worker, entry.deed, entry.reply)).collect();
+    assert_eq!(told, [take, grant, asked(Deed::Remove { target, rights })]);
+    assert_eq!(store.label(reader, document), Ok(Rights::READ));
+    assert_eq!(store.label(0, document), Ok(Rights::NONE));
+    store.take(0, owner, document, Rights::READ).unwrap();
+    assert_eq!(store.hand(&hand), Ok(Rights::NONE));
+    assert_eq!(store.hand(&Hand { rights: Rights::READ | Rights::WRITE, ..hand }), Ok(Rights::WRITE));
+    let not_distinct = |rule| Err(Error::Denied(Denial::NotDistinct { rule }));
+    assert_eq!(store.hand(&Hand { from: 0, ..hand }), not_distinct(Rule::Take));
+    assert_eq!(store.hand(&Hand { from: reader, ..hand }), missing(Rule::Take, 0, reader, Rights::TAKE));
+    assert_eq!(store.hand(&Hand { rights: Rights::GRANT, ..hand }), missing(Rule::Take, owner, document, Rights::GRANT));
+    assert_eq!(store.hand(&Hand { to: 0, ..hand }), not_distinct(Rule::Grant));
+    assert_eq!(store.hand(&Hand { to: owner, ..hand }), missing(Rule::Grant, 0, owner, Rights::GRANT));
+    assert_eq!(store.entries(), Ok(17));
+    assert_eq!(store.hand(&Hand { via: document, ..hand }), Err(Error::NoSuchWorker));
+    assert_eq!(store.hand(&Hand { rights: Rights::NONE, ..hand }), Err(Error::BadRights));
+    assert_eq!(store.audit(), Ok(17));
 }
 
 #[test]

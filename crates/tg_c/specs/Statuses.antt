@@ -7,6 +7,8 @@ use Rattle.tg_model.specs.declared.reply.Reply.TheVariants.{Done, Name, Values, 
 use Rattle.tg_store.specs.declared.census.Census.{Census}
 use Rattle.tg_store.specs.declared.fault.OpenFault.{OpenFault}
 use Rattle.tg_store.specs.declared.fault.OpenFault.TheVariants as opened
+use Rattle.tg_store.specs.declared.fault.ReopenFault.{ReopenFault}
+use Rattle.tg_store.specs.declared.fault.ReopenFault.TheVariants as again
 use Rattle.tg_store.specs.declared.fault.ApplyFault.{ApplyFault}
 use Rattle.tg_store.specs.declared.fault.ApplyFault.TheVariants as apply
 use Rattle.tg_store.specs.declared.fault.CreateFault.{CreateFault}
@@ -65,6 +67,12 @@ abbrev pub of_open : OpenFault → CallRefusal
 of_open (opened.PayloadMismatch at) = refusal.BadValues
 of_open opened.OutOfMemory = refusal.OutOfMemory
 of_open opened.HeapFull = refusal.HeapFull
+
+abbrev pub of_reopen : ReopenFault → CallRefusal
+of_reopen again.LimitDiffers = refusal.BadLimits
+of_reopen again.NoSubject = refusal.BadWorkers
+of_reopen again.OutOfMemory = refusal.OutOfMemory
+of_reopen again.HeapFull = refusal.HeapFull
 
 abbrev pub of_apply : ApplyFault → CallRefusal
 of_apply apply.NoSuchWorker = refusal.NoSuchWorker

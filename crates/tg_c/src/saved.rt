@@ -1,9 +1,10 @@
-//! A snapshot that C holds, from which an auditor goes on. It is read from its text, or taken of what an auditor has
-//! come to. A host keeps it as its text, which `tg_saved` writes and reads.
+//! A snapshot that C holds, from which an auditor or a store goes on (`again`). It is read from its text, or taken of
+//! what an auditor has come to. A host keeps it as its text, which `tg_saved` writes and reads.
 //!
 //! As of an auditor, C holds a `SnapshotPlace` of 16 bytes, all zero while it is closed (`place`). An open place has a
 //! pointer to a `Kept` (`kept`). The functions of `exports` call it by `calls`.
 
+mod again;
 mod calls;
 mod exports;
 pub mod kept;

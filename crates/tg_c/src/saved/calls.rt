@@ -1,13 +1,17 @@
-//! The calls on a snapshot in its place, in Rattle's own types, and those of an auditor on one.
+//! The calls on a snapshot in its place, in Rattle's own types, and those of an auditor and of a store on one.
 ghost use Rattle.std.specs.Prelude.{◌≡◌, IfErr, IfOk, Err, Ok};
 ghost use Rattle.tg_saved.specs.Texts.{snapshot_text};
+ghost use Rattle.tg_c.specs.Again.{ReopensFrom};
 ghost use Rattle.tg_c.specs.Saved.{AsksText, IsReadFault, IsReopenedAudit, IsShownAudit, ReopensAudit, Shows, line_told, read_refusal};
 ghost use Rattle.tg_c.specs.declared.refusal.CallRefusal.TheVariants.{OutOfMemory};
 
 use crate::auditor::audit::Audit;
 use crate::auditor::place::AuditorPlace;
+use crate::forms::LimitsIn;
 use crate::held::Holder;
+use crate::law_store::LawStore;
 use crate::refusal::CallRefusal;
+use crate::saved::again;
 use crate::saved::kept::Kept;
 use crate::saved::place::SnapshotPlace;
 use std::alloc::Global;
@@ -67,4 +71,17 @@ pub fn reopen(alloc: Global, snapshot: &mut SnapshotPlace) -> Result<Box<Audit>,
 {
     let auditor = snapshot.with_open(alloc, |kept| Auditor::reopen(alloc, &kept.snapshot))??;
     Ok(Box::new(alloc, Audit { auditor })?)
+}
+
+/// A store that goes on from the snapshot, which no place has yet.
+pub fn reopen_store(
+    alloc: Global,
+    snapshot: &mut SnapshotPlace,
+    limits: &LimitsIn,
+) -> Result<Box<LawStore>, CallRefusal>
+    ensures reopened { IfOk result (λ opened. ReopensFrom snapshot.old snapshot.new limits.now (Ok opened.value.store)) }
+    ensures refused { IfErr result (λ why. ReopensFrom snapshot.old snapshot.new limits.now (Err why)) }
+{
+    let store = snapshot.with_open(alloc, |kept| again::reopen(alloc, &kept.snapshot, limits))??;
+    Ok(Box::new(alloc, store)?)
 }

@@ -1,11 +1,14 @@
-//! The functions that C calls on a snapshot, and those of an auditor on one.
+//! The functions that C calls on a snapshot, and those of an auditor and of a store on one.
 ghost use Rattle.std.specs.Prelude.{◌≡◌, false, true};
+ghost use Rattle.tg_c.specs.Again.{ReopensStore};
 ghost use Rattle.tg_c.specs.Saved.{ReadsSnapshot, ReopensAuditor, SnapshotsAuditor, WritesSnapshot};
 ghost use Rattle.tg_c.specs.Statuses.{status_of};
 ghost use Rattle.tg_c.specs.Texts.{TellsText, text_out};
 
 use crate::auditor::place::AuditorPlace;
+use crate::forms::LimitsIn;
 use crate::held::Holder;
+use crate::place::StorePlace;
 use crate::refusal::CallRefusal;
 use crate::saved::calls;
 use crate::saved::place::SnapshotPlace;
@@ -108,6 +111,31 @@ pub extern "C" fn tg_auditor_reopen(
     match calls::reopen(alloc, snapshot) {
         Ok(audit) => {
             auditor.put(audit);
+            DONE
+        }
+        Err(refusal) => refusal.status(),
+    }
+}
+
+/// Opens a store that goes on from the snapshot. Its names and its places in the journal go on, and it holds no entry
+/// from before. `AlreadyOpen` is answered exactly where the store's place is open, and else `NotOpen` exactly where the
+/// snapshot's is closed. Then come the faults of `limits` and of the snapshot, in the order of `again::reopen`; and
+/// only where there is none, lack of memory or of blocks. A refused place is as it was, and the snapshot always is.
+#[unsafe(no_mangle)]
+pub extern "C" fn tg_reopen(
+    alloc: Global,
+    store: &mut StorePlace,
+    snapshot: &mut SnapshotPlace,
+    limits: &LimitsIn,
+) -> u32
+    ensures { ReopensStore store.old store.new snapshot.old snapshot.new limits.now result }
+{
+    if store.is_open {
+        return CallRefusal::AlreadyOpen.status();
+    }
+    match calls::reopen_store(alloc, snapshot, limits) {
+        Ok(reopened) => {
+            store.put(reopened);
             DONE
         }
         Err(refusal) => refusal.status(),
