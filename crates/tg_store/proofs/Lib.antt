@@ -12,6 +12,7 @@ pub mod RoomLaws
 pub mod StandLaws
 mod ReachingLaws
 mod PictureLaws
+mod SavedLaws
 mod LeaveLaws
 mod HandLaws
 pub mod BatchLaws

@@ -210,23 +210,32 @@ module _ (label : ℕ → ℕ → RightSet) (from : ℕ) (row : List (ℕ × Rig
 
 -- ---- the walk
 
--- The rows of the first n that were found were walked along: their edges are the list's, and those to whom they lead were found.
-pub record Walks (c : Content) (subjects : List ℕ) (found : FoundVertices) (edges : List Edge) (n : ℕ) : Type 0 where
+-- Those to whom the rows of the first n lead that were found were found too, and none but what the subjects reach.
+pub record Finds (c : Content) (subjects : List ℕ) (found : FoundVertices) (n : ℕ) : Type 0 where
   pub roots : (x : ℕ) → Contains subjects x → Contains (names_found found.vertices.items) x
   pub reached : (x : ℕ) → Contains (names_found found.vertices.items) x → IsReached c subjects x
   pub closed : (a b : ℕ) → Contains (names_found (take n found.vertices.items)) a → HasEdge c.label a b → Contains (names_found found.vertices.items) b
+
+pub find_begins : (c : Content) (subjects : List ℕ) (found : FoundVertices) → ((x : ℕ) → Contains (names_found found.vertices.items) x ↔ Contains subjects x) → Finds c subjects found 0
+find_begins c subjects found are = record {
+  roots = λ x has. (are x).1 has;
+  reached = λ x has. begins ((are x).0 has);
+  closed = λ a b none. absurd (Contains-none a none);
+}
+
+-- The same, and the edges of these rows are the list's.
+pub record Walks (c : Content) (subjects : List ℕ) (found : FoundVertices) (edges : List Edge) (n : ℕ) : Type 0 where
+  pub finds : Finds c subjects found n
   pub shown : (edge : Edge) → Contains edges edge ↔ (Contains (names_found (take n found.vertices.items)) edge.from × IsEdgeOf c.label edge)
 
 pub walk_begins : (c : Content) (subjects : List ℕ) (found : FoundVertices) → ((x : ℕ) → Contains (names_found found.vertices.items) x ↔ Contains subjects x) → Walks c subjects found [] 0
 walk_begins c subjects found are = record {
-  roots = λ x has. (are x).1 has;
-  reached = λ x has. begins ((are x).0 has);
-  closed = λ a b none. absurd (Contains-none a none);
+  finds = find_begins c subjects found are;
   shown = λ edge. (λ none. absurd (Contains-none edge none), λ (none, is). absurd (Contains-none edge.from none));
 }
 
 -- the walk goes on with the row of a vertex that was read
-module _ (c : Content) (subjects : List ℕ) (old new : FoundVertices) (before after : List Edge) (n : ℕ) (v : ℕ × Place) (walks : Walks c subjects old before n) (low : n < length old.vertices.items) (here : v ≡ get_or old.vertices.items n v) (finds : FindsMore old new (HasEdge c.label v.0)) where
+module _ (c : Content) (subjects : List ℕ) (old new : FoundVertices) (n : ℕ) (v : ℕ × Place) (low : n < length old.vertices.items) (here : v ≡ get_or old.vertices.items n v) (finds : FindsMore old new (HasEdge c.label v.0)) where
   abbrev walked : List ℕ
   walked = names_found (take n old.vertices.items)
 
@@ -240,15 +249,20 @@ module _ (c : Content) (subjects : List ℕ) (old new : FoundVertices) (before a
   steps : (x : ℕ) → Contains (names_found (take (n + 1) new.vertices.items)) x ↔ (Contains walked x ⊎ (v.0 ≡ x))
   steps x = subst (λ (xs : List ℕ). Contains xs x ↔ (Contains walked x ⊎ (v.0 ≡ x))) (sym walked_more) (push_is walked v.0 x)
 
-  pub walk_row : ((edge : Edge) → Contains after edge ↔ (Contains before edge ⊎ ((edge.from ≡ v.0) × IsEdgeOf c.label edge))) → Walks c subjects new after (n + 1)
-  walk_row edges_are = record {
-    roots = λ x is. stays_found old new finds.more finds.behind x (walks.roots x is);
-    reached = λ x has. ⊎_elim (walks.reached x) (λ new_one. goes (walks.reached v.0 (Contains-map (λ (w : ℕ × Place). w.0) old.vertices.items v (n, low, sym here))) (finds.only x new_one))
+  pub find_row : Finds c subjects old n → Finds c subjects new (n + 1)
+  find_row so_far = record {
+    roots = λ x is. stays_found old new finds.more finds.behind x (so_far.roots x is);
+    reached = λ x has. ⊎_elim (so_far.reached x) (λ new_one. goes (so_far.reached v.0 (Contains-map (λ (w : ℕ × Place). w.0) old.vertices.items v (n, low, sym here))) (finds.only x new_one))
         (Contains-append_cases (names_found old.vertices.items) (names_found finds.more) x (subst (λ (xs : List ℕ). Contains xs x) (found_behind old new finds.more finds.behind) has));
     closed = λ a b there edge. ⊎_elim
-        (λ before_it. stays_found old new finds.more finds.behind b (walks.closed a b before_it edge))
+        (λ before_it. stays_found old new finds.more finds.behind b (so_far.closed a b before_it edge))
         (λ (at : v.0 ≡ a). finds.all b (subst (λ (k : ℕ). HasEdge c.label k b) (sym at) edge))
         ((steps a).0 there);
+  }
+
+  pub walk_row : (before after : List Edge) → Walks c subjects old before n → ((edge : Edge) → Contains after edge ↔ (Contains before edge ⊎ ((edge.from ≡ v.0) × IsEdgeOf c.label edge))) → Walks c subjects new after (n + 1)
+  walk_row before after walks edges_are = record {
+    finds = find_row walks.finds;
     shown = λ edge. (
       λ has. ⊎_elim
           (λ old_edge. let is = (walks.shown edge).0 old_edge in ((steps edge.from).1 (inl is.0), is.1))
@@ -258,21 +272,26 @@ module _ (c : Content) (subjects : List ℕ) (old new : FoundVertices) (before a
     );
   }
 
--- at the end all that is reached was walked along
+-- at the end all that is reached was found
+module _ (c : Content) (subjects : List ℕ) (found : FoundVertices) (n : ℕ) (finds : Finds c subjects found n) (past : length found.vertices.items ≤ n) where
+  all_walked : names_found (take n found.vertices.items) ≡ names_found found.vertices.items
+  all_walked = ap names_found (take_all n found.vertices.items past)
+
+  walked_of : (x : ℕ) → Contains (names_found found.vertices.items) x → Contains (names_found (take n found.vertices.items)) x
+  walked_of x has = subst (λ (xs : List ℕ). Contains xs x) (sym all_walked) has
+
+  all_found : (x : ℕ) → IsReached c subjects x → Contains (names_found found.vertices.items) x
+  all_found = Walk-within (Contains (names_found found.vertices.items)) finds.roots (λ a b has edge. finds.closed a b (walked_of a has) edge)
+
+  pub find_over : (x : ℕ) → Contains (names_found found.vertices.items) x ↔ IsReached c subjects x
+  find_over x = (finds.reached x, all_found x)
+
+-- and walked along
 pub walk_over : (c : Content) (subjects : List ℕ) (found : FoundVertices) (edges : List Edge) (n : ℕ) → Walks c subjects found edges n → length found.vertices.items ≤ n → (edge : Edge) → Contains edges edge ↔ IsReachedEdgeOf c subjects edge
 walk_over c subjects found edges n walks past edge = (
-  λ has. let is = (walks.shown edge).0 has in record { from = walks.reached edge.from (subst (λ (xs : List ℕ). Contains xs edge.from) whole is.0); is = is.1 },
-  λ is. (walks.shown edge).1 (walked_of edge.from (all_found edge.from is.from), is.is),
+  λ has. let is = (walks.shown edge).0 has in record { from = walks.finds.reached edge.from (subst (λ (xs : List ℕ). Contains xs edge.from) (all_walked c subjects found n walks.finds past) is.0); is = is.1 },
+  λ is. (walks.shown edge).1 (walked_of c subjects found n walks.finds past edge.from (all_found c subjects found n walks.finds past edge.from is.from), is.is),
 )
-  where
-    whole : names_found (take n found.vertices.items) ≡ names_found found.vertices.items
-    whole = ap names_found (take_all n found.vertices.items past)
-
-    walked_of : (x : ℕ) → Contains (names_found found.vertices.items) x → Contains (names_found (take n found.vertices.items)) x
-    walked_of x has = subst (λ (xs : List ℕ). Contains xs x) (sym whole) has
-
-    all_found : (x : ℕ) → IsReached c subjects x → Contains (names_found found.vertices.items) x
-    all_found = Walk-within (Contains (names_found found.vertices.items)) walks.roots (λ a b has edge. walks.closed a b (walked_of a has) edge)
 
 -- ---- what is read
 

@@ -3,3 +3,4 @@ pub mod Answering
 pub mod Entering
 pub mod Handing
 pub mod Reaching
+pub mod Saving

@@ -9,6 +9,7 @@ mod holders;
 mod leave;
 mod picture;
 mod reopen;
+mod snapshot;
 
 use crate::answer::answer_command;
 use crate::census::{Census, Collections};

@@ -1,6 +1,6 @@
 -- What a walk over a heap from its active subjects has found on its way.
-use Rattle.std.specs.Prelude.{◌≡◌, ◌==◌, ◌++◌, ◌<◌, ℕ, List, map}
-use Rattle.std.specs.List.{All, Contains, IsDistinct}
+use Rattle.std.specs.Prelude.{◌≡◌, ◌↔◌, ◌==◌, ◌++◌, ◌<◌, ℕ, List, map}
+use Rattle.std.specs.List.{All, AllPairs, Contains, IsDistinct}
 use Rattle.tg_rights.specs.RightSet.{RightSet}
 use Rattle.tg_model.specs.declared.edge.Edge.{Edge}
 use Rattle.tg_model.specs.Graph.{HasEdge}
@@ -8,6 +8,7 @@ use Rattle.tg_word.specs.declared.Place.{Place}
 use Rattle.tg_space.specs.SpaceList.{SpaceList}
 use Rattle.tg_rows.specs.Content.{Content, IsNamed}
 use Rattle.tg_rows.specs.Rows.{IsVertexAt}
+use Rattle.tg_graph.specs.Heap.{HeapState, content_of, subject_names}
 use Rattle.tg_graph.specs.Standing.{IsReached}
 use Rattle.tg_store.specs.declared.store.picture.FoundVertices.{FoundVertices}
 
@@ -49,3 +50,9 @@ pub record IsEdgeOf (label : ℕ → ℕ → RightSet) (edge : Edge) : Type 0 wh
 pub record IsReachedEdgeOf (c : Content) (subjects : List ℕ) (edge : Edge) : Type 0 where
   pub from : IsReached c subjects edge.from
   pub is : IsEdgeOf c.label edge
+
+-- these vertices of the heap, by rising name, are exactly those that its subjects reach
+pub record AreReachedIn (heap : HeapState) (vertices : List (ℕ × Place)) : Type 0 where
+  pub placed : All (λ v. IsVertexAt heap.table.spaces v.0 v.1) vertices
+  pub rise : AllPairs (λ v w. v.0 < w.0) vertices
+  pub names : (x : ℕ) → Contains (names_found vertices) x ↔ IsReached (content_of heap) (subject_names heap) x
