@@ -121,7 +121,7 @@ class Audit:
             raise self.bad("the end is cut off")
         if self.number == 1:
             if line != VERSION:
-                raise self.bad("not 'kovshenul entries 1', the one form that is read")
+                raise self.bad("not 'kovshenul entries 1' or 'kovshenul picture 1', the forms that are read")
         elif self.number == 2:
             self.limits(line[:-1])
         elif self.graph is None and line.startswith(("worker ", "edge ")):
