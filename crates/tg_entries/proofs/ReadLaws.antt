@@ -1,5 +1,5 @@
 -- What a line more comes to for an audit of a text.
-use Rattle.std.proofs.Common.{◌≡◌, ◌∙◌, ℕ, ◌+◌, List, [], ◌∷◌, ◌++◌, Option, Some, None, IfSome, OnSome, ap, sym, subst, append-nil, append_assoc, length, length-append, arith}
+use Rattle.std.proofs.Common.{◌≡◌, ◌⊎◌, ⊎_elim, ◌∙◌, ℕ, ◌+◌, List, [], ◌∷◌, ◌++◌, Option, Some, None, IfSome, OnSome, ap, sym, subst, append-nil, append_assoc, length, length-append, arith}
 use Rattle.std.proofs.KnownBytes.{Consumes-nil, Consumes-trans}
 use Rattle.std.proofs.lemmas.List.{flat_map_more}
 use Rattle.std.specs.Io.KnownBytes.{Consumes, IsAtEnd}
@@ -121,6 +121,11 @@ count_read text entered was =
           was.whole
           ∙ text_on was.front (end_text entered.count) (origin_text read.origin) read.body (end_text (length read.entries)) read.text_is (ap end_text read.number);
     }
+
+-- where entries may come: after an entry, and after a count line
+pub may_go_on : (text : List ℕ) (now : Stage) (entered : Entered) → (now ≡ stage.Entries entered) ⊎ (now ≡ stage.Ended entered) → HasRead text now → HasEntered text entered
+may_go_on text now entered either was =
+    ⊎_elim (λ is. subst (HasRead text) is was) (λ is. count_read text entered (subst (HasRead text) is was)) either
 
 -- ---- a whole text
 
