@@ -1,3 +1,4 @@
+pub mod CountLaws
 pub mod OpeningLaws
 pub mod PieceLaws
 pub mod ReadLaws

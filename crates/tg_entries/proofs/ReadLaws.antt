@@ -1,5 +1,5 @@
 -- What a line more comes to for an audit of a text.
-use Rattle.std.proofs.Common.{◌≡◌, ◌∙◌, ℕ, ◌+◌, List, [], ◌∷◌, ◌++◌, Option, Some, None, IfSome, OnSome, ap, sym, subst, append-nil, length-append, arith}
+use Rattle.std.proofs.Common.{◌≡◌, ◌⊎◌, ⊎_elim, ◌∙◌, ℕ, ◌+◌, List, [], ◌∷◌, ◌++◌, Option, Some, None, IfSome, OnSome, ap, sym, subst, append-nil, append_assoc, length, length-append, arith}
 use Rattle.std.proofs.KnownBytes.{Consumes-nil, Consumes-trans}
 use Rattle.std.proofs.lemmas.List.{flat_map_more}
 use Rattle.std.specs.Io.KnownBytes.{Consumes, IsAtEnd}
@@ -22,7 +22,7 @@ use Rattle.tg_entries.specs.Pieces.{FetchesPiece}
 use Rattle.tg_entries.specs.Read.{CanSave, EndsText, ReadsOn, HasEnded, HasEntered, HasRead, IsListedEntry, IsNext}
 use Rattle.tg_snapshot.specs.Snapshot.{Saved, IsSnapshot, IsSnapshotOf, graph_shown}
 use Rattle.tg_saved.specs.Texts.{edge_line_text, snapshot_text}
-use Rattle.tg_entries.specs.Texts.{TextStart, Opened, Shown, IsAudited, IsHistory, IsTextStart, IsSavedAfter, end_text, entry_text, graph_of_origin, head_text, limits_text, opening_text, origin_text, version_text, worker_text}
+use Rattle.tg_entries.specs.Texts.{TextStart, Opened, Shown, IsAudited, IsCountedText, next_count, next_entry, no_entry, IsHistory, IsTextStart, IsSavedAfter, end_text, entry_text, graph_of_origin, head_text, limits_text, opening_text, origin_text, version_text, worker_text}
 
 -- an edge
 pub edge_read : (text line : List ℕ) (workers limit : ℕ) (values : List Value) (edges now : List Edge) (edge : Edge) → now ≡ edges ++ edge ∷ [] →
@@ -42,6 +42,8 @@ opening_read text plan entered is opening come first none = record {
   passes = record { legal = tt; next = come };
   place = first;
   number = none;
+  body = [];
+  counted = no_entry;
   text_is = is ∙ sym (append-nil (head_text plan));
 }
 
@@ -55,15 +57,21 @@ snapshot_read text p entered is accepted come first none = record {
   passes = record { legal = tt; next = come };
   place = omega (arith, first);
   number = none;
+  body = [];
+  counted = no_entry;
   text_is = is ∙ sym (append-nil (snapshot_text p));
 }
+
+-- a line after all that came after the front
+text_on : (text line front body more : List ℕ) → text ≡ front ++ body → line ≡ more → text ++ line ≡ front ++ (body ++ more)
+text_on text line front body more before is =
+    ap (λ (x : List ℕ). x ++ line) before ∙ append_assoc front body line ∙ ap (λ (x : List ℕ). front ++ (body ++ x)) is
 
 -- an entry, which is next where the audit stands
 entry_at : (text line : List ℕ) (entered next : Entered) (was : HasEntered text entered) →
     IsNext (graph_after (graph_of_origin was.origin) was.entries) entered.auditor.at line next.auditor → next.count ≡ entered.count + 1 → HasEntered (text ++ line) next
 entry_at text line entered next was this more =
     let g = graph_of_origin was.origin in
-    let front = origin_text was.origin ++ flat_map entry_text was.entries in
     let e : Entry = this.entry in record {
       origin = was.origin;
       entries = was.entries ++ e ∷ [];
@@ -74,9 +82,9 @@ entry_at text line entered next was this more =
       };
       place = omega (arith, this.place, was.place, length-append was.entries (e ∷ []));
       number = omega (arith, more, was.number, length-append was.entries (e ∷ []));
-      text_is =
-          ap (λ (x : List ℕ). x ++ line) was.text_is ∙ ap (λ (x : List ℕ). front ++ x) this.line_is
-          ∙ flat_map_more entry_text (origin_text was.origin) was.entries e;
+      body = was.body ++ entry_text e;
+      counted = next_entry e was.counted;
+      text_is = text_on text line (origin_text was.origin) was.body (entry_text e) was.text_is this.line_is;
     }
 
 -- an entry
@@ -97,15 +105,39 @@ listed_read text held left left' entered next was is_listed more =
       read = entry_at text (held ++ this.rest) entered next was this.next more;
     }
 
+-- a count line, after which entries may come again
+pub count_read : (text : List ℕ) (entered : Entered) → HasEnded text entered → HasEntered text entered
+count_read text entered was =
+    let read = was.read in record {
+      origin = read.origin;
+      entries = read.entries;
+      body = read.body ++ end_text (length read.entries);
+      accepted = read.accepted;
+      passes = read.passes;
+      place = read.place;
+      number = read.number;
+      counted = next_count read.counted;
+      text_is =
+          was.whole
+          ∙ text_on was.front (end_text entered.count) (origin_text read.origin) read.body (end_text (length read.entries)) read.text_is (ap end_text read.number);
+    }
+
+-- where entries may come: after an entry, and after a count line
+pub may_go_on : (text : List ℕ) (now : Stage) (entered : Entered) → (now ≡ stage.Entries entered) ⊎ (now ≡ stage.Ended entered) → HasRead text now → HasEntered text entered
+may_go_on text now entered either was =
+    ⊎_elim (λ is. subst (HasRead text) is was) (λ is. count_read text entered (subst (HasRead text) is was)) either
+
 -- ---- a whole text
 
 -- it is that of a history
 history_ended : (text : List ℕ) (entered : Entered) (was : HasEnded text entered) → IsHistory text was.read.origin was.read.entries
 history_ended text entered was =
     let read = was.read in
-    let front = origin_text read.origin ++ flat_map entry_text read.entries in record {
+    let front = origin_text read.origin ++ read.body in record {
+      body = read.body;
       accepted = read.accepted;
       legal = read.passes.legal;
+      counted = read.counted;
       whole = was.whole ∙ ap (λ (x : List ℕ). x ++ end_text entered.count) read.text_is ∙ ap (λ (n : ℕ). front ++ end_text n) read.number;
     }
 

@@ -1,7 +1,6 @@
 -- What an audit of a text has read.
 use Rattle.std.specs.Prelude.{◌≡◌, ℕ, ◌+◌, List, [], ◌∷◌, ◌++◌, length, Option, IfSome}
 use Rattle.std.specs.Io.KnownBytes.{Consumes}
-use Rattle.std.specs.List.{flat_map}
 use Rattle.tg_model.specs.Graph.{ProtectionGraph}
 use Rattle.tg_journal.specs.declared.entry.Entry.{Entry}
 use Rattle.tg_journal.specs.Auditing.{Passes, StandsAt}
@@ -12,18 +11,20 @@ use Rattle.tg_entries.specs.declared.stage.Entered.{Entered}
 use Rattle.tg_entries.specs.declared.stage.Stage.{Stage}
 use Rattle.tg_entries.specs.declared.stage.Stage.TheVariants as stage
 use Rattle.tg_saved.specs.Read.{HasReadSnapshot}
-use Rattle.tg_entries.specs.Texts.{TextStart, IsTextStart, end_text, entries_before, entry_text, graph_of_origin, opening_text, origin_text, version_text}
+use Rattle.tg_entries.specs.Texts.{TextStart, IsCountedText, IsTextStart, end_text, entries_before, entry_text, graph_of_origin, opening_text, origin_text, version_text}
 
--- The text is an origin's and then that of so many entries, which are a legal history. The audit has come to the graph and the place after
--- them.
+-- The text is an origin's and then that of so many entries, which are a legal history. Count lines may stand between them. The audit has
+-- come to the graph and the place after them.
 pub record HasEntered (text : List ℕ) (entered : Entered) : Type 0 where
   pub origin : TextStart
   pub entries : List Entry
+  pub body : List ℕ
   pub accepted : IsTextStart origin
   pub passes : Passes (graph_of_origin origin) entries entered.auditor
   pub place : entered.auditor.at ≡ entries_before origin + length entries
   pub number : entered.count ≡ length entries
-  pub text_is : text ≡ origin_text origin ++ flat_map entry_text entries
+  pub counted : IsCountedText entries body
+  pub text_is : text ≡ origin_text origin ++ body
 
 -- the text is that of a whole history, and the audit has come to the graph and the place after it
 pub record HasEnded (text : List ℕ) (entered : Entered) : Type 0 where
@@ -60,7 +61,7 @@ pub record IsListedEntry (g : ProtectionGraph) (at : ℕ) (held : List ℕ) (lef
 abbrev pub HasHead : List ℕ → Head → Type 0
 HasHead text head = text ≡ opening_text head.workers head.max_vertices head.values.items head.edges.items
 
--- the text that an audit has read where it stands: nothing, parts of an opening or of a snapshot, entries, or a whole history
+-- the text that an audit has read where it stands: nothing, parts of an opening or of a snapshot, entries, or a history that is whole
 abbrev pub HasRead : List ℕ → Stage → Type 0
 HasRead text stage.Version = text ≡ []
 HasRead text stage.Limits = text ≡ version_text

@@ -1,6 +1,7 @@
--- The text of a history: its opening, or the snapshot that it goes on from, a line for each entry, and a last line with their number.
--- Numbers are decimal without leading zeros, and words have one space between two.
-use Rattle.std.specs.Prelude.{◌≡◌, ℕ, ◌+◌, List, ◌∷◌, ◌++◌, length, codes, decimal}
+-- The text of a history: its opening, or the snapshot that it goes on from, a line for each entry, and a last line with their number. Lines
+-- with the number of the entries so far may stand between the entries. Numbers are decimal without leading zeros, and words have one space
+-- between two.
+use Rattle.std.specs.Prelude.{◌≡◌, ℕ, ◌+◌, List, [], ◌∷◌, ◌++◌, length, codes, decimal}
 use Rattle.std.specs.List.{flat_map}
 use Rattle.tg_model.specs.declared.command.Deed.{Deed}
 use Rattle.tg_model.specs.declared.command.Deed.TheVariants as deed
@@ -50,15 +51,22 @@ opening_text workers limit values edges =
 abbrev pub head_text : Plan → List ℕ
 head_text p = opening_text p.workers p.limit p.values p.edges
 
--- ---- the end
+-- ---- the count lines
 
 -- `entries N`
 abbrev pub end_text : ℕ → List ℕ
 end_text count = codes "entries " ++ (decimal count ++ codes "\n")
 
+-- The text is that of these entries. Before, between and after their lines it may have count lines, each with the number of all entries
+-- before it.
+pub data IsCountedText : List Entry → List ℕ → Type 0 where
+  no_entry : IsCountedText [] []
+  next_entry : {entries : List Entry} {text : List ℕ} (e : Entry) → IsCountedText entries text → IsCountedText (entries ++ e ∷ []) (text ++ entry_text e)
+  next_count : {entries : List Entry} {text : List ℕ} → IsCountedText entries text → IsCountedText entries (text ++ end_text (length entries))
+
 -- ---- the whole
 
--- the text of a history of this opening
+-- the text of a history of this opening, with no count line but the last
 abbrev pub history_text : Plan → List Entry → List ℕ
 history_text p es = (head_text p ++ flat_map entry_text es) ++ end_text (length es)
 
@@ -87,11 +95,17 @@ abbrev pub origin_text : TextStart → List ℕ
 origin_text (Opened plan) = head_text plan
 origin_text (Shown p) = snapshot_text p
 
--- The text is that of these entries behind their origin, of which they are a legal history.
+-- the text of these entries after their origin, with no count line but the last
+abbrev pub uncounted_text : TextStart → List Entry → List ℕ
+uncounted_text origin es = (origin_text origin ++ flat_map entry_text es) ++ end_text (length es)
+
+-- The text is that of these entries after their origin, of which they are a legal history. Its last line has their number.
 pub record IsHistory (text : List ℕ) (origin : TextStart) (entries : List Entry) : Type 0 where
+  pub body : List ℕ
   pub accepted : IsTextStart origin
   pub legal : IsLegal (graph_of_origin origin) entries
-  pub whole : text ≡ (origin_text origin ++ flat_map entry_text entries) ++ end_text (length entries)
+  pub counted : IsCountedText entries body
+  pub whole : text ≡ (origin_text origin ++ body) ++ end_text (length entries)
 
 -- the text is that of a legal history of so many entries
 pub record IsAudited (text : List ℕ) (count : ℕ) : Type 0 where

@@ -81,7 +81,7 @@ impl<L: Ledger> TextAudit<L> {
         Ok(())
     }
 
-    /// How many entries there are, where the last line of a text was read; `None` where it wasn't.
+    /// How many entries there are, if a text may end after the line that was read last. `None` if it may not.
     pub fn ended(&self) -> Option<u64>
         ensures { (text : List ℕ) → HasRead text self.now → IfSome result (IsAudited text) }
     {
@@ -91,7 +91,8 @@ impl<L: Ledger> TextAudit<L> {
         }
     }
 
-    /// The audit, where the last line of a text was read; `None` where it wasn't. Each later line is a bad line.
+    /// The audit, if a text may end after the line that was read last. `None` if it may not. Each later line is a bad
+    /// line.
     pub(crate) fn finish(&mut self) -> Option<Entered>
         ensures { (text : List ℕ) → HasRead text self.old → IfSome result (HasEnded text) }
     {
@@ -117,8 +118,10 @@ fn next_stage<L: Ledger>(
         Stage::Limits => limits_line(alloc, again, line),
         Stage::Opening(head) => opening_line(alloc, again, head, line),
         Stage::Saved(lines) => snapshot_line(alloc, again, lines, line),
-        Stage::Entries(entered) => entries_line(alloc, again, entered, line),
-        Stage::Ended(_) | Stage::Stopped => Err(LineFault::BadLine),
+        Stage::Entries(entered) | Stage::Ended(entered) => {
+            entries_line(alloc, again, entered, line)
+        }
+        Stage::Stopped => Err(LineFault::BadLine),
     }
 }
 
@@ -303,7 +306,7 @@ pub(crate) fn open(alloc: Global, head: Head) -> Result<Entered, LineFault>
     })
 }
 
-// An entry, or the end.
+// An entry, or a count line.
 fn entries_line<L: Ledger>(
     alloc: Global,
     again: &mut Written<L>,
@@ -322,7 +325,7 @@ fn entries_line<L: Ledger>(
     }
 }
 
-// The line with the number of entries.
+// A count line: the number of entries so far.
 fn end_line<L: Ledger>(
     again: &mut Written<L>,
     entered: Entered,

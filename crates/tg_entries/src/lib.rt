@@ -2,7 +2,8 @@
 //!
 //! A history is written line by line. The first line names the form of the text. Then come the opening, with a line for
 //! each worker's value and for each edge, and a line for each entry. The last line says how many entries there are.
-//! `specs/Texts` defines the spelling of each line.
+//! Such a count line may also come before and between entries. So a host can end the text at each flush, and go on with
+//! it. `specs/Texts` defines the spelling of each line.
 //!
 //! ```text
 //!     kovshenul entries 1
@@ -31,6 +32,7 @@
 mod audit;
 mod fault;
 mod history;
+pub mod laws;
 mod listing;
 mod long;
 mod part;

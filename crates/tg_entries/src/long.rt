@@ -30,8 +30,10 @@ pub(crate) fn long_stage<L: Ledger, R: BufRead>(
     match stage {
         Stage::Version => Err(LongFault::Line(LineFault::OtherVersion)),
         Stage::Opening(head) => long_entry(alloc, again, open(alloc, head)?, reader, line),
-        Stage::Entries(entered) => long_entry(alloc, again, entered, reader, line),
-        Stage::Limits | Stage::Saved(_) | Stage::Ended(_) | Stage::Stopped => {
+        Stage::Entries(entered) | Stage::Ended(entered) => {
+            long_entry(alloc, again, entered, reader, line)
+        }
+        Stage::Limits | Stage::Saved(_) | Stage::Stopped => {
             Err(LongFault::Line(LineFault::BadLine))
         }
     }

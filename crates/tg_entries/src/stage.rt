@@ -31,9 +31,9 @@ pub enum Stage {
     Opening(Head),
     /// A line of a snapshot that the history goes on from.
     Saved(SnapshotStage),
-    /// An entry, or the end.
+    /// An entry, or a count line.
     Entries(Entered),
-    /// None: entries came, and then the end.
+    /// The same. A count line came last, so the text may end here.
     Ended(Entered),
     /// None: one was bad.
     Stopped,

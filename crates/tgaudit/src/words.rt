@@ -12,6 +12,9 @@ entries. tgaudit replays the entries on the plain graph of the opening, and comp
 entries' if every reply is the answer of the rules. Otherwise standard error names the first line at fault. Lines are
 counted from 1, and entries from 0.
 
+More entries may come after the number of entries, and then their new number. So a host can end the text after each
+flush, and go on with it later.
+
 A history can be cut into parts. A later part begins with a snapshot in the place of the opening. The snapshot has what
 the active subjects reach after the entries before. tgaudit --snapshot prints it for the part before. So each part is
 audited alone. The snapshot of a part is right if tgaudit printed the same one for the part before.
@@ -32,7 +35,8 @@ The form:
   worker c0                   for each worker: what it stores
   edge 0 1 rw                 for each edge between workers
   0 create r c0 = ok 5        for each entry: a line of a script, what a new vertex stores, and the reply
-  entries N                   the last line: how many entries this text has
+  entries N                   the last line: how many entries this text has. Such a line may also come before and between
+                              the entries. It has the number of entries before it in this text
 
   What a vertex stores is the letter of its law and its numbers. c7 is a cell, s7 a sum, and m7 a maximum. l4:1,2 is a log
   of at most 4 numbers, and l4 is an empty one.
@@ -46,11 +50,11 @@ The form of a snapshot:
   picture N                   the last line: how many lines of vertices and edges there are
 
 Faults:
-  line L: bad line            it is none of these, or may not stand there; or the last number is wrong
+  line L: bad line            it is none of these, or may not stand there; or the number of entries is wrong
   line L: vertex N needs ..   a line of a snapshot isn't as asked. Vertices, subjects and edges are counted from 0
   line L: bad entry N         its worker is no active subject, its value fits no law, or the reply isn't the rules'. N
                               counts the entries before the snapshot too
-  line L: the end is cut off  the text ends within line L, or in front of it without the last line
+  line L: the end is cut off  the text ends within line L, or in front of it and not after a line 'entries N'
 
 Exit status:
   0  all entries are legal
@@ -74,7 +78,7 @@ pub const OF_THE_FIRST_LINE: &str =
 
 /// What another line has to be.
 pub const OF_A_LINE: &str =
-    "'opening WORKERS VERTICES' stands before WORKERS lines 'worker', then come edges, then entries, and last 'entries N' with their number; a line ends with a line feed alone";
+    "the order is 'opening WORKERS VERTICES', WORKERS lines 'worker', edges, entries, and last 'entries N'; N is the number of entries before it in this text; a line ends with a line feed alone";
 
 /// What an entry has to be. Entries are counted from 0.
 pub const OF_AN_ENTRY: &str =

@@ -121,11 +121,9 @@ class Audit:
             raise self.bad("the end is cut off")
         if self.number == 1:
             if line != VERSION:
-                raise self.bad("not 'kovshenul entries 1', the one form that is read")
+                raise self.bad("not 'kovshenul entries 1' or 'kovshenul picture 1', the forms that are read")
         elif self.number == 2:
             self.limits(line[:-1])
-        elif self.ended:
-            raise self.bad()
         elif self.graph is None and line.startswith(("worker ", "edge ")):
             self.opening(line[:-1])
         else:
@@ -156,6 +154,7 @@ class Audit:
     def entry(self, text: str) -> None:
         if self.graph is None:
             self.open()
+        self.ended = False
         if text == f"entries {self.count}":
             self.ended = True
             return
@@ -221,14 +220,17 @@ def deed_at_random(draw: random.Random, graph: Graph) -> Tuple[int, str, List[st
 
 
 def history_at_random(draw: random.Random, entries: int) -> str:
-    """The text of a random legal history."""
+    """The text of a random legal history. Some have count lines between their entries."""
     workers = draw.randint(1, 4)
     limit = draw.choice([workers + draw.randint(0, entries), 1_000_000, MOST_VERTICES])
     values = [value_at_random(draw) for _ in range(workers)]
     edges = [(x, y, rights_at_random(draw)) for x in range(workers) for y in range(workers) if x != y and draw.random() < 0.5]
     graph = Graph([read_value(it) for it in values], [(x, y, rights_of(rights)) for x, y, rights in edges], limit)
     text = [VERSION, f"opening {workers} {limit}\n", *(f"worker {it}\n" for it in values), *(f"edge {x} {y} {rights}\n" for x, y, rights in edges)]
-    for _ in range(entries):
+    counted = draw.choice([0, 0, 0.2])
+    for number in range(entries):
+        while draw.random() < counted:
+            text.append(f"entries {number}\n")
         x, rule, words = deed_at_random(draw, graph)
         text.append(" ".join([str(x), rule, *words, "=", answer(graph, x, rule, words)]) + "\n")
     return "".join([*text, f"entries {entries}\n"])
