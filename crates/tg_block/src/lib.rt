@@ -44,7 +44,7 @@ pub const NAME: usize = 1;
 /// The word of an object that is the key of its payload.
 pub const KEY: usize = 2;
 
-/// The first word of an object that may name another cell: from here on stand its references and its link.
+/// The first word of an object that may name another cell. Its references and its link begin here.
 pub const OBJECT_POINTERS: usize = 4;
 
 /// The first word of a chunk that may name another cell.
@@ -138,7 +138,7 @@ impl Block {
         self.cells[at]
     }
 
-    /// The words of a cell, where they stand.
+    /// Lends the words of a cell.
     #[inline(always)]
     pub fn words(&self, at: usize) -> &[u64; WORDS]
         requires { at < CELLS }

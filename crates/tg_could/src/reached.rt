@@ -14,7 +14,7 @@ use crate::separation::is_among;
 use std::alloc::{AllocError, Global};
 use tg_model::{Edge, Picture};
 
-/// What comes of the question on a picture of what the active subjects reach.
+/// The answer to the question on a picture of what the active subjects reach.
 #[derive(Drop)]
 pub enum ReachedAnswer {
     /// No active subject reaches x, which was made. So x keeps what it holds, and no turns of anybody change that. The

@@ -15,7 +15,7 @@ pub enum LineFault {
     /// The first line is neither 'kovshenul entries 1' nor 'kovshenul picture 1'.
     #[error("not 'kovshenul entries 1' or 'kovshenul picture 1', the forms that are read")]
     OtherVersion,
-    /// It is no line of this form, or none that may stand there; or the number of entries isn't theirs.
+    /// The line isn't of this form, or isn't allowed at its place, or the number of entries is another.
     #[error("bad line")]
     BadLine,
     /// A line of the snapshot that the history goes on from.
@@ -64,7 +64,7 @@ pub enum TextFault {
     /// The first line at fault, counted from 1.
     #[error("line {line}: {why}")]
     Line { line: u64, why: LineFault },
-    /// The text ends within this line, counted from 1, or in front of it without the line that tells the number of
+    /// The text ends within this line, counted from 1, or before this line without the line that has the number of
     /// entries.
     #[error("line {line}: the end is cut off")]
     CutOff { line: u64 },

@@ -10,8 +10,8 @@ use tg_model::{Opening, Value};
 use tg_saved::write_edges;
 use tg_text::{Sink, WriteFailed, put_all};
 
-/// Writes the text of a history: its opening, the line of each entry, and how many these are; or a front of it where
-/// the sink fails. Takes no memory.
+/// Writes the text of a history, which has its opening, the line of each entry, and the number of entries. If the sink
+/// fails, a front of the text is written. Takes no memory.
 pub fn write_history<K: Sink>(
     sink: &mut K,
     opening: &Opening,
@@ -38,8 +38,8 @@ fn write_unended<K: Sink>(
     write_entries(sink, entries)
 }
 
-/// Writes the lines in front of the entries: the form, the limits, each worker's value and each edge; or a front of
-/// them where the sink fails. Takes no memory.
+/// Writes the lines before the entries, which are the form, the limits, each worker's value and each edge. If the sink
+/// fails, a front of them is written. Takes no memory.
 pub fn write_opening<K: Sink>(sink: &mut K, opening: &Opening) -> Result<(), WriteFailed>
     ensures { Writes (K.taken sink.old) (K.failures sink.old) (head_text opening.now) result
         (K.taken sink.new) (K.failures sink.new) }

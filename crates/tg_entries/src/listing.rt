@@ -16,7 +16,7 @@ use std::sync::ledger::Ledger;
 use tg_rights::Label;
 use tg_text::{Sink, WriteFailed, Written, put_texts};
 
-/// Whether the line is what was written, with a listing of these edges behind it.
+/// Returns whether the line is the text that was written, with a listing of these edges after it.
 pub(crate) fn is_listing<L: Ledger, R: BufRead>(
     again: &mut Written<L>,
     edges: &[(u64, Label)],

@@ -17,7 +17,7 @@ use tg_journal::Auditor;
 use tg_model::{Deed, Reply};
 use tg_text::Written;
 
-/// What comes of a long line. Only an entry that lists edges may be one.
+/// Returns the stage after a long line. Only an entry that lists edges may have one.
 pub(crate) fn long_stage<L: Ledger, R: BufRead>(
     alloc: Global,
     again: &mut Written<L>,

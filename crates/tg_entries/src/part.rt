@@ -13,7 +13,7 @@ use tg_model::{Deed, Edge, Reply, Value};
 use tg_saved::write_edge;
 use tg_text::{Sink, WriteFailed, Written};
 
-/// What a line says, or what stands in front of its ` = `.
+/// The content of a line, or of the part of it before ` = `.
 #[derive(Clone, Copy)]
 pub enum Part<'a> {
     Limits { workers: u64, max_vertices: u64 },
@@ -45,7 +45,7 @@ pub(crate) fn check_part<L: Ledger>(
     }
 }
 
-/// Whether the line is what was written, with the reply behind it. Fails only when out of memory.
+/// Returns whether the line is the text that was written, with the reply after it. Fails only if memory runs out.
 pub(crate) fn is_reply<L: Ledger>(
     again: &mut Written<L>,
     reply: &Reply,

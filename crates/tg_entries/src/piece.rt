@@ -5,8 +5,8 @@ ghost use Rattle.tg_entries.specs.Pieces.{FetchesPiece, Loses};
 
 use std::io::{self, BufRead, ErrorKind};
 
-/// Puts the next bytes of a line behind those at hand, until it is whole or so many are at hand. Whether the text ends
-/// there, without a line feed.
+/// Puts the next bytes of a line after those at hand, until the line is whole or so many bytes are at hand. The answer
+/// is whether the text ends there, without a line feed.
 pub(crate) fn read_some<R: BufRead>(
     reader: &mut R,
     most: usize,

@@ -11,8 +11,8 @@ use tg_text::{Line, read_line};
 /// The most bytes that an entry may have in front of ` = `.
 pub const MOST_DEED_BYTES: usize = 256;
 
-/// The most bytes that a line may have, with its line feed, unless its reply lists edges: a deed, ` = ok`, and a space
-/// and 20 digits for each of the 64 numbers of the longest log.
+/// The most bytes that a line may have, with its line feed, unless its reply lists edges. The longest such line has a
+/// deed, ` = ok`, and a space and 20 digits for each of the 64 numbers of the longest log.
 pub(crate) const MOST_KEPT_BYTES: usize = MOST_DEED_BYTES + 5 + 64 * 21 + 1;
 
 /// What a line has in front of ` = `, where that is no more than [`MOST_DEED_BYTES`].
@@ -26,8 +26,8 @@ pub(crate) fn front_part(front: &[u8]) -> Option<&str> {
     part_of(str::from_utf8(&front[..text_len(front)?]).ok()?)
 }
 
-/// How many bytes the whole characters have. Behind them stands nothing, or the front of one more. `None` where some
-/// bytes are no characters.
+/// Returns how many bytes the whole characters have. After them comes nothing, or the front of one more character. The
+/// answer is `None` if some bytes are no characters.
 pub(crate) fn text_len(bytes: &[u8]) -> Option<usize>
     ensures { IfSome result (λ len. len ≤ length bytes.now) }
 {
@@ -43,7 +43,7 @@ fn part_of(text: &str) -> Option<&str> {
     (part.len() <= MOST_DEED_BYTES).then_some(part)
 }
 
-/// What stands behind the first word of a worker's line.
+/// Returns the part of a worker's line after its first word.
 pub(crate) fn worker_part(line: &[u8]) -> Option<&str> {
     text_of_line(line)?.strip_prefix("worker ")
 }

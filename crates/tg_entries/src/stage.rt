@@ -27,7 +27,7 @@ pub enum Stage {
     Version,
     /// The one with the number of workers and of vertices.
     Limits,
-    /// A worker's value, an edge, or what comes behind an opening.
+    /// A worker's value, an edge, or the first line after an opening.
     Opening(Head),
     /// A line of a snapshot that the history goes on from.
     Saved(SnapshotStage),

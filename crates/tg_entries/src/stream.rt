@@ -15,9 +15,9 @@ use std::sync::ledger::{Blank, Ledger};
 use tg_snapshot::Snapshot;
 use tg_text::Count;
 
-/// Reads the text of a history to its end, and answers how many entries it has; only where it is the text of a legal
-/// history of the opening that it tells, or of the graph that its snapshot shows. Else the first line at fault, or that
-/// the end is cut off. A reader that fails says nothing of the text.
+/// Reads the text of a history to its end, and returns how many entries it has. `Ok` is returned only if the text is
+/// that of a legal history of the opening that it gives, or of the graph that its snapshot shows. Otherwise the answer
+/// is the first line at fault, or that the end is cut off. An error of the reader says nothing about the text.
 pub fn audit_text<R: BufRead + Drop>(alloc: Global, reader: &mut R) -> Result<u64, TextFault>
     ensures { IfOk result (λ count. IfSome (R.remaining reader.old) (λ text. IsAudited text count)) }
 {
@@ -25,8 +25,8 @@ pub fn audit_text<R: BufRead + Drop>(alloc: Global, reader: &mut R) -> Result<u6
     Ok(entered.count)
 }
 
-/// Reads the text of a history to its end, as [`audit_text`] does, and returns the snapshot after its last entry: the
-/// one from which the next part of the history goes on. Faults are as there.
+/// Reads the text of a history to its end, as [`audit_text`] does, and returns the snapshot after its last entry. The
+/// next part of the history goes on from this snapshot. Faults are those of `audit_text`.
 pub fn audit_to_snapshot<R: BufRead + Drop>(
     alloc: Global,
     reader: &mut R,

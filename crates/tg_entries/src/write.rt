@@ -27,7 +27,7 @@ pub fn write_entry<K: Sink>(sink: &mut K, entry: &Entry) -> Result<(), WriteFail
     write_answered(sink, &entry.reply)
 }
 
-/// Writes what stands behind the deed of an entry, or a front of it where the sink fails. Takes no memory.
+/// Writes the part of an entry's line after its deed, or a front of it if the sink fails. Takes no memory.
 pub(crate) fn write_answered<K: Sink>(sink: &mut K, reply: &Reply) -> Result<(), WriteFailed>
     ensures { Writes (K.taken sink.old) (K.failures sink.old)
         (codes " = " ++ answer_text (Answer.Reply reply.now)) result
@@ -37,8 +37,8 @@ pub(crate) fn write_answered<K: Sink>(sink: &mut K, reply: &Reply) -> Result<(),
     write_reply_of(sink, reply)
 }
 
-/// Writes the line with the number of workers and of the vertices that may ever be made, or a front of it where the
-/// sink fails. It stands behind [`VERSION`]. Takes no memory.
+/// Writes the line after [`VERSION`], or a front of it if the sink fails. It has the number of workers and of the
+/// vertices that may ever be made. Takes no memory.
 pub fn write_limits<K: Sink>(
     sink: &mut K,
     workers: u64,
@@ -79,7 +79,8 @@ pub fn write_end<K: Sink>(sink: &mut K, count: u64) -> Result<(), WriteFailed>
     put_texts(sink, &[b"entries ", buffer.format(count).as_bytes(), b"\n"])
 }
 
-/// Writes the deed of an entry, which stands in front of ` = `, or a front of it where the sink fails. Takes no memory.
+/// Writes the deed of an entry, which comes before ` = ` in its line, or a front of it if the sink fails. Takes no
+/// memory.
 pub(crate) fn write_deed<K: Sink>(sink: &mut K, worker: u64, deed: &Deed) -> Result<(), WriteFailed>
     ensures { Writes (K.taken sink.old) (K.failures sink.old) (deed_text worker deed.now) result
         (K.taken sink.new) (K.failures sink.new) }

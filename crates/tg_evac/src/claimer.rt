@@ -11,8 +11,8 @@ use tg_space::RoomFault;
 
 /// A table in which cells are claimed, each for one new place.
 ///
-/// One thread may have it for itself, or several may share it. The walk over the cells is the same: it may use that a
-/// cell which was claimed has a place, and that a place which was given stays.
+/// One thread may have the table for itself, or several may share it. The walk over the cells is the same. It relies on
+/// two facts: a cell that was claimed has a place, and a place never changes.
 pub trait Claimer {
     /// What else no claim changes.
     ghost Fixed: { Type 0 };
@@ -23,7 +23,7 @@ pub trait Claimer {
     /// The map from cells to places agrees with all that is known.
     ghost knows: { Self → (ℕ → PlaceOf) → Type 0 };
 
-    /// What a refusal for want of room tells.
+    /// What a refusal for lack of room implies.
     ghost is_full: { Self → Type 0 };
 
     /// How many cells were won: no more than there are, and no more than either space has room for.

@@ -39,8 +39,8 @@ impl Model for Claims {
 }
 
 impl Claims {
-    /// No claim yet, over as many cells. Those of the blocks that stay have no forwarding word. The words of the others
-    /// stand in the given room, as `ForwardingTable::new` says.
+    /// Begins with no claim, over as many cells. The cells of the blocks that stay have no forwarding word. The words
+    /// of the others are kept in the given room, as `ForwardingTable::new` says.
     #[inline(always)]
     pub fn new(alloc: Global, cells: u64, plan: Plan, room: Vec<u64>) -> Result<Self, RoomFault>
         requires room { plan.room ≤ MOST_SPACE_CELLS }

@@ -19,19 +19,19 @@ use tg_space::{Copied, Kind, Moves, Numbering, RoomFault, Root, Spaces, Spare};
 
 /// Copies what the roots reach into new blocks, with one thread. The spaces are only read.
 ///
-/// Exactly the cells of from-space in the closure of the roots are copied; a copy is its original with the places of
-/// what it names replaced. A full collection copies all of them to Old, whose new blocks are numbered from 0. A nursery
-/// collection leaves the blocks of Old, and numbers the new ones behind them. It copies cells of Aged to Old, and cells
-/// of nurseries to Aged, but those that are first met from a remembered cell or from a copy in Old go straight to Old.
-/// So no more cells are copied than there are cells of from-space that aren't free.
+/// Exactly the cells of from-space in the closure of the roots are copied. A copy is its original, but with the places
+/// of what it names replaced. A full collection copies all of them to Old, whose new blocks are numbered from 0. A
+/// nursery collection leaves the blocks of Old, and numbers the new blocks after them. It copies cells of Aged to Old,
+/// and cells of nurseries to Aged. Cells that are first met from a remembered cell, or from a copy in Old, go straight
+/// to Old. No more cells are copied than there are used cells of from-space.
 ///
-/// The spare blocks are filled first, whatever their cells hold, so that a collection that is handed those which the
-/// last one emptied takes few from the allocator; those that aren't needed are handed over with the others. The
-/// forwarding words stand in the spare room, where that is enough.
+/// The spare blocks are filled first, whatever their cells hold. A collection that gets the blocks that the last one
+/// emptied takes few from the allocator. Spare blocks that aren't needed are handed over with the others. The
+/// forwarding words are kept in the spare room, if it is large enough.
 ///
-/// The refusals change nothing: `OutOfMemory` where memory was refused, and `HeapFull` where Aged or Old would need
-/// more than `space_blocks` blocks, so that the roots reach at least as many cells of from-space as there is room for
-/// in Old. Cells that they don't reach take no room.
+/// The refusals change nothing. The call is refused with `OutOfMemory` if memory was refused. It is refused with
+/// `HeapFull` if Aged or Old would need more than `space_blocks` blocks. The roots then reach at least as many cells of
+/// from-space as there is room for in Old. Cells that they don't reach take no room.
 pub fn collect_one(
     alloc: Global,
     spaces: &Spaces,

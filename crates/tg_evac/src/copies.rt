@@ -30,19 +30,19 @@ const FAR: u64 = 1 << 17;
 
 /// How won cells are read.
 ///
-/// Who calls a walk with a reading that is known has it compiled for this reading alone. So where each is read where it
-/// stands, a table of claims that nothing else refers to is kept in registers.
+/// A caller who names the reading has the walk compiled for this reading alone. If each cell is read in place, a table
+/// of claims that nothing else refers to is kept in registers.
 #[derive(Clone, Copy)]
 pub enum Reads {
-    /// Each where it stands.
+    /// Each cell is read in place.
     Each,
     /// Some before the first of them is scanned.
     Ahead,
 }
 
 impl Reads {
-    /// The faster way to read the cells of these spaces: each where it stands, unless there are so many that a
-    /// processor doesn't keep them at hand.
+    /// Returns the faster way to read the cells of these spaces. Cells are read in place, unless there are too many for
+    /// the caches of a processor.
     pub fn of(spaces: &Spaces) -> Self
         ensures { (result ≡ Reads.Each) ↔ (length (cells_of spaces.now.spaces) < FAR) }
     {

@@ -63,11 +63,11 @@ impl NewBlocks {
         })
     }
 
-    /// Puts the copy of a cell behind the others: what its words name is claimed, to go straight to Old where the copy
-    /// is in Old, while they are moved where they stand. A block that it opens is one of the spare ones, as long as
-    /// there are any.
+    /// Puts the copy of a cell after the others. The cells that its words name are claimed and its words moved, in
+    /// place. If the copy is in Old, these cells go straight to Old. A block that is opened is one of the spare ones,
+    /// as long as there are any.
     ///
-    /// It is refused as a claim is, or with `OutOfMemory` where memory for a block was refused.
+    /// The call is refused as a claim is, or with `OutOfMemory` if memory for a block was refused.
     #[inline(always)]
     pub fn push_copy<C: Claimer>(
         &mut self,
@@ -87,7 +87,7 @@ impl NewBlocks {
         walk.move_cell(claimer, original.is_in_old, &mut self.last[at])
     }
 
-    /// The blocks, with free cells behind the last one. It is refused only where memory was.
+    /// Returns the blocks, with free cells after the last used one. The call is refused only if memory was refused.
     pub fn finish(self) -> Result<Space, AllocError>
         requires { length self ≤ MOST_SPACE_CELLS }
         ensures cells { IfOk result (λ blocks. HoldCells self blocks) }

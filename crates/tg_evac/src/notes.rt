@@ -26,10 +26,10 @@ pub struct Made<'a, 'b> {
 }
 
 impl Made<'_, '_> {
-    /// The remembered cells that will name young ones, and those of these blocks of Old that do, which stand behind as
-    /// many others. A full collection leaves none.
+    /// Returns the remembered roots that will name young cells, and the cells of the new blocks of Old that do. `kept`
+    /// blocks of Old come before the new ones. A full collection leaves none.
     ///
-    /// It is refused only where memory was.
+    /// The call is refused only if memory was refused.
     pub fn notes(
         self,
         alloc: Global,

@@ -38,8 +38,8 @@ impl Plan {
     }
 }
 
-/// Whether what is met first from a root goes straight to Old: all in a full collection, and in a nursery
-/// collection what a remembered cell names.
+/// Returns whether a cell that is met first from a root goes straight to Old. In a full collection each cell does. In a
+/// nursery collection a cell does if a remembered cell names it.
 pub fn is_straight(kind: Kind, root: Root) -> bool
     ensures { result ≡ straight_from kind root }
 {

@@ -25,12 +25,12 @@ pub struct Walk<'a> {
 impl Walk<'_> {
     /// Claims the targets of the roots, and scans the won cells until none is left.
     ///
-    /// A full collection does so for one root after the other, so that what a root leads to lies together. A nursery
-    /// collection claims the targets of all roots first, since what a remembered cell names goes to Old where it is met
-    /// from there first.
+    /// A full collection does so for one root after the other, so that the cells that one root reaches are near each
+    /// other. A nursery collection claims the targets of all roots first. A target of a remembered cell then goes to
+    /// Old, because it is met from there first.
     ///
-    /// It is refused as a claim is, or with `OutOfMemory` where memory for a copy was refused. What was claimed till
-    /// then stays so.
+    /// The call is refused as a claim is, or with `OutOfMemory` if memory for a copy was refused. Claims that were made
+    /// by then stay.
     #[inline(always)]
     pub fn along<C: Claimer>(
         self,

@@ -34,10 +34,10 @@ pub struct HeapRefused<P: Payload> {
     pub why: RoomFault,
 }
 
-/// The cells of a graph, what its vertices store, and its active subjects.
+/// The cells of a graph, the payloads of its vertices, and its active subjects.
 ///
-/// Contracts see it as a `HeapState`, and speak of its content: the names of the vertices that it has, the labels
-/// between them and their values. A vertex is named to most calls by the place of its object.
+/// Contracts see a heap as a `HeapState`. They describe its content, which is the names of its vertices, the labels
+/// between them and their values. Most calls name a vertex by the place of its object.
 #[derive(Drop)]
 pub struct Heap<P: Payload> {
     pub(crate) cells: Cells<P>,
@@ -57,7 +57,7 @@ impl<P: Payload> Model for Heap<P> {
 }
 
 impl<P: Payload> Heap<P> {
-    /// The active subjects, by rising name. What holds of every heap is told here. Takes no memory.
+    /// The active subjects, by rising name. The clauses of this call are true of every heap. Takes no memory.
     pub fn subjects(&self) -> &[Subject]
         ensures subjects { result.now ≡ self.now.subjects }
         ensures well_formed { IsWellFormed self.now }
@@ -165,7 +165,7 @@ impl<P: Payload> Heap<P> {
         self.cells.state(at)
     }
 
-    /// What the vertex at a place stores, where it stands. Takes no memory.
+    /// Lends the payload of the vertex at a place. Takes no memory.
     pub fn payload(&self, at: Place) -> &P
         requires { IsObject self.now at }
         ensures { (content_of self.now).value (name_of self.now at) ≡ Some (P.value result.now) }
@@ -181,8 +181,8 @@ impl<P: Payload> Heap<P> {
         self.cells.law(at)
     }
 
-    /// Writes a number to the vertex at a place. It writes to no cell. Where it is refused, for want of memory alone,
-    /// nothing is changed.
+    /// Writes a number to the vertex at a place. No cell is changed. The call is refused only if memory runs out, and
+    /// then nothing is changed.
     #[inline(always)]
     pub fn write(&mut self, at: Place, number: u64) -> Result<(), AllocError>
         requires { IsObject self.old at }
@@ -196,15 +196,14 @@ impl<P: Payload> Heap<P> {
         self.cells.write(at, number)
     }
 
-    /// Gives the vertex at one place rights over the vertex at another. Where the row has a reference to it, that gets
-    /// the rights too; else the first empty place of the row gets a new reference, or else a new chunk from the nursery
-    /// that the worker holds, an active subject. A cell of Old that names a young one then is remembered.
+    /// Gives the vertex at one place rights over the vertex at another. If the row has a reference to it, that
+    /// reference gets the rights too. Otherwise the first empty place of the row gets a new reference. If there is no
+    /// empty place, a new chunk gets it, from the nursery of the worker, which has to be an active subject. A cell of
+    /// Old that then names a young cell is remembered. If the row has more than four cells, it has an index afterwards.
     ///
-    /// It is refused where memory for the block of a chunk, for the note of a cell or for the index of the row was
-    /// refused (`OutOfMemory`), or where a chunk is needed and the nursery is used up and gets no more blocks
-    /// (`HeapFull`). Then nothing is changed but that there may be room for one more note.
-    ///
-    /// The row has an index then, if it has more than four cells.
+    /// The call is refused with `OutOfMemory` if memory was refused for the block of a chunk, for the note of a cell or
+    /// for the index of the row. It is refused with `HeapFull` if a chunk is needed and the nursery is used up and gets
+    /// no more blocks. After a refusal all is as it was, but there may be room for one more note.
     pub fn add_edge(
         &mut self,
         worker: u64,
@@ -267,16 +266,15 @@ impl<P: Payload> Heap<P> {
             .drop_rights(&mut self.rows, from, name, label.rights());
     }
 
-    /// Makes a vertex with a name that none has, which stores the draft's payload, and gives the worker, an active
-    /// subject, rights over it. All growth comes before any change, that of the blocks last. The vertex is the next
-    /// cell of the nursery that the worker holds, and the reference to it goes where `add_edge` would put it. A cell of
-    /// Old that names the vertex, or a new chunk, is remembered.
+    /// Makes a vertex with a new name, which stores the draft's payload, and gives the worker rights over it. The
+    /// worker has to be an active subject. All growth comes before any change, and blocks come last. The vertex is the
+    /// next cell of the worker's nursery, and the reference to it goes to the place that `add_edge` would choose. A
+    /// cell of Old that names the vertex or a new chunk is remembered. If the row of the worker has more than four
+    /// cells, it has an index afterwards.
     ///
-    /// It is refused where memory was (`OutOfMemory`), and where the vertex and its reference need more cells than the
-    /// nursery of the worker has left, and it gets no more blocks (`HeapFull`). Then the draft comes back, and nothing
-    /// is changed but that there may be room for one more payload and one more note.
-    ///
-    /// The row of the worker has an index then, if it has more than four cells.
+    /// The call is refused with `OutOfMemory` if memory was refused. It is refused with `HeapFull` if the vertex and
+    /// its reference need more cells than the nursery of the worker has left, and it gets no more blocks. A refusal
+    /// hands the draft back. All is then as it was, but there may be room for one more payload and one more note.
     #[inline(always)]
     pub fn new_vertex(
         &mut self,
@@ -324,12 +322,13 @@ impl<P: Payload> Heap<P> {
             .new_vertex(&mut self.rows, subject.nursery, subject.place, vertex)
     }
 
-    /// Makes a vertex as `new_vertex` does, which is an active subject then. It holds the nursery with the least number
-    /// that no active subject holds. Its own cell lies in the nursery of the worker, and where a retired subject left
-    /// cells in the nursery that it holds, its cells come behind them. It asks for no more memory than `new_vertex`.
+    /// Makes a vertex as `new_vertex` does, which is an active subject afterwards. The subject holds the nursery with
+    /// the least number that no active subject holds. Its own cell is in the nursery of the worker. If a retired
+    /// subject left cells in the subject's nursery, new cells come after them. The call asks for no more memory than
+    /// `new_vertex`.
     ///
-    /// Its name is above those of all active subjects, of which there are fewer than there may be. It is refused as
-    /// `new_vertex` is, and leaves the same.
+    /// The name has to be above those of all active subjects, and there have to be fewer active subjects than the
+    /// limit. The refusals are those of `new_vertex`.
     pub fn new_subject(
         &mut self,
         worker: u64,

@@ -8,9 +8,9 @@ ghost use Rattle.tg_rows.specs.Content.{Content, IsNamed, IsSameContent, OnlyNam
 ghost use Rattle.tg_graph.specs.Heap.{HeapState, IsUnchangedHeap, content_of};
 ghost use Rattle.tg_graph.specs.Standing.{IsContentOf, IsReached, KeepsContent, KeepsReached};
 
-/// What a collection keeps stands for the graph that the old content stood for, where all that can be reached is
-/// kept. A full collection keeps what can be reached on the content, from the graph's subjects: this is what can be
-/// reached on the graph, so it stands for the graph too, and its names are exactly those that can be reached.
+/// If a collection keeps all that can be reached, the content that it leaves represents the same graph as before. A
+/// full collection keeps exactly what can be reached from the graph's subjects. So its content represents the graph,
+/// and its names are exactly those that can be reached.
 pub fn what_is_kept_stands_for_the_same_graph()
     ensures kept { (old new : Content) (g : ProtectionGraph) →
         IsContentOf old g → KeepsContent old new (IsNamed new) → ((x : ℕ) → IsReachable g x → IsNamed new x) →
@@ -25,7 +25,7 @@ pub fn what_is_kept_stands_for_the_same_graph()
         IsNamed new x ↔ IsReachable g x }
 {}
 
-/// What a collection of either kind keeps stands for the graph that the old content stood for.
+/// After a collection of either kind the content represents the same graph as before.
 pub fn a_collected_heap_stands_for_the_same_graph()
     ensures { (kind : Kind) (old new : Content) (g : ProtectionGraph) →
         IsContentOf old g → KeepsReached kind old new g.subjects →
@@ -37,7 +37,7 @@ pub fn what_a_heap_lacks_holds_no_rights()
     ensures { (s : HeapState) → OnlyNamedHold (content_of s) }
 {}
 
-/// A heap that is unchanged, but for room for payloads and notes, has the same content, and stands for the same graph.
+/// A heap that only got room for payloads and notes has the same content, and represents the same graph.
 pub fn an_unchanged_heap_has_the_same_content()
     ensures same { (old new : HeapState) → IsUnchangedHeap old new → IsSameContent (content_of old) (content_of new) }
     ensures stands { (old new : HeapState) (g : ProtectionGraph) →

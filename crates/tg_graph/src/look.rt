@@ -9,9 +9,9 @@ use tg_block::{NAME, OBJECT_TAG};
 use tg_payload::Payload;
 
 impl<P: Payload> Heap<P> {
-    /// The names of the vertices that the heap has, in the order of the places of their objects, each once: the first
-    /// of them that fit go to `into`, and what there is room for behind them stays as it is. Answers how many vertices
-    /// there are. It goes over the cells once. Takes no memory.
+    /// Writes the names of the heap's vertices to `into`, and returns how many vertices there are. The names are in the
+    /// order of the places of their objects, and each comes once. If there is less room than names, the first names are
+    /// written. The rest of `into` stays as it is. The call goes once over the cells. Takes no memory.
     pub fn names(&self, into: &mut [u64]) -> u64
         ensures number { result ≡ length (content_of self.now).names }
         ensures shown { into.new ≡ shown_in (content_of self.now).names into.old }

@@ -20,15 +20,18 @@ use tg_payload::Payload;
 use tg_space::Kind;
 use tg_store::Store;
 
-/// Collects as `Store::collect` does, with as many helpers, from 1 to 8: one on the calling thread, and each other on a
-/// thread of its own, as the collectors of Halstead's Multilisp did. All threads that were started have ended before
-/// the answer, which is the number of vertices that the heap then has. Each space may then have as many blocks more
-/// than after `Store::collect` as there are helpers, since each may leave one open. Each helper passes the gate before
-/// each claim of roots.
+/// Collects as `Store::collect` does, with 1 to 8 helpers. One helper is on the calling thread, and each other helper
+/// on a thread of its own, as the collectors of Halstead's Multilisp were. All threads that were started have ended
+/// before the call returns. The answer is the number of vertices that the heap then has. Each helper may leave one
+/// block open, so each space may have as many blocks more than after `Store::collect` as there are helpers. Each helper
+/// passes the gate before it claims roots.
 ///
-/// `HeapFull` is answered only where the cells that are reached and would be moved may not fit into the blocks that a
-/// space may have, of which each helper may leave one open; `NoThread` where a thread couldn't be started, and never of
-/// one helper alone; else `OutOfMemory` alone. The store is then as it was.
+/// The refusals. After each the store is as it was:
+///
+/// - `HeapFull`, only if the cells that are reached and moved may not fit into the blocks that a space may have. Each
+///   helper may leave one of these blocks open.
+/// - `NoThread`, if a thread couldn't be started, which needs more than one helper.
+/// - `OutOfMemory`, if memory runs out.
 pub fn collect_with<P: Payload, R: Threads + Wait + Sync, G: Gate>(
     rt: &R,
     alloc: Global,

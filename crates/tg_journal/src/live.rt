@@ -15,9 +15,9 @@ use std::marker::Model;
 use tg_model::{Edge, Labelled, Opening};
 use tg_rights::Rights;
 
-/// A protection graph as the vertices that are kept of it, so that it takes memory by what it has and not by the names
-/// that were made. Contracts see it as `KeptGraph`, the record of its parts, and speak of the protection graph
-/// `graph_kept` that these stand for.
+/// A protection graph as the vertices that are kept of it. It takes memory by what it has, and not by the number of
+/// names that were made. Contracts see it as `KeptGraph`, the record of its parts. They describe it by `graph_kept`,
+/// the protection graph of these parts.
 #[derive(Drop)]
 pub(crate) struct LiveGraph {
     alloc: Global,

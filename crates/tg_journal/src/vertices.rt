@@ -25,9 +25,8 @@ struct Vertex {
     value: Option<Value>,
 }
 
-/// Vertices by rising name, of which contracts see the list. Names were made one after the other, so a vertex mostly
-/// stands as far behind the first, or before the last, as their names are apart. A name that isn't kept takes no
-/// memory.
+/// Vertices by rising name. Contracts see the list of them. Names were made one after the other. So the distance of two
+/// vertices in the list is mostly that of their names. A name that isn't kept takes no memory.
 #[derive(Drop)]
 pub(crate) struct Vertices {
     items: Vec<Vertex>,

@@ -28,9 +28,10 @@ use tg_word::{CELLS, Place, nursery_space};
 
 /// Allocates a cell in the nursery with a number.
 ///
-/// The cell is free, and nothing else changes but that the nursery may have one more block. The refusals change
-/// nothing: `HeapFull` where every cell of the nursery was handed out, and all spaces together have `max_blocks` or
-/// more or the nursery has `space_blocks`; `OutOfMemory` where memory for a block was refused.
+/// The cell is free. Nothing else changes, but the nursery may have one more block. The refusals change nothing. The
+/// call is refused with `OutOfMemory` if memory for a block was refused. It is refused with `HeapFull` if every cell of
+/// the nursery was handed out and the nursery may have no more blocks. This is so if it has `space_blocks`, or if all
+/// spaces together have `max_blocks` or more.
 pub fn allocate(spaces: &mut Spaces, nursery: u64) -> Result<Place, RoomFault>
     requires few { nursery < MAX_NURSERIES }
     requires nursery { nursery_space nursery < length spaces.old.spaces }
@@ -45,12 +46,13 @@ pub fn allocate(spaces: &mut Spaces, nursery: u64) -> Result<Place, RoomFault>
     Ok(spaces.hand_out(space))
 }
 
-/// Makes room for so many cells, at most 64, in the nursery with a number, which `Spaces::hand_out` then gives one by
+/// Makes room for so many cells, at most 64, in the nursery with a number. `Spaces::hand_out` then gives them one by
 /// one.
 ///
-/// The nursery gets one more block where it has fewer cells left, and nothing else changes. The refusals change
-/// nothing: `HeapFull` where a block is needed, and all spaces together have `max_blocks` or more or the nursery has
-/// `space_blocks`; `OutOfMemory` where memory for it was refused.
+/// The nursery gets one more block if it has fewer cells left. Nothing else changes. The refusals change nothing. The
+/// call is refused with `OutOfMemory` if memory for a block was refused. It is refused with `HeapFull` if a block is
+/// needed and the nursery may have no more. This is so if it has `space_blocks`, or if all spaces together have
+/// `max_blocks` or more.
 pub fn reserve(spaces: &mut Spaces, nursery: u64, cells: u64) -> Result<(), RoomFault>
     requires few { nursery < MAX_NURSERIES }
     requires few_cells { cells ≤ CELLS }

@@ -69,9 +69,9 @@ impl<'a, G> Clone for Job<'a, G> {
 pub struct Newcomer {
     /// The helper.
     pub helper: Helper,
-    /// Its number, which the gate is told.
+    /// Its number, which the gate gets.
     pub number: u32,
-    /// What it fills first, and where its list of won cells stands.
+    /// The blocks that it fills first, and the room for its list of won cells.
     pub spare: Spare,
 }
 
@@ -93,14 +93,14 @@ impl<'a, G: Gate> Task<'a, G> {
 }
 
 impl<'a, G: Gate> Job<'a, G> {
-    /// Claims roots until there are none left, wins the cells that they lead to and that no other helper has won, and
-    /// copies each to its place: one of several that collect together, as the collectors of Halstead's Multilisp do.
-    /// No call of it waits, but that of the gate may. Copies go to the spare blocks first, and its list of won cells
-    /// stands in the spare room.
+    /// Claims roots until there are none left, and wins the cells that they lead to and that no other helper has won.
+    /// The helper copies each won cell to its place. Several helpers collect together, as the collectors of Halstead's
+    /// Multilisp do. The helper waits only at the gate. Copies go to the spare blocks first, and the list of won cells
+    /// is in the spare room.
     ///
-    /// The record of the helper tells what it has won and seen, and its part has the copies of what it has won. It
-    /// claims no block number twice. A helper that is refused memory, or room, says so and leaves what it has claimed
-    /// claimed: the collection is then refused.
+    /// The record of the helper has what it won and saw, and its part has the copies of what it won. It claims no block
+    /// number twice. If a helper is refused memory or room, it says so and keeps its claims. The collection is then
+    /// refused.
     pub fn help(&self, alloc: Global, newcomer: Newcomer) -> Helped
         requires table { IsOpen self.now }
         requires new { IsNew self.now.table.now newcomer.helper }

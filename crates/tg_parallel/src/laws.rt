@@ -17,36 +17,35 @@ pub fn parts_become_one()
     ensures part { (kind : Kind) (t : SpaceTable) (roots : List Root) (v w : Record) → PartsBecomeOne kind t roots v w }
 {}
 
-/// Where the record that stands for all has claimed a block past the limit, a collection by so many helpers may lack
-/// room for the cells that are reached.
+/// If the record of all helpers has claimed a block past the limit, a collection by so many helpers may lack room for
+/// the cells that are reached.
 pub fn a_block_past_the_limit_tells_of_want_of_room()
     ensures { (kind : Kind) (t : SpaceTable) (roots : List Root) → (race : ClosedRace kind t roots) →
         IsPastLimit t race.done → LacksRoomIn kind t roots race.counts.helpers }
 {}
 
-/// Where one record stands for all helpers, the blocks that they have handed over are within the limit, and as many as
-/// the copies need, but for one a helper.
+/// If one record is that of all helpers, the blocks that they handed over are within the limit. They are as many as the
+/// copies need, and at most one more for each helper.
 pub fn helpers_blocks_are_few()
     ensures { (kind : Kind) (t : SpaceTable) (roots : List Root) (made : Collected) → (handed : IsHandedOver kind t roots made) →
         AreFewFor kind t handed.counts.helpers made }
 {}
 
-/// Where one record stands for all helpers and its wins were earned, no more cells are copied than are in use.
+/// If one record is that of all helpers and its wins were earned, no more cells are copied than are in use.
 pub fn helpers_copy_cells_in_use()
     ensures { (kind : Kind) (t : SpaceTable) (roots : List Root) → AreSoundSpaces t roots →
         (race : ClosedRace kind t roots) → all_copies_in race.words ≤ used_cells kind t.spaces }
 {}
 
-/// Where one record stands for all helpers and has claimed past the last chunk, what they have handed over is a
-/// collection, with the words of the closed table. The notes are those of the remembered roots, and of the new blocks
-/// of Old.
+/// If one record is that of all helpers and has claimed past the last chunk, the helpers handed over a collection, with
+/// the words of the closed table. The notes are those of the remembered roots, and of the new blocks of Old.
 pub fn what_helpers_made_is_a_collection()
     ensures { (kind : Kind) (t : SpaceTable) (roots : List Root) (made : Collected) →
         IsFinished kind t roots made → IsCollection kind t.spaces roots made }
 {}
 
-/// A reached cell is a cell in use: so where a collection may lack room for what is reached, it may for the cells in
-/// use.
+/// A reached cell is a cell in use. So if a collection may lack room for what is reached, it may lack room for the
+/// cells in use.
 pub fn lack_of_room_is_of_cells_in_use()
     ensures { (kind : Kind) (t : SpaceTable) (roots : List Root) → AreSoundSpaces t roots → LackIsOfUsedCells kind t roots }
 {}

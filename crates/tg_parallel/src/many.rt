@@ -36,9 +36,9 @@ pub const MOST_HELPERS: u32 = 8;
 
 /// Copies what the roots reach into new blocks, by one helper at a table of its own, on the calling thread.
 ///
-/// What it leaves is a collection as that of `tg_evac::collect_one`, and it is refused as that is, but that each space
-/// may have one block more than its copies need. The spare blocks are filled first; those that aren't needed are handed
-/// over with the others. The table is laid out in the spare room first, where the list of won cells stands then.
+/// The result is a collection as that of `tg_evac::collect_one`, with the same refusals. Each space may have one block
+/// more than its copies need. The spare blocks are filled first, and those that aren't needed are handed over with the
+/// others. The table is laid out in the spare room first, which then has the list of won cells.
 pub fn collect_seated(
     alloc: Global,
     spaces: &Spaces,
@@ -86,18 +86,21 @@ fn collect_alone<G: Gate>(
     finish(alloc, table, task, plan, helped)
 }
 
-/// Copies what the roots reach into new blocks, by as many helpers as are wanted: one on the calling thread, and each
-/// other on a thread of its own. All others are started before the one here begins. Where no cell may move there is
-/// nothing to share: then it is done on the calling thread alone.
+/// Copies what the roots reach into new blocks, by as many helpers as the caller asks for. One helper is on the calling
+/// thread, and each other helper on a thread of its own. All others are started before the one here begins. If no cell
+/// may move, the calling thread does all alone.
 ///
-/// What they leave is a collection as that of `tg_evac::collect_one`, but that each space may have as many blocks more
-/// than its copies need as there are helpers. `HeapFull` is answered only where the cells that the roots reach may not
-/// fit into the blocks that a space may have, if each helper leaves one open; cells that they don't reach take no room.
-/// `NoThread` is answered where a thread couldn't be started, and never of one helper alone. Those that were started
-/// end before the answer. Where several helpers fail, the fault is that of the least number; the one here has number 0.
-/// Each helper has a like share of the spare blocks, but no more than it may fill, and fills
-/// them first; the one here has the rest too. The table is laid out in the spare room first, where the list of won
-/// cells of the helper on the calling thread stands then.
+/// The result is a collection as that of `tg_evac::collect_one`. Each space may have as many blocks more than its
+/// copies need as there are helpers.
+///
+/// `HeapFull` is returned only if the cells that the roots reach may not fit into the blocks that a space may have,
+/// with one block open for each helper. Cells that the roots don't reach take no room. `NoThread` is returned if a
+/// thread couldn't be started, which needs more than one helper. The threads that were started have ended by then. If
+/// several helpers fail, the fault is that of the least number. The helper on the calling thread has number 0.
+///
+/// Each helper fills its share of the spare blocks first, but gets no more than it may fill. The helper on the calling
+/// thread gets the rest too. The table is laid out in the spare room first, which then has the list of won cells of
+/// that helper.
 pub fn collect_many<R: Threads + Wait + Sync, G: Gate>(
     rt: &R,
     alloc: Global,

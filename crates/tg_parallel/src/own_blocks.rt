@@ -20,14 +20,14 @@ pub struct OwnBlocks {
     pub numbers: Vec<u64>,
     /// The word of the next place, in the last block. All others are full.
     pub next: u64,
-    /// The word behind that of the last place of the block: where it is the next one, no place is left.
+    /// The word after that of the last place of the block. If it is the next word, no place is left.
     pub end: u64,
     /// Whether the last block is past the limit. Then it has no place to give.
     pub is_past: bool,
 }
 
 impl OwnBlocks {
-    /// No block yet. The numbers will stand in this list, which is empty and doesn't grow.
+    /// Begins with no block. The numbers of blocks go to this list, which is empty and doesn't grow.
     #[inline(always)]
     pub fn new(aged: bool, numbers: Vec<u64>) -> Self
         requires { numbers.items ≡ [] }
@@ -46,10 +46,10 @@ impl OwnBlocks {
         }
     }
 
-    /// The word of the place of a cell that the helper hasn't met: that which another helper gave it, or else the next
-    /// of these blocks. A block is claimed late, for a cell that needs it.
+    /// Returns the word of the place of a cell that the helper hasn't met. Another helper gave the cell its place, or
+    /// it gets the next place of these blocks. A block is claimed late, for a cell that needs it.
     ///
-    /// It is refused with `HeapFull` where the block is past the limit, and takes no memory.
+    /// The call is refused with `HeapFull` if the block is past the limit. Takes no memory.
     #[inline(always)]
     pub fn word_of(
         &mut self,

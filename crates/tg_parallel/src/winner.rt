@@ -37,8 +37,7 @@ impl Model for Winner {
 }
 
 impl Winner {
-    /// A helper that has won nothing yet. Its list of won cells stands in the room, whatever that holds, and doesn't
-    /// grow.
+    /// A helper that has won nothing yet. Its list of won cells is kept in the room, and doesn't grow.
     #[inline(always)]
     pub fn new(helper: Helper, mut room: Vec<u64>) -> Self
         requires none { helper.done.won ≡ [] }
@@ -106,7 +105,7 @@ impl Winner {
     }
 
     /// Gives a cell that the helper hasn't met the next place of these blocks, unless another helper gives it one
-    /// first, and answers the word of the place that it has.
+    /// first. Returns the word of the place that the cell has.
     #[inline(always)]
     pub fn claim_next(&mut self, table: &RaceTable, at: CellWord, blocks: &mut OwnBlocks) -> u64
         requires { MayFindNext table.now at self.old blocks.old }

@@ -138,8 +138,8 @@ impl Helper {
             .compare_exchange::<Try>(&mut self.seat, at.number, 0, word)
     }
 
-    /// Claims the next block of Aged or of Old, and answers its number, which is greater than those of all blocks of
-    /// that space that the helper claimed before. These are full.
+    /// Claims the next block of Aged or of Old, and returns its number. The number is greater than those of all blocks
+    /// of that space that the helper claimed before. These blocks are full.
     pub fn claim_block(&mut self, table: &RaceTable, aged: bool) -> u64
         requires { MayAct self.old table.now (can_claim_block aged self.old.done) }
         ensures drawn { self.new ≡ record self.old { done = with_claimed_block aged self.old.done result } }

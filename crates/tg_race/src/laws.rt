@@ -26,13 +26,13 @@ pub fn places_never_change()
     ensures events { (c : Course) (events : List (ℕ × Event)) → KeepsCellPlaces c.race (course_after c events).race }
 {}
 
-/// Where one record stands for all helpers and is complete, the cells with a place are the closure of the roots.
+/// If one record is that of all helpers and is complete, the cells with a place are the closure of the roots.
 #[tactic(auto, using(crate::proofs::Closure::closure))]
 pub fn a_complete_race_is_the_closure()
     ensures { (c : Course) (id : ℕ) (v : Record) → KeepsRule c → StandsForAll c.net.helpers c.race id v → IsCompleteRecord c.net v → HasJustTheReached c.net c.race.words }
 {}
 
-/// What a record has won stands in the table: the cell has the place that was won, which is in range.
+/// The table has what a record won. The cell has the place that was won, which is in range.
 pub fn wins_stand_in_the_table()
     ensures words { (k : Counts) (r : Race) → Rule k r → EachRecord (HasWinsIn r.words) r.records }
     ensures places { (k : Counts) (r : Race) → Rule k r → EachRecord (λ v. (cell : ℕ) (p : Place) → IsTrue (has_pair cell p v.won) → IsPlace p) r.records }
@@ -63,7 +63,7 @@ pub fn a_closed_table_is_the_closure()
     ensures { (net : Net) (words : List ℕ) (done : Record) → IsCompleteTable net words done → HasEarnedWins net done → HasJustTheReached net words }
 {}
 
-/// Where one record stands for all helpers, all others are spent: the race with that record alone is under the rule.
+/// If one record is that of all helpers, all others are spent. The race with that record alone is under the rule.
 pub fn one_record_stands_alone()
     ensures { (k : Counts) (r : Race) (id : ℕ) (v : Record) → Rule k r → StandsForAll k.helpers r id v → Rule k (record r { records = v ∷ [] }) }
 {}
@@ -83,8 +83,8 @@ pub fn blocks_are_few()
     ensures wins { (k : Counts) (r : Race) → Rule k r → weigh (λ v. length v.won) r.records ≤ k.cells }
 {}
 
-/// The same of each block that was claimed in a closed table; and those of a space are full of cells that were won into
-/// it, but for one a helper.
+/// The blocks that were claimed in a closed table are few. All blocks of a space but one for each helper are full of
+/// cells that were won into it.
 pub fn claimed_blocks_are_few()
     ensures aged_blocks { (k : Counts) (words : List ℕ) (done : Record) → IsClosedTable k words done → FillsAllButSome k.helpers done.won done.aged_blocks }
     ensures old_blocks { (k : Counts) (words : List ℕ) (done : Record) → IsClosedTable k words done → FillsAllButSome (k.kept + k.helpers) done.won done.old_blocks }
@@ -92,17 +92,17 @@ pub fn claimed_blocks_are_few()
     ensures old_filled { (k : Counts) (words : List ℕ) (done : Record) → IsClosedTable k words done → CELLS * length done.old_blocks ≤ CELLS * k.helpers + won_into OLD done.won }
 {}
 
-/// What 'drawn' says of one number: it stands once in the records if it is below the counter and not below the start,
-/// and else not at all.
+/// The meaning of 'drawn' for one number. If the number is below the counter and not below the start, the records have
+/// it exactly once. Otherwise no record has it.
 pub fn numbers_are_drawn_once()
     ensures drawn { (start counter : ℕ) (of : Record → List ℕ) (records : List Record) → IsDrawn start counter of records → EachStandsOnce start counter of records }
     ensures below { (start counter : ℕ) (of : Record → List ℕ) (records : List Record) → IsDrawn start counter of records → (n : ℕ) → n < start → times_drawn of records n ≡ 0 }
     ensures above { (start counter : ℕ) (of : Record → List ℕ) (records : List Record) → IsDrawn start counter of records → (n : ℕ) → counter ≤ n → times_drawn of records n ≡ 0 }
 {}
 
-/// What the rule says by weights is what these words say: the numbers that the records have drawn differ, and are those
-/// from the start on and below the counter. The pairs that the records have won are those of the cells that have a
-/// place, and no two of them are of one cell.
+/// The meaning of the rule, which is stated by weights. The numbers that the records have drawn differ, and are exactly
+/// those from the start up to the counter. The pairs that the records have won are those of the cells that have a
+/// place, and no two pairs are of one cell.
 pub fn weights_say_each_once()
     ensures drawn { (start counter : ℕ) (of : Record → List ℕ) (records : List Record) → IsDrawn start counter of records ↔ AreDrawnOnce start counter (all_of of records) }
     ensures won { (r : Race) → AreWonOnce r ↔ AreWinsOf r.words (all_of (λ v. v.won) r.records) }

@@ -17,8 +17,8 @@ use tg_word::CELLS;
 // How many words stand in front of those of the cells.
 const COUNTERS: usize = 3;
 
-/// The table that the helpers of one collection share: three counters, and a word for each cell behind those of the
-/// blocks that Old keeps. These are moved nowhere.
+/// The table that the helpers of one collection share. It has three counters and a word for each cell that may move.
+/// The cells of the blocks that Old keeps have no word, because they don't move.
 ///
 /// A clause sees which table it is and the numbers with which it was opened. All helpers use it at once, each through
 /// its own `Helper` and a `&RaceTable`.
@@ -35,7 +35,7 @@ pub struct RaceTable {
 pub struct CellWord {
     /// The cell's flat number.
     pub cell: u64,
-    /// The number of its word, behind the counters.
+    /// The number of its word, counted after the counters.
     pub number: usize,
 }
 
@@ -44,7 +44,7 @@ pub struct CellWord {
 pub struct Opened {
     /// The table, in which no cell has a place.
     pub table: RaceTable,
-    /// Its first helper, who stands for all.
+    /// Its first helper, whose record is that of all helpers.
     pub helper: Helper,
     /// The room in which its words were laid out first. It holds them still.
     pub room: Vec<u64>,
@@ -63,11 +63,11 @@ impl Model for RaceTable {
 }
 
 impl RaceTable {
-    /// A table in which no cell has a place, and its first helper, who stands for all.
+    /// Opens a table in which no cell has a place, with its first helper, whose record is that of all helpers.
     ///
-    /// It is the only call here that takes memory: a word for each cell that isn't in one of Old's `kept` blocks, which
-    /// come first. It lays them out in the room first, as `tg_closed::zeros` does, and hands that back, which has a
-    /// word for each such cell then. `kept` is also Old's first block number.
+    /// Only this call takes memory, which is a word for each cell that isn't in one of Old's `kept` blocks. Those
+    /// blocks come first, so `kept` is also the number of Old's first new block. The words are laid out in the room
+    /// that is handed in, as `tg_closed::zeros` does, and the room is handed back.
     pub fn open(
         alloc: Global,
         cells: u64,
@@ -116,11 +116,10 @@ impl RaceTable {
         (self.counts.cells - self.skipped) as usize + COUNTERS
     }
 
-    /// The words of the cells behind those that Old keeps, where they stand, once the helper that is left stands for
-    /// all.
+    /// Returns the words of the cells that Old doesn't keep, once the record of the helper that is left is that of all.
     ///
-    /// With a 0 for each cell that Old keeps they and its record are those of a race under the rule, with that one
-    /// record.
+    /// With a 0 for each cell that Old keeps, these words and the record are those of a race under the rule with that
+    /// one record.
     pub fn close(self, helper: Helper) -> ClosedWords
         requires own { helper.table ≡ self.table }
         requires all { helper.done.share ≡ self.counts.helpers }

@@ -34,7 +34,7 @@ pub struct Record {
     pub aged_blocks: LinkedList<u64>,
     /// The numbers of the blocks of Old that it claimed.
     pub old_blocks: LinkedList<u64>,
-    /// How many helpers it stands for; 0 for a record that is spent.
+    /// Of how many helpers it is the record. It is 0 for a record that is spent.
     pub share: u64,
 }
 

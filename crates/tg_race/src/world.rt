@@ -36,7 +36,7 @@ impl Model for World {
 }
 
 impl World {
-    /// The start of a race: no cell has a place, and one empty record, number 0, stands for all helpers.
+    /// The start of a race. No cell has a place, and one empty record, number 0, is that of all helpers.
     pub fn start(alloc: Global, shape: Shape) -> Result<World, AllocError>
         requires { IsRaceable (net_of shape) }
         ensures { IfOk result (λ w. w ≡ starting (net_of shape)) }

@@ -15,9 +15,9 @@ use tg_rebuild::Maker;
 use tg_rights::Label;
 use tg_store::{ApplyFault, CreateFault, CreateRefused, Kind, RoomFault, Store};
 
-/// Does the deed of an entry again, and returns whether the entry is legal on the graph that the store stands for. The
-/// store then has the entry behind the others. After an entry that isn't legal the store is of no use. Nothing of the
-/// entry is believed before it is looked at: the maker sees only a state that fits its law.
+/// Does the deed of an entry again, and returns whether the entry is legal on the graph of the store. The store then
+/// has the entry after the others. After an entry that isn't legal the store is of no use. Nothing of the entry is
+/// believed before it is checked. The maker sees only a state that fits its law.
 pub(crate) fn replay<P: Payload, M: Maker<P>>(
     alloc: Global,
     store: &mut Store<P>,

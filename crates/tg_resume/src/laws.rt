@@ -18,8 +18,8 @@ pub fn it_goes_on_from_where_it_stopped()
         (at ≡ length mid.entries) × ((new : StoreState) → Resumes (drop (at - length old.entries) es) mid new → Resumes es old new) }
 {}
 
-/// A store that has the first entries of another store's journal, or none, and is resumed from the rest, has the whole
-/// journal and stands for the graph of the other store: both have one opening. So each later reply is the same.
+/// Take a store that has the first entries of another store's journal, or none, and the opening of that store. If it is
+/// resumed from the rest, it has the whole journal and the graph of the other store. So each later reply is the same.
 pub fn it_is_as_the_first_store_was()
     ensures { (first old new : StoreState) →
         HasFrontOf first old → Resumes (drop (length old.entries) first.entries) old new →

@@ -59,19 +59,19 @@ pub enum Halted {
 /// Does the deed of each entry of a part again, and compares the replies. Payloads come from the maker. If the heap is
 /// full for a deed, a full collection is made, and the deed is tried once more.
 ///
-/// `Ok` has the store with exactly these entries more: they are a legal history of the graph that it stood for, and it
-/// stands for the graph after them. A reply that no more vertices may be made, or that no more subjects may be active,
-/// is compared as any other. The journal holds all entries that it is fed: a host that keeps them elsewhere has the
-/// store [forget](Store::forget) each part after it.
+/// `Ok` has the store with exactly these entries more. They are a legal history of the graph that the store had, and
+/// the store now has the graph after them. A reply that no more vertices may be made, or that no more subjects may be
+/// active, is compared like any other. The journal holds all entries that it is fed. A host that keeps them elsewhere
+/// has the store [forget](Store::forget) each part.
 ///
-/// Refusals, in the order in which they are looked for:
+/// The refusals, in the order in which they are looked for:
 ///
 /// - `BadPlace`, exactly if the part doesn't begin at the place of the journal's next entry. The store is handed back
 ///   as it was.
 /// - `BadEntry`, with the first place in the journal whose entry isn't legal. The store is dropped.
 /// - `NoRoom`, with the place of the entry for which there is no room. The store is handed back with all entries before
-///   that place, and goes on if it is fed from there. `HeapFull` is the reason only if the heap is still full for the
-///   deed after a full collection, or if there is no room for that collection; else `OutOfMemory` is.
+///   that place, and goes on if it is fed from there. The reason is `HeapFull` only if the heap is still full for the
+///   deed after a full collection, or if there is no room for that collection. Otherwise the reason is `OutOfMemory`.
 pub fn resume<P: Payload, M: Maker<P>>(
     alloc: Global,
     store: Store<P>,
@@ -107,10 +107,11 @@ fn stopped<P: Payload>(store: Store<P>, halted: Halted) -> ResumeStopped<P>
     }
 }
 
-/// Replays entries on a store that is lent, the first of which is that of the journal's next place. It goes as far as
-/// [`resume`] does, by the same rules. It is for a host that keeps the store where it is, as behind a pointer.
+/// Replays entries on a store that is lent. The first entry has to be that of the journal's next place. The call goes
+/// as far as [`resume`] does, by the same rules. It is for a host that can't move its store, for example one that has
+/// it in a box.
 ///
-/// Refusals:
+/// The refusals:
 ///
 /// - `BadEntry`, with the first place in the journal whose entry isn't legal. The host has to drop the store.
 /// - `NoRoom`, with the place of the entry for which there is no room. The store has all entries before that place, and

@@ -14,7 +14,7 @@ pub enum ResumeStopped<P: Payload> {
         from: u64,
         store: Store<P>,
     },
-    /// The first entry that isn't legal: its worker is no active subject, its state doesn't fit its law, or its reply
+    /// The first entry that isn't legal. Its worker is no active subject, its state doesn't fit its law, or its reply
     /// isn't that of the rules. The store is dropped, and nothing of it is kept.
     #[error("entry {at} is not legal: the entries were altered, or are of another opening")]
     BadEntry {

@@ -124,7 +124,7 @@ impl<P: Payload> Cells<P> {
         self.payloads.read(cell[KEY])
     }
 
-    /// What an object stores, where it stands.
+    /// Lends the payload of an object.
     pub fn payload(&self, at: Place) -> &P
         requires { HasObject self.now at }
         ensures { (content_in self.now.spaces.spaces self.now.payloads).value (name_at self.now.spaces.spaces at) ≡ Some (P.value result.now) }
@@ -179,10 +179,10 @@ impl<P: Payload> Cells<P> {
         Ok(())
     }
 
-    /// Makes an object with a name that none has, gives another one rights over it, at the spot for them, and notes the
-    /// written cell if it has to be remembered. The answer is where the object is. Growth comes first, that of the
-    /// spaces last: where it is refused, there may be room for one more payload and one more note, and else nothing is
-    /// changed.
+    /// Makes an object with a new name, and gives another object rights over it, at the spot for them. The written cell
+    /// is noted if it has to be remembered. The answer is the place of the object. Growth comes first, and that of the
+    /// spaces last. If it is refused, there may be room for one more payload and one more note. Nothing else is changed
+    /// then.
     pub(crate) fn put_vertex(
         &mut self,
         nursery: u64,

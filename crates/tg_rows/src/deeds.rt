@@ -106,7 +106,7 @@ impl<P: Payload> Cells<P> {
         }
     }
 
-    /// Where the reference to a name stands in the row of an object, or else where it may be put.
+    /// Finds the reference to a name in the row of an object, or the spot at which a new one may be put.
     #[inline(always)]
     pub(crate) fn spot(&self, rows: &LongRows, way: &Way, from: Place, name: u64) -> Spot
         requires { LooksAlong self.now rows.now way.now from }
@@ -215,10 +215,10 @@ impl<P: Payload> Cells<P> {
         }
     }
 
-    /// Makes an object with a name that none has, gives another one rights over it, and notes the written cell if it
-    /// has to be remembered. The answer is where the object is. Growth comes first, that of the spaces last: where it
-    /// is refused, there may be room for one more payload and one more note, and else nothing is changed. The row has
-    /// an index then, if it is long.
+    /// Makes an object with a new name, and gives another object rights over it. The written cell is noted if it has to
+    /// be remembered. If the row is long, it has an index afterwards. The answer is the place of the object. Growth
+    /// comes first, and that of the spaces last. If it is refused, there may be room for one more payload and one more
+    /// note. Nothing else is changed then.
     pub fn new_vertex(
         &mut self,
         rows: &mut LongRows,

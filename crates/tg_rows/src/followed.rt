@@ -35,10 +35,10 @@ enum Fate {
 }
 
 impl LongRows {
-    /// Each index becomes that of the row's copy, and goes where a collection of this kind left the row behind. A
-    /// nursery collection looks at those rows alone that may have young or remembered cells, and only at these cells.
-    /// Cells have the numbers that they had before it. The cells that are to be remembered are in `noted`. It asks for
-    /// memory for marks alone, and does without it where that is refused.
+    /// Turns each index into that of the row's copy, and drops the index of a row that a collection of this kind didn't
+    /// copy. A nursery collection looks only at the rows that may have young or remembered cells, and only at these
+    /// cells. Cells have the numbers that they had before it. The cells that are to be remembered are in `noted`. The
+    /// call asks for memory only for marks, and goes on without them if that is refused.
     pub fn follow(&mut self, moves: Moves, noted: &Remembered)
         requires rows { AreFollowable moves.kind moves.numbering.now.starts (length moves.forward.now.words) noted.now.places self.old.entries }
         requires to_old { AreMovedToOld moves.kind moves.forward.now.words }

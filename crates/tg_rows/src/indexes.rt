@@ -21,14 +21,14 @@ const HINTS: usize = 64;
 pub(crate) enum Way {
     /// It has no index, and is walked along.
     Walk,
-    /// By its index, which stands at this place.
+    /// By its index, which is at this place.
     Index(usize),
-    /// By this new index, which it gets with the change. (It stands in a box, so that a way is small.)
+    /// By this new index, which the row gets with the change. It is in a box, so that a way is small.
     New(Box<IndexedRow>),
 }
 
-/// The indexes of long rows, each under the name of the row's vertex. First stand those of rows that are known to lie
-/// in Old whole, so a nursery collection begins behind them.
+/// The indexes of long rows, each under the name of the row's vertex. The rows that are known to be in Old as a whole
+/// come first. A nursery collection begins after them.
 #[derive(Drop)]
 pub struct LongRows {
     pub(crate) indexes: IndexMap<u64, IndexedRow>,
@@ -69,7 +69,7 @@ impl LongRows {
         self.indexes.get(&name)
     }
 
-    /// At which place the index of the row of the vertex with a name stands, if it has one. Takes no memory.
+    /// Returns the place of the index of the row of the vertex with a name, if it has one. Takes no memory.
     #[inline(always)]
     pub(crate) fn place(&self, name: u64) -> Option<usize>
         ensures there { IfSome result (HasIndexAt self.now.entries name) }
@@ -113,8 +113,8 @@ impl LongRows {
         }
     }
 
-    /// Where the index of the row of the vertex with a name stands then, among those of rows that may have young cells,
-    /// if it has one. Takes no memory.
+    /// Moves the index of the row of the vertex with a name to those of rows that may have young cells, if the row has
+    /// an index. Returns the place of the index then. Takes no memory.
     #[inline(always)]
     pub(crate) fn young_place(&mut self, name: u64) -> Option<usize>
         ensures young { IfSome result (λ at. self.new.old_rows ≤ at) }
@@ -128,8 +128,8 @@ impl LongRows {
         Some(at)
     }
 
-    /// Makes room for one more name and one more cell in the index of the row of the vertex with a name, which stands
-    /// at this place, among those of rows that may have young cells.
+    /// Makes room for one more name and one more cell in the index at this place, which is that of the row of the
+    /// vertex with a name. The index is among those of rows that may have young cells.
     pub(crate) fn reserve_at(&mut self, name: u64, at: usize) -> Result<(), AllocError>
         requires there { HasIndexAt self.old.entries name at }
         requires young { self.old.old_rows ≤ at }
@@ -162,8 +162,8 @@ impl LongRows {
         drop(self.indexes.insert(name, row).unwrap());
     }
 
-    /// The index at a place comes to stand among those of rows that may have young cells. The answer is its new place.
-    /// Takes no memory.
+    /// Moves the index at a place to those of rows that may have young cells, and returns its new place. Takes no
+    /// memory.
     pub(crate) fn make_young(&mut self, at: usize) -> usize
         requires { at < length self.old.entries }
         ensures young { self.new.old_rows ≤ result }

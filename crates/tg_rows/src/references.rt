@@ -10,8 +10,9 @@ use tg_rights::Rights;
 use tg_space::Spaces;
 use tg_word::{Place, Slot, nursery_space, pack, place_of, rights_of};
 
-/// Puts rights over the object at a place where they go in a row: the reference gets them too, or else the empty place
-/// gets a reference with them, or else a new chunk from a nursery, which has a cell left for it.
+/// Puts rights over the object at a place into a row. If there is a reference to the object, it gets the rights too.
+/// Otherwise the empty place gets a reference with them. If there is none, a new chunk from a nursery gets it, and the
+/// nursery has a cell left for it.
 #[inline(always)]
 pub(crate) fn put(spaces: &mut Spaces, nursery: u64, spot: Spot, to: Place, rights: Rights)
     requires { CanPutRights spaces.old nursery spot to }

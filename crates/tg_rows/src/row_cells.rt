@@ -69,7 +69,7 @@ impl RowCells {
         self.words.reserve(1)
     }
 
-    /// Adds the cell that a word names behind the others. There is room for it.
+    /// Adds the cell that a word names after the others. There is room for it.
     #[inline(always)]
     pub(crate) fn push(&mut self, word: u64)
         requires { 0 < self.old.spare }

@@ -20,7 +20,7 @@ use tg_word::{Place, place_of, rights_of};
 /// How many cells of a row may be walked along. A longer row has an index from the first call on that writes to it.
 pub(crate) const SHORT: usize = 4;
 
-/// Where the reference to a name stands in a row, or where it may be put.
+/// The place of the reference to a name in a row, or the spot at which a new one may be put.
 #[derive(Clone, Copy)]
 pub enum Spot {
     /// The reference is this word of this cell.
@@ -81,8 +81,8 @@ pub(crate) fn may_get_long(spaces: &Spaces, from: Place) -> bool
     true
 }
 
-/// Finds where the reference to a name stands in the row of an object, or else the first empty place in chain order,
-/// or else the last cell. It walks the chain once, up to the reference if there is one.
+/// Finds the reference to a name in the row of an object. If there is none, the answer is the first empty place in the
+/// order of the chain, or else the last cell. The call walks the chain once, up to the reference if there is one.
 pub fn find_spot(spaces: &Spaces, from: Place, name: u64) -> Spot
     requires { IsSoundRow spaces.now.spaces from }
     ensures { IsSpotOf spaces.now from name result }

@@ -13,7 +13,7 @@ use tg_model::Edge;
 use tg_snapshot::ShownVertex;
 use tg_text::{Line, Sink, WriteFailed, Written, put_all, put_texts, write_line};
 
-/// A line behind the first one.
+/// A line after the first one.
 #[derive(Clone, Copy)]
 pub enum SnapshotLine<'a> {
     Counts { made: u64, limit: u64, entries: u64 },

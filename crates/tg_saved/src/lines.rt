@@ -32,7 +32,7 @@ impl Model for ReadLines {
 }
 
 impl ReadLines {
-    /// What the line of the counts gives, which comes behind the first one.
+    /// Reads the line of the counts, which comes after the first line.
     pub(crate) fn begin<L: Ledger>(
         alloc: Global,
         again: &mut Written<L>,

@@ -50,7 +50,7 @@ fn vertex_words(line: &[u8]) -> Option<(u64, &str)> {
     Some((name.parse::<u64>().ok()?, word))
 }
 
-/// The edge that a line tells.
+/// Returns the edge that a line gives.
 pub fn read_edge(line: &[u8]) -> Option<Edge> {
     match read_line(line.strip_suffix(b"\n")?) {
         Some(Line::Edge(edge)) => Some(edge),
@@ -84,7 +84,7 @@ fn law_of<'a>(word: &str, numbers: &'a [u64]) -> Option<(Law, &'a [u64])> {
     }
 }
 
-/// The numbers below 2^64 among the words of a text, whatever stands between them. Fails only when out of memory.
+/// Returns the numbers below 2^64 among the words of a text. Other words are skipped. Fails only if memory runs out.
 pub fn read_numbers(alloc: Global, text: &str) -> Result<Vec<u64>, AllocError> {
     let mut numbers = Vec::new(alloc);
     for word in text.split([' ', ':', ',']) {

@@ -7,8 +7,8 @@ use tg_payload::Payload;
 use tg_store::{Kind, Store};
 use tg_text::Refusal;
 
-/// What makes the collections of a script. Nothing here starts threads: what does stands above, and a run is the same
-/// over it.
+/// Makes the collections of a script. This crate starts no threads. A crate above it has a collector that does, and a
+/// run has the same promise with each collector.
 pub trait Collector {
     ghost use Rattle.std.specs.Prelude.{◌≡◌, IfErr, IfOk};
     ghost use Rattle.tg_model.specs.Graph.{ProtectionGraph, IsReachable};
@@ -19,11 +19,11 @@ pub trait Collector {
     /// it.
     ghost Ready: { Type 0 };
 
-    /// Collects the store with so many helpers, or with fewer. A full collection answers how many vertices can be
-    /// reached, and leaves these alone; of a nursery collection nothing is said of the number.
+    /// Collects the store with so many helpers, or with fewer. A full collection keeps exactly the vertices that can be
+    /// reached, and returns how many there are. The number that a nursery collection returns isn't specified.
     ///
-    /// It may be refused with `Memory`, with `Heap` where a space would need more blocks than it may have, or with
-    /// `Threads` where there was to be more than one helper; the store then stands for the graph that it stood for.
+    /// The call is refused with `Memory`, with `Heap` if a space needs more blocks than it may have, or with `Threads`
+    /// if there was to be more than one helper. The graph of the store is then unchanged.
     fn collect<P: Payload>(
         &self,
         store: &mut Store<P>,

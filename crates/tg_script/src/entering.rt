@@ -14,14 +14,14 @@ use tg_entries::{write_end, write_opening};
 use tg_payload::Payload;
 use tg_text::{ScriptFault, Sink, Source};
 
-/// Runs the script as [`run_script_with`](crate::run_script_with) does, and writes the text of its history, as
-/// `tg_entries` has it, in the place of replies: its opening once the store is open, then the line of each entry before
-/// the next line is run, and their number at the end. A collection has no entry, and a line that is refused has none.
+/// Runs the script as [`run_script_with`](crate::run_script_with) does, and writes the text of its history in the place
+/// of replies. The form of the text is that of `tg_entries`. The lines of the opening come once the store is open. The
+/// line of each entry is written before the next line is run. The number of entries comes at the end. A collection has
+/// no entry, and neither has a line that is refused.
 ///
-/// Each line is answered as it is there, and the faults are the same. After one no number is written: what stands is
-/// the text for the lines before it, and after `WriteFailed` a front of a text. So `Ok` is answered only where what was
-/// written is the text of a legal history, as `audit_text` of `tg_entries` finds it. Each entry is given up once it was
-/// written.
+/// Each line is answered as by `run_script_with`, with the same faults. After a fault no number is written. The text is
+/// then that of the lines before the fault, and after `WriteFailed` a front of it. So `Ok` is returned only if the text
+/// is that of a legal history, as `audit_text` of `tg_entries` finds it. Each entry is given up once it was written.
 pub fn run_script_entries<P: Payload, C: Collector, S: Source, K: Sink>(
     alloc: Global,
     collector: &C,

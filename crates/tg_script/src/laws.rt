@@ -3,7 +3,7 @@ ghost use Rattle.std.specs.Prelude.{◌≡◌, ℕ, List};
 ghost use Rattle.tg_text.specs.declared.line.Line.{Line};
 ghost use Rattle.tg_script.specs.Script.{Scene, IsOutput, IsAdmissible};
 
-/// Where nothing was wanting, an admissible text is the output.
+/// If memory never ran out, an admissible text is exactly the output.
 #[tactic(auto, using(crate::proofs::OutputLaws::is_output))]
 pub fn admissible_without_wants_is_the_output()
     ensures { (s : Scene) (lines : List Line) (text : List ℕ) → IsAdmissible s lines 0 text → IsOutput s lines text }

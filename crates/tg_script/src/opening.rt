@@ -14,7 +14,7 @@ use tg_payload::{Draft, Payload, values_of};
 use tg_store::{OpenFault, Store};
 use tg_text::{Line, ScriptFault, Sink, Source};
 
-/// The edges in front of a script, the line behind them, and the script behind that.
+/// The edges at the beginning of a script, the first line after them, and the rest of the script.
 #[derive(Drop)]
 pub(crate) struct Front {
     pub(crate) edges: Vec<Edge>,
@@ -22,7 +22,8 @@ pub(crate) struct Front {
     pub(crate) script: Script,
 }
 
-/// Reads the edge lines in front of a script for so many workers, and the line behind them where one comes.
+/// Reads the edge lines at the beginning of a script for so many workers, and the first line after them if there is
+/// one.
 pub(crate) fn read_edges<S: Source, K: Sink>(
     alloc: Global,
     source: &mut S,
@@ -54,9 +55,9 @@ pub(crate) fn read_edges<S: Source, K: Sink>(
     })
 }
 
-/// Opens the store by the settings, with the edges between the workers and their payloads. Refused for a number of
-/// vertices that is out of its range, or else for want of memory, or of a block for each worker where the heap may
-/// have fewer.
+/// Opens the store by the settings, with the edges between the workers and their payloads. The call is refused if a
+/// number of vertices is out of its range. It is also refused if memory runs out, or if the heap may have fewer blocks
+/// than there are workers.
 pub fn open_store<P: Payload>(
     alloc: Global,
     settings: &Settings,

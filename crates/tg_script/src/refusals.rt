@@ -8,7 +8,7 @@ use tg_parallel::HelpersFault;
 use tg_store::{ApplyFault, CreateFault, RoomFault};
 use tg_text::{Answer, Refusal};
 
-/// What a command is told that the store refused.
+/// Returns the refusal that is reported for a command that the store refused.
 pub fn apply_refusal(fault: ApplyFault) -> Refusal
     ensures { result ≡ apply_refusal fault }
 {
@@ -19,8 +19,8 @@ pub fn apply_refusal(fault: ApplyFault) -> Refusal
     }
 }
 
-/// What a create or a spawn is told that made no vertex. That there are as many vertices as there may be, or as many
-/// active subjects, is a reply.
+/// Returns the answer to a create or a spawn that made no vertex. If as many vertices were made as there may be, or if
+/// as many subjects are active, the answer is a reply.
 pub fn create_answer(fault: CreateFault) -> Answer
     ensures { result ≡ create_answer fault }
 {
@@ -33,7 +33,7 @@ pub fn create_answer(fault: CreateFault) -> Answer
     }
 }
 
-/// What a collection is told that was refused.
+/// Returns the refusal that is reported for a collection by one thread.
 pub fn collect_refusal(fault: RoomFault) -> Refusal
     ensures { result ≡ collect_refusal fault }
 {
@@ -43,7 +43,7 @@ pub fn collect_refusal(fault: RoomFault) -> Refusal
     }
 }
 
-/// What a collection by several helpers is told that was refused.
+/// Returns the refusal that is reported for a collection by several helpers.
 pub fn helpers_refusal(fault: HelpersFault) -> Refusal
     ensures { result ≡ helpers_refusal fault }
 {

@@ -27,7 +27,7 @@ impl<P: Payload> Run<P> {
     ghost use Rattle.tg_script.specs.Opening.{IsAnswerable};
     ghost use Rattle.tg_script.specs.Inner.Run.{EntersLine, Handles, line_making};
 
-    /// What a line is answered. No line fails: where memory or room is wanting, that is the answer.
+    /// Runs a line and returns its answer. No line fails. If memory or room runs out, the answer says so.
     #[inline(always)]
     pub(crate) fn answer<H: Holding, C: Collector>(&mut self, collector: &C, line: Line) -> Answer
         requires answerable { IsAnswerable C.Ready line }

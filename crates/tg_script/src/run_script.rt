@@ -44,15 +44,17 @@ pub struct RunSetup<P: Payload> {
     pub stock: Vec<Draft<P>>,
 }
 
-/// Runs the script from the setup. A create or spawn line takes the first payload that is left of the stock, and where
-/// no vertex is made it stands in front again. The store opens at the first line that is no edge line, or at the end of
-/// the input. Each reply is written before the next line is run, and what was written is finished before the source is
-/// asked for what it doesn't hold. What is written is the text for the lines before the first fault, and after
-/// `WriteFailed` all of it but a part of the last reply. The source is asked for at most 1,048,577 bytes. The sink is
-/// finished at the end, after a fault too, which then stands.
+/// Runs the script from the setup. A create or spawn line takes the first payload of the stock. If no vertex is made,
+/// the payload goes back to the front of the stock. The store opens at the first line that is no edge line, or at the
+/// end of the input.
 ///
-/// The collector makes the collections, each with as many helpers as the settings have. Where that is more than one, a
-/// line may be answered `refused threads` for want of a thread; nothing is changed then.
+/// Each reply is written before the next line is run. The output is finished before the source is asked for a byte that
+/// it doesn't hold, and at the end, after a fault too. A fault that came before a failure to finish is the one that is
+/// returned. The source is asked for at most 1,048,577 bytes. The output is the text for the lines before the first
+/// fault. After `WriteFailed` a part of the last reply may be missing.
+///
+/// The collector makes the collections, each with as many helpers as the settings have. If there is more than one
+/// helper, a line may be answered `refused threads` because a thread couldn't be started. Nothing is changed then.
 pub fn run_script_with<P: Payload, C: Collector, S: Source, K: Sink>(
     alloc: Global,
     collector: &C,
@@ -74,9 +76,9 @@ pub fn run_script_with<P: Payload, C: Collector, S: Source, K: Sink>(
     }
 }
 
-/// Runs the script as [`run_script_with`] does, with one payload for each worker of the opening, by rising name, and a
-/// stock of payloads for the vertices that the script makes. The thread that runs it makes the collections alone: how
-/// many helpers the settings have isn't looked at.
+/// Runs the script as [`run_script_with`] does. There is one payload for each worker of the opening, by rising name,
+/// and a stock of payloads for the vertices that the script makes. The thread that runs the script makes the
+/// collections alone, whatever number of helpers the settings have.
 pub fn run_script_one<P: Payload, S: Source, K: Sink>(
     alloc: Global,
     source: &mut S,
@@ -158,7 +160,7 @@ fn run_counted<P: Payload, C: Collector, A: Ledger, F: Ledger>(
     }
 }
 
-/// Finishes the sink. A fault that came before stands.
+/// Finishes the sink. A fault that came before is the one that is returned.
 pub(crate) fn finish<K: Sink>(
     sink: &mut K,
     outcome: Result<(), ScriptFault>,
@@ -183,7 +185,7 @@ pub(crate) struct Begun<P: Payload> {
     pub(crate) first: Option<Line>,
 }
 
-/// Reads the edge lines and the line behind them, and opens the store, beside which the stock is whole.
+/// Reads the edge lines and the first line after them, and opens the store. The stock is still whole then.
 pub(crate) fn begin<P: Payload, S: Source, K: Sink>(
     alloc: Global,
     source: &mut S,
@@ -216,7 +218,7 @@ pub(crate) fn begin<P: Payload, S: Source, K: Sink>(
     Ok(Begun { run, script, first })
 }
 
-/// Runs the lines from the first on that is no edge line, where there is one, and writes what is told of each.
+/// Runs the lines from the first one on that is no edge line, if there is one, and writes the answer to each.
 pub(crate) fn run_commands<P: Payload, T: Telling, C: Collector, S: Source, K: Sink>(
     begun: &mut Begun<P>,
     collector: &C,

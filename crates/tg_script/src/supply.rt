@@ -10,7 +10,8 @@ use tg_payload::{Draft, Payload};
 pub(crate) struct Supply<P: Payload> {
     /// A payload that was put back.
     pub(crate) front: Option<Draft<P>>,
-    /// Those behind it, of which the last is taken first, so that the list can give its memory back as it is used up.
+    /// The payloads after it, in reverse order. The last one is taken first, so that the list can give its memory back
+    /// as it is used up.
     pub(crate) rest: Vec<Draft<P>>,
 }
 

@@ -18,7 +18,7 @@ const MOST_ENTRIES: usize = 32;
 
 const MOST_EDGES: usize = 64;
 
-/// Whether what a command entered is held until it was told.
+/// Whether the entries of a command are held until they are reported.
 pub(crate) trait Holding {
     ghost use Rattle.std.specs.Prelude.{Bool};
     ghost use Rattle.tg_script.specs.Inner.Run.{IsHeeded};
@@ -26,20 +26,20 @@ pub(crate) trait Holding {
     /// Whether it is held.
     ghost holds: { Bool };
 
-    /// Does what is to be done where a command has this reply, before it is told.
+    /// Prepares the store for the report of a command that has this reply.
     fn heed<P: Payload>(store: &mut Store<P>, reply: &Reply)
         ensures { IsHeeded holds store.old store.new };
 }
 
-/// How what came of a line is told. A run is the same over it.
+/// How the result of a line is reported. A run has the same promise with each way.
 pub(crate) trait Telling {
     ghost use Rattle.tg_script.specs.Opening.{IsAnswerable};
     ghost use Rattle.tg_script.specs.Inner.Telling.{LineText, RunsLine};
 
-    /// What is told of a line.
+    /// The text that reports a line.
     ghost told: { LineText };
 
-    /// Answers the line, and writes what is told of it.
+    /// Answers the line, and writes the text that reports it.
     fn run_line<P: Payload, C: Collector, K: Sink>(
         run: &mut Run<P>,
         collector: &C,
@@ -50,7 +50,7 @@ pub(crate) trait Telling {
         ensures { RunsLine told run.old line run.new (K.taken sink.old) (K.failures sink.old) result (K.taken sink.new) (K.failures sink.new) };
 }
 
-/// Each line is told by its reply. What was entered is given up: many entries at a time, and a long list at once.
+/// Each line is reported by its reply. Entries are given up, many at a time, and a long list at once.
 pub(crate) struct Replies;
 
 impl Holding for Replies {
@@ -80,7 +80,7 @@ impl Telling for Replies {
     }
 }
 
-/// Each line is told by the entry that it made, if any, which is given up once it was written.
+/// Each line is reported by the entry that it made, if it made one. The entry is given up once it was written.
 pub(crate) struct Entries;
 
 impl Holding for Entries {

@@ -11,16 +11,17 @@ use std::alloc::Global;
 use tg_model::Edge;
 use tg_text::{Line, ScriptFault, Sink, Source};
 
-/// The lines of a script: the edges in front, and all lines behind them.
+/// The lines of a script, with the edges at its beginning and all lines after them.
 #[derive(Debug, Drop)]
 pub struct WholeScript {
     pub edges: Vec<Edge>,
     pub lines: Vec<Line>,
 }
 
-/// Reads a whole script for so many workers, or up to its first fault; `OutOfMemory` where there is none for a line,
-/// `ReadFailed` and `WriteFailed` exactly where the source or the sink failed. The source is asked for at most
-/// 1,048,577 bytes, and what was put into the sink is finished before it is asked for what it doesn't hold.
+/// Reads a whole script for so many workers, or up to its first fault. `OutOfMemory` is returned if memory runs out for
+/// a line. `ReadFailed` and `WriteFailed` are returned exactly if the source or the sink failed. The source is asked
+/// for at most 1,048,577 bytes. Bytes in the sink are finished before the source is asked for a byte that it doesn't
+/// hold.
 pub fn read_script<S: Source, K: Sink>(
     alloc: Global,
     source: &mut S,

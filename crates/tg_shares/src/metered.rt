@@ -15,7 +15,7 @@ use tg_rights::Label;
 use tg_shared::{Blanks, Keeper, Locked, Round, Session};
 use tg_store::{ApplyFault, CreateFault, CreateRefused, Kind, RoomFault, Store};
 
-/// What is behind the lock of a store with shares: the locked store, and the till, into which the purses pay. All
+/// The locked value of a store with shares. It has the locked store, and the till, into which the purses pay. All
 /// vertices that are left in purses may still be made (`covered`). Each entry that was made since is the keeper's or
 /// was paid for (`paid`). Each call is one call of [`Locked`], with its contract, and is paid for. It never leaves this
 /// crate, so nobody reaches the locked store by another call.
@@ -27,8 +27,8 @@ pub(crate) struct Metered<L: Round, V: Ledger, E: Ledger, P: Payload> {
     ghost paid: { ArePaid till locked },
 }
 
-/// What is to be put behind a lock, a session for each active subject, by rising name, its one keeper, and the purse
-/// that has all shares.
+/// What a shared store with shares starts from. There is a session for each active subject, by rising name, its one
+/// keeper, and the purse that has all shares.
 #[derive(Drop)]
 pub(crate) struct OpenedStore<L: Round, V: Ledger, E: Ledger, P: Payload> {
     pub(crate) metered: Metered<L, V, E, P>,
@@ -94,7 +94,7 @@ impl<L: Round, V: Ledger, E: Ledger, P: Payload> Metered<L, V, E, P> {
         locked
     }
 
-    /// The store: what holds whenever the lock is free is told here.
+    /// The store. The clauses of this call are true whenever the lock is free.
     pub(crate) fn store(&self) -> &Store<P>
         ensures same { result.now ≡ self.now.locked.store }
         ensures held { HoldsWhenFree L.start self.now.locked }

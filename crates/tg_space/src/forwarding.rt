@@ -6,10 +6,11 @@ use std::alloc::{AllocError, Global};
 use std::marker::Model;
 use tg_closed::{ClosedWords, zeros};
 
-/// Forwarding words while one thread gives them: for each cell, by its flat number, the word of its new place, or 0
-/// where it has none. The first cells may be skipped: their words are 0 for good, and take no memory.
+/// The forwarding words of a collection by one thread. For each cell, by its flat number, there is the word of its new
+/// place, or 0 if it has none. The first cells may be skipped. Their words are always 0, and take no memory.
 ///
-/// The idea is that of a collector's forwarding addresses, in a table of their own beside cells that are only read.
+/// The idea is that of a collector's forwarding addresses, kept in a table of their own so that the cells are only read
+/// (Jones, Hosking and Moss, The Garbage Collection Handbook, 2012).
 #[derive(Drop)]
 pub struct ForwardingTable {
     skipped: u64,
@@ -26,10 +27,9 @@ impl Model for ForwardingTable {
 }
 
 impl ForwardingTable {
-    /// A word of 0 for each of as many cells, of which the first ones are skipped. The words of the others stand in the
-    /// given room, whatever it holds, where that is enough; else the room is given back.
-    ///
-    /// It is refused only where memory for the words of the others was.
+    /// Makes a table with a word of 0 for each of `cells` cells, of which the first ones are skipped. The words of the
+    /// others use the given room if it is large enough. Otherwise the room is dropped. The call is refused only if
+    /// memory for these words was refused.
     #[inline(always)]
     pub fn new(alloc: Global, cells: u64, skipped: u64, room: Vec<u64>) -> Result<Self, AllocError>
         requires { skipped ≤ cells }
@@ -80,7 +80,7 @@ pub struct Forwarding {
     words: Words,
 }
 
-/// Where forwarding words stand.
+/// Where forwarding words are kept.
 #[derive(Drop)]
 pub enum Words {
     /// In one thread's table.
@@ -104,7 +104,7 @@ impl Model for Forwarding {
 }
 
 impl Forwarding {
-    /// These words of a closed table behind those of the cells that are skipped, and room for the next collection.
+    /// Puts the words of a closed table after those of the skipped cells, with room for the next collection.
     pub fn of_closed(skipped: u64, words: ClosedWords, room: Vec<u64>) -> Self
         ensures { result ≡ record { skipped = skipped; words = replicate skipped 0 ++ words } }
     {

@@ -13,14 +13,14 @@ ghost use Rattle.tg_space.specs.Soundness.{AreSound, IsPointer};
 ghost use Rattle.tg_space.specs.Targets.{cell_numbered, pointers_of};
 ghost use Rattle.tg_space.specs.declared.root.Root.{Root};
 
-/// The law of tracing: a list of cells, each of which is a root or a target of an earlier one, and which holds the
-/// roots and the targets of its cells, is exactly the closure of the roots.
+/// The law of tracing. Take a list of cells in which each cell is a root, or a target of an earlier cell of the list.
+/// If the list has all roots and all targets of its cells, it is exactly the closure of the roots.
 pub fn traced_and_complete_is_the_closure()
     ensures { (roots : List ℕ) (targets : ℕ → List ℕ) (won : List ℕ) → IsTraced roots targets won → IsComplete roots targets won → (c : ℕ) → Contains won c ↔ IsInClosure roots targets c }
 {}
 
-/// A place names one cell: held cells have numbers below the number of all cells, each its own, and the number names
-/// the same words as the place.
+/// A place names one cell. Each held cell has a number of its own, below the number of all cells. The number names the
+/// same words as the place.
 pub fn places_name_cells()
     ensures inside { (h : SpaceList) → IsSpaceList h → (p : Place) → HasCell h p → flat_of h p < length (cells_of h) }
     ensures apart { (h : SpaceList) → IsSpaceList h → (p q : Place) → HasCell h p → HasCell h q → flat_of h p ≡ flat_of h q → p ≡ q }
@@ -45,7 +45,8 @@ pub fn sound_cells_name_used_cells()
     ensures { (h : SpaceList) (roots : List Root) → AreSound h roots → IsSpaceList h → (number : ℕ) → number < length (cells_of h) → All (IsPointer h) (pointers_of (cell_numbered h number)) }
 {}
 
-/// What a word's parts begin at, what stands where in a cell, and how much there may be, as numbers.
+/// The numbers of the layout: where the parts of a word begin, where the words of a cell are, and how much there may
+/// be.
 pub fn numbers_are_these()
     ensures word { (CELL_AT ≡ 8) × (BLOCK_AT ≡ 14) × (SPACE_AT ≡ 34) × (PRESENT_AT ≡ 41) }
     ensures cell { (WORDS ≡ 8) × (OBJECT_TAG ≡ 1) × (CHUNK_TAG ≡ 2) × (NAME ≡ 1) × (KEY ≡ 2) × (OBJECT_POINTERS ≡ 4) × (CHUNK_POINTERS ≡ 1) × (LINK ≡ 7) }

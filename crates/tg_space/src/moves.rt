@@ -28,8 +28,8 @@ pub struct Moves<'a> {
 }
 
 impl Moves<'_> {
-    /// A word of where the collection has the cell that a word names: the cell's forwarding word, or the same word
-    /// where the cell isn't moved.
+    /// Returns a word that names the cell after the collection. It is the forwarding word of the cell, or the same word
+    /// if the cell isn't moved.
     #[inline(always)]
     pub fn link(self, word: u64) -> u64
         requires { IsNumbered self.numbering.now.starts (length self.forward.now.words) (place_in word) }
@@ -42,8 +42,8 @@ impl Moves<'_> {
         }
     }
 
-    /// The forwarding word of the cell that a word names, whether a collection of this kind moves it or not. It is 0
-    /// where the cell was left behind.
+    /// Returns the forwarding word of the cell that a word names, whether a collection of this kind moves the cell or
+    /// not. It is 0 if the cell wasn't copied.
     #[inline(always)]
     pub fn forwarding_word(self, word: u64) -> u64
         requires { IsNumbered self.numbering.now.starts (length self.forward.now.words) (place_in word) }
@@ -65,8 +65,8 @@ impl Moves<'_> {
         }
     }
 
-    /// These words of a cell with its references and its link moved: one that names a cell which the collection moves
-    /// gets the place in that cell's forwarding word, and keeps its rights. All else is equal. Takes no memory.
+    /// Returns the words of a cell with its references and its link moved. A word that names a moved cell gets the
+    /// place in the forwarding word of that cell, and keeps its rights. All other words are equal. Takes no memory.
     #[inline(always)]
     pub fn image(self, words: [u64; WORDS]) -> [u64; WORDS]
         requires { All (NamesNumbered self.numbering.now.starts (length self.forward.now.words)) (pointers_of words) }

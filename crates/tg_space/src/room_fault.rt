@@ -2,7 +2,7 @@
 use std::alloc::{AllocError, AllocFailed};
 use thiserror::Error;
 
-/// Why there is no room for what was asked. What each call then leaves stands at the call.
+/// Why there is no room for a request. Each call says what it leaves then.
 #[derive(Clone, Copy, PartialEq, Eq, Debug, Error)]
 pub enum RoomFault {
     /// Memory for a growth was refused.

@@ -78,7 +78,7 @@ impl Space {
         self.blocks[block as usize].cell(cell as usize)
     }
 
-    /// The words of a cell of a block, where they stand.
+    /// Lends the words of a cell of a block.
     #[inline(always)]
     pub fn words(&self, block: u64, cell: u64) -> &[u64; WORDS]
         requires block_inside { block < length self.now }
@@ -146,9 +146,8 @@ impl Space {
         self.blocks
     }
 
-    /// Puts the blocks of another space behind its own. No block is copied.
-    ///
-    /// It is refused only where memory was; then nothing is changed.
+    /// Puts the blocks of another space after the own blocks. No block is copied. The call is refused only if memory
+    /// was refused, and then nothing is changed.
     pub fn append(&mut self, other: Space) -> Result<(), AllocError>
         requires { length self.old + length other ≤ MOST_SPACE_BLOCKS }
         ensures appended { OnOk result (self.new ≡ self.old ++ other) }
@@ -161,7 +160,7 @@ impl Space {
     }
 }
 
-/// Puts blocks behind others, where there is room for them. Takes no memory.
+/// Puts blocks after others, for which there is room. Takes no memory.
 pub(crate) fn push_all(blocks: &mut Vec<Block>, more: Vec<Block>)
     requires { length blocks.old.items + length more.items ≤ vec_capacity blocks.old }
     ensures { blocks.new.items ≡ blocks.old.items ++ more.items }

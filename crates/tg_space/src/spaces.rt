@@ -178,7 +178,7 @@ impl Spaces {
         self.spaces[place.space as usize].cell(place.block, place.cell)
     }
 
-    /// The words of a cell, where they stand.
+    /// Lends the words of a cell.
     #[inline(always)]
     pub fn words(&self, place: Place) -> &[u64; WORDS]
         requires { HasCell self.now.spaces place }
@@ -241,16 +241,17 @@ impl Spaces {
         Ok(())
     }
 
-    /// Puts the blocks that a collection made in the place of those that it emptied.
+    /// Replaces the blocks that a collection emptied by the blocks that it made.
     ///
-    /// After a full one Old is the new blocks, and every other space has none: it takes no memory and isn't refused.
-    /// After a nursery collection the new blocks of Old stand behind those that it has, for which there has to be room;
-    /// Aged is its new blocks, and the nurseries have none. That is refused only where memory was; then nothing is
-    /// changed.
+    /// After a full collection Old has exactly the new blocks, and every other space has none. The call then takes no
+    /// memory and isn't refused. After a nursery collection the new blocks of Old come after those that Old has, for
+    /// which there has to be room. Aged then has exactly its new blocks, and the nurseries have none. That call is
+    /// refused only if memory was refused, and then nothing is changed.
     ///
-    /// The blocks that Old had before a full collection are spare then. So are those that Aged had before a nursery
-    /// collection, behind the spare ones that it had no use for. Of these, no more are kept than the heap has blocks;
-    /// and a nursery collection keeps as many as it emptied, for the next one, and gives back 64 of those beyond.
+    /// Emptied blocks are kept as spare blocks for the next collection. After a full collection these are the earlier
+    /// blocks of Old. After a nursery collection these are the earlier blocks of Aged, after the spare blocks that the
+    /// collection didn't use. No more spare blocks are kept than the heap has blocks. A nursery collection keeps as
+    /// many as it emptied, and drops 64 of the rest.
     ///
     /// A nursery collection also keeps the only block of the first nursery. The next space that grows gets this block.
     pub fn adopt(&mut self, kind: Kind, adoption: Adoption) -> Result<(), AllocError>
@@ -275,8 +276,8 @@ impl Spaces {
         mem::replace(&mut self.spare, Spare::none(self.alloc))
     }
 
-    /// Keeps the room that came with forwarding words that nobody asks any more for the next collection: 8 bytes a cell
-    /// of the last one until then, and at most 32 a cell that the heap has now. Takes no memory.
+    /// Keeps the room of forwarding words that nobody asks any more, for the next collection. It is 8 bytes for each
+    /// cell of the last collection, and at most 32 bytes for each cell that the heap has now. Takes no memory.
     pub fn keep_words(&mut self, forward: Forwarding)
         ensures { self.new ≡ self.old }
     {

@@ -8,12 +8,12 @@ use tg_block::Block;
 /// for a full collection.
 #[derive(Drop)]
 pub struct Spare {
-    /// Blocks that collections emptied or had no use for, at most as many as the heap had behind the last one. They
-    /// hold whatever they held.
+    /// Blocks that collections emptied or didn't use. There are at most as many as the heap had blocks after the last
+    /// collection. Their content has no meaning.
     pub blocks: Vec<Block>,
-    /// Room for a word of each cell that might be moved, or for no word: that of the forwarding words, where one thread
-    /// collected, and else that of a helper's list of won cells. It is at most for four times as many cells as the heap
-    /// had behind the last collection.
+    /// Room for a word of each cell that may be moved, or for no word. If one thread collected, it is the room of the
+    /// forwarding words. Otherwise it is the room of a helper's list of cells. It is at most for four times as many
+    /// cells as the heap had after the last collection.
     pub words: Vec<u64>,
 }
 

@@ -25,19 +25,19 @@ pub enum BatchFault {
 
 impl<P: Payload> Store<P> {
     /// Takes the commands of a worker one after the other, each as [`apply`](Store::apply) does, and returns how many
-    /// they were. Each command has an entry of its own in the journal, at places that follow one another, in the order
-    /// of the commands. Its reply is in its entry: the last entries of [`journal`](Store::journal) are those of the
-    /// batch. A denial is a reply, and the next command is asked for after it.
+    /// there were. Each command has an entry of its own in the journal. The entries are at places that follow one
+    /// another, in the order of the commands. A reply is found in its entry, among the last entries of
+    /// [`journal`](Store::journal). A denial is a reply, and the batch goes on after it.
     ///
-    /// Refusals, in the order in which they are looked for:
+    /// The refusals, in the order in which they are looked for:
     ///
     /// - `TooLong`, exactly if there are more than [`MOST_BATCH`] commands. The store is then as it was.
-    /// - `Stopped`, at the first command that is refused. The commands before it are done, and have their entries. The
-    ///   reason is as [`apply`](Store::apply) has it: `NoSuchWorker` exactly if no worker has the name by then,
-    ///   `HeapFull` only if the command is allowed and a cell is lacking; else `OutOfMemory`. That command and all
-    ///   after it change nothing.
+    /// - `Stopped`, at the first command that is refused. The commands before it are done, and have their entries. That
+    ///   command and all commands after it change nothing. The reason is as [`apply`](Store::apply) has it.
     ///
-    /// A batch without commands changes nothing.
+    /// A command is refused with `NoSuchWorker` exactly if no worker has the name at that point. It is refused with
+    /// `HeapFull` only if it is allowed and a cell is missing. The only other reason is `OutOfMemory`. A batch without
+    /// commands changes nothing.
     pub fn apply_all(&mut self, worker: u64, commands: &[Command]) -> Result<u64, BatchFault>
         ensures done { IfOk result (λ count. count ≡ length commands.now) }
         ensures applied { IfOk result (λ _. Applies worker commands.now self.old self.new) }

@@ -15,15 +15,15 @@ pub struct Census {
     pub blocks: u64,
     /// How many entries were made.
     pub entries: u64,
-    /// How many of these the store holds: they weren't handed out or given up.
+    /// How many of these the store still holds. The others were handed out or given up.
     pub held: u64,
-    /// How many of the entries tell of a refusal. What is refused without an entry is in no number.
+    /// How many of the entries record a refusal. A refusal without an entry is in no number.
     pub refusals: Refusals,
     /// How many collections were done, and not refused.
     pub collections: Collections,
 }
 
-/// How many entries tell of each refusal that has one.
+/// How many entries record each kind of refusal that has an entry.
 #[derive(Clone, Copy, PartialEq, Eq, Debug)]
 pub struct Refusals {
     /// Commands that the rules denied.

@@ -10,8 +10,9 @@ use thiserror::Error;
 /// Why a store was not opened.
 #[derive(Clone, Copy, PartialEq, Eq, Debug, Error)]
 pub enum OpenFault {
-    /// The drafts aren't of the opening's values: this is the first place, counted from 0, where the law or the state
-    /// of a draft is another; or else the smaller of the number of drafts and that of values, which differ.
+    /// The drafts don't store the values of the opening. `at` is the first place, counted from 0, at which the law or
+    /// the state differs. If all places that both have agree, `at` is the smaller of the number of drafts and the
+    /// number of values.
     #[error("draft {at} does not have the opening's value, or is one too many or too few")]
     PayloadMismatch { at: u64 },
     /// There was no memory for the cells and payloads.

@@ -21,9 +21,10 @@ use tg_rights::Label;
 use tg_rules::{Parties, change_between, find_parties, find_receiver};
 use tg_subjects::Subject;
 
-/// Rights that a worker hands on ([`Store::hand`](crate::Store::hand)). `via` takes them from `from` over the target,
-/// grants them to `to`, and removes those of them that it didn't hold before. Names are those of vertices, which may be
-/// objects, subjects, or subjects that retired. A name that was never made is as good as one without an edge.
+/// Rights that a worker hands on by [`Store::hand`](crate::Store::hand). `via` takes the rights from `from` over the
+/// target, and grants them to `to`. Then it removes the rights that it didn't hold before. The four names are those of
+/// vertices. A vertex may be an object, a subject, or a subject that retired. A name that was never made is treated as
+/// a vertex without an edge.
 #[derive(Clone, Copy, PartialEq, Eq, Debug)]
 pub struct Hand {
     /// The worker who hands rights on.
@@ -38,11 +39,11 @@ pub struct Hand {
     pub rights: Label,
 }
 
-/// What comes of a hand that isn't refused.
+/// The answer to a hand that isn't refused.
 #[derive(Clone, Copy, PartialEq, Eq, Debug)]
 pub enum Handed {
-    /// The rights were handed on. There are two entries, the take and the grant; or three, and the last one removes
-    /// these rights, which `via` didn't hold before.
+    /// The rights were handed on. The journal has two entries more, the take and the grant. If `via` didn't hold all of
+    /// the rights before, a third entry removes the missing ones, and `removed` has them.
     Done { removed: Option<Label> },
     /// The take or the grant is denied, for this reason. Its entry is the only one, and nothing else changed.
     Denied { command: Command, denial: Denial },

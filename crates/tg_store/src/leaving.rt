@@ -15,8 +15,8 @@ use tg_payload::Payload;
 use tg_rights::Label;
 use tg_subjects::Subject;
 
-/// A subject gives up the edges of its row, in the order of the list, and retires; each deed has its entry, for which
-/// there is room. Nothing is refused.
+/// A subject gives up the edges of its row, in the order of the list, and retires. Each deed has its entry, for which
+/// there is room already. Nothing is refused.
 pub(crate) fn leave_heap<P: Payload>(
     heap: &mut Heap<P>,
     journal: &mut TalliedJournal,

@@ -51,7 +51,7 @@ impl Limit {
         }
     }
 
-    /// What the one who asks is told of it.
+    /// The refusal that the caller of a create or a spawn gets.
     pub(crate) fn fault(self) -> CreateFault
         ensures { result ≡ fault_at self }
     {

@@ -7,8 +7,8 @@ use std::marker::Model;
 use tg_model::Opening;
 use tg_snapshot::Snapshot;
 
-/// Where a store begins: its opening, and whether it was opened again from a snapshot. Contracts see the snapshot too,
-/// which takes no memory here.
+/// The beginning of a store. It is an opening, or a snapshot from which the store was opened again. Contracts see the
+/// snapshot too, but it takes no memory here.
 #[derive(Drop)]
 pub(crate) struct StoreOrigin {
     opening: Opening,

@@ -6,8 +6,8 @@ ghost use Rattle.tg_snapshot.specs.Snapshot.{Saved};
 use std::marker::Model;
 use tg_snapshot::Snapshot;
 
-/// The snapshot from which a store goes on, if there is one. Only clauses read it: it takes no memory, and nothing is
-/// done at run time.
+/// The snapshot from which a store goes on, if there is one. Only clauses read it. It takes no memory, and costs
+/// nothing at run time.
 #[derive(Drop)]
 pub(crate) struct Seen {
     pub ghost snapshot: { Option Saved },

@@ -29,9 +29,10 @@ use tg_space::{Copied, Kind, Limits, RoomFault, Root, Spaces, Spare};
 use tg_subjects::Subject;
 use tg_word::OLD;
 
-/// An object store with access control, over payloads that its callers hand in. Contracts see it as a `StoreState`,
-/// and tell each call by the protection graph that this stands for: that of its origin, after the deeds of all entries
-/// since. The origin is its opening, or a snapshot from which it was opened again. No collection enters it.
+/// An object store with access control, over payloads that its callers hand in. Contracts see it as a `StoreState`.
+/// They describe each call by the protection graph that the store represents. This is the graph of its origin after the
+/// deeds of all entries since. The origin is an opening, or a snapshot from which the store was opened again. No
+/// collection changes the graph.
 pub struct Store<P: Payload> {
     alloc: Global,
     opening: StoreOrigin,
@@ -96,11 +97,16 @@ impl<P: Payload> Store<P> {
     ghost use Rattle.tg_store.specs.Room.{LacksRoomToCollect};
     ghost use Rattle.tg_store.specs.Store.{Enters, HandsOut, HasAdopted, HasFewBlocks, HoldsFrom, IsFaithful, IsStore, IsUnchanged, OnlyEnters, StandsFor, graph_of_store};
 
-    /// A store that starts from the opening, with the payloads of the drafts, one for each worker, and with no entry in
-    /// its journal. Its heap takes a block for each worker and no more. `PayloadMismatch` is answered exactly where the
-    /// drafts' laws and states aren't the opening's, with the first such place; `HeapFull` exactly where they are, and
-    /// the heap may have fewer blocks than there are workers; else `OutOfMemory` alone. The opening and the drafts are
-    /// then handed back as they were.
+    /// Opens a store that starts from the opening, with the payloads of the drafts, one for each worker. Its journal
+    /// has no entry, and its heap has one block for each worker.
+    ///
+    /// The refusals, in the order in which they are looked for. Each hands back the opening and the drafts as they
+    /// were:
+    ///
+    /// - `PayloadMismatch`, exactly if the laws and states of the drafts aren't those of the opening's values. It has
+    ///   the first such place.
+    /// - `HeapFull`, exactly if the heap may have fewer blocks than there are workers.
+    /// - `OutOfMemory`, if memory runs out.
     pub fn open(
         alloc: Global,
         opening: Opening,
@@ -174,7 +180,7 @@ impl<P: Payload> Store<P> {
         self.opening.opening()
     }
 
-    /// The active subjects, by rising name: those of the graph that the store stands for. Takes no memory.
+    /// The active subjects of the graph, by rising name. Takes no memory.
     pub fn subjects(&self) -> &[Subject]
         ensures subjects { result.now ≡ self.now.heap.subjects }
         ensures names { (g : ProtectionGraph) → StandsFor self.now g → names_of result.now ≡ g.subjects }
@@ -190,9 +196,10 @@ impl<P: Payload> Store<P> {
         self.heap.subject(name).is_some()
     }
 
-    /// What was decided since the store was opened. What holds of every store is told here: the journal is a legal
-    /// history from the store's origin, and the heap stands for the graph after it. If the store was opened again from
-    /// a snapshot, places go on after those before it, and no entry from before is held. Takes no memory.
+    /// The entries of all commands that the store decided and still holds. Two facts are true of every store. The
+    /// journal is a legal history from the store's origin, and the heap represents the graph after it. A store that was
+    /// opened again from a snapshot has no entry from before the snapshot, and its places go on after them. Takes no
+    /// memory.
     pub fn journal(&self) -> &Journal
         ensures entries { result.now.entries ≡ self.now.entries }
         ensures start { result.now.start ≡ self.now.handed }
@@ -205,10 +212,10 @@ impl<P: Payload> Store<P> {
         journal
     }
 
-    /// Hands out the entries that the store holds, as a journal that begins with the place of the first, and goes on
-    /// with none: the next entry gets the next place, and the graph that the store stands for is as it was. So a caller
-    /// who keeps what is handed out has all entries, and one who gives it up bounds what a store's journal takes. Takes
-    /// no memory, and looks at no entry.
+    /// Hands out the entries that the store holds, as a journal that begins with the place of the first one. The store
+    /// then holds no entry, and its next entry gets the next place. The graph is unchanged. A caller who keeps what is
+    /// handed out has all entries. A caller who drops it bounds the memory of the store's journal. Takes no memory, and
+    /// looks at no entry.
     pub fn take_journal(&mut self) -> Journal
         ensures entries { result.entries ≡ self.old.entries }
         ensures start { result.start ≡ self.old.handed }
@@ -217,9 +224,10 @@ impl<P: Payload> Store<P> {
         self.journal.take(self.alloc)
     }
 
-    /// Gives up the entries before a place, which has to be that of an entry that the store holds, or the next. The
-    /// graph that the store stands for is as it was. It keeps the journal's room, so a store whose entries are given up
-    /// as it goes makes no more room for them. Takes no memory; a call costs what it gives up, spread over calls.
+    /// Gives up the entries before a place. The place has to be that of an entry that the store holds, or the next
+    /// place. The graph is unchanged. The store keeps the room of the journal, so that a store whose entries are given
+    /// up regularly asks for no more room. Takes no memory. Over many calls the time is in proportion to the number of
+    /// entries that are given up.
     pub fn forget(&mut self, upto: u64)
         requires { (self.old.handed ≤ upto) × (upto ≤ length self.old.entries) }
         ensures { HoldsFrom upto self.old self.new }
@@ -230,9 +238,10 @@ impl<P: Payload> Store<P> {
     /// Lets the store go, with all that it holds, as `drop` does.
     pub fn let_go(self) {}
 
-    /// How many vertices, payloads and blocks the heap has, how many entries were made, how many of them are held,
-    /// how many tell of each refusal, and how many collections of each kind were done since the store was opened, of
-    /// which one that was refused is none. Takes no memory, and goes over nothing.
+    /// Counts what the store holds and did. The answer has the numbers of vertices, payloads and blocks of the heap,
+    /// and of the entries that were made and are held. It also has the numbers of entries for each refusal, and of the
+    /// collections of each kind since the store was opened. A refused collection doesn't count. Takes no memory and
+    /// constant time.
     pub fn census(&self) -> Census
         ensures vertices { result.vertices ≡ length (content_of self.now.heap).names }
         ensures payloads { result.payloads ≡ count self.now.heap.payloads }
@@ -255,13 +264,17 @@ impl<P: Payload> Store<P> {
         }
     }
 
-    /// Takes a command of a worker. The reply is that of the rules on the graph that the store stands for, and then
-    /// the store stands for the graph after the command; exactly the entry of the command with its reply was added to
-    /// the journal. A denial is a reply, and changes nothing else.
+    /// Takes a command of a worker. The reply is that of the rules on the graph, and the graph then changes by the
+    /// command. Exactly the entry of the command with its reply is added to the journal. A denial is a reply, and
+    /// changes nothing else.
     ///
-    /// `NoSuchWorker` is answered exactly where no worker has the name, and looked for first; `HeapFull` only where the
-    /// command is allowed, a new reference needs a cell, and the nursery of the worker has none left and gets no more
-    /// blocks; else `OutOfMemory` alone. After a fault the store is as it was, with no entry.
+    /// The refusals, in the order in which they are looked for. After each the store is as it was, and there is no
+    /// entry:
+    ///
+    /// - `NoSuchWorker`, exactly if no worker has the name.
+    /// - `HeapFull`, only if the command is allowed and its new reference needs a cell. The nursery of the worker then
+    ///   has no cell left and gets no more blocks.
+    /// - `OutOfMemory`, if memory runs out.
     #[inline(always)]
     pub fn apply(&mut self, worker: u64, command: Command) -> Result<Reply, ApplyFault>
         ensures entry { IfOk result (λ reply. Enters self.old self.new worker (Deed.Plain command) reply) }
@@ -291,15 +304,19 @@ impl<P: Payload> Store<P> {
         Ok(reply)
     }
 
-    /// Makes a vertex that stores the draft's payload, over which the worker has the rights of the label. Answers its
-    /// name, by the graph that the store stands for; exactly the entry of the create with that name was added to the
-    /// journal, and then the store stands for the next graph.
+    /// Makes a vertex that stores the draft's payload, and gives the worker the rights of the label over it. Returns
+    /// the name of the vertex, which is the next name of the graph. Exactly the entry of the create with that name is
+    /// added to the journal. A block is added to the heap only if too few cells are left.
     ///
-    /// `NoSuchWorker` is answered exactly where no worker has the name, and looked for first; `VerticesFull` exactly
-    /// where as many vertices were made as may be, but for `OutOfMemory`; `HeapFull` only where a vertex may be made,
-    /// and it and the reference to it need more cells than the nursery of the worker has left and gets; else
-    /// `OutOfMemory` alone. A block is added only there where the cells left are too few. After a fault the draft is
-    /// handed back and the store is as it was; but `VerticesFull` has an entry.
+    /// The refusals, in the order in which they are looked for. Each hands back the draft:
+    ///
+    /// - `NoSuchWorker`, exactly if no worker has the name.
+    /// - `VerticesFull`, exactly if as many vertices were made as the limit allows. It has an entry, unless memory runs
+    ///   out for the entry, which is `OutOfMemory`.
+    /// - `HeapFull`, only if a vertex may be made, and it needs more cells than the nursery of the worker has and gets.
+    /// - `OutOfMemory`, if memory runs out.
+    ///
+    /// After a refusal the store is as it was, but for the entry of `VerticesFull`.
     pub fn create(
         &mut self,
         worker: u64,
@@ -317,14 +334,19 @@ impl<P: Payload> Store<P> {
         self.make(worker, Making::Object, label, draft)
     }
 
-    /// Makes a vertex as [`create`](Store::create) does, which is a subject too: it issues commands of its own, as a
-    /// worker. Its name is the next one, above all names ever given, and it is the last of the active subjects.
+    /// Makes a vertex as [`create`](Store::create) does, which is a subject too. The subject issues commands of its
+    /// own, as a worker. Its name is the next one, above all names that were ever given, so it is the last of the
+    /// active subjects.
     ///
-    /// Refusals are looked for in this order: `NoSuchWorker` exactly where no active subject has the name of the one
-    /// who asks; `OutOfMemory` for the entry; `VerticesFull` exactly where as many vertices were made as may be;
-    /// `WorkersFull` exactly where more may be made, and 64 subjects are active; then `OutOfMemory` or `HeapFull` as
-    /// `create` has them. After a fault the draft is handed back and the store is as it was; but `VerticesFull` and
-    /// `WorkersFull` have an entry.
+    /// The refusals, in the order in which they are looked for. Each hands back the draft:
+    ///
+    /// - `NoSuchWorker`, exactly if no active subject has the name of the worker.
+    /// - `OutOfMemory`, if memory runs out for the entry.
+    /// - `VerticesFull`, exactly if as many vertices were made as the limit allows. It has an entry.
+    /// - `WorkersFull`, exactly if more vertices may be made, and 64 subjects are active. It has an entry.
+    /// - `OutOfMemory` or `HeapFull`, as `create` has them.
+    ///
+    /// After a refusal the store is as it was, but for the entries of `VerticesFull` and `WorkersFull`.
     pub fn spawn(
         &mut self,
         worker: u64,
@@ -347,8 +369,8 @@ impl<P: Payload> Store<P> {
         self.make(worker, Making::Subject, label, draft)
     }
 
-    /// Makes a vertex of a kind, as [`create`](Store::create) makes an object and [`spawn`](Store::spawn) a subject,
-    /// with the same refusals in the same order. For callers who make both.
+    /// Makes a vertex of a kind, for callers who make both kinds. [`create`](Store::create) makes an object, and
+    /// [`spawn`](Store::spawn) makes a subject. The refusals are the same, in the same order.
     #[inline(always)]
     pub fn make(
         &mut self,
@@ -432,10 +454,10 @@ impl<P: Payload> Store<P> {
         }
     }
 
-    /// What the vertex with a name stores, where a worker may read it: `Some` exactly where a read command of the
-    /// worker would be served, so `None` too where no worker has the name. It lends the payload itself, whose value is
-    /// that of the graph that the store stands for. It changes nothing and makes no entry: no journal tells of what is
-    /// read this way. Takes no memory.
+    /// Lends the payload of the vertex with a name, if a worker may read it. The answer is `Some` exactly if a read
+    /// command of the worker would be served. It is `None` too if no worker has the name. The value of the payload is
+    /// that of the graph. The call changes nothing and makes no entry, so the journal has no record of it. Takes no
+    /// memory.
     pub fn payload(&self, worker: u64, name: u64) -> Option<&P>
         ensures allowed { (g : ProtectionGraph) → StandsFor self.now g → IsSome result ↔ (IsSubject g worker × IsAllowed g worker (Deed.Plain (Command.Read name))) }
         ensures stored { (g : ProtectionGraph) → StandsFor self.now g → IfSome result (λ payload. g.value name ≡ Some (P.value payload.now)) }
@@ -446,10 +468,10 @@ impl<P: Payload> Store<P> {
         readable(&self.heap, worker, name)
     }
 
-    /// The rights that a worker holds over the vertex with a name: exactly the label between the two on the graph that
-    /// the store stands for. `None` where there is no edge, as from a worker to itself, to a name that was never made
-    /// and to one that was collected, and where no worker has the name. It changes nothing and makes no entry: no
-    /// journal tells of what is asked this way. Takes no memory.
+    /// Returns the rights that a worker holds over the vertex with a name. It is exactly the label between the two on
+    /// the graph. The answer is `None` if the graph has no such edge. A worker has no edge to itself, to a name that
+    /// was never made, or to a vertex that was collected. The answer is `None` too if no worker has the name. The call
+    /// changes nothing and makes no entry, so the journal has no record of it. Takes no memory.
     pub fn label(&self, worker: u64, target: u64) -> Option<Label>
         ensures held { (g : ProtectionGraph) → StandsFor self.now g → IsHeldOver g worker target result }
     {
@@ -458,9 +480,10 @@ impl<P: Payload> Store<P> {
         Label::new(found.rights)
     }
 
-    /// The names of the vertices that the heap has, in the order of the places of their cells, each once: the first of
-    /// them that fit go to `into`, and what there is room for behind them stays as it is. Answers how many there are. A
-    /// vertex that nobody reaches is among them until it is collected. Takes no memory, and makes no entry.
+    /// Writes the names of the heap's vertices to `into`, and returns how many vertices there are. The names are in the
+    /// order of the places of their cells, and each comes once. If there is less room than names, the first names are
+    /// written. The rest of `into` stays as it is. A vertex that no subject reaches is listed until it is collected.
+    /// Takes no memory, and makes no entry.
     pub fn names(&self, into: &mut [u64]) -> u64
         ensures number { result ≡ length (content_of self.now.heap).names }
         ensures shown { into.new ≡ shown_in (content_of self.now.heap).names into.old }
@@ -469,25 +492,30 @@ impl<P: Payload> Store<P> {
         self.heap.names(into)
     }
 
-    /// Collects the heap with one thread, and answers how many vertices it then has. The journal stays as it is, and so
-    /// does the graph that the store stands for: a vertex that can be reached on it is kept, with its labels and its
-    /// payload. What isn't kept is given up with its payload.
+    /// Collects the heap with one thread, and returns how many vertices it has afterwards. The journal and the graph
+    /// are unchanged. Each vertex that can be reached on the graph is kept, with its labels and its payload. Every
+    /// other vertex that the collection removes is dropped with its payload.
     ///
-    /// A full collection moves all cells that the workers' rows reach to Old, and keeps exactly the vertices that can
-    /// be reached. A nursery collection moves the younger cells alone, to Aged or to Old, and keeps all cells of Old,
-    /// of which it looks at the remembered ones and the workers' rows alone: it may keep vertices that nobody reaches.
-    /// After either no nursery has a block, and only those cells of Old are remembered that name a younger one, which
-    /// after a full collection are none.
+    /// A full collection keeps exactly the vertices that can be reached. It moves all cells that the workers' rows
+    /// reach to Old. A nursery collection moves only the younger cells, to Aged or to Old. It keeps all cells of Old,
+    /// and looks only at the remembered cells of Old and at the workers' rows. Therefore it may keep vertices that
+    /// nobody reaches. After either collection no nursery has a block. The remembered cells are then exactly the cells
+    /// of Old that name a younger cell. After a full collection there are none.
     ///
-    /// After a full collection there are no more blocks than the cells in use need, 64 in each. A nursery collection
-    /// leaves the blocks of Old, and adds no more than the younger cells in use need, or one more, since it fills
-    /// blocks of Old and of Aged. No space has more blocks than `Limits` gives it, or else no more than it had.
+    /// After a full collection there are no more blocks than the used cells need, with 64 cells in each. A nursery
+    /// collection leaves the blocks of Old. It adds at most one block more than the younger used cells need, because it
+    /// fills blocks of Old and of Aged. No space has more blocks than `Limits` gives it, unless it had more before, and
+    /// then it has no more than before.
     ///
-    /// A nursery collection that finds no younger cells, and none that are remembered, takes no memory. It counts as
-    /// one, as each does that isn't refused.
+    /// A nursery collection takes no memory if it finds no younger cells and no remembered cells. It counts as a
+    /// collection, as each one does that isn't refused.
     ///
-    /// `HeapFull` is answered only where the cells that are reached and would be moved may not fit into the blocks that
-    /// a space may have, so never for what nobody reaches; else `OutOfMemory` alone. The store is then as it was.
+    /// The call is refused with `HeapFull` only if the cells that are reached and moved may not fit into the blocks of
+    /// a space. A vertex that nobody reaches is never the reason. The only other refusal is `OutOfMemory`. After a
+    /// refusal the store is as it was.
+    ///
+    /// The heap is that of Marlow, Harris, James and Peyton Jones, "Parallel generational-copying garbage collection
+    /// with a block-structured heap" (2008).
     pub fn collect(&mut self, kind: Kind) -> Result<u64, RoomFault>
         ensures swept { IfOk result (IsSwept kind self.old self.new) }
         ensures blocks { OnOk result (HasFewBlocks kind 0 self.old.heap.table self.new.heap.table) }
@@ -525,11 +553,11 @@ impl<P: Payload> Store<P> {
         Ok(copied)
     }
 
-    /// What a collection of this kind starts from. For a full collection that is the rows of the workers, by rising
-    /// name. For a nursery collection it is also the remembered cells, and of a row that may name young cells each
-    /// young cell that its marked cells name, as a row of its own. The collections from it are those from the whole
-    /// rows, and it reaches the same cells. This, [`spaces`](Store::spaces) and [`settle`](Store::settle) are for
-    /// collectors outside of this crate. Fails only when out of memory.
+    /// Returns the cells from which a collection of this kind starts. A full collection starts from the rows of the
+    /// workers, by rising name. A nursery collection also starts from the remembered cells. If a row may name young
+    /// cells, a nursery collection has each young cell that the row's marked cells name as a row of its own. It reaches
+    /// the same cells as from the whole rows. This call, [`spaces`](Store::spaces) and [`settle`](Store::settle) are
+    /// for collectors outside of this crate. It fails only if memory runs out.
     pub fn roots(&self, kind: Kind) -> Result<Vec<Root>, AllocError>
         ensures roots { IfOk result (λ roots. CollectAlike kind self.now.heap.table.spaces (roots_of kind self.now.heap) roots.items) }
         ensures targets { IfOk result (λ roots. all_root_targets (from_space kind) self.now.heap.table.spaces roots.items ≡ all_root_targets (from_space kind) self.now.heap.table.spaces (roots_of kind self.now.heap)) }
@@ -553,9 +581,9 @@ impl<P: Payload> Store<P> {
         self.heap.spaces()
     }
 
-    /// Puts what a collection of the store's own cells made, from its own roots, in the place of what it moved, and
-    /// answers how many vertices the heap then has. It counts as a collection. Fails only when out of memory; the store
-    /// is then as it was.
+    /// Replaces the cells that a collection moved by the cells that it made, and returns how many vertices the heap
+    /// then has. The collection has to be of the store's own cells, from its own roots. It counts as a collection. The
+    /// call fails only if memory runs out. The store is then as it was.
     pub fn settle(&mut self, kind: Kind, copied: Copied) -> Result<u64, AllocError>
         requires { IsCollection kind self.old.heap.table.spaces (roots_of kind self.old.heap) (collected_in copied) }
         ensures swept { IfOk result (IsSwept kind self.old self.new) }

@@ -10,8 +10,9 @@ use tg_payload::{DraftRefused, Payload};
 use tg_space::RoomFault;
 use thiserror::Error;
 
-/// Any refusal of a store, from the opening to the audit. The question mark makes it of each of them. What a refused
-/// call handed back, an opening, drafts or one draft, is dropped: who wants it looks at the call's own refusal.
+/// Any refusal of a store, from the opening to the audit. The question mark turns the refusal of each call into this
+/// one. It drops what the refused call hands back, which is an opening, drafts or one draft. A caller who needs these
+/// looks at the call's own refusal.
 #[derive(Clone, Copy, PartialEq, Eq, Debug, Error)]
 pub enum StoreFault {
     /// There was no memory for a payload, a draft or a list.
@@ -26,7 +27,7 @@ pub enum StoreFault {
     /// A vertex was not made.
     #[error("{0}")]
     Create(CreateFault),
-    /// A command was refused, which is no denial: a denial is a reply.
+    /// A command was refused. A denial is a reply, and no refusal.
     #[error("{0}")]
     Apply(ApplyFault),
     /// A batch of commands was not done to its end.

@@ -10,7 +10,7 @@ use std::marker::Model;
 use tg_journal::{Entry, Journal};
 use tg_snapshot::Snapshot;
 
-/// A journal, and how many of all entries that were made tell of each refusal. Contracts see the journal alone.
+/// A journal, with the number of entries that were ever made for each refusal. Contracts see only the journal.
 #[derive(Drop)]
 pub(crate) struct TalliedJournal {
     journal: Journal,
@@ -67,7 +67,7 @@ impl TalliedJournal {
         &self.journal
     }
 
-    /// How many of its entries, held or not, tell of each refusal.
+    /// How many entries were made for each refusal. Entries that are no longer held count too.
     pub(crate) fn refusals(&self) -> Refusals
         ensures { result ≡ refusals_in self.now.entries }
     {
@@ -89,7 +89,7 @@ impl TalliedJournal {
         self.journal.reserve_many(more)
     }
 
-    /// Adds an entry that tells of no refusal, for which there has to be room. Takes no memory, and looks at no reply.
+    /// Adds an entry that records no refusal, for which there has to be room. Takes no memory, and looks at no reply.
     #[inline(always)]
     pub(crate) fn push(&mut self, entry: Entry)
         requires { MayBeAdded entry None self.old }
@@ -98,7 +98,7 @@ impl TalliedJournal {
         self.journal.push(entry);
     }
 
-    /// Adds an entry that tells of a refusal, for which there has to be room, and counts it. Takes no memory.
+    /// Adds an entry that records a refusal, for which there has to be room, and counts it. Takes no memory.
     #[cold]
     #[inline(never)]
     pub(crate) fn push_refusal(&mut self, entry: Entry, refusal: Refusal)

@@ -6,8 +6,8 @@ ghost use Rattle.tg_text.specs.Sinks.{KeepsBytes};
 use crate::sink::{Sink, WriteFailed};
 use crate::source::{Next, Source};
 
-/// The next byte, for which a client may wait until it was answered: where the source doesn't hold its next answer,
-/// what was put into the sink is finished first. `WriteFailed` where that failed; then the source isn't asked.
+/// Returns the next byte. If the source doesn't hold its next answer, the bytes in the sink are finished first, because
+/// a client may wait for them. If that fails, the answer is `WriteFailed`, and the source isn't asked.
 pub fn next_byte<S: Source, K: Sink>(source: &mut S, sink: &mut K) -> Result<Next, WriteFailed>
     ensures bytes { IfOk result (λ next. TellsNext (S.left source.old) next (S.left source.new)) }
     ensures read_failures { IfOk result (λ next. S.failures source.new ≡ S.failures source.old + failures_of next) }

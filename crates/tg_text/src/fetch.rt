@@ -32,11 +32,17 @@ impl Lines {
         Lines { room: MOST_BYTES }
     }
 
-    /// Reads the next line into the buffer, without its line feed, and says what came of it: a line, no more bytes, or
-    /// the first fault, looked for at each byte in this order: what was written couldn't be finished, the source
-    /// failed, more bytes came than may, the line has more than [`MOST_LINE_BYTES`]; or the input ended within a line.
-    /// The source is asked once for each byte of the line and for what ended it, and not again. What was put into the
-    /// sink is finished before the source is asked for what it doesn't hold. Takes no memory.
+    /// Reads the next line into the buffer, without its line feed. The answer is that a line was read, that there are
+    /// no more bytes, or the first fault. The faults are looked for at each byte in this order:
+    ///
+    /// - what was written couldn't be finished
+    /// - the source failed
+    /// - more bytes came than are allowed
+    /// - the line has more than [`MOST_LINE_BYTES`]
+    /// - the input ended within a line
+    ///
+    /// The source is asked once for each byte of the line and once for the end of it. Bytes in the sink are finished
+    /// before the source is asked for a byte that it doesn't hold. Takes no memory.
     #[inline(always)]
     pub fn next_line<S: Source, K: Sink>(
         &mut self,

@@ -74,8 +74,8 @@ const BEHIND: &[(&[ArgumentKind], &str)] = &[
 // The longest word of a command has fewer bytes, and so has each text of what stands behind one.
 const MOST_WORD_BYTES: usize = 20;
 
-/// Why a bad line of a script is bad, where so many workers are there at first: its bytes without the line feed, and
-/// whether one stood behind them. One sentence without its dot.
+/// Says why a line of a script is bad. The line is given without its line feed, with whether it had one, and with the
+/// number of workers of the opening. The answer is one sentence without its dot.
 pub fn reason_of(line: &[u8], is_ended: bool, workers: u64) -> &'static str {
     let Ok(text) = str::from_utf8(line) else {
         return NO_TEXT;

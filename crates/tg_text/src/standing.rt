@@ -7,7 +7,8 @@ ghost use Rattle.tg_text.specs.Reading.{MayStand, IsBadText, opening_after};
 use crate::line::Line;
 use crate::read::read_line;
 
-/// The line of these bytes, if it may stand here: with so many workers, and where edge lines may still come or no more.
+/// Returns the line of these bytes, if it is allowed here. Names of workers in an edge line have to be below the number
+/// of workers, and edge lines are allowed only at the beginning.
 #[inline(always)]
 pub fn standing_line(text: &[u8], workers: u64, opening: bool) -> Option<Line>
     ensures found { IfSome result (λ line. LineFits line × MayStand workers opening line × (text.now ≡ line_text line)) }
@@ -32,7 +33,7 @@ fn may_stand(line: &Line, workers: u64, opening: bool) -> bool
     }
 }
 
-/// Whether edge lines may still come behind a line.
+/// Returns whether edge lines are still allowed after a line.
 #[inline(always)]
 pub fn is_opening_after(opening: bool, line: &Line) -> bool
     ensures { result ≡ opening_after opening line.now }

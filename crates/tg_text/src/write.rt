@@ -35,7 +35,7 @@ pub fn write_line<K: Sink>(sink: &mut K, line: Line) -> Result<(), WriteFailed>
     }
 }
 
-/// The line by which the worker asks for the deed. What a new vertex is to store isn't told in it.
+/// Returns the line by which the worker asks for the deed. The line doesn't have the value of a new vertex.
 pub fn line_of_deed(worker: u64, deed: &Deed) -> Line
     ensures { result ≡ deed_line worker deed.now }
 {

@@ -14,7 +14,7 @@ pub enum RaceFault {
     /// A fault in the script, or its store couldn't be opened. No line was run.
     #[error("{0}")]
     Script(ScriptFault),
-    /// Memory was wanting for the sessions, for what the lines come to, or for the audit.
+    /// Memory ran out for the sessions, for the results of the lines, or for the audit.
     #[error("out of memory")]
     OutOfMemory,
     /// A worker's thread couldn't be started.

@@ -25,24 +25,29 @@ use tg_shared::{Blanks, Round, Session, Shared, SharedStore, close};
 use tg_store::Store;
 use tg_text::{Line, Sink, Source};
 
-/// Runs the script, with one payload for each worker, by rising name, and a stock of payloads for the vertices that it
-/// makes: the i-th create or spawn line has the i-th of them, and where no vertex is made it is dropped.
+/// Runs the script as a race. There is one payload for each worker, by rising name, and a stock of payloads for the
+/// vertices that the script makes. The i-th create or spawn line has the i-th payload of the stock. If no vertex is
+/// made, the payload is dropped.
 ///
-/// The whole script is read first; with a fault in it no line is run. Then each worker has a thread with its session,
-/// which runs the worker's lines in script order and passes the turnstile before each; the collections are worker 0's,
-/// each by as many helpers as the settings say. Behind a worker's own retire that was entered, its lines are told that
-/// there is no such worker; so is each line of anybody who is no worker of the opening, also of a subject that a spawn
-/// line made, whose session runs no line. Once all have ended the store is closed and audited, and only then anything
-/// is written, in the way T. [`Replies`](crate::Replies) writes the reply to each line in script order, and the line
-/// with the number of entries. [`Entries`](crate::Entries) writes the text of the history. In what order lines of
-/// different workers are run is open, and who waits for whom. A line is refused for room in the heap only if a store
-/// that may have been behind the lock lacked it, and that store had the first of the race's own entries. The number
-/// of a full collection is of such a store too.
+/// The whole script is read first. If it has a fault, no line is run. Then each worker has a thread with its session.
+/// The thread runs the worker's lines in script order, and passes the turnstile before each. Worker 0 makes the
+/// collections, each by as many helpers as the settings have. After a worker's own retire was entered, its lines are
+/// answered that there is no such worker. So is each line of anybody who is no worker of the opening. A subject that a
+/// spawn line made is one of them, because its session runs no line.
 ///
-/// After a fault nothing was written but after `WriteFailed`, which leaves a front of the text. A thread that can't be
-/// started is `NoThread`; those that were started have ended. `ReceiptMismatch` is answered too where a session finds
-/// no such worker though no retire of its worker was entered. The source is asked for at most 1,048,577 bytes. The sink
-/// is finished at the end, after a fault too, which then stands.
+/// Once all threads have ended the store is closed and audited. Only then anything is written, in the way `T`.
+/// [`Replies`](crate::Replies) writes the reply to each line in script order, and the line with the number of entries.
+/// [`Entries`](crate::Entries) writes the text of the history.
+///
+/// The order in which lines of different workers are run isn't specified. A line is refused for lack of room in the
+/// heap only if some store behind the lock, with the first of the race's own entries, lacked that room. The number that
+/// a full collection returns is of such a store too.
+///
+/// After a fault nothing was written, unless it is `WriteFailed`, which leaves a front of the text. `NoThread` is
+/// returned if a thread can't be started. The threads that were started have ended by then. `ReceiptMismatch` is also
+/// returned if a session finds no such worker, and no retire of its worker was entered. The source is asked for at most
+/// 1,048,577 bytes. The sink is finished at the end, after a fault too. A fault that came before is the one that is
+/// returned.
 pub fn run_race<
     P: Payload + Send,
     T: RaceTelling,

@@ -12,10 +12,9 @@ use std::vec::IntoIter;
 use tg_payload::{Draft, Payload};
 use tg_text::Line;
 
-/// Gives each session the lines that it has to run, in script order, each create line and each spawn line with the
-/// payload that stands in the stock where the line stands among these. The sessions are those of all workers, by
-/// number. The payload of a line that names no worker is dropped. Fails only when out of memory, and then drops what
-/// came in.
+/// Gives each session the lines that it has to run, in script order. Each create line and each spawn line gets its
+/// payload of the stock, by its place among these lines. The sessions are those of all workers, by number. The payload
+/// of a line that names no worker is dropped. Fails only if memory runs out, and then drops all that was handed in.
 pub fn share_out<S: Drop, P: Payload>(
     alloc: Global,
     sessions: Vec<S>,

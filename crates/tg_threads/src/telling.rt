@@ -24,8 +24,8 @@ pub trait RaceTelling {
     /// The text of all of it.
     ghost race_text: { RaceText };
 
-    /// Writes it, or a front of it where the sink fails, of a journal from which nothing was handed out, with so many
-    /// entries that were audited. Takes no memory.
+    /// Writes the report, or a front of it if the sink fails. The journal has all its entries, and so many of them were
+    /// audited. Takes no memory.
     fn tell<K: Sink>(
         sink: &mut K,
         opening: &Opening,
@@ -39,7 +39,7 @@ pub trait RaceTelling {
             (K.taken sink.new) (K.failures sink.new) };
 }
 
-/// The reply to each line, in script order, and behind them the number of entries.
+/// The reply to each line, in script order, and after them the number of entries.
 pub struct Replies;
 
 impl RaceTelling for Replies {
@@ -56,7 +56,7 @@ impl RaceTelling for Replies {
     }
 }
 
-/// The text of the history, whose entries stand in the order of the lock.
+/// The text of the history, with its entries in the order of the lock.
 pub struct Entries;
 
 impl RaceTelling for Entries {
@@ -73,8 +73,8 @@ impl RaceTelling for Entries {
     }
 }
 
-/// Writes the reply to each line, and behind them the line with the number of entries that were audited, or a front of
-/// that where the sink fails. Takes no memory.
+/// Writes the reply to each line, and after them the line with the number of entries that were audited. If the sink
+/// fails, a front of this is written. Takes no memory.
 pub fn tell_all<K: Sink>(
     sink: &mut K,
     journal: &Journal,

@@ -76,10 +76,10 @@ impl<L: Round, P: Payload> Promise<Result<Finished<L>, ThreadsFault>> for Assign
     ghost kept_by = { λ p r. IfErr r (λ fault. fault ≢ NoThread) × IfOk r (λ finished. Brings (arena_seen L.start p.helpers finished) L.start.opening.plan.workers p.worker (map boxed_of p.tasks.value.items) finished) };
 }
 
-/// Gives each worker a thread that runs its lines, and waits for all of them. What they bring back stands in the order
-/// of the workers: each session has run its lines one after the other, and each line has come to a receipt, to a
-/// refusal or to a collection, which has so many helpers. Where a thread can't be started, those that were started run
-/// to their end. The sessions never had a receipt.
+/// Gives each worker a thread that runs its lines, and waits for all of them. The results are in the order of the
+/// workers. Each session has run its lines one after the other. Each line has come to a receipt, to a refusal or to a
+/// collection, which has so many helpers. If a thread can't be started, those that were started run to their end. The
+/// sessions never had a receipt before.
 pub fn run_threads<
     L: Round + Send + Sync,
     P: Payload + Send,

@@ -35,11 +35,12 @@ use tg_text::{Answer, Line, Refusal};
 /// A worker's session after its lines, and what each of them came to, in their order.
 pub type Finished<L> = crate::work::Finished<Session<L>>;
 
-/// Runs the lines, one after the other, and passes the turnstile before each. A collection has so many helpers. Behind
-/// its own retire that was entered, the worker's lines are refused and their payloads dropped; collections are run on.
+/// Runs the lines, one after the other, and passes the turnstile before each. A collection has so many helpers. After
+/// the worker's own retire was entered, its lines are refused and their payloads dropped. Its collections are still
+/// run.
 ///
-/// Want of memory is answered before any line is run, and `NoSuchWorker` where the session answers it though no retire
-/// of the worker was entered.
+/// A lack of memory is reported before any line is run. `NoSuchWorker` is returned if the session returns it, and no
+/// retire of the worker was entered.
 pub(crate) fn run_tasks<L: Round, P: Payload, G: Turnstile, R: Threads + Wait + Sync>(
     context: &RaceContext<L, P, G, R>,
     session: Session<L>,
@@ -281,12 +282,12 @@ fn collect<L: Round, P: Payload, G, R: Threads + Wait + Sync>(
     }
 }
 
-/// A race's collection, which a worker's thread asks its session for: by as many helpers as the context says, each of
-/// whom passes the gate. One helper is that thread, which collects alone and passes no gate. It returns how many
-/// vertices the heap then has.
+/// Makes a collection of a race, which a worker's thread asks its session for. It is made by as many helpers as the
+/// context says, and each helper passes the gate. A single helper is that thread, which collects alone and passes no
+/// gate. The answer is the number of vertices that the heap then has.
 ///
-/// `Heap` was due of a store with exactly the entries that the session has then seen, where each of several helpers may
-/// leave a block open. `Threads` is answered of several helpers alone, where a thread couldn't be started. The only
+/// `Heap` is the refusal of a store with exactly the entries that the session has then seen, if each of several helpers
+/// may leave a block open. `Threads` is returned only with several helpers, if a thread couldn't be started. The only
 /// other refusal is `Memory`.
 pub fn collect_by<L: Round, P: Payload, G, R: Threads + Wait + Sync, H: Gate>(
     context: &RaceContext<L, P, G, R>,

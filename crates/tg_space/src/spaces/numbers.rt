@@ -90,7 +90,7 @@ impl Spaces {
         }
     }
 
-    /// The words of the cell with a number, where they stand.
+    /// Lends the words of the cell with a number.
     #[inline(always)]
     pub fn numbered_words(&self, number: u64) -> &[u64; WORDS]
         requires { number < length (cells_of self.now.spaces) }
@@ -101,8 +101,8 @@ impl Spaces {
         self.words_near(number, &mut near)
     }
 
-    /// The words of the cell with a number, where they stand. A cell that isn't of Old is found at once where it is in
-    /// the space `near`, which is its space then: cells that are asked for one after the other are mostly of one
+    /// Lends the words of the cell with a number. A cell that isn't of Old is found at once if it is in the space
+    /// `near`, which then is the space of the cell. Cells that are asked for one after the other are mostly of one
     /// nursery.
     #[inline(always)]
     pub fn words_near(&self, number: u64, near: &mut u64) -> &[u64; WORDS]

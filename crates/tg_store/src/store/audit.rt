@@ -11,7 +11,7 @@ impl<P: Payload> Store<P> {
     /// Replays the store's own journal on the plain graph, from the store's opening on, and returns how many entries it
     /// has. `NotWhole` is returned exactly if entries were handed out or given up, or if the store was opened again
     /// from a snapshot. An [`Auditor`](tg_journal::Auditor) replays a journal in parts, and goes on from a snapshot.
-    /// The only other refusal is that memory ran out, for a graph of what is live and for its rows. The journal of a
+    /// The only other refusal is that memory ran out, for the graph of what is live and for its rows. The journal of a
     /// store is always a legal history.
     pub fn audit(&self, alloc: Global) -> Result<Audited, StoreAuditFault>
         ensures count { IfOk result (λ audited. audited.entries ≡ length self.now.entries) }

@@ -13,10 +13,10 @@ use tg_payload::Payload;
 use tg_rights::{Right, Rights};
 
 impl<P: Payload> Store<P> {
-    /// Who holds a right over the vertex with a name, by rising name: all that have it now, objects and those who
-    /// retired too. Told is what the active subjects reach, so the answer is the same before and after any collection.
-    /// A name that was never made has no holder. It makes no entry. Takes time and memory as [`Store::picture`] does,
-    /// and fails only when out of memory.
+    /// Returns the names of all vertices that hold a right over the vertex with a name, by rising name. Objects and
+    /// retired subjects are among them. Only vertices that the active subjects reach are listed, so no collection
+    /// changes the answer. A name that was never made has no holder. The call makes no entry. It takes time and memory
+    /// as [`Store::picture`] does, and fails only if memory runs out.
     pub fn who_holds(&self, alloc: Global, right: Right, name: u64) -> Result<Vec<u64>, AllocError>
         ensures { (g : ProtectionGraph) → StandsFor self.now g → IfOk result (λ names. AreHolders g right name names.items) }
     {

@@ -11,9 +11,9 @@ use tg_model::EdgeList;
 use tg_payload::Payload;
 
 impl<P: Payload> Store<P> {
-    /// The edges of a worker, by rising name: the listing on the graph that the store stands for. It changes nothing
-    /// and makes no entry: no journal tells of what is asked this way. `NoSuchWorker` is answered exactly where no
-    /// worker has the name; else `OutOfMemory` alone, for 16 bytes an edge.
+    /// Returns the edges of a worker on the graph, by rising name. The call changes nothing and makes no entry, so the
+    /// journal has no record of it. It is refused with `NoSuchWorker` exactly if no worker has the name. The only other
+    /// refusal is `OutOfMemory`, for 16 bytes an edge.
     pub fn row(&self, worker: u64) -> Result<EdgeList, ApplyFault>
         ensures edges { (g : ProtectionGraph) → StandsFor self.now g → IfOk result (λ edges. edges ≡ listing_of g.label g.made worker) }
         ensures no_such_worker { (g : ProtectionGraph) → StandsFor self.now g → (result ≡ Err ApplyFault.NoSuchWorker) ↔ (¬ IsSubject g worker) }
@@ -26,13 +26,14 @@ impl<P: Payload> Store<P> {
         Ok(row)
     }
 
-    /// A worker leaves: it gives up each edge that it has, by rising name, and retires. Answers how many edges these
-    /// were. Each remove and the retire is an entry, as if the worker had asked for it; what it alone reached is
-    /// nobody's then, and a full collection frees it. So whoever has an edge to it keeps nothing of what it held.
+    /// Has a worker leave. It gives up each edge that it has, by rising name, and retires. The answer is the number of
+    /// these edges. Each remove and the retire is an entry, as if the worker had asked for it. A vertex that only this
+    /// worker reached is then reached by nobody, and a full collection frees it. Whoever has an edge to the worker gets
+    /// nothing of what it held.
     ///
-    /// Room for all entries is made first: 80 bytes for each edge, and 16 for its listing. `NoSuchWorker` is answered
-    /// exactly where no worker has the name; else `OutOfMemory` alone. After a fault the store is as it was, with no
-    /// entry; nothing is refused on the way.
+    /// Room for all entries is made first, with 80 bytes for each edge, and 16 bytes for its listing. The call is
+    /// refused with `NoSuchWorker` exactly if no worker has the name. The only other refusal is `OutOfMemory`. After a
+    /// refusal the store is as it was, with no entry. Nothing is refused half way.
     pub fn leave(&mut self, worker: u64) -> Result<u64, ApplyFault>
         ensures left { OnOk result (HasLeft worker self.old self.new) }
         ensures count { (g : ProtectionGraph) → StandsFor self.old g → IfOk result (λ count. count ≡ length (listing_of g.label g.made worker)) }

@@ -18,23 +18,25 @@ use tg_snapshot::Snapshot;
 use tg_space::{Kind, Limits};
 
 impl<P: Payload> Store<P> {
-    /// Opens a store again from a snapshot. The store stands for the graph that the snapshot shows: the same subjects,
-    /// edges, values, and the same number of vertices ever made, so names go on. From there each deed is answered as by
-    /// the store of which it is a snapshot.
+    /// Opens a store again from a snapshot. Its graph is the one that the snapshot shows, with the same subjects, edges
+    /// and values. As many vertices count as made, so names go on. From then on each deed is answered as the first
+    /// store would have answered it.
     ///
-    /// Places in the journal go on: the next entry gets the place `snapshot.entries()`. The store holds no entry from
-    /// before. `opening` is the first opening of all; it is kept for who audits, and its limit of vertices has to be
-    /// the snapshot's. The maker makes the payload of each vertex.
+    /// Places in the journal go on too. The next entry gets the place `snapshot.entries()`, and the store holds no
+    /// entry from before. `opening` is the first opening of all. It is kept for audits, and its limit of vertices has
+    /// to be that of the snapshot. The maker makes the payload of each vertex.
     ///
-    /// At the end the store is collected in full, if there is room for the copy that a collection makes. Else its cells
-    /// stay in nurseries until the next collection.
+    /// At the end the store is collected in full, if there is room for the copy that a collection makes. Otherwise its
+    /// cells stay in nurseries until the next collection.
     ///
-    /// Refusals, each of which hands the opening back, and leaves the snapshot as it was:
+    /// The refusals, in the order in which they are looked for. Each hands the opening back, and leaves the snapshot as
+    /// it was:
     ///
-    /// - `LimitDiffers`, exactly if the opening's limit of vertices isn't the snapshot's. Nothing is made then.
+    /// - `LimitDiffers`, exactly if the opening's limit of vertices isn't that of the snapshot. Nothing is made then.
     /// - `NoSubject`, exactly if the limits are the same and the snapshot has no active subject. Nothing is made then.
-    /// - `HeapFull`, if the blocks that the limits allow don't hold all vertices and edges. What was made is dropped.
-    /// - `OutOfMemory`, also if the maker runs out of memory. What was made is dropped.
+    /// - `HeapFull`, if the blocks that the limits allow don't hold all vertices and edges. Everything that was made is
+    ///   dropped.
+    /// - `OutOfMemory`, if memory runs out here or in the maker. Everything that was made is dropped.
     pub fn reopen<M: Maker<P>>(
         alloc: Global,
         opening: Opening,
