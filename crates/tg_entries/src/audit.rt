@@ -56,8 +56,8 @@ impl<L: Ledger> TextAudit<L> {
     }
 
     /// Reads the next line, with its line feed. `Ok` is returned only if the lines so far are the beginning of the text
-    /// of a legal history of the opening that they give. A line at fault ends the audit. Each later line is a bad line
-    /// then.
+    /// of a legal history of the opening that they give. A text may end after each count line. A line at fault ends the
+    /// audit. Each later line is a bad line then.
     pub fn line(&mut self, line: &[u8]) -> Result<(), LineFault>
         ensures { (text : List ℕ) → HasRead text self.old → OnOk result (HasRead (text ++ line.now) self.new) }
     {

@@ -15,7 +15,8 @@ pub enum LineFault {
     /// The first line is neither 'kovshenul entries 1' nor 'kovshenul picture 1'.
     #[error("not 'kovshenul entries 1' or 'kovshenul picture 1', the forms that are read")]
     OtherVersion,
-    /// The line isn't of this form, or isn't allowed at its place, or the number of entries is another.
+    /// The line isn't of this form, or isn't allowed at its place, or a count line has another number than that of the
+    /// entries before it.
     #[error("bad line")]
     BadLine,
     /// A line of the snapshot that the history goes on from.
@@ -64,8 +65,7 @@ pub enum TextFault {
     /// The first line at fault, counted from 1.
     #[error("line {line}: {why}")]
     Line { line: u64, why: LineFault },
-    /// The text ends within this line, counted from 1, or before this line without the line that has the number of
-    /// entries.
+    /// The text ends within this line, counted from 1, or before this line and not after a count line.
     #[error("line {line}: the end is cut off")]
     CutOff { line: u64 },
     /// Reading failed.
