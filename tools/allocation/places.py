@@ -54,14 +54,14 @@ PLACES = {
         ["match MeteredStore::<L, V, E, CellPayload>::new Ok(shared) Err(store)"],
         "there was no memory for the sessions: the store comes back alone",
     ),
-    ("tg_program/src/program.rt", "words_of"): (
+    ("tgstore/src/program.rt", "words_of"): (
         [
             "match env::args Ok(words) Err(error)if error.kind()==io::ErrorKind::InvalidData Err(_)",
             "match words.collect Ok(words) Err(_)",
         ],
         "the words of the command line, for which the system's error says so",
     ),
-    ("tg_program/src/program.rt", "tell"): (
+    ("tgstore/src/program.rt", "tell"): (
         ["if error.kind()==ErrorKind::OutOfMemory"],
         "the error of the command line says so",
     ),
@@ -129,7 +129,7 @@ NAMED = {
         "how many boxes the text names, and each of its items: at most 100,000, a clause",
     ("tg_plain/src/run.rt", "open", "script.workers"):
         "how many workers there are: at most 64, as the words of the command line may say",
-    ("tg_program/src/boxes.rt", "serve_with_boxes", "start.settings.workers"): "the same",
+    ("tgstore/src/boxes.rt", "serve_with_boxes", "start.settings.workers"): "the same",
     ("tgdot/src/run.rt", "open", "script.workers"): "the same",
     ("tg_plain/src/text.rt", "pad", "first.saturating_add(width)"): "the longest text of a kind that is drawn",
     ("tg_could/src/witness/plan.rt", "make_names", "last.saturating_add(1)"):

@@ -1,7 +1,0 @@
-use Rattle.std.proofs.Common.{◌≡◌, map, take}
-use Rattle.tg_program.specs.Boxes.{value_of_item}
-use Rattle.tg_program.proofs.boxes.new_drafts.Given as goal
-
--- the drafts of the first so many items were made
-abbrev pub invariant-loop-item : goal.invariant-loop-item
-invariant-loop-item l = l.drafts.items ≡ map value_of_item (take l.item-index l.items)

@@ -1,0 +1,39 @@
+-- What a run starts from, and the faults that are looked for before any input is read.
+use Rattle.std.specs.Prelude.{◌≡◌, ◌<◌, ◌≤◌, ℕ, List, map, replicate}
+use Rattle.tg_model.specs.declared.opening.TheConstants.{MAX_WORKERS}
+use Rattle.tg_model.specs.declared.value.Value.{Value}
+use Rattle.tg_text.specs.declared.stock.StockItem.{StockItem}
+use Rattle.tg_text.specs.declared.stock.StockItem.TheVariants.{Cell}
+use Rattle.tg_text.specs.Stock.{IsStockText}
+use Rattle.tg_script.specs.declared.run_script.Settings.{Settings}
+use Rattle.tgstore.specs.Boxes.{value_of_item}
+use Rattle.tgstore.specs.declared.start.Start.{Start}
+use Rattle.tgstore.specs.declared.start.StartFault.{StartFault}
+use Rattle.tgstore.specs.declared.start.StartFault.TheVariants.{BadStock, BadLimits, OutOfMemory}
+
+-- no stock has this text
+abbrev pub IsBadStock : List ℕ → Type 0
+IsBadStock text = (items : List StockItem) → ¬ IsStockText text items
+
+-- there may be a vertex for each worker
+abbrev pub MayHoldWorkers : Settings → Type 0
+MayHoldWorkers s = s.workers ≤ s.max_vertices
+
+-- the first of the two that holds is the fault; memory is wanting only where the text is that of a stock
+abbrev pub IsStartFault : Settings → List ℕ → StartFault → Type 0
+IsStartFault settings text BadStock = IsBadStock text
+IsStartFault settings text BadLimits = (items : List StockItem) × IsStockText text items × (settings.max_vertices < settings.workers)
+IsStartFault settings text OutOfMemory = (items : List StockItem) × IsStockText text items
+
+-- what a run asks of where it starts: the number of workers is in its range
+abbrev pub IsReady : Start → Type 0
+IsReady s = (1 ≤ s.settings.workers) × (s.settings.workers ≤ MAX_WORKERS)
+
+-- a run may be served from here: the number of workers is in its range, and the collector is ready, as this says
+pub record MayServe (Ready : Type 0) (start : Start) : Type 0 where
+  pub collector : Ready
+  pub ready : IsReady start
+
+-- a cell with 0 for each worker, and a new box of each kind of the stock
+abbrev pub HasPayloads : Start → List Value → List Value → Type 0
+HasPayloads s workers stock = (workers ≡ replicate s.settings.workers (value_of_item Cell)) × (stock ≡ map value_of_item s.stock.items)

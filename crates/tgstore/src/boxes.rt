@@ -1,0 +1,70 @@
+//! The boxes of a run, which are what its vertices store.
+ghost use Rattle.std.specs.Prelude.{◌≡◌, IfOk, map, replicate};
+ghost use Rattle.tg_text.specs.declared.stock.StockItem.TheVariants.{Cell};
+ghost use Rattle.tgstore.specs.Boxes.{value_of_item};
+ghost use Rattle.tgstore.specs.Serving.{ServesFrom};
+ghost use Rattle.tgstore.specs.Starts.{MayServe};
+
+use crate::host::RunHost;
+use crate::serving::{RunPayloads, serve};
+use crate::start::Start;
+use crate::stop::Stop;
+use std::alloc::{AllocError, Global};
+use std::sync::Wait;
+use std::thread::Threads;
+use tg_payload::{Draft, LawPayload, Payload};
+use tg_script::{Collector, Sink, Source, StockItem};
+
+/// Runs the source's script from the start, with new boxes: a cell with 0 for each worker, and those of the stock.
+/// Memory may be wanting before it; then nothing is read or written.
+pub(crate) fn serve_with_boxes<R: Threads + Wait + Sync, C: Collector, S: Source, K: Sink>(
+    host: &RunHost<R, C>,
+    source: &mut S,
+    sink: &mut K,
+    start: &Start,
+) -> Result<(), Stop>
+    requires servable { MayServe C.Ready start.now }
+    ensures served { ServesFrom start.now (S.left source.old) (S.left source.new) (K.taken sink.old) (K.taken sink.new) result }
+{
+    let workers = new_cells(host.alloc, start.settings.workers)?;
+    let stock = new_drafts(host.alloc, &start.stock)?;
+    let payloads = RunPayloads { workers, stock };
+    serve(host, source, sink, start, payloads)
+}
+
+// So many cells with 0. Fails only when out of memory.
+fn new_cells(alloc: Global, count: u64) -> Result<Vec<LawPayload>, AllocError>
+    ensures { IfOk result (λ cells. map (⟦<LawPayload as Payload>⟧.value) cells.items ≡ replicate count (value_of_item Cell)) }
+{
+    let mut cells = Vec::new(alloc);
+    for _ in 0..count {
+        cells.push(new_box(alloc, StockItem::Cell))?;
+    }
+    Ok(cells)
+}
+
+// A draft of a new box for each item. Fails only when out of memory.
+fn new_drafts(alloc: Global, items: &[StockItem]) -> Result<Vec<Draft<LawPayload>>, AllocError>
+    ensures { IfOk result (λ drafts. drafts.items ≡ map value_of_item items.now) }
+{
+    let mut drafts = Vec::with_capacity(alloc, items.len())?;
+    for item in items {
+        let Ok(draft) = Draft::new(alloc, new_box(alloc, *item)) else {
+            return Err(AllocError);
+        };
+        drafts.push(draft)?;
+    }
+    Ok(drafts)
+}
+
+// A new box of this kind. Takes no memory.
+fn new_box(alloc: Global, item: StockItem) -> LawPayload
+    ensures { ⟦<LawPayload as Payload>⟧.value result ≡ value_of_item item }
+{
+    match item {
+        StockItem::Cell => LawPayload::cell(0),
+        StockItem::Sum => LawPayload::sum(0),
+        StockItem::Max => LawPayload::max(0),
+        StockItem::Log => LawPayload::log(alloc, 4),
+    }
+}

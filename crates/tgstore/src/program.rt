@@ -1,0 +1,133 @@
+//! All that the program does, from the words of the command line to its exit status.
+ghost use Rattle.std.specs.Prelude.{◌≡◌};
+ghost use Rattle.tgstore.specs.Faults.{exit_status};
+ghost use Rattle.tgstore.specs.Ranges.{AreInRange};
+
+use crate::host::RunHost;
+use crate::on_threads::OnThreads;
+use crate::settings::Options;
+use crate::start::{StartFault, prepare};
+use crate::stop::{Failure, Stop};
+use crate::streams::serve_buffered;
+use crate::words::options;
+use clap::Error;
+use clap::error::ErrorKind;
+use std::io::{Eprint, Print, Read, Write};
+use std::rt::Env;
+use std::sync::Wait;
+use std::thread::Threads;
+use std::{env, io};
+
+/// Does what the words of the command line ask for: runs the reader's script and writes the replies to the writer, or
+/// prints the help. What goes wrong is one line on standard error, and a second one where it is asked why a line is
+/// bad. The exit status.
+pub fn obey<R, I, O>(rt: &R, reader: I, writer: O) -> u8
+where
+    R: AllocGlobal + Env + Print + Eprint + Threads + Wait + Sync,
+    I: Read + Drop,
+    O: Write + Drop,
+{
+    let outcome = obey_words(rt, reader, writer);
+    if let Err(failure) = &outcome {
+        tell_failure(rt, *failure);
+    }
+    exit_status(&outcome.map_err(|failure| failure.stop))
+}
+
+// Says why the program ended, and on a second line why a line is bad, where that was asked for.
+fn tell_failure<R: Eprint>(rt: &R, failure: Failure) {
+    let Failure { stop, reason } = failure;
+    let _ = eprintln!(rt; "tgstore: {stop}");
+    if let Some(reason) = reason {
+        let _ = eprintln!(rt; "tgstore: {reason}");
+    }
+}
+
+/// The exit status where all was done, or where the program ended before.
+pub fn exit_status(outcome: &Result<u8, Stop>) -> u8
+    ensures { result ≡ exit_status outcome.now }
+{
+    match outcome {
+        Ok(status) => *status,
+        Err(stop) => stop.status(),
+    }
+}
+
+// Does what the words of the command line ask for, and answers the status.
+fn obey_words<R, I, O>(rt: &R, reader: I, writer: O) -> Result<u8, Failure>
+where
+    R: AllocGlobal + Env + Print + Eprint + Threads + Wait + Sync,
+    I: Read + Drop,
+    O: Write + Drop,
+{
+    match words_of(rt) {
+        Ok(words) => obey_texts(rt, reader, writer, words.as_slice()),
+        Err(stop) => Err(Failure::from(stop)),
+    }
+}
+
+// The same, of words that are text.
+fn obey_texts<R, I, O>(rt: &R, reader: I, writer: O, words: &[String]) -> Result<u8, Failure>
+where
+    R: AllocGlobal + Print + Eprint + Threads + Wait + Sync,
+    I: Read + Drop,
+    O: Write + Drop,
+{
+    match options(rt.alloc(), words) {
+        Ok(options) => serve_streams(rt, reader, writer, &options).and(Ok(0)),
+        Err(error) => tell(rt, &error).map_err(Failure::from),
+    }
+}
+
+// The words of the command line. Each has to be text.
+fn words_of<R: Env + AllocGlobal>(rt: &R) -> Result<Vec<String>, Stop> {
+    let words = match env::args(rt) {
+        Ok(words) => words,
+        Err(error) if error.kind() == io::ErrorKind::InvalidData => return Err(Stop::BadWords),
+        Err(_) => return Err(Stop::Start(StartFault::OutOfMemory)),
+    };
+    match words.collect(rt.alloc()) {
+        Ok(words) => Ok(words),
+        Err(_) => Err(Stop::Start(StartFault::OutOfMemory)),
+    }
+}
+
+// Writes the help, or what is wrong with the words, and answers the status. A help that couldn't be written is a fault,
+// unless nobody reads it any more.
+fn tell<R: Print + Eprint>(rt: &R, error: &Error) -> Result<u8, Stop> {
+    if error.kind() == ErrorKind::OutOfMemory {
+        return Err(Stop::Start(StartFault::OutOfMemory));
+    }
+    match error.print(rt) {
+        Err(fault) if !error.use_stderr() && fault.kind() != io::ErrorKind::BrokenPipe => {
+            Err(Stop::HelpUnwritten)
+        }
+        _ => Ok(error.exit_code() as u8),
+    }
+}
+
+// Runs the reader's script, and writes the replies.
+fn serve_streams<R, I, O>(rt: &R, reader: I, writer: O, options: &Options) -> Result<(), Failure>
+where
+    R: AllocGlobal + Threads + Wait + Sync,
+    I: Read + Drop,
+    O: Write + Drop,
+    requires { AreInRange options.now.settings }
+{
+    let alloc = rt.alloc();
+    match prepare(alloc, options) {
+        Ok(start) => {
+            let collector = OnThreads::new(rt, alloc);
+            let host = RunHost {
+                rt,
+                alloc,
+                collector: &collector,
+            };
+            match serve_buffered(&host, reader, writer, &start) {
+                Ok(ended) => ended.into_outcome(),
+                Err(stop) => Err(Failure::from(stop)),
+            }
+        }
+        Err(fault) => Err(Failure::from(Stop::Start(fault))),
+    }
+}

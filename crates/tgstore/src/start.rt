@@ -1,0 +1,89 @@
+//! What a run starts from, and what is wrong with it before any input is read.
+ghost use Rattle.std.specs.Prelude.{◌≡◌, IfOk, IfErr};
+ghost use Rattle.tg_text.specs.Stock.{IsStockText};
+ghost use Rattle.tgstore.specs.Ranges.{AreInRange};
+ghost use Rattle.tgstore.specs.Starts.{MayHoldWorkers, IsReady, IsStartFault};
+
+use crate::settings::Options;
+use std::alloc::{AllocError, Global};
+use tg_script::{Settings, StockFault, StockItem, read_stock};
+use thiserror::Error;
+
+/// What a run is given beside its script.
+#[derive(Debug, Drop)]
+pub struct Start {
+    pub settings: Settings,
+    /// Whether each worker's lines are run on a thread of their own.
+    pub race: bool,
+    /// Whether the text of the history is written in the place of replies.
+    pub entries: bool,
+    /// Whether it is said why a line is bad.
+    pub why: bool,
+    /// The kinds of the boxes for the vertices that are made, in order.
+    pub stock: Vec<StockItem>,
+}
+
+/// Why a run can't start. The first that holds is answered, in this order but for memory, which may be wanting first.
+#[derive(Clone, Copy, PartialEq, Eq, Debug, Error)]
+pub enum StartFault {
+    /// The text is that of no stock.
+    #[error("bad stock")]
+    BadStock,
+    /// Fewer vertices may be made than there are workers.
+    #[error("bad limits")]
+    BadLimits,
+    /// There was no memory for the boxes.
+    #[error("out of memory")]
+    OutOfMemory,
+}
+
+impl From<AllocError> for StartFault {
+    ghost use Rattle.std.specs.Prelude.{◌≡◌};
+    ghost use Rattle.tgstore.specs.declared.start.StartFault.TheVariants.{OutOfMemory};
+
+    ghost from_gives = { λ _ e. e ≡ OutOfMemory };
+
+    fn from(_error: AllocError) -> StartFault {
+        StartFault::OutOfMemory
+    }
+}
+
+impl From<StockFault> for StartFault {
+    ghost use Rattle.std.specs.Prelude.{◌≡◌};
+    ghost use Rattle.tgstore.specs.Faults.{start_fault_of};
+
+    ghost from_gives = { λ fault e. e ≡ start_fault_of fault };
+
+    fn from(fault: StockFault) -> StartFault {
+        match fault {
+            StockFault::BadStock => StartFault::BadStock,
+            StockFault::OutOfMemory => StartFault::OutOfMemory,
+        }
+    }
+}
+
+/// What the options ask for. Else `BadStock`, then `BadLimits`, exactly where they hold, or `OutOfMemory`; a bad stock
+/// is found whatever memory there is.
+pub fn prepare(alloc: Global, options: &Options) -> Result<Start, StartFault>
+    requires { AreInRange options.now.settings }
+    ensures settings { IfOk result (λ start. (start.settings ≡ options.now.settings) × MayHoldWorkers start.settings) }
+    ensures race { IfOk result (λ start. start.race ≡ options.now.race) }
+    ensures entries { IfOk result (λ start. start.entries ≡ options.now.entries) }
+    ensures why { IfOk result (λ start. start.why ≡ options.now.why) }
+    ensures stock { IfOk result (λ start. IsStockText options.now.stock.now start.stock.items) }
+    ensures ready { IfOk result IsReady }
+    ensures refused { IfErr result (IsStartFault options.now.settings options.now.stock.now) }
+{
+    let settings = options.settings;
+    let stock = read_stock(alloc, options.stock.as_bytes())?;
+    if settings.max_vertices < settings.workers {
+        return Err(StartFault::BadLimits);
+    }
+    Ok(Start {
+        settings,
+        race: options.race,
+        entries: options.entries,
+        why: options.why,
+        stock,
+    })
+}

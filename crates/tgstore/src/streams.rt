@@ -1,0 +1,121 @@
+//! A run between a reader and a writer.
+ghost use Rattle.std.specs.Prelude.{◌≡◌, IfErr, IfOk};
+ghost use Rattle.std.specs.Io.Buffered.{reader_remaining, writer_contents};
+ghost use Rattle.tg_script.specs.Inner.Counting.{MayCountStreams};
+ghost use Rattle.tgstore.specs.Faults.{status_of_stop};
+ghost use Rattle.tgstore.specs.Serving.{ServesFrom};
+ghost use Rattle.tgstore.specs.Starts.{MayServe};
+
+use crate::boxes::serve_with_boxes;
+use crate::host::RunHost;
+use crate::noted::Noted;
+use crate::start::{Start, StartFault};
+use crate::stop::{Failure, Stop};
+use std::io::{BufRead, BufReader, BufWriter, Read, Write};
+use std::marker::Brand;
+use std::sync::Wait;
+use std::sync::ledger::{Blank, Ledger};
+use std::thread::Threads;
+use tg_script::{Collector, Count, OfRead, OfWrite};
+
+/// How many bytes are read, and how many are written, at once.
+const BLOCK: usize = 65536;
+
+/// A run that is over: its reader with what is left, its writer with what was written, how it ended, and why a line was
+/// bad, where that was asked for.
+#[derive(Drop)]
+pub(crate) struct Ended<R: Drop, W: Drop> {
+    pub reader: R,
+    pub writer: W,
+    pub outcome: Result<(), Stop>,
+    pub reason: Option<&'static str>,
+}
+
+impl<R: Drop, W: Drop> Ended<R, W> {
+    /// How the run ended, and why a line was bad, where that was asked for.
+    pub(crate) fn into_outcome(self) -> Result<(), Failure> {
+        let Ended {
+            outcome,
+            reason,
+            ..
+        } = self;
+        outcome.map_err(|stop| Failure { stop, reason })
+    }
+}
+
+/// Runs the reader's script from the start with new boxes, and writes the replies. Whatever was written is flushed
+/// before more is read than the reader holds, and at the end, after a fault too. Memory may be wanting for the two
+/// buffers; then nothing is read or written.
+pub(crate) fn serve_buffered<
+    T: Threads + Wait + Sync,
+    C: Collector,
+    R: Read + Drop,
+    W: Write + Drop,
+>(
+    host: &RunHost<T, C>,
+    reader: R,
+    writer: W,
+    start: &Start,
+) -> Result<Ended<BufReader<R>, BufWriter<W>>, Stop>
+    requires servable { MayServe C.Ready start.now }
+    ensures status { IfErr result (λ stop. status_of_stop stop ≡ 1) }
+    ensures served { IfOk result (λ ended.
+        ServesFrom start.now (R.remaining reader) (reader_remaining R.remaining ended.reader) (W.contents writer) (writer_contents W.contents ended.writer) ended.outcome) }
+{
+    let Ok(reader) = BufReader::with_capacity(host.alloc, BLOCK, reader) else {
+        return Err(Stop::Start(StartFault::OutOfMemory));
+    };
+    let Ok(writer) = BufWriter::with_capacity(host.alloc, BLOCK, writer) else {
+        return Err(Stop::Start(StartFault::OutOfMemory));
+    };
+    let blanks = StreamBlanks {
+        asked: Blank::new(1),
+        read_failures: Blank::new(1),
+        write_failures: Blank::new(1),
+    };
+    Ok(serve_counted::<Brand, Brand, Brand, T, C, BufReader<R>, BufWriter<W>>(
+        host, blanks, reader, writer, start,
+    ))
+}
+
+// What counts how often a reader is asked and fails, and how often a writer fails.
+#[derive(Drop)]
+struct StreamBlanks {
+    asked: Blank,
+    read_failures: Blank,
+    write_failures: Blank,
+}
+
+// Serves where these ledgers name how often the reader is asked and fails, and how often the writer fails.
+fn serve_counted<
+    A: Ledger,
+    B: Ledger,
+    F: Ledger,
+    T: Threads + Wait + Sync,
+    C: Collector,
+    R: BufRead + Drop,
+    W: Write + Drop,
+>(host: &RunHost<T, C>, blanks: StreamBlanks, reader: R, writer: W, start: &Start) -> Ended<R, W>
+    requires servable { MayServe C.Ready start.now }
+    requires countable { MayCountStreams A.name A.parts B.name B.parts F.name F.parts blanks.asked blanks.read_failures blanks.write_failures }
+    ensures served { ServesFrom start.now (R.remaining reader) (R.remaining result.reader) (W.contents writer) (W.contents result.writer) result.outcome }
+{
+    let StreamBlanks {
+        asked,
+        read_failures,
+        write_failures,
+    } = blanks;
+    let (asked, read_failures) = (Count::<A>::new(asked), Count::<B>::new(read_failures));
+    let mut source = Noted::new(OfRead::new(reader, asked, read_failures), start.why);
+    let mut sink = OfWrite::new(writer, Count::<F>::new(write_failures));
+    let outcome = serve_with_boxes(host, &mut source, &mut sink, start);
+    let reason = source.reason(&outcome, start.settings.workers);
+    let OfRead { reader, .. } = source.source;
+    let OfWrite { writer, .. } = sink;
+    Ended {
+        reader,
+        writer,
+        outcome,
+        reason,
+    }
+}
