@@ -18,8 +18,7 @@ pub const HELPERS: &str =
 rows of eight workers at a time. A small heap is collected faster by one
 thread [default: 1]";
 
-pub const VERTICES: &str =
-    "Sets how many vertices may ever be made, from 1 to 16777216. Workers are
+pub const VERTICES: &str = "Sets how many vertices may ever be made, from 1 to 16777216. Workers are
 vertices too, so the number must be at least that of --workers
 [default: 1000000]";
 
@@ -28,7 +27,8 @@ pub const BLOCKS: &str =
 needs the blocks that live cells fill, and one more for each worker. 65536
 blocks held 3595117 vertices at once [default: 4096]";
 
-pub const STOCK: &str = "Names the boxes that new vertices take, first to last, as letters. A vertex with
+pub const STOCK: &str =
+    "Names the boxes that new vertices take, first to last, as letters. A vertex with
 box c keeps the last number that was written. Box s keeps the sum of all, m
 the greatest, and l the last four. A number after a letter gives so many of
 these boxes, of at most 100000 in all [default: no box]";
