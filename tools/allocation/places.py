@@ -153,6 +153,8 @@ NAMED = {
     ("tg_journal/src/live/sweep.rt", "reached", "while next<names.len()"): "a vertex that is reached each",
     ("tg_store/src/store/picture.rt", "edges_reached", "while next<found.vertices.len()"):
         "a vertex that is reached each",
+    ("tg_store/src/store/picture.rt", "find_reached", "while next<found.vertices.len()"):
+        "a vertex that is reached each",
     ("tg_graph/src/settle.rt", "add_indexed", "while let Some(number)=row.noted.next(from)"):
         "a cell that was noted each",
     ("tg_script/src/opening.rt", "read_edges", "while let Some(line)=script.next(source, sink)?"): "a line each",
