@@ -1,9 +1,10 @@
 //! A store that goes on from the entries that it made in another process.
 //!
 //! A store ends with its process. A host that kept the entries opens another store with the same opening, and hands it
-//! the entries. [`resume`] does the deed of each entry again, and compares the reply with that of the entry. So the
-//! kept entries need no trust. `Ok` is returned only if the entries are a legal history of the graph that the store
-//! represented. The store then has exactly these additional entries.
+//! the entries. [`resume`] does the deed of each entry again, and compares the reply with that of the entry. `Ok`
+//! is returned only if the entries are a legal history of the graph that the store represented. The store then has
+//! exactly these additional entries. Another legal history is accepted too, so a host has to keep its entries out of
+//! reach of others.
 //!
 //! ```text
 //!     opening ---- Store::open ----> store ---- resume, part after part ----> the store as it was, in other cells

@@ -11,9 +11,13 @@
 //! next graph by the rules. [`Store::create`] and [`Store::spawn`] do the same. [`Store::apply_all`] takes several
 //! commands of one worker in a row. [`Store::hand`] hands rights on by up to three commands, completely or not at all.
 //!
-//! ```text opening --deeds of the journal--> graph        every reply is by this graph, and no collection changes it |
-//! stands for | heap    --commands, collections--> content     the cells that there are: all that can be reached, and
-//! no other rights ```
+//! ```text
+//!     opening --deeds of the journal--> graph        every reply is by this graph, and no collection changes it
+//!                                         |
+//!                                     stands for
+//!                                         |
+//!     heap    --commands, collections--> content     the cells that there are: all that can be reached, and no other rights
+//! ```
 //!
 //! The heap has the cells and payloads of all vertices that can be reached, and maybe of some that can't. It agrees
 //! with the graph, and that is the promise of every store (`IsFaithful`, which [`Store::journal`] ensures). The journal
