@@ -3,7 +3,7 @@ use Rattle.std.proofs.Common.{◌≡◌, inl, inr, ℕ, ◌+◌, ◌<◌, ◌≤
 use Rattle.std.proofs.lemmas.Bool.{cases_lt}
 use Rattle.std.proofs.lemmas.List.{ext_get_or, get_or-take, get_or_past, length-take-le}
 use Rattle.sqlite_disk.specs.Disk.{Follows, Holds, Only, Torn}
-use Rattle.tg_keep.specs.Lines.{first_sum, history_of, last_sum_after, length_after, texts_after}
+use Rattle.tg_keep.specs.Lines.{first_sum, file_texts, last_sum_after, length_after, texts_after}
 use Rattle.tg_keep.specs.Files.{IsSynced}
 use Rattle.tg_keep.specs.Zeros.{AddsZeros, KeepsBelow}
 use Rattle.tg_keep.specs.declared.file.LineFile.{LineFile}
@@ -64,7 +64,7 @@ module _ (file : List ℕ) (end : ℕ) (room : end < length file) (zeros : (i : 
       get_or-take end c i 0 below ∙ kept.below i (omega arith) (omega arith) ∙ sym (get_or-take end file i 0 below))
 
   -- what comes after the zeros says nothing
-  pub says_the_same : (c : List ℕ) → KeepsBelow (length file) file c → history_of c ≡ history_of file
+  pub says_the_same : (c : List ℕ) → KeepsBelow (length file) file c → file_texts c ≡ file_texts file
   says_the_same c kept =
       ends_at_zero c end (omega (arith, kept.no_shorter)) (kept.below end room room ∙ zeros end (omega arith))
       (ap (length_after first_sum) (same_front c kept) ∙ whole)
@@ -94,14 +94,14 @@ module _ {D : Type 0} (seen : D → List ℕ) (may_leave : D → List ℕ → Ty
   inside = omega (arith, room, synced.size)
 
   -- whatever a crash leaves after the zeros
-  pub laying_crash : (new : List ℕ → Type 0) → Follows (KeepsBelow file.length) (may_leave file.disk) new → (c : List ℕ) → new c → history_of c ≡ history_of (seen file.disk)
+  pub laying_crash : (new : List ℕ → Type 0) → Follows (KeepsBelow file.length) (may_leave file.disk) new → (c : List ℕ) → new c → file_texts c ≡ file_texts (seen file.disk)
   laying_crash new follows c left =
       let from = follows c left in
       let P : List ℕ → Type 0 = λ f. KeepsBelow file.length f c in
       let Q : ℕ → Type 0 = λ n. KeepsBelow n (seen file.disk) c in
       says_the_same (seen file.disk) file.end inside synced.zeros synced.whole c (subst Q synced.size (subst P (synced.durable from.0 from.1) from.2))
 
-  pub laid_says : (count : ℕ) (c : List ℕ) → AddsZeros count (seen file.disk) c → history_of c ≡ history_of (seen file.disk)
+  pub laid_says : (count : ℕ) (c : List ℕ) → AddsZeros count (seen file.disk) c → file_texts c ≡ file_texts (seen file.disk)
   laid_says count c adds =
       says_the_same (seen file.disk) file.end inside synced.zeros synced.whole c (record { no_shorter = omega (arith, adds.size); below = λ i within low. adds.below i within })
 
@@ -124,5 +124,5 @@ empty_synced seen may_leave new old count empty place size sum adds only =
       durable = only;
     }
 
-pub empty_says : (old c : List ℕ) (count : ℕ) → old ≡ [] → AddsZeros count old c → history_of c ≡ []
+pub empty_says : (old c : List ℕ) (count : ℕ) → old ≡ [] → AddsZeros count old c → file_texts c ≡ []
 empty_says old c count empty adds = zeros_say_nothing first_sum c (λ i. adds.zeros i (omega (arith, ap length empty)))

@@ -1,14 +1,17 @@
 pub mod Adding
+pub mod Closing
 pub mod Cutting
 pub mod Damage
 pub mod Joined
 pub mod Laying
+pub mod Marking
 pub mod Mending
 pub mod LineLaws
 pub mod Opening
 pub mod Putting
 pub mod Reading
 pub mod Running
+pub mod Saying
 pub mod Scanning
 pub mod SumLaws
 pub mod TableLaws

@@ -3,7 +3,7 @@ use Rattle.std.proofs.Common.{◌≡◌, inl, inr, ℕ, ◌+◌, ◌<◌, ◌≤
 use Rattle.std.proofs.lemmas.Bool.{cases_eq, cases_lt}
 use Rattle.std.proofs.lemmas.List.{append-nil, ext_get_or, get_or-take, get_or_past, length-drop, length-take-le, take-append-drop}
 use Rattle.sqlite_disk.specs.Disk.{Cut, Follows, Holds, Mixed, Only, Torn}
-use Rattle.tg_keep.specs.Lines.{first_sum, history_of, last_sum_after, length_after, lines_from, text_in, texts_after, whole_from}
+use Rattle.tg_keep.specs.Lines.{first_sum, file_texts, last_sum_after, length_after, lines_from, text_in, texts_after, whole_from}
 use Rattle.tg_keep.specs.Files.{IsSynced}
 use Rattle.tg_keep.specs.Opened.{IsEndedAt}
 use Rattle.tg_keep.specs.declared.file.LineFile.{LineFile}
@@ -49,7 +49,7 @@ module _ (file : List ℕ) (end : ℕ) (is : end ≡ length_after first_sum file
       (λ i lt. let low : i < end = omega (arith, lt, size) in
       get_or-take end c i 0 low ∙ below i low ∙ sym (get_or-take end file i 0 low))
 
-  pub marked_says : (c : List ℕ) → IsMarked file end c → history_of c ≡ history_of file
+  pub marked_says : (c : List ℕ) → IsMarked file end c → file_texts c ≡ file_texts file
   marked_says c m =
       let same : take end c ≡ take end file = front c (omega (arith, m.room)) m.below in
       ends_at_zero c end m.room m.blank (ap (length_after first_sum) same ∙ length_cut first_sum file end is)
@@ -57,14 +57,14 @@ module _ (file : List ℕ) (end : ℕ) (is : end ≡ length_after first_sum file
       ∙ texts_cut first_sum file end is
 
   -- at most one byte after the lines
-  short_says : (c : List ℕ) → end ≤ length c → length c ≤ end + 1 → ((i : ℕ) → i < end → get_or c i 0 ≡ get_or file i 0) → history_of c ≡ history_of file
+  short_says : (c : List ℕ) → end ≤ length c → length c ≤ end + 1 → ((i : ℕ) → i < end → get_or c i 0 ≡ get_or file i 0) → file_texts c ≡ file_texts file
   short_says c long short below =
       let same : take end c ≡ take end file = front c long below in
       let lines : AreWhole first_sum (take end file) = length_cut first_sum file end is ∙ sym (length-take-le end file within) in
       let sum = last_sum_after first_sum (take end file) in
       let none : texts_after sum (drop end c) ≡ [] = few_bytes sum (drop end c) (omega (arith, length-drop end c)) in
-      ap history_of (sym (take-append-drop end c))
-      ∙ ap (λ (l : List ℕ). history_of (l ++ drop end c)) same
+      ap file_texts (sym (take-append-drop end c))
+      ∙ ap (λ (l : List ℕ). file_texts (l ++ drop end c)) same
       ∙ texts_joined first_sum (take end file) (drop end c) lines
       ∙ ap (λ (l : List (List ℕ)). texts_after first_sum (take end file) ++ l) none
       ∙ append-nil (texts_after first_sum (take end file))
@@ -83,14 +83,14 @@ module _ (file : List ℕ) (end : ℕ) (is : end ≡ length_after first_sum file
         ]
       ])
 
-  pub after_write : (c : List ℕ) → Mixed end (0 ∷ []) file c → history_of c ≡ history_of file
+  pub after_write : (c : List ℕ) → Mixed end (0 ∷ []) file c → file_texts c ≡ file_texts file
   after_write c mixed =
       let torn : Torn end 1 file c = mixed.torn in
       let below : (i : ℕ) → i < end → get_or c i 0 ≡ get_or file i 0 = λ i low. torn.below i (omega (arith, within)) low in
       let place : end + 0 ≡ end = omega arith in
       elim (cases_lt end (length file)) [
         | inl inside ↦ elim (mixed.each 0 (omega arith) (omega arith)) [
-          | inl old ↦ ap history_of (same_bytes c torn inside (ap (λ k. get_or c k 0) (sym place) ∙ old ∙ ap (λ k. get_or file k 0) place))
+          | inl old ↦ ap file_texts (same_bytes c torn inside (ap (λ k. get_or c k 0) (sym place) ∙ old ∙ ap (λ k. get_or file k 0) place))
           | inr new ↦ marked_says c (record { room = omega (arith, torn.no_shorter); blank = ap (λ k. get_or c k 0) (sym place) ∙ new; below = below })
         ]
         | inr outside ↦ short_says c (omega (arith, within, torn.no_shorter)) (omega (arith, within, torn.no_longer)) below
@@ -118,17 +118,33 @@ module _ (file : List ℕ) (end : ℕ) (is : end ≡ length_after first_sum file
       let d = after_cut mid c m cut in
       record { size = size; below = d.below; ends = d.blank }
 
-  pub write_crash : (old new : List ℕ → Type 0) → Only file old → Follows (Mixed end (0 ∷ [])) old new → (c : List ℕ) → new c → history_of c ≡ history_of file
+  pub write_crash : (old new : List ℕ → Type 0) → Only file old → Follows (Mixed end (0 ∷ [])) old new → (c : List ℕ) → new c → file_texts c ≡ file_texts file
   write_crash old new only follows c left =
       let from = follows c left in
       let P : List ℕ → Type 0 = λ f. Mixed end (0 ∷ []) f c in
       after_write c (subst P (only from.0 from.1) from.2)
 
-  pub cut_crash : (mid : List ℕ) → IsMarked file end mid → (old new : List ℕ → Type 0) → Only mid old → Follows (Cut (end + 1)) old new → (c : List ℕ) → new c → history_of c ≡ history_of file
+  pub cut_crash : (mid : List ℕ) → IsMarked file end mid → (old new : List ℕ → Type 0) → Only mid old → Follows (Cut (end + 1)) old new → (c : List ℕ) → new c → file_texts c ≡ file_texts file
   cut_crash mid m old new only follows c left =
       let from = follows c left in
       let P : List ℕ → Type 0 = λ f. Cut (end + 1) f c in
       marked_says c (after_cut mid c m (subst P (only from.0 from.1) from.2))
+
+  -- the zero after the lines is cut off, too
+  pub cut_is_front : (mid c : List ℕ) → IsEndedAt end file mid → Cut end mid c → length c ≡ end → c ≡ take end file
+  cut_is_front mid c ended cut size =
+      let long : length (take end file) ≡ end = length-take-le end file within in
+      ext_get_or 0 c (take end file) (size ∙ sym long)
+      (λ i lt. let low : i < end = omega (arith, lt, size) in
+      cut.below i (omega (arith, ended.size)) low ∙ ended.below i low ∙ sym (get_or-take end file i 0 low))
+
+  pub cut_end_crash : (mid : List ℕ) → IsEndedAt end file mid → (old new : List ℕ → Type 0) → Only mid old → Follows (Cut end) old new → (c : List ℕ) → new c → file_texts c ≡ file_texts file
+  cut_end_crash mid ended old new only follows c left =
+      let from = follows c left in
+      let P : List ℕ → Type 0 = λ f. Cut end f c in
+      let cut : Cut end mid c = subst P (only from.0 from.1) from.2 in
+      short_says c (omega (arith, ended.size, cut.no_shorter)) (omega (arith, ended.size, cut.no_longer))
+      (λ i low. cut.below i (omega (arith, ended.size)) low ∙ ended.below i low)
 
   -- the file is ready
   pub ended_synced : {D : Type 0} (seen : D → List ℕ) (may_leave : D → List ℕ → Type 0) (new : LineFile D) → new.end ≡ end → new.length ≡ end + 1 → new.sum.digits ≡ last_sum_after first_sum file
@@ -147,5 +163,5 @@ module _ (file : List ℕ) (end : ℕ) (is : end ≡ length_after first_sum file
         durable = only;
       }
 
-  pub ended_says : (c : List ℕ) → IsEndedAt end file c → history_of c ≡ history_of file
+  pub ended_says : (c : List ℕ) → IsEndedAt end file c → file_texts c ≡ file_texts file
   ended_says c ended = marked_says c (record { room = omega (arith, ended.size); blank = ended.ends; below = ended.below })

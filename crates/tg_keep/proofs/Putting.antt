@@ -3,7 +3,7 @@ use Rattle.std.proofs.Common.{◌≡◌, ◌⊎◌, inl, inr, ℕ, zero, suc, �
 use Rattle.std.proofs.lemmas.Bool.{cases_lt}
 use Rattle.std.proofs.lemmas.List.{append-nil, drop-drop, drop_more, ext_get_or, get_or-drop, get_or-take, get_or_past, length-drop, length-take-le, take-append-drop, take_at}
 use Rattle.sqlite_disk.specs.Disk.{Follows, Mixed, Only, Torn}
-use Rattle.tg_keep.specs.Lines.{first_sum, history_of, last_sum_after, length_after, text_in, texts_after, whole_lines}
+use Rattle.tg_keep.specs.Lines.{first_sum, file_texts, last_sum_after, length_after, text_in, texts_after, whole_lines}
 use Rattle.tg_keep.specs.Fronts.{AddsFront, IsZeroOr}
 use Rattle.tg_keep.proofs.Reading.{no_texts, texts_fronts, zero_byte_ends}
 use Rattle.tg_keep.proofs.Joined.{AreWhole, last_sum_joined, length_joined, texts_joined}
@@ -19,14 +19,14 @@ zeros_say_nothing before bytes zeros =
     front.2 ∙ ap (take front.0) (no_texts before) ∙ take_nothing front.0
 
 -- whole lines, and then a zero
-pub ends_at_zero : (file : List ℕ) (end : ℕ) → end < length file → get_or file end 0 ≡ 0 → length_after first_sum (take end file) ≡ end → history_of file ≡ texts_after first_sum (take end file)
+pub ends_at_zero : (file : List ℕ) (end : ℕ) → end < length file → get_or file end 0 ≡ 0 → length_after first_sum (take end file) ≡ end → file_texts file ≡ texts_after first_sum (take end file)
 unfolding texts_after
 ends_at_zero file end room blank whole =
     let sum = last_sum_after first_sum (take end file) in
     let lines : AreWhole first_sum (take end file) = whole ∙ sym (length-take-le end file (omega arith)) in
     let rest : texts_after sum (drop end file) ≡ [] =
     ap (λ l. map text_in (whole_lines sum l)) (drop_more file end 0 room) ∙ ap (map text_in) (zero_byte_ends sum [] (drop (end + 1) file) (get_or file end 0) blank) in
-    ap history_of (sym (take-append-drop end file))
+    ap file_texts (sym (take-append-drop end file))
     ∙ texts_joined first_sum (take end file) (drop end file) lines
     ∙ ap (λ l. texts_after first_sum (take end file) ++ l) rest
     ∙ append-nil (texts_after first_sum (take end file))
@@ -37,14 +37,14 @@ module _ (file : List ℕ) (end : ℕ) (within : end ≤ length file) (zeros : (
   lines_whole = whole ∙ sym (length-take-le end file within)
 
   -- what is read of the lines and of other bytes after them
-  read_on : (more : List ℕ) → history_of (take end file ++ more) ≡ texts_after first_sum (take end file) ++ texts_after (last_sum_after first_sum (take end file)) more
+  read_on : (more : List ℕ) → file_texts (take end file ++ more) ≡ texts_after first_sum (take end file) ++ texts_after (last_sum_after first_sum (take end file)) more
   read_on more = texts_joined first_sum (take end file) more lines_whole
 
-  pub says_its_lines : history_of file ≡ texts_after first_sum (take end file)
+  pub says_its_lines : file_texts file ≡ texts_after first_sum (take end file)
   says_its_lines =
       let rest : texts_after (last_sum_after first_sum (take end file)) (drop end file) ≡ [] =
       zeros_say_nothing (last_sum_after first_sum (take end file)) (drop end file) (λ i. get_or-drop end file i 0 ∙ zeros (end + i) (omega arith)) in
-      ap history_of (sym (take-append-drop end file))
+      ap file_texts (sym (take-append-drop end file))
       ∙ read_on (drop end file)
       ∙ ap (λ l. texts_after first_sum (take end file) ++ l) rest
       ∙ append-nil (texts_after first_sum (take end file))
@@ -80,16 +80,16 @@ module _ (file : List ℕ) (end : ℕ) (within : end ≤ length file) (zeros : (
 
     -- a crash leaves a front of the batch
     pub leaves_a_front : (before : List ℕ) → before ≡ last_sum_after first_sum (take end file) → ((i : ℕ) → i < length bytes → (get_or c (end + i) 0 ≡ get_or file (end + i) 0) ⊎ (get_or c (end + i) 0 ≡ get_or bytes i 0))
-        → AddsFront (history_of file) (texts_after before bytes) (history_of c)
+        → AddsFront (file_texts file) (texts_after before bytes) (file_texts c)
     leaves_a_front before last each =
         let front = texts_fronts before bytes (drop end c) (zero_or each) in (
           front.0,
           front.1,
-          ap history_of parts
+          ap file_texts parts
               ∙ read_on (drop end c)
               ∙ ap (λ s. texts_after first_sum (take end file) ++ texts_after s (drop end c)) (sym last)
               ∙ ap (λ l. l ++ texts_after before (drop end c)) (sym says_its_lines)
-              ∙ ap (λ l. history_of file ++ l) front.2,
+              ∙ ap (λ l. file_texts file ++ l) front.2,
         )
 
     -- and if the write is done, all of it
@@ -138,7 +138,7 @@ module _ (file : List ℕ) (end : ℕ) (within : end ≤ length file) (zeros : (
 -- a write that is done leaves the texts from before and those of the batch
 pub puts_all : (file : List ℕ) (end : ℕ) (within : end ≤ length file) (zeros : (i : ℕ) → end ≤ i → get_or file i 0 ≡ 0) (whole : length_after first_sum (take end file) ≡ end)
     (bytes c : List ℕ) (fits : end + length bytes < length file) (torn : Torn end (length bytes) file c) (holds : (i : ℕ) → i < length bytes → get_or c (end + i) 0 ≡ get_or bytes i 0)
-    (before : List ℕ) (last : before ≡ last_sum_after first_sum (take end file)) (batch : AreWhole before bytes) → history_of c ≡ history_of file ++ texts_after before bytes
+    (before : List ℕ) (last : before ≡ last_sum_after first_sum (take end file)) (batch : AreWhole before bytes) → file_texts c ≡ file_texts file ++ texts_after before bytes
 puts_all file end within zeros whole bytes c fits torn holds before last batch =
     let inside : end + length bytes ≤ length c = omega (arith, same_length file end within zeros whole bytes c fits torn) in
     says_its_lines c (end + length bytes) inside
@@ -152,7 +152,7 @@ puts_all file end within zeros whole bytes c fits torn holds before last batch =
 -- what a crash may leave once the write was begun
 pub may_leave_front : (file : List ℕ) (end : ℕ) (within : end ≤ length file) (zeros : (i : ℕ) → end ≤ i → get_or file i 0 ≡ 0) (whole : length_after first_sum (take end file) ≡ end)
     (bytes before : List ℕ) (fits : end + length bytes < length file) (last : before ≡ last_sum_after first_sum (take end file))
-    (old new : List ℕ → Type 0) → Only file old → Follows (Mixed end bytes) old new → (c : List ℕ) → new c → AddsFront (history_of file) (texts_after before bytes) (history_of c)
+    (old new : List ℕ → Type 0) → Only file old → Follows (Mixed end bytes) old new → (c : List ℕ) → new c → AddsFront (file_texts file) (texts_after before bytes) (file_texts c)
 may_leave_front file end within zeros whole bytes before fits last old new only follows c left =
     let from = follows c left in
     let P : List ℕ → Type 0 = λ f. Mixed end bytes f c in

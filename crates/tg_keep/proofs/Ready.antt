@@ -1,9 +1,11 @@
 -- A put, by what it needs and what its calls of the disk ensure.
 use Rattle.std.proofs.Common.{◌≡◌, ℕ, ◌+◌, ◌<◌, ◌≤◌, List, ◌++◌, length, get_or, take, sym, ◌∙◌, ap, subst, arith}
 use Rattle.sqlite_disk.specs.Disk.{Follows, Holds, Mixed, Only, Torn}
-use Rattle.tg_keep.specs.Lines.{first_sum, history_of, last_sum_after, length_after, texts_after}
+use Rattle.tg_keep.specs.Lines.{first_sum, file_texts, last_sum_after, length_after, texts_after}
 use Rattle.tg_keep.specs.Fronts.{AddsFront}
-use Rattle.tg_keep.specs.Files.{IsSynced}
+use Rattle.sqlite_disk.specs.declared.Disk as disk
+use Rattle.std.specs.Prelude.{IsTrue}
+use Rattle.tg_keep.specs.Files.{AwaitsBatch, IsSynced, MayWrite}
 use Rattle.tg_keep.specs.declared.file.LineFile.{LineFile}
 use Rattle.tg_keep.proofs.Joined.{AreWhole}
 use Rattle.tg_keep.proofs.Putting.{may_leave_front, new_last, new_whole, new_zeros, puts_all, same_length}
@@ -30,7 +32,7 @@ ready seen may_leave file bytes before settled follows room batch = record {
 
 -- once the write was begun, a crash leaves a front
 pub begun : (file : List ℕ) (end : ℕ) (bytes before given : List ℕ) → IsReady file end bytes before → given ≡ bytes → (old new : List ℕ → Type 0) → Only file old → Follows (Mixed end given) old new
-    → (c : List ℕ) → new c → AddsFront (history_of file) (texts_after before bytes) (history_of c)
+    → (c : List ℕ) → new c → AddsFront (file_texts file) (texts_after before bytes) (file_texts c)
 begun file end bytes before given r is old new only follows =
     let P : List ℕ → Type 0 = λ b. Follows (Mixed end b) old new in
     may_leave_front file end r.within r.zeros r.whole bytes before r.fits r.last old new only (subst P is follows)
@@ -38,7 +40,7 @@ begun file end bytes before given r is old new only follows =
 -- the write is done
 pub record IsDone (file : List ℕ) (end : ℕ) (bytes before c : List ℕ) : Type 0 where
   pub size : length c ≡ length file
-  pub texts : history_of c ≡ history_of file ++ texts_after before bytes
+  pub texts : file_texts c ≡ file_texts file ++ texts_after before bytes
   pub whole : length_after first_sum (take (end + length bytes) c) ≡ end + length bytes
   pub last : last_sum_after before bytes ≡ last_sum_after first_sum (take (end + length bytes) c)
   pub zeros : (i : ℕ) → end + length bytes ≤ i → get_or c i 0 ≡ 0
@@ -71,3 +73,14 @@ settled_again seen may_leave new file end bytes before c r d at size sum shown o
       zeros = λ i le. ap (λ f. get_or f i 0) shown ∙ d.zeros i (omega (arith, le, at));
       durable = subst P (sym shown) only;
     }
+
+-- what a write of whole lines needs
+pub may_write : {D : Type 0} (g : disk.Ghosts D) (file : LineFile D) (bytes given before sum : List ℕ) → AwaitsBatch g file → IsTrue (g.is_mixing file.disk) → given ≡ bytes → file.sum.digits ≡ before
+    → AreWhole before bytes → sum ≡ last_sum_after before bytes → file.end + length bytes < file.length → MayWrite g file given sum
+may_write g file bytes given before sum settled mixing is same whole last room = record {
+  settled = settled;
+  mixing = mixing;
+  whole = ap (length_after file.sum.digits) is ∙ ap (λ s. length_after s bytes) same ∙ whole ∙ sym (ap length is);
+  last = last ∙ sym (ap (last_sum_after file.sum.digits) is ∙ ap (λ s. last_sum_after s bytes) same);
+  room = omega (arith, room, ap length is);
+}

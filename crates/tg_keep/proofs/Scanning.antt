@@ -1,9 +1,10 @@
 -- How the lines of a file are passed, and what comes after them is looked at.
 use Rattle.std.proofs.Common.{◌≡◌, ℕ, ◌+◌, ◌-◌, ◌<◌, ◌≤◌, true, false, ◌&&◌, ◌||◌, List, [], ◌∷◌, length, get_or, drop, map, refl, sym, ◌∙◌, ap, arith}
-use Rattle.std.specs.Prelude.{sum_by, fold, bytes_eq, codes, Option, Some, None, MatchOption, Result, OnOk, Ok, Err}
+use Rattle.std.specs.Prelude.{sum_by, fold, bytes_eq, codes, Bool, IsTrue, is_ok, Option, Some, None, MatchOption, Result, OnOk, Ok, Err}
 use Rattle.std.proofs.lemmas.List.{drop-drop, length-drop, ext_get_or}
 use Rattle.sqlite_disk.specs.Disk.{Holds}
-use Rattle.tg_keep.specs.Lines.{begins_in, first_sum, history_of, is_whole, last_sum_after, length_after, raw_lines, sum_in, text_in, texts_after, whole_lines}
+use Rattle.tg_keep.specs.Closed.{last_text}
+use Rattle.tg_keep.specs.Lines.{begins_in, first_sum, file_texts, is_whole, last_sum_after, length_after, raw_lines, sum_in, text_in, texts_after, whole_lines}
 use Rattle.tg_keep.specs.Opened.{has_batch, has_first_text, has_later_batch}
 use Rattle.tg_keep.specs.Reads.{ReadsLine}
 use Rattle.tg_keep.proofs.Cutting.{lines_end_at}
@@ -75,6 +76,16 @@ module _ (sum bytes : List ℕ) (count : ℕ) (last left : List ℕ) (skips : Sk
   pub all_few : count ≤ length bytes
   all_few = omega (arith, skips.few)
 
+-- The texts that were read so far end with this one, if those that are left are added.
+abbrev pub ReadsOn : List ℕ → List ℕ → List ℕ → List ℕ → List ℕ → Type 0
+ReadsOn sum bytes seen last left = last_text (texts_after sum bytes) ≡ fold (λ last text. text) seen (texts_after last left)
+
+pub reads_on : (sum bytes seen last left text next after : List ℕ) → ReadsOn sum bytes seen last left → ReadsLine last left text next after → ReadsOn sum bytes text next after
+reads_on sum bytes seen last left text next after so_far reads = so_far ∙ ap (fold (λ last text. text) seen) reads.texts
+
+pub all_read_on : (sum bytes seen last left : List ℕ) → ReadsOn sum bytes seen last left → whole_lines last left ≡ [] → seen ≡ last_text (texts_after sum bytes)
+all_read_on sum bytes seen last left so_far none = sym (so_far ∙ ap (fold (λ last text. text) seen) (no_more_texts last left none))
+
 pub batch_none : (before bytes : List ℕ) → raw_lines bytes ≡ [] → has_batch before (raw_lines bytes) ≡ false
 unfolding has_batch
 batch_none before bytes none = ap (has_batch before) none
@@ -101,6 +112,11 @@ all_read file bytes size holds =
     ext_get_or 0 bytes file size (λ i lt. let place : 0 + i ≡ i = omega arith in
     sym (ap (λ k. get_or file k 0) (sym place) ∙ (holds (omega (arith, lt))).each i lt))
 
+-- a result that is `Ok` is one of a call that leaves the disk usable
+pub ok_usable : {T E : Type 0} (result : Result T E) (usable : Bool) (P Q : Type 0) → usable ≡ is_ok result → OnOk result P → (IsTrue usable → P → Q) → OnOk result Q
+ok_usable (Ok x) usable P Q is p f = f is p
+ok_usable (Err e) usable P Q is p f = tt
+
 -- what a call ensures of `None`, where its result is no `Some`
 pub none_of : {X : Type 0} (found : Option X) (P : Type 0) (Q : X → Type 0) → MatchOption found P Q → ((x : X) → found ≡ Some x → ⊥) → P
 none_of None P Q is not = is
@@ -112,18 +128,21 @@ on_ok (Err e) P is = tt
 
 -- the reader begins with all bytes of the file
 module _ (file sum bytes : List ℕ) (same : bytes ≡ file) (first : sum ≡ first_sum) where
-  pub begins_first : (text next after : List ℕ) → ReadsLine sum bytes text next after → has_first_text (history_of file) ≡ bytes_eq text (codes "kovshenul kept 1")
+  pub begins_first : (text next after : List ℕ) → ReadsLine sum bytes text next after → has_first_text (file_texts file) ≡ bytes_eq text (codes "kovshenul kept 1")
   begins_first text next after reads =
-      let texts : history_of file ≡ text ∷ texts_after next after = sym (ap (texts_after first_sum) same) ∙ sym (ap (λ s. texts_after s bytes) first) ∙ reads.texts in
+      let texts : file_texts file ≡ text ∷ texts_after next after = sym (ap (texts_after first_sum) same) ∙ sym (ap (λ s. texts_after s bytes) first) ∙ reads.texts in
       ap has_first_text texts
 
-  pub begins_none : whole_lines sum bytes ≡ [] → has_first_text (history_of file) ≡ false
+  pub begins_none : whole_lines sum bytes ≡ [] → has_first_text (file_texts file) ≡ false
   begins_none none =
-      let texts : history_of file ≡ [] = sym (ap (texts_after first_sum) same) ∙ sym (ap (λ s. texts_after s bytes) first) ∙ no_more_texts sum bytes none in
+      let texts : file_texts file ≡ [] = sym (ap (texts_after first_sum) same) ∙ sym (ap (λ s. texts_after s bytes) first) ∙ no_more_texts sum bytes none in
       ap has_first_text texts
 
-  pub count_is : length (texts_after sum bytes) ≡ length (history_of file)
+  pub count_is : length (texts_after sum bytes) ≡ length (file_texts file)
   count_is = ap (λ s. length (texts_after s bytes)) first ∙ ap (λ l. length (texts_after first_sum l)) same
+
+  pub last_is_of : last_text (texts_after sum bytes) ≡ last_text (file_texts file)
+  last_is_of = ap (λ s. last_text (texts_after s bytes)) first ∙ ap (λ l. last_text (texts_after first_sum l)) same
 
   pub size_is : length_after sum bytes ≡ length_after first_sum file
   size_is = ap (λ s. length_after s bytes) first ∙ ap (length_after first_sum) same

@@ -1,4 +1,5 @@
 pub mod Batches
+pub mod Closed
 pub mod Files
 pub mod Fronts
 pub mod Lines

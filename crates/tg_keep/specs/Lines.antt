@@ -1,6 +1,6 @@
--- What a file of lines says: the texts of its lines, up to the first that isn't whole.
-use Rattle.std.specs.Prelude.{ℕ, ◌+◌, ◌-◌, ◌==◌, Bool, not, ◌&&◌, if◌then◌else◌, List, [], ◌∷◌, ◌++◌, length, slice_index, take, drop, map, fold, sum_by, bytes_eq}
-use Rattle.std.specs.List.{list_any}
+-- What a file of lines says: the texts of its lines, up to the first that isn't whole, without the marks.
+use Rattle.std.specs.Prelude.{ℕ, ◌+◌, ◌-◌, ◌==◌, Bool, not, ◌&&◌, if◌then◌else◌, List, [], ◌∷◌, ◌++◌, length, slice_index, take, drop, map, fold, sum_by, bytes_eq, codes}
+use Rattle.std.specs.List.{filter, list_any, starts_with}
 use Rattle.tg_keep.specs.Sums.{sum_after}
 
 -- '@' if the line begins a batch, and else '#'
@@ -66,6 +66,25 @@ last_sum_after before bytes = fold (λ sum line. sum_in line) before (whole_line
 abbrev pub first_sum : List ℕ
 first_sum = 48 ∷ 48 ∷ 48 ∷ 48 ∷ 48 ∷ 48 ∷ 48 ∷ 48 ∷ []
 
+-- the texts of a file's lines, the marks among them
+abbrev pub file_texts : List ℕ → List (List ℕ)
+file_texts file = texts_after first_sum file
+
+-- A mark is a text that begins with "entries ". It says how many entries came before it.
+abbrev pub is_mark : List ℕ → Bool
+is_mark text = starts_with (λ x y. x == y) text (codes "entries ")
+
+-- a text that says something, as it is no mark; and a mark that a line may have
+abbrev pub is_entry : List ℕ → Bool
+is_entry text = is_text text && not (is_mark text)
+
+abbrev pub is_marking : List ℕ → Bool
+is_marking text = is_text text && is_mark text
+
+-- what these texts say
+unfoldable pub said_by : List (List ℕ) → List (List ℕ)
+said_by texts = filter (λ text. not (is_mark text)) texts
+
 -- what a file says
 abbrev pub history_of : List ℕ → List (List ℕ)
-history_of file = texts_after first_sum file
+history_of file = said_by (file_texts file)

@@ -1,10 +1,10 @@
-//! Why a file of lines isn't begun or opened.
+//! Why a file of lines isn't begun, opened or closed.
 use crate::batch::BatchFault;
 use std::alloc::AllocError;
 use std::io;
 use thiserror::Error;
 
-/// Why a file wasn't begun or opened.
+/// Why a file wasn't begun, opened or closed.
 #[derive(Clone, Copy, Debug, Error)]
 pub enum FileFault {
     /// A call of the disk failed.
@@ -13,6 +13,9 @@ pub enum FileFault {
     /// There was no memory for what the file has.
     #[error("out of memory")]
     OutOfMemory,
+    /// The text of a mark doesn't begin with `entries `, or has a zero byte or a line feed.
+    #[error("a mark begins with `entries `, and has neither a zero byte nor a line feed")]
+    BadMark,
     /// A new file was to be made, and this one isn't empty.
     #[error("a new file can't be made, because the file isn't empty")]
     NotEmpty,

@@ -1,4 +1,4 @@
-//! Laws of the definitions alone. A function here does nothing: what it ensures is the law.
+//! Laws of the definitions alone. A function here does nothing. Its `ensures` is the law.
 ghost use Rattle.std.specs.Prelude.{◌≡◌, ◌∷◌, ◌++◌, [], true, false, ℕ, Bool, List, length};
 ghost use Rattle.tg_keep.specs.Lines.{first_sum, is_text, length_after, sealed_line, texts_after};
 ghost use Rattle.tg_keep.specs.Fronts.{IsZeroOr, IsFrontOf};

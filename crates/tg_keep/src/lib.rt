@@ -1,4 +1,5 @@
-//! A file of lines that a crash can't tear: how lines are written and read, and how a batch of them is put into a file.
+//! A file of lines that a crash can't tear. The crate says how lines are written and read, and how a batch of them is
+//! put into a file.
 //!
 //! ```text
 //!     kovshenul kept 1 @c4b942f6
@@ -10,10 +11,16 @@
 //! there twice is noticed. The mark is `@` at the first line of a batch, and else `#`. After the last line the file
 //! has zeros.
 //!
-//! `history_of` in `specs/Lines` says what the bytes of a file say: the texts of the lines, up to the first that isn't
-//! whole. A batch is written over zeros that are on the disk, and then synced ([`LineFile::put`]). A crash in between
-//! leaves of each byte the zero or the new one. No line has a zero. Therefore what is read then is what the file said
-//! before and a front of the batch ([`a_crash_leaves_a_front`]), and no sum has to be believed for that.
+//! `history_of` in `specs/Lines` says what the bytes of a file say. A file says the texts of its lines, up to the
+//! first that isn't whole, without the marks. A *mark* is a text as `entries 12`, which says how many entries came
+//! before it.
+//!
+//! A batch is written over zeros that are on the disk, and then synced ([`LineFile::put`]). A crash in between leaves
+//! of each byte the zero or the new one. No line has a zero. Therefore what is read then is what the file said before
+//! and a front of the batch ([`a_crash_leaves_a_front`]). No sum has to be believed for that.
+//!
+//! [`LineFile::close`] puts a mark twice, and ends the file right after it. A file in use always has a zero after its
+//! last line. So the next opening finds out whether the last run ended by a close ([`OpenedFile`]).
 //!
 //! What can be used now, over any [`Disk`](sqlite_disk::Disk):
 //!
@@ -24,12 +31,14 @@
 //! | [`LineReader`] | reads the lines of the bytes that `open` returns |
 //! | [`Batch::add`] | adds a line to a batch |
 //! | [`LineFile::put`], [`LineFile::put_all`] | put batches into the file. At `Ok` each crash leaves their lines |
+//! | [`LineFile::close`] | ends a run, so that the next opening reports it as closed |
 //!
-//! After an error of `put` the program drops the file and opens it anew. Still missing are a mark that a file was
-//! closed, files over a disk that may tear any byte, and the calls that reach a real file.
+//! After an error of `put` or `close` the program drops the file and opens it anew. Two things are still missing. They
+//! are files over a disk that may tear any byte, and the calls that reach a real file.
 #![tactic(auto)]
 
 mod batch;
+mod close;
 mod fault;
 mod file;
 mod laws;
@@ -48,5 +57,6 @@ pub use fault::FileFault;
 pub use file::LineFile;
 pub use laws::{a_crash_leaves_a_front, a_torn_batch_is_no_damage, what_is_written_is_read};
 pub use line::write_line;
+pub use open::OpenedFile;
 pub use reader::LineReader;
 pub use sum::{LineSum, sum_after};

@@ -1,4 +1,4 @@
-//! One line: how it is written, and what is read of it.
+//! How a line is written, and what is read of it.
 ghost use Rattle.std.specs.Prelude.{◌≡◌, ◌++◌, ◌∷◌, [], true, false, take, vec_len, bytes_eq, IfOk, OnOk, OnErr, IfSome, MatchOption};
 ghost use Rattle.tg_keep.specs.Lines.{begins_in, has_zero, is_whole, sealed_line, mark_of, text_in, sum_in};
 ghost use Rattle.tg_keep.specs.Sums.{sum_after};

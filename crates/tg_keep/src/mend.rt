@@ -1,8 +1,8 @@
-//! What the opening of a file asks of its disk.
-ghost use Rattle.std.specs.Prelude.{◌≡◌, ◌+◌, ◌^◌, ◌<◌, ◌≤◌, ℕ, List, IsTrue, IfOk, IfErr, OnOk};
+//! What the opening and the closing of a file ask of its disk.
+ghost use Rattle.std.specs.Prelude.{◌≡◌, ◌≤◌, ℕ, List, IsTrue, IfOk, IfErr, OnOk};
 ghost use Rattle.sqlite_disk.specs.Disk.{CountsFault, Only};
 ghost use Rattle.tg_keep.specs.Files.{AlwaysMixes, LeavesSame};
-ghost use Rattle.tg_keep.specs.Opened.{CausesFault, HasLinesTo, IsEndedAt, is_refusal};
+ghost use Rattle.tg_keep.specs.Opened.{CausesFault, HasCut, HasEndedLines, HasLinesTo, MayCut, MayEnd, is_refusal};
 
 use crate::fault::FileFault;
 use sqlite_disk::Disk;
@@ -30,11 +30,8 @@ pub(crate) fn read_synced<D: Disk>(alloc: Global, disk: &mut D) -> Result<Vec<u8
 
 // Ends the file with one zero after its lines. What comes after them is cut off only once the zero is on the disk.
 pub(crate) fn end_lines<D: Disk>(disk: &mut D, end: usize) -> io::Result<()>
-    requires usable { IsTrue (D.is_usable disk.old) }
-    requires fits { end + 1 < 2 ^ 64 }
-    ensures usable { OnOk result (IsTrue (D.is_usable disk.new)) }
-    ensures ended { OnOk result (HasLinesTo D.seen D.may_leave end disk.old → IsEndedAt end (D.seen disk.old) (D.seen disk.new)) }
-    ensures durable { OnOk result (Only (D.seen disk.new) (D.may_leave disk.new)) }
+    requires { MayEnd D.Disk disk.old end }
+    ensures ended { OnOk result (HasEndedLines D.Disk end disk.old disk.new) }
     ensures crash { AlwaysMixes D.is_mixing → HasLinesTo D.seen D.may_leave end disk.old → LeavesSame D.seen D.may_leave disk.old disk.new }
     ensures cause { CountsFault result (D.faults disk.old) (D.faults disk.new) }
     ensures calm { D.is_clean disk.new ≡ D.is_clean disk.old }
@@ -42,5 +39,18 @@ pub(crate) fn end_lines<D: Disk>(disk: &mut D, end: usize) -> io::Result<()>
     disk.write_at(end, &[0])?;
     disk.sync()?;
     disk.set_len(end + 1)?;
+    disk.sync()
+}
+
+// Ends the file right after its lines. All zeros but one are cut off first. Until a sync, a cut may leave any bytes
+// after its place, and a single byte is no line.
+pub(crate) fn cut_zeros<D: Disk>(disk: &mut D, end: usize) -> io::Result<()>
+    requires { MayCut D.Disk disk.old end }
+    ensures cut { OnOk result (HasCut D.Disk end disk.old disk.new) }
+    ensures crash { HasLinesTo D.seen D.may_leave end disk.old → LeavesSame D.seen D.may_leave disk.old disk.new }
+    ensures calm { D.is_clean disk.new ≡ D.is_clean disk.old }
+{
+    end_lines(disk, end)?;
+    disk.set_len(end)?;
     disk.sync()
 }

@@ -1,7 +1,8 @@
 //! Opening a file of lines that a crash may have left.
 ghost use Rattle.std.specs.Prelude.{◌≡◌, IsTrue, IfOk, IfErr, OnOk};
-ghost use Rattle.tg_keep.specs.Files.{AlwaysMixes, AwaitsBatch, LeavesOldOrSame, SaysLeft, SaysSame};
-ghost use Rattle.tg_keep.specs.Opened.{CausesFault, MayOpen, RefusesFile, is_refusal};
+ghost use Rattle.tg_keep.specs.Closed.{is_closed};
+ghost use Rattle.tg_keep.specs.Files.{AlwaysMixes, LeavesOldOrSame, MayUseDisk};
+ghost use Rattle.tg_keep.specs.Opened.{CausesFault, ComesBack, HasOpened, RefusesFile, ReportsLeft, is_refusal};
 
 use crate::fault::FileFault;
 use crate::file::LineFile;
@@ -10,19 +11,24 @@ use crate::scan::lines_end;
 use sqlite_disk::{Crash, Disk};
 use std::alloc::Global;
 
+/// The bytes of a file that was opened, of which a [`LineReader`](crate::LineReader) reads the lines, and whether the
+/// last run ended by [`LineFile::close`]. If it didn't, it ended by a crash, or is still writing.
+#[derive(Drop)]
+pub struct OpenedFile {
+    pub bytes: Vec<u8>,
+    pub was_closed: bool,
+}
+
 impl<D: Disk> LineFile<D> {
-    /// Opens a file that a crash may have left, and returns its bytes, of which a [`LineReader`](crate::LineReader)
-    /// reads the lines. What comes after the last whole line was never answered, so it is cut off. The file says the
-    /// same then, and so does each content that a crash inside of the call may leave. `NotKept` says that the file
-    /// isn't one of ours, and `Damaged` that bytes which were on the disk aren't there any more. Then the file is as
-    /// it was.
-    pub fn open(&mut self, alloc: Global) -> Result<Vec<u8>, FileFault>
-        requires usable { IsTrue (D.is_usable self.old.disk) }
-        requires mixing { AlwaysMixes D.is_mixing }
-        ensures settled { OnOk result (AwaitsBatch D.seen D.may_leave D.is_usable D.is_clean self.new) }
-        ensures bytes { IfOk result (λ bytes. IsTrue (D.is_clean self.new.disk) → bytes.items ≡ D.seen self.old.disk) }
-        ensures texts { OnOk result (IsTrue (D.is_clean self.new.disk) → SaysSame D.seen self.old.disk self.new.disk) }
-        ensures opens { OnOk result (IsTrue (D.is_clean self.new.disk) → MayOpen (D.seen self.old.disk)) }
+    /// Opens a file that a crash may have left, and returns its bytes and how the last run ended. What comes after the
+    /// last whole line was never answered, so it is cut off. The file says the same then, and so does each content that
+    /// a crash inside of the call may leave. `NotKept` says that the file isn't one of ours, and `Damaged` that bytes
+    /// which were on the disk aren't there any more. Then the file is as it was.
+    pub fn open(&mut self, alloc: Global) -> Result<OpenedFile, FileFault>
+        requires { MayUseDisk D.Disk self.old.disk }
+        ensures opened { OnOk result (HasOpened D.Disk self.old self.new) }
+        ensures bytes { IfOk result (λ opened. IsTrue (D.is_clean self.new.disk) → opened.bytes.items ≡ D.seen self.old.disk) }
+        ensures ended { IfOk result (λ opened. IsTrue (D.is_clean self.new.disk) → opened.was_closed ≡ is_closed (D.seen self.old.disk)) }
         ensures refused { IfErr result (λ fault. IsTrue (D.is_clean self.new.disk) → RefusesFile (D.seen self.old.disk) fault) }
         ensures unchanged { IfErr result (λ fault. IsTrue (is_refusal fault) → D.seen self.new.disk ≡ D.seen self.old.disk) }
         ensures crash { IsTrue (D.is_clean self.new.disk) → LeavesOldOrSame D.seen D.may_leave self.old.disk self.new.disk }
@@ -35,17 +41,20 @@ impl<D: Disk> LineFile<D> {
         self.end = lines.at;
         self.length = lines.at + 1;
         self.sum = lines.sum;
-        Ok(bytes)
+        Ok(OpenedFile {
+            bytes,
+            was_closed: lines.closed,
+        })
     }
 }
 
 impl<D: Crash> LineFile<D> {
     /// A crash of the machine, and the opening after it. The file says what one of the contents says that the crash may
     /// have left.
-    pub fn crash_and_open(&mut self, alloc: Global) -> Result<Vec<u8>, FileFault>
+    pub fn crash_and_open(&mut self, alloc: Global) -> Result<OpenedFile, FileFault>
         requires mixing { AlwaysMixes D.Disk.is_mixing }
-        ensures settled { OnOk result (AwaitsBatch D.Disk.seen D.Disk.may_leave D.Disk.is_usable D.Disk.is_clean self.new) }
-        ensures says { OnOk result (IsTrue (D.Disk.is_clean self.new.disk) → SaysLeft D.Disk.seen D.Disk.may_leave self.old.disk self.new.disk) }
+        ensures back { OnOk result (ComesBack D.Disk self.old self.new) }
+        ensures ended { IfOk result (λ opened. IsTrue (D.Disk.is_clean self.new.disk) → ReportsLeft D.Disk.may_leave self.old.disk opened.was_closed) }
         ensures clean { IsTrue (D.Disk.is_clean self.new.disk) → IsTrue (D.Disk.is_clean self.old.disk) }
     {
         self.disk.crash();

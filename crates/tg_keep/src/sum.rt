@@ -1,4 +1,4 @@
-//! The checksum of a line: CRC-32 of the digits of the line before and of the line's text.
+//! The checksum of a line, which is the CRC-32 of the digits of the line before and of the line's text.
 ghost use Rattle.std.specs.Prelude.{◌≡◌, ℕ, ◌<◌, fold, slice_index};
 ghost use Rattle.tg_keep.specs.Sums.{with_bits_out, with_byte, digit, digits, sum_after};
 ghost use Rattle.tg_keep.specs.Lines.{first_sum};
@@ -22,8 +22,8 @@ impl LineSum {
     }
 }
 
-/// The sum of a line with this text, after a line that ends with the digits `before`: the CRC-32 of the digits and the
-/// text, as gzip and zlib take it.
+/// The sum of a line with this text, after a line that ends with the digits `before`. It is the CRC-32 of the digits
+/// and the text, as gzip and zlib compute it.
 pub fn sum_after(before: &[u8], text: &[u8]) -> LineSum
     ensures { result.digits ≡ sum_after before.now text.now }
 {

@@ -25,3 +25,15 @@ loop-page-preserved g c =
       faults = c.in_ok-write_at.ensures.faults ∙ inv.faults;
       calm = c.write_at.ensures.calm ∙ inv.calm;
     }
+
+pub returns-in_err-write_at-clause-left : goal.returns-in_err-write_at-clause-left
+returns-in_err-write_at-clause-left g c =
+    let inv = c.loop-page.invariant in
+    let done = 4096 * c.loop-page.page in
+    record {
+      crash = follows_on c.args.end (c.args.end + done) (length (replicate {A = ℕ} 4096 0)) (g.D.Disk.may_leave c.args.disk.now) (g.D.Disk.may_leave c.loop-page.disk) (g.D.Disk.may_leave c.write_at.new.self) (omega arith) inv.crash c.write_at.ensures.crash;
+      calm = c.write_at.ensures.calm ∙ inv.calm;
+    }
+
+pub returns-clause-left : goal.returns-clause-left
+returns-clause-left g c = record { crash = c.loop-page.invariant.crash; calm = c.loop-page.invariant.calm }

@@ -1,8 +1,9 @@
-use Rattle.std.proofs.Common.{inl, inr, refl, sym, ◌∙◌, ap, subst, arith}
+use Rattle.std.proofs.Common.{◌≡◌, inl, inr, refl, sym, ◌∙◌, ap, subst, arith}
 use Rattle.std.specs.Prelude.{IsTrue}
 use Rattle.std.proofs.lemmas.Result.{err_from_is_err_and}
-use Rattle.tg_keep.specs.Lines.{first_sum, history_of, last_sum_after}
-use Rattle.tg_keep.specs.Opened.{MayOpen}
+use Rattle.tg_keep.specs.Closed.{is_closed}
+use Rattle.tg_keep.specs.Lines.{first_sum, history_of, last_sum_after, said_by}
+use Rattle.tg_keep.specs.Opened.{HasLinesTo, MayOpen}
 use Rattle.tg_keep.proofs.Mending.{ended_says, ended_synced}
 use Rattle.tg_keep.proofs.Opening.{caused_by_text, lines_to}
 use Rattle.tg_keep.proofs.file.LineFile.open.Goals as goal
@@ -28,25 +29,31 @@ returns-clause-crash g c clean f left =
 pub returns-clause-bytes : goal.returns-clause-bytes
 returns-clause-bytes g c clean = c.in_ok-bytes.ensures.bytes (subst IsTrue c.end_lines.ensures.calm clean)
 
-pub returns-clause-opens : goal.returns-clause-opens
-returns-clause-opens g c clean = subst MayOpen (c.deref.ensures.value ∙ c.in_ok-bytes.ensures.bytes (subst IsTrue c.end_lines.ensures.calm clean)) c.in_ok-lines.ensures.opens
+pub returns-clause-ended : goal.returns-clause-ended
+returns-clause-ended g c clean = c.in_ok-lines.ensures.closed ∙ ap is_closed (c.deref.ensures.value ∙ c.in_ok-bytes.ensures.bytes (subst IsTrue c.end_lines.ensures.calm clean))
 
-pub returns-clause-texts : goal.returns-clause-texts
-returns-clause-texts g c clean =
-    let same = c.deref.ensures.value ∙ c.in_ok-bytes.ensures.bytes (subst IsTrue c.end_lines.ensures.calm clean) ∙ sym c.read_synced.ensures.seen in
-    let lines = lines_to g.D.Disk.seen g.D.Disk.may_leave c.in_ok-lines.lines.at c.args.self.now.disk c.read_synced.new.disk c.deref.result.now c.in_ok-lines.ensures.at same c.read_synced.ensures.seen c.in_ok-bytes.ensures.durable in
-    ended_says (g.D.Disk.seen c.read_synced.new.disk) c.in_ok-lines.lines.at lines.lines (g.D.Disk.seen c.end_lines.new.disk) (c.in_ok-end_lines.ensures.ended lines) ∙ ap history_of c.read_synced.ensures.seen
-
-pub returns-clause-settled : goal.returns-clause-settled
-returns-clause-settled g c = record {
-  usable = c.in_ok-end_lines.ensures.usable;
-  room = omega arith;
-  synced = λ clean.
-      let same = c.deref.ensures.value ∙ c.in_ok-bytes.ensures.bytes (subst IsTrue c.end_lines.ensures.calm clean) ∙ sym c.read_synced.ensures.seen in
-      let lines = lines_to g.D.Disk.seen g.D.Disk.may_leave c.in_ok-lines.lines.at c.args.self.now.disk c.read_synced.new.disk c.deref.result.now c.in_ok-lines.ensures.at same c.read_synced.ensures.seen c.in_ok-bytes.ensures.durable in
-      ended_synced (g.D.Disk.seen c.read_synced.new.disk) c.in_ok-lines.lines.at lines.lines g.D.Disk.seen g.D.Disk.may_leave _ refl refl (c.in_ok-lines.ensures.sum ∙ ap (last_sum_after first_sum) same)
-      (c.in_ok-end_lines.ensures.ended lines) c.in_ok-end_lines.ensures.durable;
-}
+pub returns-clause-opened : goal.returns-clause-opened
+returns-clause-opened g c =
+    let old = c.args.self.now.disk in
+    let mid = c.read_synced.new.disk in
+    let seen = g.D.Disk.seen in
+    let e = c.in_ok-end_lines.ensures.ended in
+    let read : IsTrue (g.D.Disk.is_clean c.end_lines.new.disk) → c.deref.result.now ≡ seen old = λ clean.
+    c.deref.ensures.value ∙ c.in_ok-bytes.ensures.bytes (subst IsTrue c.end_lines.ensures.calm clean) in
+    let lines : IsTrue (g.D.Disk.is_clean c.end_lines.new.disk) → HasLinesTo seen g.D.Disk.may_leave c.in_ok-lines.lines.at mid = λ clean.
+    lines_to seen g.D.Disk.may_leave c.in_ok-lines.lines.at old mid c.deref.result.now c.in_ok-lines.ensures.at (read clean ∙ sym c.read_synced.ensures.seen) c.read_synced.ensures.seen c.in_ok-bytes.ensures.durable in
+    record {
+      settled = record {
+        usable = e.usable;
+        room = omega arith;
+        synced = λ clean.
+            ended_synced (seen mid) c.in_ok-lines.lines.at (lines clean).lines seen g.D.Disk.may_leave _ refl refl (c.in_ok-lines.ensures.sum ∙ ap (last_sum_after first_sum) (read clean ∙ sym c.read_synced.ensures.seen))
+            (e.ended (lines clean)) e.durable;
+      };
+      texts = λ clean.
+          ap said_by (ended_says (seen mid) c.in_ok-lines.lines.at (lines clean).lines (seen c.end_lines.new.disk) (e.ended (lines clean))) ∙ ap history_of c.read_synced.ensures.seen;
+      opens = λ clean. subst MayOpen (read clean) c.in_ok-lines.ensures.opens;
+    }
 
 pub returns-in_err-lines-clause-cause : goal.returns-in_err-lines-clause-cause
 returns-in_err-lines-clause-cause g c =

@@ -7,7 +7,7 @@ use Rattle.tg_keep.proofs.file.LineFile.put_all.Given as goal
 
 abbrev pub invariant-loop-batch : goal.invariant-loop-batch
 invariant-loop-batch g l = record {
-  settled : AwaitsBatch g.D.Disk.seen g.D.Disk.may_leave g.D.Disk.is_usable g.D.Disk.is_clean l.self;
+  settled : AwaitsBatch g.D.Disk l.self;
   count : l.answered ≡ l.batch-index;
   texts : IsTrue (g.D.Disk.is_clean l.self.disk) → history_of (g.D.Disk.seen l.self.disk) ≡ history_of (g.D.Disk.seen l.fn.self.disk) ++ all_texts (take l.batch-index l.batches);
   follow : FollowOn l.self.sum (drop l.batch-index l.batches);
