@@ -2,7 +2,8 @@
 use Rattle.std.proofs.Common.{ℕ, List, [], ◌∷◌, ◌++◌, refl, sym, subst, append-nil, append_assoc}
 use Rattle.std.specs.List.{flat_map}
 use Rattle.tg_journal.specs.declared.entry.Entry.{Entry}
-use Rattle.tg_entries.specs.Texts.{TextStart, IsCountedText, next_entry, no_entry, IsHistory, entry_text, uncounted_text}
+use Rattle.tg_snapshot.specs.Snapshot.{Saved}
+use Rattle.tg_entries.specs.Texts.{TextStart, Joined, Shown, IsCountedText, next_entry, no_entry, IsHistory, entry_text, uncounted_text}
 
 -- the lines of more entries, with no count line
 counted_on : (front : List Entry) (text : List ℕ) (es : List Entry) → IsCountedText front text → IsCountedText (front ++ es) (text ++ flat_map entry_text es)
@@ -16,6 +17,16 @@ counted_on front text (e ∷ es) is =
 -- the history without its count lines but the last
 pub history_plain : (text : List ℕ) (origin : TextStart) (es : List Entry) → IsHistory text origin es → IsHistory (uncounted_text origin es) origin es
 history_plain text origin es was = record {
+  body = flat_map entry_text es;
+  accepted = was.accepted;
+  legal = was.legal;
+  counted = counted_on [] [] es no_entry;
+  whole = refl;
+}
+
+-- the history without them and without the sum of the part before
+pub history_unjoined : (text : List ℕ) (p : Saved) (sum : List ℕ) (es : List Entry) → IsHistory text (Joined p sum) es → IsHistory (uncounted_text (Shown p) es) (Shown p) es
+history_unjoined text p sum es was = record {
   body = flat_map entry_text es;
   accepted = was.accepted;
   legal = was.legal;

@@ -19,7 +19,7 @@ fetches_none held a b kept = record {
   held_is = sym (append-nil held);
 }
 
--- a piece behind others
+-- a piece after others
 pub fetches_more : (held now new : List ℕ) (a b c : Option (List ℕ)) → FetchesPiece held a now b → FetchesPiece now b new c → FetchesPiece held a new c
 fetches_more held now new a b c f g = record {
   piece = f.piece ++ g.piece;
@@ -27,7 +27,7 @@ fetches_more held now new a b c f g = record {
   held_is = g.held_is ∙ ap (λ (x : List ℕ). x ++ g.piece) f.held_is ∙ append_assoc held f.piece g.piece;
 }
 
--- the end that is met behind a piece is the end of what there was before it
+-- the end that is met after a piece is the end of what there was before it
 pub ended_more : (a b c : Option (List ℕ)) (piece : List ℕ) → Consumes a b piece → OnSome b (IsAtEnd c) → OnSome a (IsAtEnd c)
 ended_more None b c piece taken end = tt
 ended_more (Some xs) None c piece taken end = absurd taken
@@ -50,7 +50,7 @@ loses_front held now shown new text a b f is begins left =
     loses_read held now new text a b f
     (sym (take-append-drop (length text) now) ∙ ap (λ (x : List ℕ). x ++ drop (length text) now) front ∙ ap (λ (x : List ℕ). text ++ x) (sym left))
 
--- a text behind another
+-- a text after another
 pub loses_more : (held now new first second : List ℕ) (a b c : Option (List ℕ)) → Loses held a first now b → Loses now b second new c → Loses held a (first ++ second) new c
 loses_more held now new first second a b c f g = record {
   piece = f.piece ++ g.piece;
@@ -69,7 +69,7 @@ loses_each {X} text xs i x held now new a b c inside is f g =
     subst (λ (t : List ℕ). Loses held a t new c) (flat_map_more text [] (take i xs) x ∙ ap (flat_map text) (sym more))
     (loses_more held now new (flat_map text (take i xs)) (text x) a b c f g)
 
--- a listing behind what was written, to the end of its line
+-- a listing after what was written, to the end of its line
 pub loses_listing : (held first second third written : List ℕ) (edges : List (ℕ × RightSet)) (a b c d : Option (List ℕ)) →
     Loses held a (written ++ codes " = ok") first b → Loses first b (flat_map edge_text edges) second c → Loses second c (codes "\n") third d → third ≡ [] →
     Loses held a (written ++ (codes " = " ++ answer_text (answer.Reply (Edges edges)))) [] d

@@ -1,5 +1,5 @@
 -- What a line more comes to for an audit of a text.
-use Rattle.std.proofs.Common.{◌≡◌, ◌⊎◌, ⊎_elim, ◌∙◌, ℕ, ◌+◌, List, [], ◌∷◌, ◌++◌, Option, Some, None, IfSome, OnSome, ap, sym, subst, append-nil, append_assoc, length, length-append, arith}
+use Rattle.std.proofs.Common.{◌≡◌, ◌⊎◌, ⊎_elim, ◌∙◌, ℕ, ◌+◌, List, [], ◌∷◌, ◌++◌, Option, Some, None, IfSome, OnSome, refl, ap, sym, subst, append-nil, append_assoc, length, length-append, arith}
 use Rattle.std.proofs.KnownBytes.{Consumes-nil, Consumes-trans}
 use Rattle.std.proofs.lemmas.List.{flat_map_more}
 use Rattle.std.specs.Io.KnownBytes.{Consumes, IsAtEnd}
@@ -19,10 +19,10 @@ use Rattle.tg_entries.specs.declared.stage.Entered.{Entered}
 use Rattle.tg_entries.specs.declared.stage.Stage.{Stage}
 use Rattle.tg_entries.specs.declared.stage.Stage.TheVariants as stage
 use Rattle.tg_entries.specs.Pieces.{FetchesPiece}
-use Rattle.tg_entries.specs.Read.{CanSave, EndsText, ReadsOn, HasEnded, HasEntered, HasRead, IsListedEntry, IsNext}
+use Rattle.tg_entries.specs.Read.{CanSave, EndsText, ReadsOn, HasEnded, HasEntered, HasRead, HasReadAll, HasReopened, IsListedEntry, IsNext}
 use Rattle.tg_snapshot.specs.Snapshot.{Saved, IsSnapshot, IsSnapshotOf, graph_shown}
 use Rattle.tg_saved.specs.Texts.{edge_line_text, snapshot_text}
-use Rattle.tg_entries.specs.Texts.{TextStart, Opened, Shown, IsAudited, IsCountedText, next_count, next_entry, no_entry, IsHistory, IsTextStart, IsSavedAfter, end_text, entry_text, graph_of_origin, head_text, limits_text, opening_text, origin_text, version_text, worker_text}
+use Rattle.tg_entries.specs.Texts.{TextStart, Opened, Shown, Joined, IsAudited, IsAuditedAfter, IsCountedText, next_count, next_entry, no_entry, IsHistory, IsTextStart, IsSavedAfter, end_text, entry_text, graph_of_origin, head_text, limits_text, opening_text, origin_text, part_head_text, sum_text, version_text, worker_text}
 
 -- an edge
 pub edge_read : (text line : List ℕ) (workers limit : ℕ) (values : List Value) (edges now : List Edge) (edge : Edge) → now ≡ edges ++ edge ∷ [] →
@@ -34,14 +34,15 @@ edge_read text line workers limit values edges now edge more before is =
 
 -- the whole opening, before any entry
 pub opening_read : (text : List ℕ) (plan : Plan) (entered : Entered) → text ≡ head_text plan → IsPlan plan →
-    StandsAt (start_of plan) entered.auditor → entered.auditor.at ≡ 0 → entered.count ≡ 0 → HasEntered text entered
-opening_read text plan entered is opening come first none = record {
+    StandsAt (start_of plan) entered.auditor → entered.auditor.at ≡ 0 → entered.count ≡ 0 → entered.before ≡ None → HasEntered text entered
+opening_read text plan entered is opening come first none bare = record {
   origin = Opened plan;
   entries = [];
   accepted = opening;
   passes = record { legal = tt; next = come };
   place = first;
   number = none;
+  sum = bare;
   body = [];
   counted = no_entry;
   text_is = is ∙ sym (append-nil (head_text plan));
@@ -49,17 +50,46 @@ opening_read text plan entered is opening come first none = record {
 
 -- the whole snapshot, before any entry
 pub snapshot_read : (text : List ℕ) (p : Saved) (entered : Entered) → text ≡ snapshot_text p → IsSnapshot p →
-    StandsAt (graph_shown p) entered.auditor → entered.auditor.at ≡ p.entries → entered.count ≡ 0 → HasEntered text entered
-snapshot_read text p entered is accepted come first none = record {
-  origin = Shown p;
-  entries = [];
+    StandsAt (graph_shown p) entered.auditor → entered.auditor.at ≡ p.entries → entered.count ≡ 0 → entered.before ≡ None → HasReopened text entered
+snapshot_read text p entered is accepted come first none bare = record {
+  shown = p;
   accepted = accepted;
-  passes = record { legal = tt; next = come };
-  place = omega (arith, first);
+  come = come;
+  place = first;
   number = none;
+  sum = bare;
+  text_is = is;
+}
+
+-- entries come after it at once
+pub reopened_read : (text : List ℕ) (entered : Entered) → HasReopened text entered → HasEntered text entered
+reopened_read text entered was = record {
+  origin = Shown was.shown;
+  entries = [];
+  accepted = was.accepted;
+  passes = record { legal = tt; next = was.come };
+  place = omega (arith, was.place);
+  number = was.number;
+  sum = was.sum;
   body = [];
   counted = no_entry;
-  text_is = is ∙ sym (append-nil (snapshot_text p));
+  text_is = was.text_is ∙ sym (append-nil (snapshot_text was.shown));
+}
+
+-- the sum of the part before comes after it
+pub joined_read : (text line sum : List ℕ) (entered : Entered) → HasReopened text entered → line ≡ sum_text sum →
+    HasEntered (text ++ line) (record { auditor = entered.auditor; count = entered.count; before = Some sum })
+joined_read text line sum entered was is = record {
+  origin = Joined was.shown sum;
+  entries = [];
+  accepted = was.accepted;
+  passes = record { legal = tt; next = was.come };
+  place = omega (arith, was.place);
+  number = was.number;
+  sum = refl;
+  body = [];
+  counted = no_entry;
+  text_is = ap (λ (x : List ℕ). x ++ line) was.text_is ∙ ap (λ (x : List ℕ). snapshot_text was.shown ++ x) is ∙ sym (append-nil (part_head_text was.shown sum));
 }
 
 -- a line after all that came after the front
@@ -69,8 +99,9 @@ text_on text line front body more before is =
 
 -- an entry, which is next where the audit stands
 entry_at : (text line : List ℕ) (entered next : Entered) (was : HasEntered text entered) →
-    IsNext (graph_after (graph_of_origin was.origin) was.entries) entered.auditor.at line next.auditor → next.count ≡ entered.count + 1 → HasEntered (text ++ line) next
-entry_at text line entered next was this more =
+    IsNext (graph_after (graph_of_origin was.origin) was.entries) entered.auditor.at line next.auditor → next.count ≡ entered.count + 1 → next.before ≡ entered.before →
+    HasEntered (text ++ line) next
+entry_at text line entered next was this more same =
     let g = graph_of_origin was.origin in
     let e : Entry = this.entry in record {
       origin = was.origin;
@@ -82,6 +113,7 @@ entry_at text line entered next was this more =
       };
       place = omega (arith, this.place, was.place, length-append was.entries (e ∷ []));
       number = omega (arith, more, was.number, length-append was.entries (e ∷ []));
+      sum = same ∙ was.sum;
       body = was.body ++ entry_text e;
       counted = next_entry e was.counted;
       text_is = text_on text line (origin_text was.origin) was.body (entry_text e) was.text_is this.line_is;
@@ -90,19 +122,19 @@ entry_at text line entered next was this more =
 -- an entry
 pub entry_read : (text line : List ℕ) (entered next : Entered) → HasEntered text entered →
     ((g : ProtectionGraph) → StandsAt g entered.auditor → IsNext g entered.auditor.at line next.auditor) →
-    next.count ≡ entered.count + 1 → HasEntered (text ++ line) next
-entry_read text line entered next was is_next more =
-    entry_at text line entered next was (is_next (graph_after (graph_of_origin was.origin) was.entries) was.passes.next) more
+    next.count ≡ entered.count + 1 → next.before ≡ entered.before → HasEntered (text ++ line) next
+entry_read text line entered next was is_next more same =
+    entry_at text line entered next was (is_next (graph_after (graph_of_origin was.origin) was.entries) was.passes.next) more same
 
 -- an entry, of which the line is read to its end
 pub listed_read : (text held : List ℕ) (left left' : Option (List ℕ)) (entered next : Entered) → HasEntered text entered →
     ((g : ProtectionGraph) → StandsAt g entered.auditor → IsListedEntry g entered.auditor.at held left left' next.auditor) →
-    next.count ≡ entered.count + 1 → ReadsOn text held left left' (stage.Entries next)
-listed_read text held left left' entered next was is_listed more =
+    next.count ≡ entered.count + 1 → next.before ≡ entered.before → ReadsOn text held left left' (stage.Entries next)
+listed_read text held left left' entered next was is_listed more same =
     let this = is_listed (graph_after (graph_of_origin was.origin) was.entries) was.passes.next in record {
       rest = this.rest;
       taken = this.taken;
-      read = entry_at text (held ++ this.rest) entered next was this.next more;
+      read = entry_at text (held ++ this.rest) entered next was this.next more same;
     }
 
 -- a count line, after which entries may come again
@@ -116,6 +148,7 @@ count_read text entered was =
       passes = read.passes;
       place = read.place;
       number = read.number;
+      sum = read.sum;
       counted = next_count read.counted;
       text_is =
           was.whole
@@ -126,6 +159,12 @@ count_read text entered was =
 pub may_go_on : (text : List ℕ) (now : Stage) (entered : Entered) → (now ≡ stage.Entries entered) ⊎ (now ≡ stage.Ended entered) → HasRead text now → HasEntered text entered
 may_go_on text now entered either was =
     ⊎_elim (λ is. subst (HasRead text) is was) (λ is. count_read text entered (subst (HasRead text) is was)) either
+
+-- where a listing may come: there, and after a snapshot
+pub may_list : (text : List ℕ) (now : Stage) (entered : Entered) → (now ≡ stage.Joint entered) ⊎ ((now ≡ stage.Entries entered) ⊎ (now ≡ stage.Ended entered)) →
+    HasRead text now → HasEntered text entered
+may_list text now entered either was =
+    ⊎_elim (λ is. reopened_read text entered (subst (HasRead text) is was)) (λ is. may_go_on text now entered is was) either
 
 -- ---- a whole text
 
@@ -150,6 +189,16 @@ audited_ended text entered was = record {
   number = was.read.number;
 }
 
+-- the same, where the sum of the part before was read
+pub audited_after : (text sum : List ℕ) (entered : Entered) → entered.before ≡ Some sum → HasEnded text entered → IsAuditedAfter sum text entered.count
+audited_after text sum entered is was = record {
+  origin = was.read.origin;
+  entries = was.read.entries;
+  history = history_ended text entered was;
+  number = was.read.number;
+  before = sym was.read.sum ∙ is;
+}
+
 -- a snapshot of what the audit has come to is one of the graph after it
 pub saved_ended : (text : List ℕ) (entered : Entered) (p : Saved) → HasEnded text entered →
     ((g : ProtectionGraph) → StandsAt g entered.auditor → IsSnapshotOf p g) → p.entries ≡ entered.auditor.at → IsSavedAfter text p
@@ -165,6 +214,7 @@ saved_ended text entered p was of place =
 can_be_saved : (o : TextStart) → IsTextStart o → CanBeSaved (graph_of_origin o)
 can_be_saved (Opened plan) is = CanBeSaved-opened plan is
 can_be_saved (Shown p) is = CanBeSaved-shown p is
+can_be_saved (Joined p sum) is = CanBeSaved-shown p is
 
 -- the audit has come to a graph of which it has a snapshot
 pub can_save_ended : (text : List ℕ) (entered : Entered) → HasEnded text entered → CanSave entered
@@ -214,12 +264,20 @@ whole_taken (Some xs) (Some rest) None front piece line before taken none is = a
 whole_taken (Some xs) (Some rest) (Some left) front piece line before taken none is =
     before ∙ ap (λ (x : List ℕ). front ++ x) (taken ∙ ap (λ (x : List ℕ). piece ++ x) none ∙ append-nil piece ∙ sym is)
 
+-- of bytes that are known all were taken
+all_taken : (known now then : Option (List ℕ)) (front piece : List ℕ) → Consumes known now front → Consumes now then piece → OnSome now (IsAtEnd then) → HasReadAll known then
+all_taken None now then front piece before taken none = tt
+all_taken (Some xs) None then front piece before taken none = absurd before
+all_taken (Some xs) (Some rest) None front piece before taken none = absurd taken
+all_taken (Some xs) (Some rest) (Some left) front piece before taken none = ap (λ (x : List ℕ). Some x) none
+
 -- the text ends, and this is answered
 pub at_end : {E : Type 0} (known now then : Option (List ℕ)) (stage : Stage) (line : List ℕ) (r : Result Entered E) → IsAt known now stage → FetchesPiece [] now line then →
-    OnSome now (IsAtEnd then) → ((text : List ℕ) → HasRead text stage → IfOk r (HasEnded (text ++ line))) → IfOk r (EndsText known)
+    OnSome now (IsAtEnd then) → ((text : List ℕ) → HasRead text stage → IfOk r (HasEnded (text ++ line))) → IfOk r (EndsText known then)
 at_end known now then stage line (Ok entered) was taken none ends = record {
   text = was.front ++ line;
   same = whole_taken known now then was.front taken.piece line was.taken taken.taken none taken.held_is;
+  all = all_taken known now then was.front taken.piece was.taken taken.taken none;
   ended = ends was.front was.read;
 }
 at_end known now then stage line (Err e) was taken none ends = tt

@@ -1,4 +1,5 @@
 pub mod Texts
+pub mod Sums
 pub mod Parts
 pub mod Pieces
 pub mod Read

@@ -2,7 +2,7 @@
 use Rattle.std.specs.Prelude.{◌≡◌, ℕ, List, ◌++◌, Option}
 use Rattle.std.specs.Io.KnownBytes.{Consumes}
 
--- the next bytes that the reader had left were put behind those at hand
+-- the next bytes that the reader had left were put after those at hand
 pub record FetchesPiece (held : List ℕ) (left : Option (List ℕ)) (held' : List ℕ) (left' : Option (List ℕ)) : Type 0 where
   pub piece : List ℕ
   pub taken : Consumes left left' piece

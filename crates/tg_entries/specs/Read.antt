@@ -1,5 +1,5 @@
 -- What an audit of a text has read.
-use Rattle.std.specs.Prelude.{◌≡◌, ℕ, ◌+◌, List, [], ◌∷◌, ◌++◌, length, Option, IfSome}
+use Rattle.std.specs.Prelude.{◌≡◌, ℕ, ◌+◌, List, [], ◌∷◌, ◌++◌, length, Option, Some, None, IfSome}
 use Rattle.std.specs.Io.KnownBytes.{Consumes}
 use Rattle.tg_model.specs.Graph.{ProtectionGraph}
 use Rattle.tg_journal.specs.declared.entry.Entry.{Entry}
@@ -11,9 +11,11 @@ use Rattle.tg_entries.specs.declared.stage.Entered.{Entered}
 use Rattle.tg_entries.specs.declared.stage.Stage.{Stage}
 use Rattle.tg_entries.specs.declared.stage.Stage.TheVariants as stage
 use Rattle.tg_saved.specs.Read.{HasReadSnapshot}
-use Rattle.tg_entries.specs.Texts.{TextStart, IsCountedText, IsTextStart, end_text, entries_before, entry_text, graph_of_origin, opening_text, origin_text, version_text}
+use Rattle.tg_saved.specs.Texts.{snapshot_text}
+use Rattle.tg_snapshot.specs.Snapshot.{Saved, IsSnapshot, graph_shown}
+use Rattle.tg_entries.specs.Texts.{TextStart, IsCountedText, IsTextStart, end_text, entries_before, entry_text, graph_of_origin, opening_text, origin_text, sum_before, version_text}
 
--- The text is an origin's and then that of so many entries, which are a legal history. Count lines may stand between them. The audit has
+-- The text is an origin's and then that of so many entries, which are a legal history. Count lines may be between them. The audit has
 -- come to the graph and the place after them.
 pub record HasEntered (text : List ℕ) (entered : Entered) : Type 0 where
   pub origin : TextStart
@@ -23,8 +25,19 @@ pub record HasEntered (text : List ℕ) (entered : Entered) : Type 0 where
   pub passes : Passes (graph_of_origin origin) entries entered.auditor
   pub place : entered.auditor.at ≡ entries_before origin + length entries
   pub number : entered.count ≡ length entries
+  pub sum : entered.before ≡ sum_before origin
   pub counted : IsCountedText entries body
   pub text_is : text ≡ origin_text origin ++ body
+
+-- the text is that of a snapshot, and the audit has come to the graph and the place that it shows
+pub record HasReopened (text : List ℕ) (entered : Entered) : Type 0 where
+  pub shown : Saved
+  pub accepted : IsSnapshot shown
+  pub come : StandsAt (graph_shown shown) entered.auditor
+  pub place : entered.auditor.at ≡ shown.entries
+  pub number : entered.count ≡ 0
+  pub sum : entered.before ≡ None
+  pub text_is : text ≡ snapshot_text shown
 
 -- the text is that of a whole history, and the audit has come to the graph and the place after it
 pub record HasEnded (text : List ℕ) (entered : Entered) : Type 0 where
@@ -38,10 +51,15 @@ pub record CanSave (entered : Entered) : Type 0 where
   pub come : StandsAt graph entered.auditor
   pub saved : CanBeSaved graph
 
--- all that the reader had, if that is known, is such a text
-pub record EndsText (known : Option (List ℕ)) (entered : Entered) : Type 0 where
+-- of a reader whose bytes are known, all were read
+abbrev pub HasReadAll : Option (List ℕ) → Option (List ℕ) → Type 0
+HasReadAll known left = IfSome known (λ _. left ≡ Some [])
+
+-- all that the reader had, if that is known, is such a text, and was read
+pub record EndsText (known left : Option (List ℕ)) (entered : Entered) : Type 0 where
   pub text : List ℕ
   pub same : IfSome known (λ bytes. bytes ≡ text)
+  pub all : HasReadAll known left
   pub ended : HasEnded text entered
 
 -- the line is that of an entry which is legal on the first graph, and the audit has come to the one and to the place after it
@@ -67,11 +85,12 @@ HasRead text stage.Version = text ≡ []
 HasRead text stage.Limits = text ≡ version_text
 HasRead text (stage.Opening head) = HasHead text head
 HasRead text (stage.Saved lines) = HasReadSnapshot text lines
+HasRead text (stage.Joint entered) = HasReopened text entered
 HasRead text (stage.Entries entered) = HasEntered text entered
 HasRead text (stage.Ended entered) = HasEnded text entered
 HasRead text stage.Stopped = ⊥
 
--- a line begins with the bytes at hand, and goes on with those that were taken of the reader's; the audit has read it behind the text
+-- a line begins with the bytes at hand, and goes on with those that were taken of the reader's; the audit has read it after the text
 pub record ReadsOn (text held : List ℕ) (left left' : Option (List ℕ)) (next : Stage) : Type 0 where
   pub rest : List ℕ
   pub taken : Consumes left left' rest

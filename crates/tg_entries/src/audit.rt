@@ -4,11 +4,12 @@ ghost use Rattle.tg_entries.specs.declared.stage.Stage.TheVariants as Stage;
 ghost use Rattle.tg_model.specs.Graph.{ProtectionGraph};
 ghost use Rattle.tg_journal.specs.Auditing.{StandsAt};
 ghost use Rattle.tg_saved.specs.Read.{HasReadSnapshot};
-ghost use Rattle.tg_entries.specs.Read.{ReadsOn, HasEnded, HasEntered, HasHead, HasRead, IsNext};
+ghost use Rattle.tg_entries.specs.Read.{ReadsOn, HasEnded, HasEntered, HasHead, HasRead, HasReopened, IsNext};
 ghost use Rattle.tg_saved.specs.Texts.{edge_line_text, snapshot_text};
 ghost use Rattle.tg_entries.specs.Texts.{IsAudited, deed_text, worker_text};
 
 use crate::fault::{LineFault, LongFault};
+use crate::joint::joint_line;
 use crate::long::long_stage;
 use crate::part::{Part, check_part, is_reply};
 use crate::read::{deed_part, read_deed, read_limits, worker_part};
@@ -66,9 +67,9 @@ impl<L: Ledger> TextAudit<L> {
         Ok(())
     }
 
-    /// Reads the next line, of which the front is at hand: more than any line has but an entry that lists edges. Its
-    /// rest is read piece by piece, and compared. `Ok` and a fault mean what they do of [`TextAudit::line`]. At a fault
-    /// the rest may be read in part.
+    /// Reads the next line, of which the front is at hand. The front is longer than any line but an entry that lists
+    /// edges. Its rest is read piece by piece, and compared. `Ok` and a fault mean what they do of [`TextAudit::line`].
+    /// At a fault the rest may be read in part.
     pub(crate) fn long_line<R: BufRead>(
         &mut self,
         reader: &mut R,
@@ -104,7 +105,7 @@ impl<L: Ledger> TextAudit<L> {
     }
 }
 
-// What comes of a line.
+// Reads a line at a stage, and returns the next stage.
 fn next_stage<L: Ledger>(
     alloc: Global,
     again: &mut Written<L>,
@@ -118,6 +119,7 @@ fn next_stage<L: Ledger>(
         Stage::Limits => limits_line(alloc, again, line),
         Stage::Opening(head) => opening_line(alloc, again, head, line),
         Stage::Saved(lines) => snapshot_line(alloc, again, lines, line),
+        Stage::Joint(entered) => joint_line(alloc, again, entered, line),
         Stage::Entries(entered) | Stage::Ended(entered) => {
             entries_line(alloc, again, entered, line)
         }
@@ -147,20 +149,21 @@ fn snapshot_line<L: Ledger>(
     ensures { (text : List ℕ) → HasReadSnapshot text lines → IfOk result (HasRead (text ++ line.now)) }
 {
     match lines.next(alloc, again, line)? {
-        SnapshotStage::Whole(snapshot) => Ok(Stage::Entries(reopen(alloc, &snapshot)?)),
+        SnapshotStage::Whole(snapshot) => Ok(Stage::Joint(reopen(alloc, &snapshot)?)),
         next => Ok(Stage::Saved(next)),
     }
 }
 
 // The audit of a history that goes on from the snapshot. Fails only when out of memory.
 fn reopen(alloc: Global, snapshot: &Snapshot) -> Result<Entered, AllocError>
-    ensures { (text : List ℕ) → text ≡ snapshot_text snapshot.now → IfOk result (HasEntered text) }
+    ensures { (text : List ℕ) → text ≡ snapshot_text snapshot.now → IfOk result (HasReopened text) }
 {
     // Its lists are a snapshot, as this call says.
     let _ = snapshot.picture();
     Ok(Entered {
         auditor: Auditor::reopen(alloc, snapshot)?,
         count: 0,
+        before: None,
     })
 }
 
@@ -196,7 +199,7 @@ fn may_open(workers: u64, max_vertices: u64) -> bool {
         && max_vertices <= MAX_LASTING_VERTICES
 }
 
-// A line of an opening, or the first behind it.
+// A line of an opening, or the first after it.
 fn opening_line<L: Ledger>(
     alloc: Global,
     again: &mut Written<L>,
@@ -220,7 +223,7 @@ fn opening_line<L: Ledger>(
     entries_line(alloc, again, entered, line)
 }
 
-// The value of the next worker, which the line tells.
+// Reads the value of the next worker from the line.
 fn next_value<L: Ledger>(
     alloc: Global,
     again: &mut Written<L>,
@@ -251,14 +254,14 @@ fn add_value(head: &mut Head, value: Value) -> Result<(), LineFault>
     }
 }
 
-// Whether one more worker's value may come: behind an edge none.
+// Whether one more worker's value may come: after an edge none.
 fn may_have_value(head: &Head) -> bool
     ensures { IsTrue result → head.now.edges.items ≡ [] }
 {
     head.edges.is_empty() && (head.values.len() as u64) < head.workers
 }
 
-// The edge behind the others.
+// The edge after the others.
 fn add_edge(head: &mut Head, edge: Edge) -> Result<(), LineFault>
     ensures { (text : List ℕ) → HasHead text head.old → OnOk result (HasHead (text ++ edge_line_text edge) head.new) }
 {
@@ -268,7 +271,7 @@ fn add_edge(head: &mut Head, edge: Edge) -> Result<(), LineFault>
     }
 }
 
-// The edge that the line tells, where all values came.
+// Reads an edge from the line, if all values came.
 fn next_edge<L: Ledger>(again: &mut Written<L>, head: &Head, line: &[u8]) -> Result<Edge, LineFault>
     ensures { IfOk result (λ edge. line.now ≡ edge_line_text edge) }
 {
@@ -282,7 +285,7 @@ fn next_edge<L: Ledger>(again: &mut Written<L>, head: &Head, line: &[u8]) -> Res
     Ok(edge)
 }
 
-// Whether the edge may come: behind all values, between two workers.
+// Whether the edge may come: after all values, between two workers.
 fn may_have_edge(head: &Head, edge: Edge) -> bool {
     head.values.len() as u64 == head.workers && edge.joins_workers(head.workers)
 }
@@ -303,11 +306,12 @@ pub(crate) fn open(alloc: Global, head: Head) -> Result<Entered, LineFault>
     Ok(Entered {
         auditor: Auditor::open(alloc, &opening)?,
         count: 0,
+        before: None,
     })
 }
 
-// An entry, or a count line.
-fn entries_line<L: Ledger>(
+/// Reads an entry, or a count line.
+pub(crate) fn entries_line<L: Ledger>(
     alloc: Global,
     again: &mut Written<L>,
     entered: Entered,

@@ -15,7 +15,7 @@ pub enum LineFault {
     /// The first line is neither 'kovshenul entries 1' nor 'kovshenul picture 1'.
     #[error("not 'kovshenul entries 1' or 'kovshenul picture 1', the forms that are read")]
     OtherVersion,
-    /// The line isn't of this form, or isn't allowed at its place, or a count line has another number than that of the
+    /// The line isn't of this form, or isn't allowed at its place. Or it is a count line, and there are more or fewer
     /// entries before it.
     #[error("bad line")]
     BadLine,
@@ -68,6 +68,12 @@ pub enum TextFault {
     /// The text ends within this line, counted from 1, or before this line and not after a count line.
     #[error("line {line}: the end is cut off")]
     CutOff { line: u64 },
+    /// The part is legal, and its head has no sum of the part before.
+    #[error("the head has no line 'sha256 SUM'")]
+    NoSum,
+    /// The part is legal, and its head has another sum than that of the part before.
+    #[error("the head has another sum than that of the part before")]
+    OtherSum,
     /// Reading failed.
     #[error(transparent)]
     Stream(#[from] io::Error),

@@ -1,10 +1,18 @@
-//! A law of the definitions alone. The function does nothing: what it ensures is the law.
+//! Laws of the definitions alone. Each function does nothing. Its `ensures` is the law.
 ghost use Rattle.std.specs.Prelude.{List, ℕ};
 ghost use Rattle.tg_journal.specs.declared.entry.Entry.{Entry};
-ghost use Rattle.tg_entries.specs.Texts.{IsHistory, TextStart, uncounted_text};
+ghost use Rattle.tg_entries.specs.Texts.{Joined, Shown, IsHistory, TextStart, uncounted_text};
+ghost use Rattle.tg_snapshot.specs.Snapshot.{Saved};
 
-/// Count lines say nothing of the history: without all of them but the last, a text is that of the same entries.
+/// Count lines say nothing of the history. A text without all of them but the last is the text of the same entries.
 pub fn count_lines_may_go()
     ensures { (text : List ℕ) (origin : TextStart) (es : List Entry) → IsHistory text origin es →
         IsHistory (uncounted_text origin es) origin es }
+{}
+
+/// The sum of the part before says nothing of the history. Without its line, a text is that of the same entries after
+/// the same snapshot.
+pub fn a_sum_may_go()
+    ensures { (text : List ℕ) (p : Saved) (sum : List ℕ) (es : List Entry) → IsHistory text (Joined p sum) es →
+        IsHistory (uncounted_text (Shown p) es) (Shown p) es }
 {}

@@ -32,6 +32,7 @@
 mod audit;
 mod fault;
 mod history;
+mod joint;
 pub mod laws;
 mod listing;
 mod long;
@@ -40,6 +41,8 @@ mod piece;
 mod read;
 mod stage;
 mod stream;
+mod sum;
+mod summed;
 mod write;
 
 pub use audit::TextAudit;
@@ -47,4 +50,5 @@ pub use fault::{LineFault, TextFault};
 pub use history::{write_entries, write_history, write_opening};
 pub use read::MOST_DEED_BYTES;
 pub use stream::{audit_text, audit_to_snapshot};
-pub use write::{VERSION, write_end, write_entry, write_limits, write_worker};
+pub use sum::{PartHead, audit_after, audit_to_head, part_head_bytes, sum_of, write_part_head};
+pub use write::{VERSION, write_end, write_entry, write_limits, write_sum, write_worker};

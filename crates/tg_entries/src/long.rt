@@ -30,7 +30,7 @@ pub(crate) fn long_stage<L: Ledger, R: BufRead>(
     match stage {
         Stage::Version => Err(LongFault::Line(LineFault::OtherVersion)),
         Stage::Opening(head) => long_entry(alloc, again, open(alloc, head)?, reader, line),
-        Stage::Entries(entered) | Stage::Ended(entered) => {
+        Stage::Joint(entered) | Stage::Entries(entered) | Stage::Ended(entered) => {
             long_entry(alloc, again, entered, reader, line)
         }
         Stage::Limits | Stage::Saved(_) | Stage::Stopped => {

@@ -1,4 +1,4 @@
-//! The parts of a text, and whether some bytes are one: what was read from them is written again, and compared.
+//! The parts of a text, and whether some bytes are a part. What was read from them is written again, and compared.
 ghost use Rattle.std.specs.Prelude.{◌≡◌, ◌++◌, codes, IfOk, IsTrue, OnOk};
 ghost use Rattle.tg_text.specs.declared.answer.Answer.TheVariants as Answer;
 ghost use Rattle.tg_text.specs.Sinks.{Writes};
@@ -6,7 +6,7 @@ ghost use Rattle.tg_text.specs.Texts.{answer_text};
 ghost use Rattle.tg_entries.specs.Parts.{part_text};
 
 use crate::fault::LineFault;
-use crate::write::{write_answered, write_deed, write_end, write_limits, write_worker};
+use crate::write::{write_answered, write_deed, write_end, write_limits, write_sum, write_worker};
 use std::alloc::AllocError;
 use std::sync::ledger::Ledger;
 use tg_model::{Deed, Edge, Reply, Value};
@@ -21,6 +21,7 @@ pub enum Part<'a> {
     Edge(&'a Edge),
     Deed { worker: u64, deed: &'a Deed },
     End(u64),
+    Sum(&'a [u8; 32]),
 }
 
 /// Writes the text of the part again. A bad line where the bytes aren't that text.
@@ -73,5 +74,6 @@ fn write_part<K: Sink>(sink: &mut K, part: &Part) -> Result<(), WriteFailed>
         Part::Edge(edge) => write_edge(sink, **edge),
         Part::Deed { worker, deed } => write_deed(sink, *worker, deed),
         Part::End(count) => write_end(sink, *count),
+        Part::Sum(sum) => write_sum(sink, sum),
     }
 }

@@ -28,7 +28,7 @@ pub(crate) fn read_some<R: BufRead>(
     Ok(false)
 }
 
-// Puts the bytes that the reader holds of a line behind those at hand, no more than so many. Whether the text ends
+// Puts the bytes that the reader holds of a line after those at hand, no more than so many. Whether the text ends
 // there. An interruption puts none.
 fn take_piece<R: BufRead>(reader: &mut R, most: usize, line: &mut Vec<u8>) -> io::Result<bool>
     ensures fetched { OnOk result (FetchesPiece line.old.items (R.remaining reader.old) line.new.items (R.remaining reader.new)) }

@@ -1,7 +1,8 @@
-//! How lines are taken apart. Nothing here has to be believed: what is read is written again and compared.
+//! How lines are taken apart. Nothing here has to be believed, because what is read is written again and compared.
 ghost use Rattle.std.specs.Prelude.{◌≤◌, length, IfSome};
 
 use crate::fault::LineFault;
+use hex::decode_to_slice;
 use std::alloc::Global;
 use std::str;
 use tg_model::{Deed, Value};
@@ -48,6 +49,14 @@ pub(crate) fn worker_part(line: &[u8]) -> Option<&str> {
     text_of_line(line)?.strip_prefix("worker ")
 }
 
+/// The SHA-256 of the part before.
+pub(crate) fn read_sum(line: &[u8]) -> Option<[u8; 32]> {
+    let digits = text_of_line(line)?.strip_prefix("sha256 ")?;
+    let mut sum = [0; 32];
+    decode_to_slice(digits, &mut sum).ok()?;
+    Some(sum)
+}
+
 /// The number of workers and of the vertices that may ever be made.
 pub(crate) fn read_limits(alloc: Global, line: &[u8]) -> Result<(u64, u64), LineFault> {
     let Some(text) = text_of_line(line) else {
@@ -68,7 +77,7 @@ pub(crate) fn read_deed(alloc: Global, part: &str) -> Result<(u64, Deed), LineFa
     }
 }
 
-// The making of a vertex: what it stores stands behind the line of a script.
+// The making of a vertex. The line of a script comes first, and then what the vertex stores.
 fn read_making(alloc: Global, part: &str) -> Result<(u64, Deed), LineFault> {
     let Some((line, word)) = part.rsplit_once(' ') else {
         return Err(LineFault::BadLine);

@@ -13,11 +13,12 @@ pub struct Head {
     pub edges: Vec<Edge>,
 }
 
-/// An audit that has come to some entry, and how many passed.
+/// An audit that has come to some entry, how many passed, and the sum of the part before, if its line came.
 #[derive(Drop)]
 pub struct Entered {
     pub auditor: Auditor,
     pub count: u64,
+    pub before: Option<[u8; 32]>,
 }
 
 /// Which line may come next.
@@ -31,10 +32,12 @@ pub enum Stage {
     Opening(Head),
     /// A line of a snapshot that the history goes on from.
     Saved(SnapshotStage),
+    /// The sum of the part before, an entry, or a count line. The last line of a snapshot came last.
+    Joint(Entered),
     /// An entry, or a count line.
     Entries(Entered),
-    /// The same. A count line came last, so the text may end here.
+    /// Entries whose last line was a count line, so the text may end here.
     Ended(Entered),
-    /// None: one was bad.
+    /// There is no next line, because a line was bad.
     Stopped,
 }

@@ -1,6 +1,6 @@
 //! An audit of all lines of a reader.
 ghost use Rattle.std.specs.Prelude.{◌≡◌, ◌<◌, ◌++◌, [], List, ℕ, IfOk, IfSome, OnOk};
-ghost use Rattle.tg_entries.specs.Read.{CanSave, EndsText, ReadsOn, HasEnded, HasRead};
+ghost use Rattle.tg_entries.specs.Read.{CanSave, EndsText, ReadsOn, HasEnded, HasRead, HasReadAll};
 ghost use Rattle.tg_entries.specs.Texts.{IsAudited, IsSavedAfter};
 
 use crate::audit::TextAudit;
@@ -16,8 +16,9 @@ use tg_snapshot::Snapshot;
 use tg_text::Count;
 
 /// Reads the text of a history to its end, and returns how many entries it has. `Ok` is returned only if the text is
-/// that of a legal history of the opening that it gives, or of the graph that its snapshot shows. Otherwise the answer
-/// is the first line at fault, or that the end is cut off. An error of the reader says nothing about the text.
+/// that of a legal history. The history is of the opening that the text gives, or of the graph that its snapshot shows.
+/// Otherwise the answer is the first line at fault, or that the end is cut off. An error of the reader says nothing
+/// about the text.
 pub fn audit_text<R: BufRead + Drop>(alloc: Global, reader: &mut R) -> Result<u64, TextFault>
     ensures { IfOk result (λ count. IfSome (R.remaining reader.old) (λ text. IsAudited text count)) }
 {
@@ -31,7 +32,8 @@ pub fn audit_to_snapshot<R: BufRead + Drop>(
     alloc: Global,
     reader: &mut R,
 ) -> Result<Snapshot, TextFault>
-    ensures { IfOk result (λ snapshot. IfSome (R.remaining reader.old) (λ text. IsSavedAfter text snapshot)) }
+    ensures saved { IfOk result (λ snapshot. IfSome (R.remaining reader.old) (λ text. IsSavedAfter text snapshot)) }
+    ensures all { OnOk result (HasReadAll (R.remaining reader.old) (R.remaining reader.new)) }
 {
     let entered = audit_named::<Brand, R>(alloc, Blank::new(1), reader)?;
     match snapshot_after(&entered) {
@@ -53,8 +55,8 @@ fn snapshot_after(entered: &Entered) -> Result<Snapshot, AllocError>
     }
 }
 
-// The ledger names the audit's buffer.
-fn audit_named<L: Ledger, R: BufRead + Drop>(
+/// Reads all lines. The ledger names the audit's buffer.
+pub(crate) fn audit_named<L: Ledger, R: BufRead + Drop>(
     alloc: Global,
     blank: Blank,
     reader: &mut R,
@@ -62,7 +64,7 @@ fn audit_named<L: Ledger, R: BufRead + Drop>(
     requires name { blank.name ≡ L.name }
     requires parts { blank.parts ≡ L.parts }
     requires some { 0 < blank.parts }
-    ensures { IfOk result (EndsText (R.remaining reader.old)) }
+    ensures { IfOk result (EndsText (R.remaining reader.old) (R.remaining reader.new)) }
 {
     let mut audit = TextAudit::<L>::new(alloc, Count::<L>::new(blank));
     let mut line = Vec::new(alloc);
@@ -76,7 +78,7 @@ fn audit_lines<L: Ledger, R: BufRead + Drop>(
     line: &mut Vec<u8>,
 ) -> Result<Entered, TextFault>
     requires { HasRead [] audit.old }
-    ensures { IfOk result (EndsText (R.remaining reader.old)) }
+    ensures { IfOk result (EndsText (R.remaining reader.old) (R.remaining reader.new)) }
 {
     for number in 1..u64::MAX {
         line.clear();
@@ -154,8 +156,8 @@ fn long_fault(number: u64, why: LineFault, rest: Option<bool>) -> TextFault {
     TextFault::Line { line: number, why }
 }
 
-// Reads the rest of a line, of which these bytes are at hand, and keeps none of it. Whether all of them are characters;
-// `None` where the text ends before the line does.
+// Reads the rest of a line, of which these bytes are at hand, and keeps none of it. Whether all of them are characters.
+// It is `None` if the text ends before the line does.
 fn skip_line<R: BufRead>(reader: &mut R, line: &mut Vec<u8>) -> io::Result<Option<bool>> {
     let mut is_text = true;
     for _ in 0..u64::MAX {

@@ -1,12 +1,14 @@
-//! How the text of a history is written: its opening, its entries, and the line behind them.
-ghost use Rattle.std.specs.Prelude.{◌∷◌, ◌++◌, codes, decimal};
+//! How the text of a history is written. It has the opening, the entries, and the line after them.
+ghost use Rattle.std.specs.Prelude.{◌≡◌, ◌∷◌, ◌++◌, codes, decimal};
 ghost use Rattle.tg_text.specs.declared.answer.Answer.TheVariants as Answer;
 ghost use Rattle.tg_text.specs.Grammar.{line_text};
 ghost use Rattle.tg_text.specs.Sinks.{Writes};
 ghost use Rattle.tg_text.specs.Texts.{answer_text};
 ghost use Rattle.tg_saved.specs.Values.{payload_text};
-ghost use Rattle.tg_entries.specs.Texts.{deed_text, end_text, entry_text, limits_text, worker_text};
+ghost use Rattle.hex.specs.Hex.{encode_lower};
+ghost use Rattle.tg_entries.specs.Texts.{deed_text, end_text, entry_text, limits_text, sum_text, worker_text};
 
+use hex::encode_to_slice;
 use itoa::Buffer;
 use tg_journal::Entry;
 use tg_model::{Deed, Law, Reply, Value};
@@ -15,7 +17,7 @@ use tg_text::{
     Line, Sink, WriteFailed, line_of_deed, put_all, put_texts, write_line, write_reply_of,
 };
 
-/// The first line: which form the text has.
+/// The first line, which says which form the text has.
 pub const VERSION: &[u8] = b"kovshenul entries 1\n";
 
 /// Writes the line of an entry, or a front of it where the sink fails. Takes no memory.
@@ -79,6 +81,23 @@ pub fn write_end<K: Sink>(sink: &mut K, count: u64) -> Result<(), WriteFailed>
     put_texts(sink, &[b"entries ", buffer.format(count).as_bytes(), b"\n"])
 }
 
+/// Writes the line with the SHA-256 of the part before, or a front of it if the sink fails. Takes no memory.
+pub fn write_sum<K: Sink>(sink: &mut K, sum: &[u8; 32]) -> Result<(), WriteFailed>
+    ensures { Writes (K.taken sink.old) (K.failures sink.old) (sum_text sum.now) result
+        (K.taken sink.new) (K.failures sink.new) }
+{
+    put_texts(sink, &[b"sha256 ", &digits_of(sum), b"\n"])
+}
+
+// The digits of a sum, in lower case.
+fn digits_of(sum: &[u8; 32]) -> [u8; 64]
+    ensures { result ≡ encode_lower sum.now }
+{
+    let mut digits = [0; 64];
+    let _ = encode_to_slice(sum, &mut digits);
+    digits
+}
+
 /// Writes the deed of an entry, which comes before ` = ` in its line, or a front of it if the sink fails. Takes no
 /// memory.
 pub(crate) fn write_deed<K: Sink>(sink: &mut K, worker: u64, deed: &Deed) -> Result<(), WriteFailed>
@@ -107,7 +126,7 @@ fn write_making<K: Sink>(
     write_stored(sink, law, state)
 }
 
-// Writes what a vertex stores, behind a space.
+// Writes what a vertex stores, after a space.
 fn write_stored<K: Sink>(sink: &mut K, law: Law, state: &[u64]) -> Result<(), WriteFailed>
     ensures { Writes (K.taken sink.old) (K.failures sink.old) (32 ∷ payload_text law state.now) result
         (K.taken sink.new) (K.failures sink.new) }

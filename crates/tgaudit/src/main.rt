@@ -1,18 +1,20 @@
-//! Audits the text of a history: an opening and the entries after it, as hosts of the library write them.
+//! Audits the text of a history, which is an opening and the entries after it, as hosts of the library write them.
 //!
 //! It reads the text from standard input, line by line. If all entries are a legal history of the opening, it prints
-//! how many there are. Else it prints the first line at fault. `tg_entries` reads the text and replays it. This crate
-//! has the command line and the two answers.
+//! how many there are. Else it prints the first line at fault. `tg_entries` reads the text, replays it and sums it.
+//! This crate has the command line and the answers.
 #![tactic(auto)]
 
 mod words;
 
 use std::env;
+use std::fs::File;
 use std::io::{self, BufReader, ErrorKind, Write};
 use std::process::ExitCode;
-use tg_entries::{LineFault, TextFault, audit_text, audit_to_snapshot};
-use tg_saved::snapshot_bytes;
-use words::{HELP, MORE, OF_A_LINE, OF_AN_ENTRY, OF_THE_END, OF_THE_FIRST_LINE, VERSION};
+use tg_entries::{
+    LineFault, TextFault, audit_after, audit_text, audit_to_head, part_head_bytes, sum_of,
+};
+use words::{HELP, MORE, OF_A_LINE, OF_A_SUM, OF_AN_ENTRY, OF_THE_END, OF_THE_FIRST_LINE, VERSION};
 
 // How many bytes are read at once.
 const BLOCK: usize = 65536;
@@ -35,11 +37,12 @@ fn advice_on(fault: &TextFault) -> Option<&'static str> {
     match fault {
         TextFault::Line { why, .. } => advice_on_line(why),
         TextFault::CutOff { .. } => Some(OF_THE_END),
+        TextFault::NoSum | TextFault::OtherSum => Some(OF_A_SUM),
         TextFault::Stream(_) => None,
     }
 }
 
-// The same, of a line that is whole.
+// What a whole line at fault has to be, if the fault doesn't say so.
 fn advice_on_line(why: &LineFault) -> Option<&'static str> {
     match why {
         LineFault::OutOfMemory | LineFault::BadSnapshot { .. } => None,
@@ -50,11 +53,14 @@ fn advice_on_line(why: &LineFault) -> Option<&'static str> {
 }
 
 // What the words of the command line ask for.
+#[derive(Drop)]
 enum Task {
     // To say how many entries the text has.
     Count,
-    // To print the snapshot after the last entry.
+    // To print the head of the next part.
     Snapshot,
+    // To say how many entries the part has that comes after the one in this file.
+    After(String),
     // None: the words were answered, with this exit status.
     Answered(u8),
 }
@@ -63,7 +69,8 @@ enum Task {
 fn obey(rt: &HostRuntime) -> Result<u8, TextFault> {
     match read_words(rt)? {
         Task::Count => audit(rt),
-        Task::Snapshot => print_snapshot(rt),
+        Task::Snapshot => print_head(rt),
+        Task::After(path) => audit_after_file(rt, path.as_str()),
         Task::Answered(status) => Ok(status),
     }
 }
@@ -81,13 +88,26 @@ fn read_words(rt: &HostRuntime) -> io::Result<Task> {
     let Some(first) = words.nth(1) else {
         return Ok(Task::Count);
     };
-    if first.as_str() != "--snapshot" {
-        return Ok(Task::Answered(answer(rt, first.as_str())?));
-    }
+    let task = match first.as_str() {
+        "--snapshot" => Task::Snapshot,
+        "--after" => match words.next() {
+            Some(path) => Task::After(path),
+            None => return Ok(Task::Answered(no_file(rt)?)),
+        },
+        word => return Ok(Task::Answered(answer(rt, word)?)),
+    };
     match words.next() {
         Some(word) => Ok(Task::Answered(answer(rt, word.as_str())?)),
-        None => Ok(Task::Snapshot),
+        None => Ok(task),
     }
+}
+
+// Prints that the file of the part before is missing. The exit status.
+fn no_file(rt: &HostRuntime) -> io::Result<u8> {
+    eprintln!(rt;
+        "error: a value is required for '--after <FILE>' but none was supplied\n\n{MORE}"
+    )?;
+    Ok(2)
 }
 
 // Prints the help or the version where the word asks for it, else that no other word is known. The exit status.
@@ -113,11 +133,20 @@ fn audit(rt: &HostRuntime) -> Result<u8, TextFault> {
     Ok(0)
 }
 
-// Audits the text on standard input, and prints the snapshot after its last entry. The exit status.
-fn print_snapshot(rt: &HostRuntime) -> Result<u8, TextFault> {
+// Audits the text on standard input as the part that comes after the one in the file, and says how many entries it
+// has. The exit status.
+fn audit_after_file(rt: &HostRuntime, path: &str) -> Result<u8, TextFault> {
+    let sum = sum_of(File::open(rt, path)?)?;
     let mut reader = BufReader::with_capacity(rt.alloc(), BLOCK, rt.stdin())?;
-    let snapshot = audit_to_snapshot(rt.alloc(), &mut reader)?;
-    let text = snapshot_bytes(rt.alloc(), &snapshot).map_err(io::Error::from)?;
+    let count = audit_after(rt.alloc(), &mut reader, &sum)?;
+    println!(rt; "audit ok, {count} entries")?;
+    Ok(0)
+}
+
+// Audits the text on standard input, and prints the head of the next part. The exit status.
+fn print_head(rt: &HostRuntime) -> Result<u8, TextFault> {
+    let head = audit_to_head(rt.alloc(), rt.stdin())?;
+    let text = part_head_bytes(rt.alloc(), &head).map_err(io::Error::from)?;
     rt.stdout().write_all(text.as_slice())?;
     Ok(0)
 }

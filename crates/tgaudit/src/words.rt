@@ -15,9 +15,10 @@ counted from 1, and entries from 0.
 More entries may come after the number of entries, and then their new number. So a host can end the text after each
 flush, and go on with it later.
 
-A history can be cut into parts. A later part begins with a snapshot in the place of the opening. The snapshot has what
-the active subjects reach after the entries before. tgaudit --snapshot prints it for the part before. So each part is
-audited alone. The snapshot of a part is right if tgaudit printed the same one for the part before.
+A history can be cut into parts. A later part has a head in the place of the opening. The head begins with a snapshot,
+which has what the active subjects reach after the entries before. Its last line has the SHA-256 of all bytes of the
+part before. tgaudit --snapshot prints the head for the part before. So each part is audited alone. The head of a part
+is right if tgaudit printed the same one for the part before.
 
 The memory of tgaudit grows with what the subjects reach, with the edges of the opening and with the lines of the
 snapshot. It does not grow with the entries.
@@ -25,9 +26,10 @@ snapshot. It does not grow with the entries.
 Usage: tgaudit [OPTIONS]
 
 Options:
-      --snapshot  Prints the snapshot after the last entry in the place of the number of entries [default: the number]
-  -h, --help      Print help
-  -V, --version   Print version
+      --snapshot      Prints the head of the next part in the place of the number of entries [default: the number]
+      --after <FILE>  Checks too that the head of the part has the SHA-256 of FILE [default: the sum is not compared]
+  -h, --help          Print help
+  -V, --version       Print version
 
 The form:
   kovshenul entries 1         the first line
@@ -41,13 +43,15 @@ The form:
   What a vertex stores is the letter of its law and its numbers. c7 is a cell, s7 a sum, and m7 a maximum. l4:1,2 is a log
   of at most 4 numbers, and l4 is an empty one.
 
-The form of a snapshot:
+The form of the head of a part:
   kovshenul picture 1         the first line
   made MADE VERTICES ENTRIES  vertices made so far, vertices that may ever be made, and entries before
   worker N                    for each active subject, by rising names: its name
   vertex N c0                 for each vertex that these reach, by rising names: its name, and what it stores
   edge N N rw                 for each edge of these, by rising ends
-  picture N                   the last line: how many lines of vertices and edges there are
+  picture N                   the last line of the snapshot: how many lines of vertices and edges there are
+  sha256 SUM                  the SHA-256 of all bytes of the part before, as 64 digits in lower case. This line may be
+                              left out
 
 Faults:
   line L: bad line            it is none of these, or may not stand there; or the number of entries is wrong
@@ -55,10 +59,11 @@ Faults:
   line L: bad entry N         its worker is no active subject, its value fits no law, or the reply isn't the rules'. N
                               counts the entries before the snapshot too
   line L: the end is cut off  the text ends within line L, or in front of it and not after a line 'entries N'
+  the head has ..             with --after: all entries are legal, and the head has no sum or not that of FILE
 
 Exit status:
   0  all entries are legal
-  1  a line is at fault, or reading or writing failed, or memory ran out
+  1  a line or a sum is at fault, or reading or writing failed, or memory ran out
   2  the words of the command line were not accepted
 
 Example:
@@ -67,6 +72,9 @@ Example:
 
   tgaudit --snapshot < part1.txt > part2.txt
   makes the head of the next part. Its entries come after that.
+
+  tgaudit --after part1.txt < part2.txt
+  audits the next part, and checks that its head has the sum of part1.txt.
 ";
 
 /// What is said after a fault of the words.
@@ -83,6 +91,10 @@ pub const OF_A_LINE: &str =
 /// What an entry has to be. Entries are counted from 0.
 pub const OF_AN_ENTRY: &str =
     "an entry is of an active subject, its value fits the law, and its reply is the answer of the rules after the entries before it";
+
+/// What the sum has to be.
+pub const OF_A_SUM: &str =
+    "after the snapshot comes 'sha256 SUM', with the SHA-256 of all bytes of the file of the part before, as 64 digits in lower case; tgaudit --snapshot prints it";
 
 /// What the end has to be.
 pub const OF_THE_END: &str =

@@ -8,4 +8,4 @@ snapshot_after-requires g c = let e = c.in_ok-entered.ensures in can_save_ended 
 pub returns-in-Ok : goal.returns-in-Ok
 returns-in-Ok g c =
     let e = c.in_ok-entered.ensures in
-    known_text _ (λ text. IsSavedAfter text c.in-Ok.snapshot) e.text e.same (c.in-Ok.ensures e.text e.ended)
+    record { saved = known_text _ (λ text. IsSavedAfter text c.in-Ok.snapshot) e.text e.same (c.in-Ok.ensures e.text e.ended); all = e.all }
