@@ -1,4 +1,4 @@
--- Calls on a place: what the store was found to answer, and what C is told of that.
+-- Calls on a place: what the store was found to answer, and what C gets of that.
 use Rattle.std.proofs.Common.{◌≡◌, ℕ, refl, true, false, sym, subst, ap, ◌∙◌, Result, Ok, Err, List, Option, Some, None}
 use Rattle.tg_rights.specs.RightSet.{RightSet}
 use Rattle.tg_model.specs.Graph.{ProtectionGraph}
@@ -44,7 +44,7 @@ served_as name holds old new tells before after answer was is first last told he
   };
 }
 
--- the same, where the answer is told
+-- the same, where the answer is reported
 pub served : {T E : Type 0} (name : E → CallRefusal) (holds : StoreState → StoreState → Result T E → Type 0) (old new : StorePlace) (result : Result T CallRefusal)
     (before after : StoreState) (answer : Result T E)
     → old.is_open ≡ true → new.is_open ≡ true → state_in old ≡ before → state_in new ≡ after → result ≡ refused_as name answer
@@ -52,7 +52,7 @@ pub served : {T E : Type 0} (name : E → CallRefusal) (holds : StoreState → S
 served name holds old new result before after answer was is first last told held =
     served_as name holds old new (λ told. result ≡ told) before after answer was is first last told held
 
--- what the call told is what C is told
+-- what the call told is what C gets
 pub hears_as : {T E : Type 0} (name : E → CallRefusal) (holds : StoreState → StoreState → Result T E → Type 0) (old new : StorePlace) (first second : Result T CallRefusal → Type 0)
     → IsCall name holds old new first → ((told : Result T CallRefusal) → first told → second told) → IsCall name holds old new second
 hears_as name holds old new first second call next = record {
@@ -65,7 +65,7 @@ hears_as name holds old new first second call next = record {
   };
 }
 
--- what the call answered is what C is told
+-- what the call answered is what C gets
 pub hears : {T E : Type 0} (name : E → CallRefusal) (holds : StoreState → StoreState → Result T E → Type 0) (old new : StorePlace) (result : Result T CallRefusal)
     (tells : Result T CallRefusal → Type 0) → IsCall name holds old new (λ told. result ≡ told) → tells result → IsCall name holds old new tells
 hears name holds old new result tells call told =
@@ -94,7 +94,7 @@ unfolding or_else
 hears_at name holds o made asked old new result tells first second call told =
     subst (λ x. IsCall name (holds x) old new tells) (ap (or_else made) (sym first ∙ second)) (hears name (holds made) old new result tells call told)
 
--- what a call that makes a vertex answered is what C is told
+-- what a call that makes a vertex answered is what C gets
 pub makes_told : (kind : Making) (old new : StorePlace) (worker rights : ℕ) (value : ValueIn) (result : Result ℕ CallRefusal) (tells : Result ℕ CallRefusal → Type 0)
     → MakesOfForms kind old new worker rights value (λ told. result ≡ told) → tells result → MakesOfForms kind old new worker rights value tells
 makes_told kind old new worker rights value result tells call told = record {
@@ -103,7 +103,7 @@ makes_told kind old new worker rights value result tells call told = record {
   made = λ label is stored is_stored. hears of_create (Makes kind worker label stored) old new result tells (call.made label is stored is_stored) told;
 }
 
--- what a command with a label answered is what C is told
+-- what a command with a label answered is what C gets
 pub asks_told : (with_label : RightSet → Command) (old new : StorePlace) (worker rights : ℕ) (label : RightSet) (result : Result Reply CallRefusal) (tells : Result Reply CallRefusal → Type 0)
     → label_at rights ≡ Some label → Asks old new worker (with_label label) (λ told. result ≡ told) → tells result → AsksWithRights old new worker rights with_label tells
 asks_told with_label old new worker rights label result tells is call told = record {

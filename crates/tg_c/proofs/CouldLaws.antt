@@ -23,7 +23,7 @@ module _ (place : StorePlace) (is_open : Bool) (silent : List ℕ) (as_if : List
   pub refused_first : (why : CallRefusal) → IsRefusedOn (graph_of_store s) silent as_if why → IsRefusedQuestion place is_open silent as_if right why
   refused_first why on = inr (met_first, λ g stands. subst (λ h. IsRefusedOn h silent as_if why) (ap graph_of_store same ∙ stands) on)
 
--- there is no answer, for want of memory, or since an edge joins no two that are reached
+-- there is no answer, for lack of memory, or since an edge joins no two that are reached
 pub not_answered : {T : Type 0} (g : ProtectionGraph) (silent : List ℕ) (as_if : List EdgeIn) (holds : T → Type 0) (r : Result T CallRefusal) (told why : CallRefusal) (es : List Edge)
     → r ≡ Err told → told ≡ why → es ≡ map edge_in as_if → AreActive g silent → IsMemoryOr refusal.BadEdge (¬ JoinReached g es) why → IsAnsweredOn g silent as_if holds r
 not_answered g silent as_if holds r told why es is same edges active said =

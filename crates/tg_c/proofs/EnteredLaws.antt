@@ -1,4 +1,4 @@
--- Entries that are told as a record, numbers and edges, and are read again.
+-- Entries that are reported as a record, numbers and edges, and are read again.
 use Rattle.std.proofs.Common.{◌≡◌, ◌≢◌, ◌⊎◌, inl, inr, ◌≤◌, ◌<◌, ◌==◌, ◌∙◌, ℕ, Bool, true, false, List, [], ◌∷◌, Option, Some, None, if◌then◌else◌, map, length, nat_lt, is_some, refl, ap, sym, subst, arith}
 use Rattle.std.specs.List.{All}
 use Rattle.std.specs.Option.{IsSome}
@@ -105,7 +105,7 @@ module _ (worker : ℕ) where
 entry_back : (e : Entry) → IsProper e → entry_read (record_of e) (numbers_entered e) (map edge_out (edges_entered e)) ≡ e
 entry_back e is = λ i. record { worker = e.worker; deed = deed_back e.worker e.deed e.reply is.deed i; reply = reply_back e.worker e.deed e.reply is.deed is.edges i }
 
--- the entry that is told so is the one that is read
+-- the entry that is reported so is the one that is read
 pub read_back : (it : RecordOut) (numbers : List ℕ) (edges : List EdgeOut) (e : Entry) → IsEntryOf it numbers edges e → entry_read it numbers edges ≡ e
 read_back it numbers edges e is =
     (λ i. entry_read (sym is.written.told i) (sym is.written.all_numbers i) (sym is.written.all_edges i)) ∙ entry_back e is.proper
@@ -171,7 +171,7 @@ read_proper it numbers edges none = record {
       (λ is. none_listed) (λ three four. none_listed);
 }
 
--- ---- what is told of no entry
+-- ---- what is reported of no entry
 
 values_told : (r : Reply) → (reply_out r).kind ≡ 3 → (values : List ℕ) × (r ≡ Values values)
 values_told Done is = absurd (omega (arith, is))
@@ -261,7 +261,7 @@ reply_form : (it : RecordOut) (ns ms : List ℕ) (es fs : List (ℕ × RightSet)
 reply_form it ns ms es fs =
     by_reply (it.reply == 1) (it.reply == 2) (it.reply == 3) (it.reply == 4) (it.reply == 16) (it.reply == 17) (record { rule = rule_read it.denial.rule; cause = cause_read it.denial }) it.name ns ms es fs
 
--- what is read is told as the record, but for the counts
+-- what is read is reported as the record, but for the counts
 form_told : (it : RecordOut) (numbers : List ℕ) (listed : List (ℕ × RightSet)) (n m : ℕ) → HasForm it
     → record_with it.worker (deed_out (deed_read it numbers)) (reply_out (reply_read it numbers listed)) n m ≡ record it { number_count = n; edge_count = m }
 form_told it numbers listed n m form =
@@ -295,7 +295,7 @@ edges_told (edge ∷ edges) are =
     let is_some_label : (x : EdgeOut) → Type 0 = λ x. IsSome (label_at x.rights) in
     λ i. record { to = edge.to; rights = bits_read edge.rights (All-head is_some_label edge edges are) i } ∷ edges_told edges (All-tail is_some_label edge edges are) i
 
--- ---- what is read is told so
+-- ---- what is read is reported so
 
 plain_low : (asked_for : Command) → (deed_out (Plain asked_for)).kind < 16
 plain_low command.List = omega arith
@@ -342,7 +342,7 @@ empty : {X : Type 0} (xs : List X) → length xs ≡ 0 → xs ≡ []
 empty [] none = refl
 empty (x ∷ xs) none = absurd (omega (arith, none))
 
--- the entry that is read is the one that is told so
+-- the entry that is read is the one that is reported so
 pub read_is_entry : (it : RecordOut) (numbers : List ℕ) (edges : List EdgeOut) → (16 ≤ it.deed → it.reply ≢ 3) → it.number_count ≡ length numbers → it.edge_count ≡ length edges
     → ((16 ≤ it.deed) ⊎ (it.reply ≡ 3)) ⊎ (length numbers ≡ 0) → (it.reply ≡ 4) ⊎ (length edges ≡ 0) → HasForm it → AreLabelled edges → IsEntryOf it numbers edges (entry_read it numbers edges)
 read_is_entry it numbers edges none count edge_count may edges_may_be form labels =

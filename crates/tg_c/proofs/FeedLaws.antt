@@ -13,7 +13,7 @@ use Rattle.tg_c.specs.Audits.{told_of_feed}
 use Rattle.tg_c.specs.declared.refusal.CallRefusal.{CallRefusal}
 use Rattle.tg_c.specs.declared.refusal.CallRefusal.TheVariants as refusal
 
--- in a legal history no entry behind a place is the first bad one
+-- in a legal history no entry after a place is the first bad one
 none_bad : (s : ProtectionGraph) (entries : List Entry) (at bad : ℕ) → IsLegal s entries → IsFirstBad (graph_after s (take at entries)) (drop at entries) bad → ⊥
 none_bad s entries at bad legal first =
     IsFirstBad-not_legal (graph_after s (take at entries)) (drop at entries) bad first

@@ -1,4 +1,4 @@
--- What a hand was found to answer is what C is told.
+-- What a hand was found to answer is what C gets.
 use Rattle.std.proofs.Common.{◌≡◌, Result, Some}
 use Rattle.tg_rights.specs.RightSet.{RightSet}
 use Rattle.tg_store.specs.declared.handing.Handed.{Handed}

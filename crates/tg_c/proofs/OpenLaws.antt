@@ -1,4 +1,4 @@
--- An opening whose demands are met can be refused for want of memory alone.
+-- An opening whose demands are met can be refused for lack of memory alone.
 use Rattle.std.proofs.Common.{◌≡◌, Bool, true, false, ◌≤◌, ◌<◌, inl, inr, ℕ, List, IfErr, Result, Err, refl, sym, subst, ap, ◌∙◌, length, map, slice_get, arith}
 use Rattle.tg_model.specs.declared.edge.Edge.{Edge}
 use Rattle.tg_model.specs.declared.value.Value.{Value}
@@ -18,7 +18,7 @@ use Rattle.tg_c.specs.Forms.{edge_in, plan_given, value_in}
 use Rattle.tg_c.specs.Statuses.{of_open, status_of}
 use Rattle.tg_c.proofs.PlanLaws.{no_fault, plan_is}
 
--- all demands are met, and this is want of memory
+-- all demands are met, and this is lack of memory
 pub wants : {X : Type 0} (workers : List ValueIn) (edges : List EdgeIn) (limits : LimitsIn) (r : Result X CallRefusal) (why : CallRefusal)
     → AreMet (demands_of workers edges limits) → r ≡ Err why → why ≡ refusal.OutOfMemory → IfErr r (IsRefusedFor workers edges limits)
 wants workers edges limits r why met is want = subst (λ s. IfErr s (IsRefusedFor workers edges limits)) (sym is) (inr (met, want))

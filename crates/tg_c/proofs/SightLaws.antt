@@ -1,4 +1,4 @@
--- Names of whom a picture shows, and what a view tells by them.
+-- Names of whom a picture shows, and what a view shows by them.
 use Rattle.std.proofs.Common.{◌≡◌, ◌↔◌, ◌⊎◌, inl, inr, ⊎_elim, ℕ, ◌+◌, ◌<◌, ◌≤◌, ◌==◌, nat_eq, Bool, true, false, cond, List, [], ◌∷◌, ◌++◌, Option, Some, None, IfSome, get_or, length, refl, take, sym, ap, ◌∙◌, subst, arith, eq-eqb}
 use Rattle.std.specs.List.{Contains, list_any}
 use Rattle.std.proofs.lemmas.Bool.{cases_Bool, cases_eq, cases_lt, eqb-true, ne_eqb, false≢true}
@@ -14,7 +14,7 @@ use Rattle.tg_could.specs.Turns.{NeverHolds}
 use Rattle.tg_could.specs.View.{IsViewOf}
 use Rattle.tg_could.proofs.ReachedLaws.{Known, never_on, reached_shown, relabelled, shown_reached}
 use Rattle.tg_c.specs.View.{AreShown, IsShownIn, IsSightOf, is_seen}
-use Rattle.tg_c.specs.declared.view.sight.Seen.{Seen}
+use Rattle.tg_c.specs.declared.view.sight.ReachedView.{ReachedView}
 use Rattle.tg_c.specs.declared.view.sight.Sight.{Sight}
 use Rattle.tg_could.proofs.AsIfLaws.{agrees, held_edge, more, reached_before, reached_then, seen, seen_by, supposed_sound}
 
@@ -140,17 +140,17 @@ module _ (g : ProtectionGraph) (sound : IsSound g) (es : List Edge) (all : JoinR
     );
   }
 
-  pub sight_on : (s : Seen) → sight.seen ≡ Some s → AreShown p s.reached.keys → IsViewOf silent (more g sound es all p picture) s.view → IsSightOf silent (with_edges g es) sight
+  pub sight_on : (s : ReachedView) → sight.seen ≡ Some s → AreShown p s.reached.keys → IsViewOf silent (more g sound es all p picture) s.view → IsSightOf silent (with_edges g es) sight
   sight_on s is shown view =
-      sight_by (subst (λ (o : Option Seen). IfSome o (λ seen. IsViewOf silent (more g sound es all p picture) seen.view)) (sym is) view) (λ none. absurd (cc (is, none)))
-      (λ x. subst (λ (o : Option Seen). (is_seen o x ≡ true) ↔ IsShownIn p x) (sym is) (shown x))
+      sight_by (subst (λ (o : Option ReachedView). IfSome o (λ seen. IsViewOf silent (more g sound es all p picture) seen.view)) (sym is) view) (λ none. absurd (cc (is, none)))
+      (λ x. subst (λ (o : Option ReachedView). (is_seen o x ≡ true) ↔ IsShownIn p x) (sym is) (shown x))
 
   pub sight_of_nobody : sight.seen ≡ None → p.subjects ≡ [] → IsSightOf silent (with_edges g es) sight
   sight_of_nobody is none =
       let nobody : g.subjects ≡ [] = picture.subjects ∙ none in
-      sight_by (subst (λ (o : Option Seen). IfSome o (λ seen. IsViewOf silent (more g sound es all p picture) seen.view)) (sym is) tt) (λ _. nobody)
+      sight_by (subst (λ (o : Option ReachedView). IfSome o (λ seen. IsViewOf silent (more g sound es all p picture) seen.view)) (sym is) tt) (λ _. nobody)
       (λ x. (
-        λ t. absurd (false≢true (sym (ap (λ (o : Option Seen). is_seen o x) is) ∙ t)),
+        λ t. absurd (false≢true (sym (ap (λ (o : Option ReachedView). is_seen o x) is) ∙ t)),
         λ shown. absurd (no_reach g nobody x (shown_reached p g picture x shown)),
       ))
 

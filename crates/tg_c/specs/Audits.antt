@@ -25,22 +25,23 @@ use Rattle.tg_c.specs.Statuses.{of_part, status_of}
 abbrev pub audit_in : AuditorPlace → Audit
 audit_in place = place.handle.opened
 
--- what C is told of a feed: how many entries passed by then in all, or why it was refused
+-- what C gets of a feed: how many entries passed by then in all, or why it was refused
 abbrev pub told_of_feed : ℕ → Result (Unit {0}) PartFault → Result ℕ CallRefusal
 told_of_feed at (Ok done) = Ok at
 told_of_feed at (Err why) = Err (of_part why)
 
--- An audit was fed a journal of these entries, of which it holds those from `first` on. The auditor has its own answer, which is told.
+-- An audit was fed a journal of these entries, of which it holds those from `first` on. The auditor has its own answer, which is
+-- reported.
 pub record FeedsJournal (old new : Audit) (first : ℕ) (entries : List Entry) (answer : Result ℕ CallRefusal) : Type 0 where
   pub fed : Result (Unit {0}) PartFault
   pub part : FeedsPart old.auditor new.auditor first entries fed
   pub told : answer ≡ told_of_feed new.auditor.at fed
 
--- An audit that stands where the store's own history stood at the audit's place finds no bad entry in it.
+-- An audit that is where the store's own history stood at the audit's place finds no bad entry in it.
 abbrev pub FindsNone : Audit → StoreState → Result ℕ CallRefusal → Type 0
 FindsNone a s answer = StandsAt (graph_after (start_at s.opening) (take a.auditor.at s.entries)) a.auditor → answer ≢ Err refusal.BadEntry
 
--- the store is the same, and the audit had this answer, which is told
+-- the store is the same, and the audit had this answer, which is reported
 pub record IsFed (old new : Audit) (store after : StorePlace) (tells : Result ℕ CallRefusal → Type 0) : Type 0 where
   pub answer : Result ℕ CallRefusal
   pub told : tells answer
@@ -91,7 +92,7 @@ pub record Sweeps (old new : AuditorPlace) (tells : Result (Unit {0}) CallRefusa
 
 -- ---- the opening
 
--- The audit of an opening, all of whose demands are met: it stands at the first entry, at the graph of what C asked for.
+-- The audit of an opening, all of whose demands are met: it is at the first entry, at the graph of what C asked for.
 pub record IsOpenedAudit (a : Audit) (workers : List ValueIn) (edges : List EdgeIn) (limits : LimitsIn) : Type 0 where
   pub met : AreMet (demands_of workers edges limits)
   pub first : a.auditor.at ≡ 0

@@ -1,5 +1,5 @@
 -- What the calls of C do to a place and its store. Each but the opening is a call on a place: a closed one is refused
--- as that, and on an open one the store's answer is told, of which the clauses of the store's own call hold.
+-- as that, and on an open one the store's answer is reported, of which the clauses of the store's own call hold.
 use Rattle.std.specs.Prelude.{◌≡◌, ◌≢◌, ◌↔◌, ◌⊎◌, ◌≤◌, ◌<◌, ◌-◌, ◌==◌, ℕ, true, false, List, [], ◌∷◌, Some, None, Result, Ok, Err, IfOk, IfErr, OnOk, OnErr, length, map, IsSome}
 use Rattle.std.specs.List.{IsDistinct}
 use Rattle.tg_rights.specs.RightSet.{RightSet, bits_of}
@@ -59,7 +59,7 @@ state_in place = place.handle.opened.store
 
 -- ---- a call on a place
 
--- On an open place the store has an answer of which `holds`, and this is told; the place stays open.
+-- On an open place the store has an answer of which `holds`, and this is reported; the place stays open.
 pub record ServesCall {T E : Type 0} (name : E → CallRefusal) (holds : StoreState → StoreState → Result T E → Type 0)
     (old new : StorePlace) (tells : Result T CallRefusal → Type 0) : Type 0 where
   pub answer : Result T E
@@ -280,7 +280,7 @@ pub record StoreIsAudited (old new : StoreState) (answer : Result ℕ CallRefusa
 abbrev pub Audits : StorePlace → StorePlace → (Result ℕ CallRefusal → Type 0) → Type 0
 Audits old new = IsCall (λ why. why) StoreIsAudited old new
 
--- The entries before a place are given up. It is refused exactly where the place lies before the first entry that is held, or behind the
+-- The entries before a place are given up. It is refused exactly where the place lies before the first entry that is held, or after the
 -- last by more than one.
 pub record ForgetsUpto (upto : ℕ) (old new : StoreState) (answer : Result (Unit {0}) CallRefusal) : Type 0 where
   pub forgotten : OnOk answer (HoldsFrom upto old new)
@@ -316,12 +316,12 @@ abbrev pub AreMet : List Demand → Type 0
 AreMet [] = Unit {0}
 AreMet (d ∷ ds) = d.holds × AreMet ds
 
--- this is told of the first that doesn't hold
+-- this is reported of the first that doesn't hold
 abbrev pub IsFirstUnmet : List Demand → CallRefusal → Type 0
 IsFirstUnmet [] why = ⊥
 IsFirstUnmet (d ∷ ds) why = ((¬ d.holds) × (why ≡ d.told)) ⊎ (d.holds × IsFirstUnmet ds why)
 
--- why an opening is refused: by the first demand that isn't met; or all are met, and memory was wanting
+-- why an opening is refused: by the first demand that isn't met; or all are met, and memory ran out
 abbrev pub IsRefusedFor : List ValueIn → List EdgeIn → LimitsIn → CallRefusal → Type 0
 IsRefusedFor workers edges limits why =
     IsFirstUnmet (demands_of workers edges limits) why
@@ -334,7 +334,7 @@ pub record IsAskedFor (workers : List ValueIn) (edges : List EdgeIn) (limits : L
   pub blocks : asked.blocks ≡ limits_of limits.max_blocks limits.max_space_blocks
   pub drafts : asked.drafts.items ≡ map value_in workers
 
--- The store of an opening, all of whose demands are met: it has no entry, and stands for the graph of what C asked for.
+-- The store of an opening, all of whose demands are met: it has no entry, and represents the graph of what C asked for.
 pub record IsOpenedStore (s : StoreState) (workers : List ValueIn) (edges : List EdgeIn) (limits : LimitsIn) : Type 0 where
   pub met : AreMet (demands_of workers edges limits)
   pub opening : s.opening ≡ opened_by (plan_given workers edges limits.max_vertices)
@@ -343,7 +343,7 @@ pub record IsOpenedStore (s : StoreState) (workers : List ValueIn) (edges : List
   pub none_collected : s.collections ≡ no_collections
   pub limits_kept : s.heap.table.limits ≡ limits_of limits.max_blocks limits.max_space_blocks
 
--- the refusal is want of memory, or else this one, and then what it says holds
+-- the refusal is lack of memory, or else this one, and then what it says holds
 abbrev pub IsMemoryOr : CallRefusal → Type 0 → CallRefusal → Type 0
 IsMemoryOr fault says why = (why ≡ refusal.OutOfMemory) ⊎ ((why ≡ fault) × says)
 

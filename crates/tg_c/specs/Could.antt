@@ -16,7 +16,7 @@ use Rattle.tg_could.specs.declared.reached.ReachedAnswer.TheVariants.{Unreached,
 use Rattle.tg_store.specs.Store.{StandsFor}
 use Rattle.tg_graph.specs.Shown.{shown_in}
 use Rattle.tg_c.specs.declared.answer.AnswerPlace.{AnswerPlace}
-use Rattle.tg_c.specs.declared.foresee.Scene.{Scene}
+use Rattle.tg_c.specs.declared.foresee.SupposedScene.{SupposedScene}
 use Rattle.tg_c.specs.declared.forms.EdgeIn.{EdgeIn}
 use Rattle.tg_c.specs.declared.place.StorePlace.{StorePlace}
 use Rattle.tg_c.specs.declared.records.RecordOut.{RecordOut}
@@ -34,7 +34,7 @@ abbrev pub AreActive : ProtectionGraph → List ℕ → Type 0
 AreActive g names = All (IsSubject g) names
 
 -- what is asked about on a graph: all silent ones are active subjects, and there are the picture of what is reached and the edges
-pub record IsSceneOf (g : ProtectionGraph) (silent : List ℕ) (as_if : List EdgeIn) (scene : Scene) : Type 0 where
+pub record IsSceneOf (g : ProtectionGraph) (silent : List ℕ) (as_if : List EdgeIn) (scene : SupposedScene) : Type 0 where
   pub active : AreActive g silent
   pub sound : IsSound g
   pub picture : IsReachedPicture scene.picture g
@@ -47,7 +47,7 @@ pub record IsForeseenOn (g : ProtectionGraph) (silent : List ℕ) (as_if : List 
   pub joined : JoinReached g (map edge_in as_if)
   pub told_of : IsToldOf silent (with_edges g (map edge_in as_if)) x right y told
 
--- why it isn't told: a silent one that is no active subject; or there is none, and memory was wanting, or an edge that joins no two
+-- why it isn't told: a silent one that is no active subject; or there is none, and memory ran out, or an edge that joins no two
 -- that are reached
 abbrev pub IsRefusedOn : ProtectionGraph → List ℕ → List EdgeIn → CallRefusal → Type 0
 IsRefusedOn g silent as_if why =
@@ -99,7 +99,7 @@ abbrev pub kind_in : ReachedAnswer → ℕ
 kind_in Unreached = 4
 kind_in (Of answer) = outlook_kind answer
 
--- how many names are wanting
+-- how many names are lacking
 abbrev pub names_answered : Answer → ℕ
 names_answered (Never separation) = 0
 names_answered (Could turns) = 0
@@ -115,11 +115,11 @@ abbrev pub turns_in : ReachedAnswer → List Turn
 turns_in Unreached = []
 turns_in (Of answer) = turns_of answer
 
--- the turn at a place, counted from 0; there is none behind the last
+-- the turn at a place, counted from 0; there is none after the last
 abbrev pub turn_at : ℕ → ReachedAnswer → Result Turn CallRefusal
 turn_at at told = ok_or (slice_get (turns_in told) at) refusal.BadPlace
 
--- ---- how it is told
+-- ---- how it is reported
 
 -- A call on an answer: a closed one is refused as that, and an open one is as it was.
 pub record Consults {T : Type 0} (what : ReachedAnswer → Result T CallRefusal) (old new : AnswerPlace) (tells : Result T CallRefusal → Type 0) : Type 0 where

@@ -1,4 +1,4 @@
--- What C is told of a worker that leaves, and of who holds a right.
+-- What C gets of a worker that leaves, and of who holds a right.
 use Rattle.std.specs.Prelude.{◌≡◌, ◌≢◌, ◌↔◌, ℕ, List, Some, None, Result, Err, IfOk, IfErr, OnErr, OnOk, length}
 use Rattle.tg_rights.specs.declared.Right.{Right}
 use Rattle.tg_rights.specs.RightSet.{right_of_bit}
@@ -25,7 +25,7 @@ pub record Departs (worker : ℕ) (old new : StoreState) (answer : Result ℕ Ap
 abbrev pub Leaves : StorePlace → StorePlace → ℕ → (Result ℕ CallRefusal → Type 0) → Type 0
 Leaves old new worker = IsCall of_apply (Departs worker) old new
 
--- the answer to who holds a right: the clause of the store's `who_holds`, which is refused for want of memory alone
+-- the answer to who holds a right: the clause of the store's `who_holds`, which is refused for lack of memory alone
 pub record AreToldHolders (right : Right) (name : ℕ) (old new : StoreState) (answer : Result (List ℕ) CallRefusal) : Type 0 where
   pub same : new ≡ old
   pub holders : (g : ProtectionGraph) → StandsFor old g → IfOk answer (AreHolders g right name)

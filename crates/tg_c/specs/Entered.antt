@@ -1,4 +1,4 @@
--- What C hands in as an entry: the record, all numbers and all edges, as they are told of an entry.
+-- What C hands in as an entry: the record, all numbers and all edges, as they are reported of an entry.
 use Rattle.std.specs.Prelude.{◌≡◌, ◌≢◌, ℕ, false, List, map}
 use Rattle.std.specs.List.{All}
 use Rattle.tg_rights.specs.RightSet.{RightSet, is_none_held}
@@ -41,17 +41,17 @@ pub record IsProper (e : Entry) : Type 0 where
   pub deed : IsDeedOf e.deed e.reply
   pub edges : All (λ edge. IsLabel edge.1) (edges_replied e.reply)
 
--- The entry is told by this record, these numbers and these edges.
+-- The entry is given by this record, these numbers and these edges.
 pub record IsWritten (it : RecordOut) (numbers : List ℕ) (edges : List EdgeOut) (e : Entry) : Type 0 where
   pub told : record_of e ≡ it
   pub all_numbers : numbers_entered e ≡ numbers
   pub all_edges : map edge_out (edges_entered e) ≡ edges
 
--- this is the entry that is told so
+-- this is the entry that is reported so
 pub record IsEntryOf (it : RecordOut) (numbers : List ℕ) (edges : List EdgeOut) (e : Entry) : Type 0 where
   pub written : IsWritten it numbers edges e
   pub proper : IsProper e
 
--- no entry is told so
+-- no entry is reported so
 abbrev pub IsOfNoEntry : RecordOut → List ℕ → List EdgeOut → Type 0
 IsOfNoEntry it numbers edges = (e : Entry) → ¬ IsEntryOf it numbers edges e

@@ -106,7 +106,7 @@ denial_out denial = denial_at (rule_number denial.rule) denial.cause
 abbrev pub edge_out : ℕ × RightSet → EdgeOut
 edge_out e = record { to = e.0; rights = bits_of e.1 }
 
--- the edges that were listed, as far as there is room, and behind them the room that is left
+-- the edges that were listed, as far as there is room, and after them the room that is left
 abbrev pub edges_shown_in : List (ℕ × RightSet) → List EdgeOut → List EdgeOut
 edges_shown_in edges room = take (length room) (map edge_out edges) ++ drop (length edges) room
 

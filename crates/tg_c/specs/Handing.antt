@@ -1,4 +1,4 @@
--- What C is told of rights that a worker hands on.
+-- What C gets of rights that a worker hands on.
 use Rattle.std.specs.Prelude.{◌≡◌, ◌↔◌, ℕ, Some, None, Result, Ok, Err, IfOk, OnErr}
 use Rattle.tg_rights.specs.RightSet.{RightSet}
 use Rattle.tg_model.specs.Graph.{ProtectionGraph, IsSubject}
@@ -45,7 +45,7 @@ pub record HandOut : Type 0 where
 abbrev pub hand_out : ℕ → DenialOut → HandOut
 hand_out removed denial = record { removed = removed; denial = denial }
 
--- what C is told: which rights were removed again; or which command was denied, and why
+-- what C gets: which rights were removed again; or which command was denied, and why
 abbrev pub TellsHanded : ℕ → HandOut → HandOut → Result Handed CallRefusal → Type 0
 TellsHanded status old new (Ok (Done back)) = (status ≡ 0) × (new ≡ record { removed = rights_out back; denial = old.denial })
 TellsHanded status old new (Ok (Denied command denial)) = (status ≡ 1) × (new ≡ record { removed = old.removed; denial = denial_out denial })

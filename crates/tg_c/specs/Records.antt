@@ -33,7 +33,7 @@ abbrev pub asked : ℕ → ℕ → ℕ → ℕ → ℕ → DeedOut
 asked kind via target rights value =
     record { kind = kind; law = 0; most = 0; via = via; target = target; rights = rights; value = value }
 
--- what stands behind the word of a command with this number: via, target, rights and value
+-- what is after the word of a command with this number: via, target, rights and value
 abbrev pub arguments_out : ℕ → Arguments → DeedOut
 arguments_out kind behind.Bare = asked kind 0 0 0 0
 arguments_out kind (behind.Target target) = asked kind 0 target 0 0
@@ -126,6 +126,6 @@ record_with worker d r number_count edge_count = record {
 abbrev pub record_of : Entry → RecordOut
 record_of e = record_with e.worker (deed_out e.deed) (reply_out e.reply) (length (numbers_entered e)) (length (edges_entered e))
 
--- the entry at a place, counted from 0, of a journal that holds those from `first` on; there is none behind the last
+-- the entry at a place, counted from 0, of a journal that holds those from `first` on; there is none after the last
 abbrev pub entry_at : ℕ → List Entry → ℕ → Result Entry CallRefusal
 entry_at first entries at = if nat_le first at then ok_or (slice_get entries at) refusal.BadPlace else Err refusal.BadPlace

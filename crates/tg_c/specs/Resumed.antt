@@ -31,7 +31,8 @@ is_kept (Err fault.Unread) = true
 is_kept (Err fault.BadEntry) = false
 is_kept (Err (fault.NoRoom why)) = true
 
--- The store in an open place was to go on from an entry, and what came of it is told. The place is closed after a bad entry.
+-- The store in an open place was to go on from an entry, and what came of it is reported. The place is closed after a bad
+-- entry.
 pub record GoesOnOpen (at : ℕ) (e : Entry) (old new : StorePlace) (tells : Result (Unit {0}) CallRefusal → Type 0) : Type 0 where
   pub answer : Result (Unit {0}) ResumeFault
   pub told : tells (refused_as of_resume answer)
@@ -43,13 +44,13 @@ pub record GoesOnIn (at : ℕ) (e : Entry) (old new : StorePlace) (tells : Resul
   pub not_open : old.is_open ≡ false → tells (Err refusal.NotOpen) × (new.is_open ≡ false)
   pub served : old.is_open ≡ true → GoesOnOpen at e old new tells
 
--- No entry is told by what was handed in, and the place is as it was.
+-- No entry is given by what was handed in, and the place is as it was.
 pub record IsNotRead (it : RecordOut) (numbers : List ℕ) (edges : List EdgeOut) (old new : StorePlace) (tells : Result (Unit {0}) CallRefusal → Type 0) : Type 0 where
   pub told : tells (Err refusal.BadValues)
   pub kept : new ≡ old
   pub none : IsOfNoEntry it numbers edges
 
--- An entry is told by what was handed in, and the store was to go on from it.
+-- An entry is given by what was handed in, and the store was to go on from it.
 pub record IsReadAs (it : RecordOut) (numbers : List ℕ) (edges : List EdgeOut) (at : ℕ) (old new : StorePlace) (tells : Result (Unit {0}) CallRefusal → Type 0) : Type 0 where
   pub entry : Entry
   pub handed_in : IsEntryOf it numbers edges entry

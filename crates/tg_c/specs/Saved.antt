@@ -24,7 +24,7 @@ saved_in place = place.handle.opened.snapshot
 
 -- ---- its text
 
--- want of memory is told as that, and any other fault of a line as bad values
+-- lack of memory is reported as that, and any other fault of a line as bad values
 abbrev pub refusal_of_line : SnapshotLineFault → CallRefusal
 refusal_of_line line_fault.OutOfMemory = refusal.OutOfMemory
 refusal_of_line other = refusal.BadValues
@@ -33,7 +33,7 @@ abbrev pub read_refusal : SnapshotTextFault → CallRefusal
 read_refusal (text_fault.Line line why) = refusal_of_line why
 read_refusal (text_fault.CutOff line) = refusal.BadValues
 
--- the number of the line at fault, where one is told; else what was there
+-- the number of the line at fault, where one is reported; else what was there
 abbrev pub line_or : ℕ → ℕ → SnapshotLineFault → ℕ
 line_or old line line_fault.OutOfMemory = old
 line_or old line other = line
@@ -42,7 +42,7 @@ abbrev pub line_told : SnapshotTextFault → ℕ → ℕ
 line_told (text_fault.Line line why) old = line_or old line why
 line_told (text_fault.CutOff line) old = line
 
--- A text wasn't read: for want of memory, and then no line is told; or for what it says.
+-- A text wasn't read: for lack of memory, and then no line is reported; or for what it says.
 abbrev pub IsReadFault : ℕ → ℕ → CallRefusal → Type 0
 IsReadFault line line' why = ((why ≡ refusal.OutOfMemory) × (line' ≡ line)) ⊎ (why ≡ refusal.BadValues)
 

@@ -1,4 +1,4 @@
--- What C is told of an answer: the status, and what goes to the out parameters. A refused call writes to none of them.
+-- What C gets of an answer: the status, and what goes to the out parameters. A refused call writes to none of them.
 use Rattle.std.specs.Prelude.{◌≡◌, ℕ, List, Result, Ok, Err, length}
 use Rattle.tg_model.specs.declared.opening.OpeningFault.{OpeningFault}
 use Rattle.tg_model.specs.declared.opening.OpeningFault.TheVariants as opening
@@ -55,7 +55,7 @@ status_of refusal.BadPlace = 97
 status_of refusal.NotWhole = 98
 status_of refusal.NotAudited = 99
 
--- ---- how the store's refusals are told
+-- ---- how the store's refusals are reported
 
 abbrev pub of_opening : OpeningFault → CallRefusal
 of_opening opening.BadWorkers = refusal.BadWorkers
@@ -111,7 +111,7 @@ abbrev pub refused_as : {T E : Type 0} → (E → CallRefusal) → Result T E �
 refused_as name (Ok value) = Ok value
 refused_as name (Err why) = Err (name why)
 
--- ---- what each answer is told as
+-- ---- what each answer is reported as
 
 -- of a command that is answered by no more than that it was done, or denied
 abbrev pub TellsDone : ℕ → DenialOut → DenialOut → Result Reply CallRefusal → Type 0

@@ -1,4 +1,4 @@
--- The texts that C is told: the lines in front of a history's entries, the line of an entry, and the last line.
+-- The texts that C gets: the lines in front of a history's entries, the line of an entry, and the last line.
 use Rattle.std.specs.Prelude.{◌≡◌, ◌⊎◌, ℕ, List, Result, Ok, Err, length}
 use Rattle.tg_journal.specs.declared.entry.Entry.{Entry}
 use Rattle.tg_graph.specs.Shown.{shown_in}
@@ -34,7 +34,7 @@ abbrev pub TellsText : ℕ → TextOut → TextOut → Result (List ℕ) CallRef
 TellsText status old new (Ok bytes) = (status ≡ 0) × (new ≡ record { length = length bytes; text = shown_in bytes old.text })
 TellsText status old new (Err why) = (status ≡ status_of why) × (new ≡ old)
 
--- a text of which this holds is told, or a refusal of which that holds
+-- a text of which this holds is reported, or a refusal of which that holds
 abbrev pub WritesText : (List ℕ → Type 0) → (CallRefusal → Type 0) → (Result (List ℕ) CallRefusal → Type 0) → Type 0
 WritesText holds refused tells = ((bytes : List ℕ) × holds bytes × tells (Ok bytes)) ⊎ ((why : CallRefusal) × refused why × tells (Err why))
 
@@ -42,11 +42,11 @@ WritesText holds refused tells = ((bytes : List ℕ) × holds bytes × tells (Ok
 abbrev pub IsOpeningText : List ValueIn → List EdgeIn → LimitsIn → List ℕ → Type 0
 IsOpeningText workers edges limits bytes = AreMet (demands_of workers edges limits) × (bytes ≡ head_text (plan_given workers edges limits.max_vertices))
 
--- the line of the entry that is told by a record, its numbers and its edges
+-- the line of the entry that is given by a record, its numbers and its edges
 abbrev pub IsEntryText : RecordOut → List ℕ → List EdgeOut → List ℕ → Type 0
 IsEntryText it numbers edges bytes = (entry : Entry) × IsEntryOf it numbers edges entry × (bytes ≡ entry_text entry)
 
--- why there is no line: no entry is told so; or one is, and memory was wanting
+-- why there is no line: no entry is reported so; or one is, and memory ran out
 abbrev pub IsUnreadEntry : RecordOut → List ℕ → List EdgeOut → CallRefusal → Type 0
 IsUnreadEntry it numbers edges why =
     ((why ≡ refusal.BadValues) × IsOfNoEntry it numbers edges) ⊎ ((why ≡ refusal.OutOfMemory) × (entry : Entry) × IsEntryOf it numbers edges entry)

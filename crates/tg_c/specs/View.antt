@@ -17,13 +17,13 @@ use Rattle.tg_c.specs.declared.refusal.CallRefusal.TheVariants as refusal
 use Rattle.tg_c.specs.declared.view.place.ViewPlace.{ViewPlace}
 use Rattle.tg_c.specs.declared.view.sight.Glimpse.{Glimpse}
 use Rattle.tg_c.specs.declared.view.sight.Glimpse.TheVariants.{Never, Unreached, Perhaps}
-use Rattle.tg_c.specs.declared.view.sight.Seen.{Seen}
+use Rattle.tg_c.specs.declared.view.sight.ReachedView.{ReachedView}
 use Rattle.tg_c.specs.declared.view.sight.Sight.{Sight}
 use Rattle.tg_c.specs.Calls.{AreMet, IsFirstUnmet, IsStatusWhere, state_in}
 use Rattle.tg_c.specs.Could.{AreActive, IsRefusedOn, asked_of_places}
 use Rattle.tg_c.specs.Forms.{edge_in}
 
--- ---- what a view tells
+-- ---- what a view shows
 
 -- a picture shows the vertex with a name: it is an active subject, or an edge leads to it
 abbrev pub IsShownIn : Shown → ℕ → Type 0
@@ -34,7 +34,7 @@ abbrev pub AreShown : Shown → List ℕ → Type 0
 AreShown p names = (x : ℕ) → (list_any (nat_eq x) names ≡ true) ↔ IsShownIn p x
 
 -- whether a name is one of those who were seen to be reached: none is where no subject is active
-abbrev pub is_seen : Option Seen → ℕ → Bool
+abbrev pub is_seen : Option ReachedView → ℕ → Bool
 is_seen None x = false
 is_seen (Some seen) x = contains nat_eq seen.reached x
 
@@ -52,8 +52,8 @@ pub record IsSightOf (silent : List ℕ) (g : ProtectionGraph) (sight : Sight) :
   pub made : sight.made ≡ g.made
   pub reached : (x : ℕ) → (is_seen sight.seen x ≡ true) ↔ IsReachable g x
 
--- What is told of a question on a graph. `Never`: x never holds the right over y. `Unreached`: x was made, no active subject reaches it,
--- and it holds what it holds. `Perhaps` says nothing of a right.
+-- What is reported of a question on a graph. `Never`: x never holds the right over y. `Unreached`: x was made, no active subject reaches
+-- it, and it holds what it holds. `Perhaps` says nothing of a right.
 abbrev pub IsGlimpse : List ℕ → ProtectionGraph → ℕ → Right → ℕ → Glimpse → Type 0
 IsGlimpse silent g x right y Never = (IsReachable g x ⊎ (g.made ≤ x)) × NeverHolds silent g x right y
 IsGlimpse silent g x right y Unreached = (x < g.made) × (¬ IsReachable g x) × HoldsWhatItHolds g x

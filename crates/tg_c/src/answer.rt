@@ -1,4 +1,4 @@
-//! The place of an answer to what could come about, in the memory of C, as `crate::held` tells.
+//! The place of an answer in the memory of C, built as `crate::held` says. The answer is that of `tg_could`.
 ghost use Rattle.std.specs.Prelude.{◌≡◌, Bool};
 ghost use Rattle.tg_c.specs.declared.outlook.Outlook.{Outlook as OutlookValue};
 ghost use Rattle.tg_c.specs.contracts.outlook.Outlook.{the_row};
@@ -44,8 +44,8 @@ impl AnswerHandle {
     }
 }
 
-/// An answer that C holds, in 16 bytes. All bytes zero is a closed one. It may be moved, and of two copies only one
-/// may be used: nothing checks that.
+/// An answer that C holds, in 16 bytes. A closed place has only zero bytes. The place may be moved. Of two copies only
+/// one may be used, and nothing checks this.
 #[repr(C)]
 #[derive(Drop)]
 pub struct AnswerPlace {

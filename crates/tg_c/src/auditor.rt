@@ -1,10 +1,9 @@
-//! An auditor that C holds: an audit of a store's journal, which it is fed part after part, so that the store may give
-//! up what was audited.
+//! An auditor that C holds. It audits the journal of a store part after part. Therefore the store may give up the
+//! entries that were audited.
 //!
-//! As of a store, C holds an `AuditorPlace` of 16 bytes, all zero while it is closed (`place`). An open place has a
-//! pointer to an `Audit` (`audit`). The functions of `exports` call it by `calls`.
+//! C holds an `AuditorPlace` of 16 bytes, all zero while it is closed (`place`). An open place has a pointer to an
+//! `Audit` (`audit`). C calls it by the functions of `calls`.
 
 pub mod audit;
-mod calls;
-mod exports;
+pub mod calls;
 pub mod place;

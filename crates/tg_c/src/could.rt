@@ -1,96 +1,15 @@
-//! The functions by which C asks what could ever come about, and reads the answer.
-ghost use Rattle.std.specs.Prelude.{◌≡◌, true, false, Ok, length};
-ghost use Rattle.tg_c.specs.Could.{Consults, Foresees, TellsTurn, kind_in, names_told, turn_at, turns_in, turn_told};
-ghost use Rattle.tg_c.specs.Statuses.{TellsNumber, status_of};
+//! A turn of an answer, in the records of C.
+ghost use Rattle.tg_c.specs.Could.{TellsTurn, turn_at, turn_told};
 
-use crate::answer::AnswerPlace;
-use crate::foresee::{BitQuestion, foresee};
-use crate::forms::EdgeIn;
-use crate::held::Holder;
 use crate::outlook::Outlook;
-use crate::place::StorePlace;
 use crate::records::{RecordOut, numbers_of_turn, turn_out};
 use crate::refusal::CallRefusal;
-use crate::tell::{DONE, put_numbers, tell_number};
-use std::alloc::Global;
+use crate::tell::{DONE, put_numbers};
 
-/// Answers whether x could ever come to hold a right over y, by any turns of the workers but the silent ones, as if
-/// these edges were there too. The answer goes to a place that is closed. The store is as it was, and its journal gets
-/// no entry.
-#[unsafe(no_mangle)]
-pub extern "C" fn tg_could(
-    alloc: Global,
-    store: &mut StorePlace,
-    silent: &[u64],
-    as_if: &[EdgeIn],
-    x: u64,
-    right: u64,
-    y: u64,
-    answer: &mut AnswerPlace,
-) -> u32
-    ensures { Foresees store.old store.new silent.now as_if.now x right y answer.old answer.new result }
-{
-    let asked = BitQuestion { x, right, y };
-    match foresee(alloc, store, silent, as_if, asked, answer.is_open) {
-        Ok(opened) => {
-            answer.put(opened);
-            DONE
-        }
-        Err(refusal) => refusal.status(),
-    }
-}
-
-/// The kind of an answer goes to `kind`: 0 never, 1 now, 2 could, 3 could with more names, 4 unreached, 5 open.
-#[unsafe(no_mangle)]
-pub extern "C" fn tg_answer_kind(alloc: Global, answer: &mut AnswerPlace, kind: &mut u64) -> u32
-    ensures { Consults (λ told. Ok (kind_in told)) answer.old answer.new (TellsNumber result kind.old kind.new) }
-{
-    tell_number(answer.with_open(alloc, |opened| opened.kind()), kind)
-}
-
-/// How many names an answer wants more than are left goes to `names`: 0 where it wants none.
-#[unsafe(no_mangle)]
-pub extern "C" fn tg_answer_names(alloc: Global, answer: &mut AnswerPlace, names: &mut u64) -> u32
-    ensures { Consults (λ told. Ok (names_told told)) answer.old answer.new (TellsNumber result names.old names.new) }
-{
-    tell_number(answer.with_open(alloc, |opened| opened.names()), names)
-}
-
-/// How many turns an answer has goes to `count`.
-#[unsafe(no_mangle)]
-pub extern "C" fn tg_answer_turns(alloc: Global, answer: &mut AnswerPlace, count: &mut u64) -> u32
-    ensures { Consults (λ told. Ok (length (turns_in told))) answer.old answer.new (TellsNumber result count.old count.new) }
-{
-    tell_number(
-        answer.with_open(alloc, |opened| opened.turns().len() as u64),
-        count,
-    )
-}
-
-/// Reads the turn at this place of an answer, counted from 0: what it says goes to `out`, which has no reply, and of
-/// the numbers that a vertex is to store as many as there is room for to `numbers`. Takes no memory.
-#[unsafe(no_mangle)]
-pub extern "C" fn tg_answer_turn(
-    alloc: Global,
-    answer: &mut AnswerPlace,
-    at: u64,
-    out: &mut RecordOut,
-    numbers: &mut [u64],
-) -> u32
-    ensures { Consults (turn_at at) answer.old answer.new (TellsTurn result
-        (turn_told out.old numbers.old)
-        (turn_told out.new numbers.new)) }
-{
-    let Some(opened) = answer.take(alloc) else {
-        return CallRefusal::NotOpen.status();
-    };
-    let status = tell_turn(&opened, at, out, numbers);
-    answer.put(opened);
-    status
-}
-
-// The same of an open answer.
-fn tell_turn(outlook: &Outlook, at: u64, out: &mut RecordOut, numbers: &mut [u64]) -> u32
+/// Writes the turn at a place, counted from 0, of the answer. The turn goes to `out`, and as many of its numbers as
+/// there is room for go to `numbers`. `BadPlace` is returned exactly if the answer has no turn at the place, and then
+/// nothing is written.
+pub fn tell_turn(outlook: &Outlook, at: u64, out: &mut RecordOut, numbers: &mut [u64]) -> u32
     ensures { TellsTurn result
         (turn_told out.old numbers.old)
         (turn_told out.new numbers.new) (turn_at at outlook.now.told) }
@@ -103,17 +22,4 @@ fn tell_turn(outlook: &Outlook, at: u64, out: &mut RecordOut, numbers: &mut [u64
     *out = turn_out(turn);
     put_numbers(numbers_of_turn(turn), numbers);
     DONE
-}
-
-/// Gives back all memory of an answer. The place is closed then, whether it was open or not.
-#[unsafe(no_mangle)]
-pub extern "C" fn tg_answer_close(alloc: Global, answer: &mut AnswerPlace) -> u32
-    ensures closed { answer.new.is_open ≡ false }
-    ensures done { answer.old.is_open ≡ true → result ≡ 0 }
-    ensures not_open { answer.old.is_open ≡ false → result ≡ status_of CallRefusal.NotOpen }
-{
-    match answer.take(alloc) {
-        Some(_opened) => DONE,
-        None => CallRefusal::NotOpen.status(),
-    }
 }

@@ -1,6 +1,6 @@
-//! What C hands in as an entry: a record, its numbers and its edges, as `tg_entry` writes them. Nothing of it is
-//! believed. The record is read as the only entry that it may tell of. This entry is told again, and the two records
-//! are compared.
+//! Entries that C hands in. An entry comes as a record, its numbers and its edges, as `tg_entry` writes them. None of
+//! it is trusted. Only one entry can have this record. That entry is read from the record and written to a second
+//! record, and the two records are compared.
 ghost use Rattle.std.specs.Prelude.{◌≡◌, ◌↔◌, ◌⊎◌, ◌≤◌, IfOk, IsTrue, false, map};
 ghost use Rattle.tg_c.specs.Entered.{IsEntryOf, IsOfNoEntry};
 ghost use Rattle.tg_c.specs.Inner.Reading.{AreLabelled, HasForm, cause_read as cause_told, command_read as command_told, deed_read as deed_told, edge_read, entry_read as entry_told, label_read as label_told, law_read as law_told, reply_read as reply_told, rights_read as rights_told, rule_read as rule_told};
@@ -12,7 +12,7 @@ use tg_journal::Entry;
 use tg_model::{Cause, Command, Deed, Denial, EdgeList, Law, Numbers, Reply, Rule};
 use tg_rights::{Label, Right, Rights};
 
-/// Whether an entry is told by a record, its numbers and its edges. Takes no memory.
+/// Whether the record, the numbers and the edges are what `tg_entry` writes for some entry. Takes no memory.
 pub fn is_told(alloc: Global, it: &RecordOut, numbers: &[u64], edges: &[EdgeOut]) -> bool
     ensures told { IsTrue result → IsEntryOf it.now numbers.now edges.now (entry_told it.now numbers.now edges.now) }
     ensures none { result ≡ false → IsOfNoEntry it.now numbers.now edges.now }
@@ -32,14 +32,15 @@ pub fn is_told(alloc: Global, it: &RecordOut, numbers: &[u64], edges: &[EdgeOut]
     have_labels(edges)
 }
 
-// Whether the record is that of the making of a vertex which was answered by values. No entry is so.
+// Whether the record has a create or a spawn that is answered by values. No entry has this form.
 fn is_making_of_values(it: &RecordOut) -> bool
     ensures { IsTrue result ↔ ((16 ≤ it.now.deed) × (it.now.reply ≡ 3)) }
 {
     16 <= it.deed && it.reply == 3
 }
 
-// Whether numbers go with the record: those that a vertex stores at first, or those that were read.
+// Whether numbers go with the record. They are the numbers that a vertex stores at first, or the numbers that were
+// read.
 fn has_numbers(it: &RecordOut) -> bool
     ensures { IsTrue result ↔ ((16 ≤ it.now.deed) ⊎ (it.now.reply ≡ 3)) }
 {
@@ -53,7 +54,7 @@ fn is_counted(count: u64, length: usize, goes: bool) -> bool
     count == length as u64 && (goes || length == 0)
 }
 
-// Whether what is read of the record, without its lists, is told as it is.
+// Whether the entry that is read from the record, without its lists, is written as this record.
 fn has_form(alloc: Global, it: &RecordOut) -> bool
     ensures { IsTrue result ↔ HasForm it.now }
 {
@@ -70,7 +71,7 @@ fn has_form(alloc: Global, it: &RecordOut) -> bool
     record_out(&entry).same(&bare)
 }
 
-// Whether the rights of each edge are those of a label.
+// Whether the rights of each edge make a label.
 fn have_labels(edges: &[EdgeOut]) -> bool
     ensures { IsTrue result ↔ AreLabelled edges.now }
 {
@@ -83,8 +84,8 @@ fn have_labels(edges: &[EdgeOut]) -> bool
     true
 }
 
-/// The entry that is told by a record, its numbers and its edges, if there is one; else another. Fails only when out of
-/// memory.
+/// Returns the entry that is written as the record, the numbers and the edges. If no entry is written so, it returns
+/// another entry. Fails only when out of memory.
 pub fn entry_read(
     alloc: Global,
     it: &RecordOut,
@@ -154,7 +155,7 @@ fn command_read(it: &RecordOut) -> Command
     }
 }
 
-// The law, of which `most` is a part if it is that of a log.
+// The law by its number. A log keeps `most` numbers.
 fn law_read(number: u32, most: u32) -> Law
     ensures { result ≡ law_told number most }
 {
@@ -226,7 +227,7 @@ fn edges_read(alloc: Global, edges: &[EdgeOut]) -> Result<EdgeList, AllocError>
     Ok(EdgeList::from_vec(list))
 }
 
-// The label of these bits, or r alone.
+// The label of the bits. If the bits are no label, it is r alone.
 fn label_read(rights: u64) -> Label
     ensures { result ≡ label_told rights }
 {
@@ -239,7 +240,7 @@ fn label_read(rights: u64) -> Label
     }
 }
 
-// The rights of these bits, or none.
+// The rights of the bits. If a bit is no right, the set is empty.
 fn rights_read(rights: u64) -> Rights
     ensures { result ≡ rights_told rights }
 {

@@ -18,21 +18,28 @@ use tg_could::{Question, ReachedAnswer, could_hold_reached, join_reached};
 use tg_model::{Edge, Picture};
 use tg_rights::Right;
 
-/// A question as C asks it: whether x could ever come to hold the right of this bit over y.
+/// A question as C asks it. It asks whether x could ever come to hold the right of this bit over y.
 #[derive(Clone, Copy)]
 pub struct BitQuestion {
-    /// Who could come to hold the right.
+    /// The vertex that could come to hold the right.
     pub x: u64,
     /// The bit of the right, as [`Right::bit`] has it.
     pub right: u64,
-    /// Over what.
+    /// The vertex that the right is over.
     pub y: u64,
 }
 
-/// What comes of the question whether x could ever come to hold the right of this bit over y, where the silent ones
-/// take no turns, as if these edges were there too. What is asked for is looked at first: the right, the edges' rights,
-/// and whether the answer's place is open; then whether the store's is, whether the silent ones are workers, and with
-/// memory whether each edge joins two different vertices that workers reach. The store is as it was.
+/// Answers whether x could ever come to hold the right of this bit over y. The silent workers take no turns, and the
+/// edges of `as_if` are supposed to be there too. The checks have this order:
+///
+/// 1. the right,
+/// 2. the rights of the edges,
+/// 3. whether the answer's place is closed, by `is_open`,
+/// 4. whether the store's place is open,
+/// 5. whether each silent name is a worker,
+/// 6. with memory, whether each edge joins two different vertices that workers reach.
+///
+/// The first fault is returned. The store is as it was.
 pub fn foresee(
     alloc: Global,
     place: &mut StorePlace,
@@ -65,10 +72,10 @@ pub fn foresee(
     foreseen
 }
 
-/// What is asked about of an open store: the picture of what its workers reach, and the edges that are supposed to be
-/// there.
+/// What a question about an open store needs. This is the picture of the vertices that its workers reach, and the
+/// supposed edges.
 #[derive(Drop)]
-pub struct Scene {
+pub struct SupposedScene {
     /// The picture.
     pub picture: Picture,
     /// The edges.
@@ -82,7 +89,7 @@ impl LawStore {
     ghost use Rattle.tg_c.specs.Could.{AreActive, IsForeseenOn, IsSceneOf};
     ghost use Rattle.tg_c.specs.Inner.Stores.{IsAnsweredOn};
 
-    // The same of an open store. The edges' rights were looked at.
+    // Answers a question about an open store, after the rights of the edges were checked.
     fn foresee(
         &self,
         alloc: Global,
@@ -103,14 +110,14 @@ impl LawStore {
         Ok(Box::new(alloc, Outlook { told })?)
     }
 
-    /// What a question or a view is about, of an open store. `NoSuchWorker` is answered exactly where a silent one is
-    /// no worker, and else nothing but want of memory. The edges' rights were looked at.
+    /// Returns what a question or a view about an open store needs. The rights of the edges were checked before.
+    /// `NoSuchWorker` is returned exactly if a silent name is no worker. Otherwise a call that fails is out of memory.
     pub fn scene(
         &self,
         alloc: Global,
         silent: &[u64],
         as_if: &[EdgeIn],
-    ) -> Result<Scene, CallRefusal>
+    ) -> Result<SupposedScene, CallRefusal>
         requires { HaveLabels as_if.now }
         ensures { IsAnsweredOn (graph_of_store self.now.store) silent.now as_if.now
             (IsSceneOf (graph_of_store self.now.store) silent.now as_if.now) result }
@@ -118,14 +125,14 @@ impl LawStore {
         if !self.are_workers(silent) {
             return Err(CallRefusal::NoSuchWorker);
         }
-        // It tells that the store stands for a sound graph.
+        // This call shows that the store represents a sound graph.
         let _ = self.store.journal();
         let as_if = edges_in(alloc, as_if)?;
         let picture = self.store.picture(alloc)?;
-        Ok(Scene { picture, as_if })
+        Ok(SupposedScene { picture, as_if })
     }
 
-    // Whether each of these is a worker.
+    // Whether each name is a worker's.
     fn are_workers(&self, names: &[u64]) -> bool
         ensures { IsTrue result ↔ AreActive (graph_of_store self.now.store) names.now }
     {
@@ -138,8 +145,8 @@ impl LawStore {
     }
 }
 
-// What is answered on the graph with these edges too. Each of them has to join two different vertices
-// that active subjects reach.
+// The answer on the graph with the supposed edges too. Each supposed edge has to join two different vertices that
+// active subjects reach.
 fn foresee_on(
     alloc: Global,
     scene: &tg_could::Scene,

@@ -1,8 +1,8 @@
 //! How a worker hands rights on from C.
 ghost use Rattle.std.specs.Prelude.{◌≡◌};
-ghost use Rattle.tg_c.specs.Handing.{HandsOfForm, HandsRights, TellsHanded, hand_of, hand_out};
+ghost use Rattle.tg_c.specs.Handing.{HandsRights, TellsHanded, hand_of, hand_out};
 
-use crate::forms::{DenialOut, HandIn, denial_out, label_of, rights_out};
+use crate::forms::{DenialOut, HandIn, denial_out, rights_out};
 use crate::held::Holder;
 use crate::place::StorePlace;
 use crate::refusal::CallRefusal;
@@ -11,32 +11,8 @@ use std::alloc::Global;
 use tg_rights::Label;
 use tg_store::{Hand, Handed};
 
-/// The worker `via` takes rights over the target from `from`, grants them to `to`, and removes those of them that it
-/// didn't hold before. This is done completely, with an entry for each command, or left undone. What was removed goes
-/// to `removed` as bits. If they are 0 there is no remove. Where the take or the grant is denied, its entry is the only
-/// one, and the rule of the denial says which of the two it is.
-#[unsafe(no_mangle)]
-pub extern "C" fn tg_hand(
-    alloc: Global,
-    store: &mut StorePlace,
-    hand: &HandIn,
-    removed: &mut u64,
-    denial: &mut DenialOut,
-) -> u32
-    ensures handed { HandsOfForm store.old store.new hand.now (TellsHanded result
-        (hand_out removed.old denial.old) (hand_out removed.new denial.new)) }
-{
-    match label_of(hand.rights) {
-        Ok(rights) => {
-            let handed = hand_on(alloc, store, hand_with(hand, rights));
-            tell_handed(handed, removed, denial)
-        }
-        Err(refusal) => refusal.status(),
-    }
-}
-
-// The hand that C asks for, with the label of its rights.
-fn hand_with(form: &HandIn, rights: Label) -> Hand
+/// The hand that C asks for, with the label of its rights.
+pub fn hand_with(form: &HandIn, rights: Label) -> Hand
     ensures { result ≡ hand_of form.now rights }
 {
     Hand {
@@ -48,8 +24,8 @@ fn hand_with(form: &HandIn, rights: Label) -> Hand
     }
 }
 
-// A worker of the store in the place hands rights on.
-fn hand_on(alloc: Global, place: &mut StorePlace, hand: Hand) -> Result<Handed, CallRefusal>
+/// A worker of the store in the place hands rights on.
+pub fn hand_on(alloc: Global, place: &mut StorePlace, hand: Hand) -> Result<Handed, CallRefusal>
     ensures { HandsRights place.old place.new hand (λ told. result ≡ told) }
 {
     let Some(mut opened) = place.take(alloc) else {
@@ -60,8 +36,8 @@ fn hand_on(alloc: Global, place: &mut StorePlace, hand: Hand) -> Result<Handed, 
     Ok(handed?)
 }
 
-// Tells which rights were removed after they were handed on, or why a command was denied.
-fn tell_handed(
+/// Reports which rights were removed after they were handed on, or why a command was denied. Returns the status.
+pub fn tell_handed(
     answer: Result<Handed, CallRefusal>,
     removed: &mut u64,
     denial: &mut DenialOut,

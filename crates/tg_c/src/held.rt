@@ -1,9 +1,9 @@
 //! A box that C holds, or none, in a struct of C.
 //!
 //! An exported function takes no struct with a type parameter. Therefore each kind of thing that C holds has two
-//! structs of its own, a handle of 8 bytes in a place of 16 bytes (`place`, `auditor::place`, `view::place`, `answer`).
-//! These two structs do one thing. They exchange what they hold for what they are given. All other code is here, once
-//! for all kinds.
+//! structs of its own. They are a handle of 8 bytes and a place of 16 bytes, which has the handle (`place`,
+//! `auditor::place`, `saved::place`, `view::place`, `answer`). The two structs do one thing. They exchange what they
+//! hold for what they are given. All other code is here, once for all kinds.
 ghost use Rattle.std.specs.Prelude.{◌≡◌, Bool, true, false, Some};
 ghost use Rattle.std.specs.Fn.{FnOnceReturnsAtMut};
 ghost use Rattle.std.specs.Option.{is_some};

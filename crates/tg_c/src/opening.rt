@@ -1,4 +1,4 @@
-//! What C hands in for an opening: whether it is as asked, and as what the store takes.
+//! The arguments of an opening from C. They are checked here, and made into the values that a store takes.
 ghost use Rattle.std.specs.Prelude.{◌≡◌, IfOk, IfErr, MatchResult, length, map};
 ghost use Rattle.tg_space.specs.SpaceTable.{limits_of};
 ghost use Rattle.tg_c.specs.Calls.{AreMet, IsAskedFor, IsFirstUnmet, IsMemoryOr, IsRefusedFor, demands_of};
@@ -11,20 +11,29 @@ use tg_model::{Edge, MAX_LASTING_VERTICES, MAX_WORKERS, Opening};
 use tg_payload::{Draft, LawPayload, values_of};
 use tg_store::Limits;
 
-/// What an opening asks for, all of which was found as it has to be.
+/// The values of an opening whose arguments were checked.
 #[derive(Drop)]
 pub struct Asked {
     /// The opening.
     pub opening: Opening,
     /// The limits of the heap.
     pub blocks: Limits,
-    /// What the workers are to store, a draft for each.
+    /// A draft for each worker, of the state that it is to store.
     pub drafts: Vec<Draft<LawPayload>>,
 }
 
-/// What C asks for, as a store takes it. It is looked at before memory is asked for, in this order: the workers'
-/// values, the edges' rights, the number of workers, `max_vertices`, the edges' ends, the limits of blocks, and the
-/// blocks for the workers. The first fault is told. Where there is none, only memory can be refused.
+/// Makes an opening, limits and drafts of the arguments from C. All checks come before memory is asked for, in this
+/// order:
+///
+/// 1. the workers' values,
+/// 2. the edges' rights,
+/// 3. the number of workers,
+/// 4. `max_vertices`,
+/// 5. the edges' ends,
+/// 6. the limits of blocks,
+/// 7. the blocks for the workers.
+///
+/// The first fault is returned. If there is none, only memory can be refused.
 pub fn asked_for(
     alloc: Global,
     workers: &[ValueIn],
@@ -46,8 +55,8 @@ pub fn asked_for(
     })
 }
 
-// Looks at what an opening asks for, one demand after the other, and takes no memory. Where all are met the answer is
-// the limits of the heap, and else what is told of the first that isn't.
+// Checks the arguments of an opening in the order of `asked_for`, and takes no memory. Returns the limits of the heap,
+// or the first fault.
 fn check_opening(
     alloc: Global,
     workers: &[ValueIn],
@@ -76,7 +85,7 @@ fn check_opening(
     Ok(blocks)
 }
 
-// Whether each worker's value is one that a law has.
+// Whether each worker's value fits its law.
 fn check_values(alloc: Global, workers: &[ValueIn]) -> Result<(), CallRefusal>
     ensures { MatchResult result (λ _. AreValues workers.now) (λ why. (¬ AreValues workers.now) × (why ≡ CallRefusal.BadLaw)) }
 {
@@ -108,7 +117,7 @@ fn check_ends(workers: u64, edges: &[EdgeIn]) -> Result<(), CallRefusal>
     Ok(())
 }
 
-// A draft for each worker, of what it is to store.
+// A draft for each worker, of the state that it is to store.
 fn drafts_in(alloc: Global, workers: &[ValueIn]) -> Result<Vec<Draft<LawPayload>>, CallRefusal>
     ensures drafts { IfOk result (λ drafts. AreValues workers.now × (drafts.items ≡ map value_in workers.now)) }
     ensures refused { IfErr result (IsMemoryOr CallRefusal.BadLaw (¬ AreValues workers.now)) }

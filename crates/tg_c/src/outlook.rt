@@ -1,14 +1,14 @@
-//! What was answered to a question, in numbers.
+//! An answer to a question, in numbers.
 ghost use Rattle.std.specs.Prelude.{◌≡◌};
 ghost use Rattle.tg_c.specs.Could.{outlook_kind, names_answered};
 
 use tg_could::{Answer, ReachedAnswer};
 use tg_model::Deed;
 
-/// What was answered to a question.
+/// An answer to a question.
 #[derive(Drop)]
 pub struct Outlook {
-    /// What `tg_could` told.
+    /// The answer of `tg_could`.
     pub told: ReachedAnswer,
 }
 
@@ -16,8 +16,16 @@ impl Outlook {
     ghost use Rattle.std.specs.Prelude.{◌≡◌};
     ghost use Rattle.tg_c.specs.Could.{kind_in, names_told, turns_in};
 
-    /// The kind of answer: 0 never, 1 now, 2 after turns, 3 after turns and with more names, 4 that x isn't reached, 5
-    /// nothing of a name far ahead.
+    /// Returns the kind of the answer:
+    ///
+    /// | Kind | Answer |
+    /// |---|---|
+    /// | 0 | never |
+    /// | 1 | now |
+    /// | 2 | after turns |
+    /// | 3 | after turns, with more names |
+    /// | 4 | x isn't reached |
+    /// | 5 | open, because a name in the question is far ahead |
     pub fn kind(&self) -> u64
         ensures { result ≡ kind_in self.now.told }
     {
@@ -27,7 +35,7 @@ impl Outlook {
         }
     }
 
-    /// How many names are wanting.
+    /// How many names are lacking.
     pub fn names(&self) -> u64
         ensures { result ≡ names_told self.now.told }
     {
@@ -60,7 +68,7 @@ fn kind_of_answer(answer: &Answer) -> u64
     }
 }
 
-// How many names an answer wants.
+// How many more names an answer needs.
 fn names_of_answer(answer: &Answer) -> u64
     ensures { result ≡ names_answered answer.now }
 {

@@ -1,4 +1,4 @@
-//! The journal's entries for C: a struct of numbers, and beside it the lists that an entry has.
+//! The journal's entries for C. An entry is a struct of numbers, with its lists beside it.
 ghost use Rattle.std.specs.Prelude.{◌≡◌, ◌↔◌, IsTrue};
 ghost use Rattle.tg_c.specs.Records.{answered as answered_told, asked as asked_told, command_out as command_told, deed_out as deed_told, making_out as making_told, edges_entered as edges_told, law_out as law_told, numbers_entered as numbers_told, record_of, reply_out as reply_told};
 ghost use Rattle.tg_model.specs.declared.reply.Reply.TheVariants.{Done};
@@ -10,35 +10,44 @@ use tg_journal::Entry;
 use tg_model::{Arguments, Command, Deed, Law, Reply};
 use tg_rights::Label;
 
-/// An entry of the journal. What its deed or its reply hasn't is 0. 112 bytes.
+/// An entry of the journal. A field that its deed and its reply don't have is 0. 112 bytes.
 #[repr(C)]
 #[derive(Clone, Copy, PartialEq, Eq, Drop)]
 pub struct RecordOut {
     /// The worker that asked.
     pub worker: u64,
-    /// What it asked for: the number of a command (`verb_number`), or 16 create, 17 spawn.
+    /// The number of the deed. A command has its `verb_number`, a create has 16, and a spawn has 17.
     pub deed: u32,
-    /// What was answered: 0 done, 1 denied, 2 a name, 3 values, 4 edges, 16 that no more vertices may be made, 17 that
-    /// no more subjects may be active.
+    /// The kind of the reply:
+    ///
+    /// | Number | Reply |
+    /// |---|---|
+    /// | 0 | done |
+    /// | 1 | denied |
+    /// | 2 | a name |
+    /// | 3 | values |
+    /// | 4 | edges |
+    /// | 16 | no more vertices may be made |
+    /// | 17 | no more subjects may be active |
     pub reply: u32,
-    /// Of a create or a spawn: what a write does, as in `ValueIn`.
+    /// The law of a create or a spawn, as in `ValueIn`. It says what a write does.
     pub law: u32,
-    /// Of a create or a spawn of a log: how many numbers are kept.
+    /// How many numbers a log keeps that a create or a spawn makes.
     pub most: u32,
-    /// Of a take or a grant: the vertex whose rights are taken, or that gets them.
+    /// The vertex from which a take takes the rights, or to which a grant grants them.
     pub via: u64,
     /// The vertex that the command was about. A list, a retire, a create and a spawn have none.
     pub target: u64,
-    /// Of a take, grant, remove, create or spawn: the rights, as bits.
+    /// The rights of a take, grant, remove, create or spawn, as bits.
     pub rights: u64,
-    /// What was written or appended.
+    /// The number that was written or appended.
     pub value: u64,
     /// The name of the vertex that was made.
     pub name: u64,
     /// Why the command was denied.
     pub denial: DenialOut,
-    /// How many numbers the entry has: of a create or a spawn those that the vertex stored at first, of a read those
-    /// that were answered.
+    /// How many numbers the entry has. A create or a spawn has the numbers that the vertex stored at first. A read has
+    /// the numbers that were read.
     pub number_count: u64,
     /// How many edges were listed.
     pub edge_count: u64,
@@ -53,7 +62,7 @@ impl RecordOut {
     }
 }
 
-// What a deed says, in numbers.
+// A deed in numbers.
 #[derive(Clone, Copy, Drop)]
 struct DeedOut {
     kind: u32,
@@ -65,7 +74,7 @@ struct DeedOut {
     value: u64,
 }
 
-// What a reply says, in numbers.
+// A reply in numbers.
 #[derive(Clone, Copy, Drop)]
 struct ReplyOut {
     kind: u32,
@@ -96,8 +105,8 @@ pub fn record_out(entry: &Entry) -> RecordOut
     }
 }
 
-/// The numbers of an entry: of a create or a spawn those that the vertex stored at first, of a read those
-/// that were answered.
+/// The numbers of an entry. A create or a spawn has the numbers that the vertex stored at first. A read has the numbers
+/// that were read.
 pub fn numbers_of(entry: &Entry) -> &[u64]
     ensures { result.now ≡ numbers_told entry.now }
 {
@@ -118,7 +127,7 @@ pub fn edges_of(entry: &Entry) -> &[(u64, Label)]
     }
 }
 
-// What a deed says.
+// The fields of a deed.
 fn deed_out(deed: &Deed) -> DeedOut
     ensures { result ≡ deed_told deed.now }
 {
@@ -145,7 +154,7 @@ fn made(kind: u32, label: Label, law: Law) -> DeedOut
     }
 }
 
-// What a command says.
+// The fields of a command.
 fn command_out(command: Command) -> DeedOut
     ensures { result ≡ command_told command }
 {
@@ -193,7 +202,7 @@ fn law_out(law: Law) -> (u32, u32)
     }
 }
 
-// What a reply says.
+// The fields of a reply.
 fn reply_out(reply: &Reply) -> ReplyOut
     ensures { result ≡ reply_told reply.now }
 {
@@ -226,7 +235,7 @@ fn answered(kind: u32, name: u64) -> ReplyOut
     ReplyOut { kind, name, denial }
 }
 
-/// The turn of an answer, for C: an entry that has no reply.
+/// The turn of an answer as a record for C, which has no reply.
 pub fn turn_out(turn: &(u64, Deed)) -> RecordOut
     ensures { result ≡ turn_told turn.now }
 {
@@ -249,7 +258,7 @@ pub fn turn_out(turn: &(u64, Deed)) -> RecordOut
     }
 }
 
-/// The numbers of a turn: of a create or a spawn those that the vertex is to store at first.
+/// The numbers of a turn. A create or a spawn has the numbers that the vertex is to store at first.
 pub fn numbers_of_turn(turn: &(u64, Deed)) -> &[u64]
     ensures { result.now ≡ numbers_replied turn.now.1 Done }
 {

@@ -1,41 +1,17 @@
-//! A store in its place that goes on from entries, which C hands in one by one.
+//! A store in its place that goes on from entries. C hands the entries in one after the other.
 ghost use Rattle.std.specs.Prelude.{◌≡◌};
 ghost use Rattle.tg_c.specs.Inner.Reading.{entry_read};
-ghost use Rattle.tg_c.specs.Resumed.{GoesOnIn, HandsIn, is_kept as is_kept_after};
-ghost use Rattle.tg_c.specs.Statuses.{TellsOnly};
+ghost use Rattle.tg_c.specs.Resumed.{GoesOnIn, is_kept as is_kept_after};
 
-use crate::entered::is_told;
 use crate::forms::EdgeOut;
 use crate::held::Holder;
 use crate::place::StorePlace;
 use crate::records::RecordOut;
 use crate::refusal::{CallRefusal, ResumeFault};
-use crate::tell::tell_only;
 use std::alloc::Global;
 
-/// Does the deed of an entry again, whose place is `at`, and compares the reply. The entry is handed in as `tg_entry`
-/// told it. `BadValues` is answered exactly where no entry is told so, and `BadPlace` where the place isn't that of the
-/// next entry. After `BadEntry` the place is closed, and no memory of the store is kept. Where there is no room for the
-/// entry, the store has all entries before it, and goes on if it is handed this one again.
-#[unsafe(no_mangle)]
-pub extern "C" fn tg_resume(
-    alloc: Global,
-    store: &mut StorePlace,
-    at: u64,
-    written: &RecordOut,
-    numbers: &[u64],
-    edges: &[EdgeOut],
-) -> u32
-    ensures { HandsIn written.now numbers.now edges.now at store.old store.new (TellsOnly result) }
-{
-    if !is_told(alloc, written, numbers, edges) {
-        return CallRefusal::BadValues.status();
-    }
-    tell_only(go_on(alloc, store, at, written, numbers, edges))
-}
-
-// The store in the place goes on from an entry. After a bad one the place is closed.
-fn go_on(
+/// The store in the place goes on from an entry. After `BadEntry` the place is closed.
+pub fn go_on(
     alloc: Global,
     place: &mut StorePlace,
     at: u64,

@@ -2,10 +2,9 @@
 //! what an auditor has come to. A host keeps it as its text, which `tg_saved` writes and reads.
 //!
 //! As of an auditor, C holds a `SnapshotPlace` of 16 bytes, all zero while it is closed (`place`). An open place has a
-//! pointer to a `Kept` (`kept`). The functions of `exports` call it by `calls`.
+//! pointer to a `KeptSnapshot` (`kept`). C calls it by the functions of `calls`.
 
 mod again;
-mod calls;
-mod exports;
+pub mod calls;
 pub mod kept;
-mod place;
+pub mod place;

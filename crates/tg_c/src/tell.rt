@@ -1,4 +1,4 @@
-//! How C is told an answer: the status, and what goes to the out parameters. A refusal writes to none of them.
+//! How C gets an answer, which is a status and the out parameters. A refusal writes to no out parameter.
 ghost use Rattle.std.specs.Prelude.{◌≡◌, IfOk};
 ghost use Rattle.tg_c.specs.Calls.{IsDoneReply, IsDoneOrDenied, IsListReply, IsListedOrDenied, IsReadOrDenied};
 ghost use Rattle.tg_graph.specs.Shown.{shown_in};
@@ -16,13 +16,13 @@ use tg_rights::Label;
 use tg_store::Census;
 use tg_subjects::Subject;
 
-/// The status of what was done.
+/// The status of a command that was done.
 pub const DONE: u32 = 0;
 
-/// The status of what was denied.
+/// The status of a command that was denied.
 pub const DENIED: u32 = 1;
 
-/// Tells that a command was done, or why it was denied.
+/// Reports that a command was done, or why it was denied.
 pub fn tell_done(answer: Result<Reply, CallRefusal>, denial: &mut DenialOut) -> u32
     requires { IfOk answer IsDoneOrDenied }
     ensures { TellsDone result denial.old denial.new answer }
@@ -38,7 +38,8 @@ pub fn tell_done(answer: Result<Reply, CallRefusal>, denial: &mut DenialOut) -> 
     }
 }
 
-/// Tells the numbers that were read, as many as there is room for, and how many there are; or why the read was denied.
+/// Writes the numbers that were read, as many as there is room for, and how many there are. Or it reports why the read
+/// was denied.
 pub fn tell_read(
     answer: Result<Reply, CallRefusal>,
     numbers: &mut [u64],
@@ -64,7 +65,7 @@ pub fn tell_read(
     }
 }
 
-/// Tells the edges that were listed, as many as there is room for, and how many there are.
+/// Writes the edges that were listed, as many as there is room for, and how many there are.
 pub fn tell_list(answer: Result<Reply, CallRefusal>, edges: &mut [EdgeOut], count: &mut u64) -> u32
     requires { IfOk answer IsListReply }
     ensures { TellsList result (list_out count.old edges.old) (list_out count.new edges.new) answer }
@@ -80,8 +81,8 @@ pub fn tell_list(answer: Result<Reply, CallRefusal>, edges: &mut [EdgeOut], coun
     }
 }
 
-/// Tells the edges that were inspected, as many as there is room for, and how many there are; or why the command was
-/// denied.
+/// Writes the edges that were inspected, as many as there is room for, and how many there are. Or it reports why the
+/// command was denied.
 pub fn tell_inspect(
     answer: Result<Reply, CallRefusal>,
     edges: &mut [EdgeOut],
@@ -107,7 +108,7 @@ pub fn tell_inspect(
     }
 }
 
-/// Tells that a subject retired.
+/// Reports that a subject retired.
 pub fn tell_retired(answer: Result<Reply, CallRefusal>) -> u32
     requires { IfOk answer IsDoneReply }
     ensures { TellsRetired result answer }
@@ -119,7 +120,7 @@ pub fn tell_retired(answer: Result<Reply, CallRefusal>) -> u32
     }
 }
 
-/// Tells a number.
+/// Writes a number.
 pub fn tell_number(answer: Result<u64, CallRefusal>, out: &mut u64) -> u32
     ensures { TellsNumber result out.old out.new answer }
 {
@@ -132,7 +133,7 @@ pub fn tell_number(answer: Result<u64, CallRefusal>, out: &mut u64) -> u32
     }
 }
 
-/// Tells what the heap has.
+/// Writes the counts of the heap.
 pub fn tell_census(answer: Result<Census, CallRefusal>, out: &mut CensusOut) -> u32
     ensures { TellsCensus result out.old out.new answer }
 {
@@ -145,7 +146,7 @@ pub fn tell_census(answer: Result<Census, CallRefusal>, out: &mut CensusOut) -> 
     }
 }
 
-/// Tells that something was done.
+/// Reports that something was done.
 pub fn tell_only(answer: Result<(), CallRefusal>) -> u32
     ensures { TellsOnly result answer }
 {
@@ -155,8 +156,8 @@ pub fn tell_only(answer: Result<(), CallRefusal>) -> u32
     }
 }
 
-/// Tells the journal's entry at a place, where the journal holds it: what it says, and of its numbers and edges as many
-/// as there is room for.
+/// Writes the journal's entry at a place, if the journal holds it. The record goes to `out`. The first numbers and
+/// edges of the entry go to `numbers` and `edges`, as many as there is room for.
 pub fn tell_entry(
     journal: &Journal,
     at: u64,

@@ -1,11 +1,10 @@
-//! Texts for C: the lines in front of a history's entries, the line of an entry, and the last line.
+//! Texts for C. They are the lines before the entries of a history, the line of an entry, and the last line.
 //!
-//! `tg_entries` writes them, and `tgaudit` reads them. Each is written to memory first. Then C gets as much of it as
-//! there is room for.
+//! `tg_entries` writes the texts, and `tgaudit` reads them. Each text is written to memory first. Then C gets its first
+//! bytes, as many as there is room for.
 ghost use Rattle.std.specs.Prelude.{◌≡◌, ◌<◌, IfOk, IfErr, Ok};
 ghost use Rattle.tg_c.specs.Calls.{IsRefusedFor};
-ghost use Rattle.tg_c.specs.Texts.{IsEntryText, IsOpeningText, IsUnreadEntry, TellsText, WritesText, written_text, text_out};
-ghost use Rattle.tg_entries.specs.Texts.{end_text};
+ghost use Rattle.tg_c.specs.Texts.{IsEntryText, IsOpeningText, IsUnreadEntry, TellsText, written_text, text_out};
 ghost use Rattle.tg_text.specs.Sinks.{Writes};
 
 use crate::entered::{entry_read, is_told};
@@ -22,74 +21,19 @@ use tg_journal::Entry;
 use tg_model::Opening;
 use tg_text::{Count, Sink, WriteFailed, Written};
 
-/// What is written.
+/// A text that is to be written.
 #[derive(Clone, Copy)]
 pub enum Text<'a> {
-    /// The lines in front of the entries of a store that was opened so.
+    /// The lines before the entries of a store with this opening.
     Opening(&'a Opening),
     /// The line of an entry.
     Entry(&'a Entry),
-    /// The last line, behind so many entries.
+    /// The last line, after so many entries.
     End(u64),
 }
 
-/// Writes the lines in front of the entries of a store that is opened by the same words: the form, the limits, each
-/// worker's value and each edge. As many bytes as there is room for go to `text`, and how many there are to `length`.
-/// What is asked for is looked at as `tg_open` does, with its statuses in their order. A refusal writes nothing.
-#[unsafe(no_mangle)]
-pub extern "C" fn tg_opening_text(
-    alloc: Global,
-    workers: &[ValueIn],
-    edges: &[EdgeIn],
-    limits: &LimitsIn,
-    text: &mut [u8],
-    length: &mut u64,
-) -> u32
-    ensures { WritesText (IsOpeningText workers.now edges.now limits.now) (IsRefusedFor workers.now edges.now limits.now)
-        (TellsText result (text_out length.old text.old) (text_out length.new text.new)) }
-{
-    match opening_bytes(alloc, workers, edges, limits) {
-        Ok(bytes) => tell_text(bytes.as_slice(), text, length),
-        Err(refusal) => refusal.status(),
-    }
-}
-
-/// Writes the line of an entry, with its line feed. The entry is handed in as `tg_entry` told it. As many bytes as
-/// there is room for go to `text`, and how many there are to `length`. `BadValues` is answered exactly where no entry
-/// is told so, and else nothing but want of memory is refused. A refusal writes nothing.
-#[unsafe(no_mangle)]
-pub extern "C" fn tg_entry_text(
-    alloc: Global,
-    written: &RecordOut,
-    numbers: &[u64],
-    edges: &[EdgeOut],
-    text: &mut [u8],
-    length: &mut u64,
-) -> u32
-    ensures { WritesText (IsEntryText written.now numbers.now edges.now) (IsUnreadEntry written.now numbers.now edges.now)
-        (TellsText result (text_out length.old text.old) (text_out length.new text.new)) }
-{
-    match entry_bytes(alloc, written, numbers, edges) {
-        Ok(bytes) => tell_text(bytes.as_slice(), text, length),
-        Err(refusal) => refusal.status(),
-    }
-}
-
-/// Writes the last line of a history that has so many entries. As many bytes as there is room for go to `text`, and how
-/// many there are to `length`. Refused for want of memory alone, and then nothing is written.
-#[unsafe(no_mangle)]
-pub extern "C" fn tg_end_text(alloc: Global, count: u64, text: &mut [u8], length: &mut u64) -> u32
-    ensures { WritesText (λ line. line ≡ end_text count) (λ why. why ≡ CallRefusal.OutOfMemory)
-        (TellsText result (text_out length.old text.old) (text_out length.new text.new)) }
-{
-    match bytes_of(alloc, &Text::End(count)) {
-        Ok(bytes) => tell_text(bytes.as_slice(), text, length),
-        Err(_) => CallRefusal::OutOfMemory.status(),
-    }
-}
-
-// The lines in front of the entries.
-fn opening_bytes(
+/// The lines before the entries of a store that is opened by the same arguments. A refusal is that of `asked_for`.
+pub fn opening_bytes(
     alloc: Global,
     workers: &[ValueIn],
     edges: &[EdgeIn],
@@ -102,8 +46,9 @@ fn opening_bytes(
     Ok(bytes_of(alloc, &Text::Opening(&opening))?)
 }
 
-// The line of the entry that is told by a record, its numbers and its edges.
-fn entry_bytes(
+/// The line of the entry that is written as the record, the numbers and the edges. `BadValues` is returned exactly if
+/// no entry is written so. The only other refusal is that memory ran out.
+pub fn entry_bytes(
     alloc: Global,
     written: &RecordOut,
     numbers: &[u64],
@@ -119,8 +64,8 @@ fn entry_bytes(
     Ok(bytes_of(alloc, &Text::Entry(&entry))?)
 }
 
-// The bytes of a text. Fails only when out of memory.
-fn bytes_of(alloc: Global, text: &Text) -> Result<Vec<u8>, AllocError>
+/// The bytes of a text. Fails only when out of memory.
+pub fn bytes_of(alloc: Global, text: &Text) -> Result<Vec<u8>, AllocError>
     ensures { IfOk result (λ bytes. bytes.items ≡ written_text text.now) }
 {
     bytes_named::<Brand>(alloc, Blank::new(1), text)
@@ -142,7 +87,7 @@ fn bytes_named<L: Ledger>(alloc: Global, blank: Blank, text: &Text) -> Result<Ve
     }
 }
 
-// Writes a text, or a front of it where the sink fails.
+// Writes a text. If the sink fails, only a front of the text is written.
 fn write_text<K: Sink>(sink: &mut K, text: &Text) -> Result<(), WriteFailed>
     ensures { Writes (K.taken sink.old) (K.failures sink.old) (written_text text.now) result
         (K.taken sink.new) (K.failures sink.new) }
@@ -154,7 +99,7 @@ fn write_text<K: Sink>(sink: &mut K, text: &Text) -> Result<(), WriteFailed>
     }
 }
 
-/// Tells a text: as many of its bytes as there is room for, and how many there are.
+/// Writes the first bytes of a text to C, as many as there is room for, and how many there are.
 pub fn tell_text(bytes: &[u8], text: &mut [u8], length: &mut u64) -> u32
     ensures { TellsText result (text_out length.old text.old) (text_out length.new text.new) (Ok bytes.now) }
 {

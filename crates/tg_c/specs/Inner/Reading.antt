@@ -1,4 +1,4 @@
--- The entry that a record of C may tell of. Where a part tells of none, another stands for it: the entry is then told otherwise.
+-- The entry that a record of C may tell of. Where a part tells of none, another represents it: the entry is then told otherwise.
 use Rattle.std.specs.Prelude.{◌≡◌, ℕ, ◌==◌, List, [], Option, Some, None, if◌then◌else◌, map}
 use Rattle.std.specs.List.{All}
 use Rattle.std.specs.Option.{IsSome}
@@ -96,7 +96,7 @@ entry_read it numbers edges =
 
 -- ---- what is looked at
 
--- what is read of the record, without its lists, is told as it is
+-- what is read of the record, without its lists, is reported as it is
 abbrev pub HasForm : RecordOut → Type 0
 HasForm it = record_of (entry_read it [] []) ≡ record it { number_count = 0; edge_count = 0 }
 

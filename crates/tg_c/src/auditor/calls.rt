@@ -15,8 +15,8 @@ use crate::refusal::CallRefusal;
 use std::alloc::Global;
 use tg_journal::Auditor;
 
-/// Opens an audit, which no place has yet, of a store that is opened by the same words: what is asked for is looked at
-/// as `crate::calls::open` does.
+/// Opens an audit, which no place has yet, of a store that is opened by the same arguments. The arguments are checked
+/// as `crate::calls::open` checks them.
 pub fn open(
     alloc: Global,
     workers: &[ValueIn],
@@ -31,7 +31,8 @@ pub fn open(
     Ok(Box::new(alloc, Audit { auditor })?)
 }
 
-/// Feeds the auditor what the store holds from its place on, and answers how many entries passed by then in all.
+/// Feeds the auditor the entries that the store holds from the auditor's place on. Returns how many entries passed by
+/// then in all.
 pub fn feed(
     alloc: Global,
     auditor: &mut AuditorPlace,
@@ -47,7 +48,7 @@ pub fn feed(
     passed
 }
 
-// Feeds an audit what the store in the place holds.
+// Feeds an audit the entries that the store in the place holds.
 fn feed_from(alloc: Global, audit: &mut Audit, place: &mut StorePlace) -> Result<u64, CallRefusal>
     ensures { FeedsOpen audit.old audit.new place.old place.new (λ told. result ≡ told) }
 {
@@ -59,14 +60,14 @@ fn feed_from(alloc: Global, audit: &mut Audit, place: &mut StorePlace) -> Result
     passed
 }
 
-/// How many entries passed: the place of the next.
+/// How many entries passed, which is the place of the next entry.
 pub fn at(alloc: Global, auditor: &mut AuditorPlace) -> Result<u64, CallRefusal>
     ensures { AsksPlace auditor.old auditor.new (λ told. result ≡ told) }
 {
     auditor.with_open(alloc, |audit| audit.auditor.at())
 }
 
-/// Forgets what no worker reaches any more of the graph that the auditor has come to.
+/// Forgets the vertices that no worker reaches any more in the graph that the auditor has come to.
 pub fn sweep(alloc: Global, auditor: &mut AuditorPlace) -> Result<(), CallRefusal>
     ensures { Sweeps auditor.old auditor.new (λ told. result ≡ told) }
 {

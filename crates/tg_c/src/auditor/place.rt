@@ -1,4 +1,4 @@
-//! The auditor's place in the memory of C, as `crate::held` tells.
+//! The auditor's place in the memory of C, built as `crate::held` says.
 ghost use Rattle.std.specs.Prelude.{◌≡◌, Bool};
 ghost use Rattle.tg_c.specs.declared.auditor.audit.Audit.{Audit as AuditValue};
 ghost use Rattle.tg_c.specs.contracts.auditor.audit.Audit.{the_row};
@@ -44,8 +44,8 @@ impl AuditorHandle {
     }
 }
 
-/// An auditor that C holds, in 16 bytes. All bytes zero is a closed one. It may be moved, and of two copies only one
-/// may be used: nothing checks that.
+/// An auditor that C holds, in 16 bytes. A closed place has only zero bytes. The place may be moved. Of two copies only
+/// one may be used, and nothing checks this.
 #[repr(C)]
 #[derive(Drop)]
 pub struct AuditorPlace {

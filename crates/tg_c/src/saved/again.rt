@@ -14,9 +14,10 @@ use tg_resume::ByLaw;
 use tg_snapshot::Snapshot;
 use tg_store::{Limits, Store};
 
-/// The store that goes on from the snapshot, whose payloads are made by the four laws. What is asked for is looked at
-/// before memory is: `max_vertices`, which has to be the snapshot's, then the limits of blocks, and then whether the
-/// snapshot has an active subject. The first fault is told. Where there is none, only memory and room can be refused.
+/// The store that goes on from the snapshot, whose payloads are made by the four laws. All checks come before memory is
+/// asked for. The first is `max_vertices`, which must be the snapshot's. Then come the limits of blocks, and last
+/// whether the snapshot has an active subject. The first fault is returned. If there is none, only memory and room can
+/// be refused.
 pub fn reopen(
     alloc: Global,
     snapshot: &Snapshot,
@@ -32,8 +33,8 @@ pub fn reopen(
     Ok(LawStore { store })
 }
 
-// Looks at what is asked for, one demand after the other, and takes no memory. Where all are met the answer is the
-// limits of the heap, and else what is told of the first that isn't.
+// Checks the arguments in the order of `reopen`, and takes no memory. Returns the limits of the heap, or the first
+// fault.
 fn check_again(snapshot: &Snapshot, limits: &LimitsIn) -> Result<Limits, CallRefusal>
     ensures met { IfOk result (λ blocks. AreMet (demands_again snapshot.now limits.now)
         × (blocks ≡ limits_of limits.now.max_blocks limits.now.max_space_blocks)) }
@@ -50,8 +51,8 @@ fn check_again(snapshot: &Snapshot, limits: &LimitsIn) -> Result<Limits, CallRef
     Ok(blocks)
 }
 
-// An opening in which at most so many vertices may be made. It is in the place of the first one of all, which a
-// snapshot doesn't have. Nothing of C reads it, so it has one worker that stores 0.
+// An opening in which at most so many vertices may be made. A snapshot doesn't have the first opening, so this opening
+// is in its place. C reads nothing of it, so it has one worker that stores 0.
 fn stand_in(alloc: Global, limit: u64) -> Result<Opening, AllocError>
     requires limit { (1 ≤ limit) × (limit ≤ MAX_LASTING_VERTICES) }
     ensures limit { IfOk result (λ opening. opening.limit ≡ limit) }

@@ -1,4 +1,5 @@
-//! The calls on a snapshot in its place, in Rattle's own types, and those of an auditor and of a store on one.
+//! The calls on a snapshot in its place, in Rattle's own types. Some calls make an auditor or a store of a snapshot, or
+//! a snapshot of an auditor.
 ghost use Rattle.std.specs.Prelude.{◌≡◌, IfErr, IfOk, Err, Ok};
 ghost use Rattle.tg_saved.specs.Texts.{snapshot_text};
 ghost use Rattle.tg_c.specs.Again.{ReopensFrom};
@@ -12,25 +13,25 @@ use crate::held::Holder;
 use crate::law_store::LawStore;
 use crate::refusal::CallRefusal;
 use crate::saved::again;
-use crate::saved::kept::Kept;
+use crate::saved::kept::KeptSnapshot;
 use crate::saved::place::SnapshotPlace;
 use std::alloc::Global;
 use tg_journal::Auditor;
 use tg_saved::{SnapshotLineFault, SnapshotTextFault, read_snapshot, snapshot_bytes};
 
 /// The snapshot whose text the bytes are, which no place has yet. The number of a line at fault goes to `line`.
-pub fn read(alloc: Global, text: &[u8], line: &mut u64) -> Result<Box<Kept>, CallRefusal>
+pub fn read(alloc: Global, text: &[u8], line: &mut u64) -> Result<Box<KeptSnapshot>, CallRefusal>
     ensures read { IfOk result (λ kept. text.now ≡ snapshot_text kept.value.snapshot) }
     ensures line { IfOk result (λ _. line.new ≡ line.old) }
     ensures refused { IfErr result (IsReadFault line.old line.new) }
 {
     match read_snapshot(alloc, text) {
-        Ok(snapshot) => Ok(Box::new(alloc, Kept { snapshot })?),
+        Ok(snapshot) => Ok(Box::new(alloc, KeptSnapshot { snapshot })?),
         Err(fault) => Err(told_of(fault, line)),
     }
 }
 
-// What is told of a text that is none of a snapshot. Want of memory says nothing of a line.
+// The refusal of a text that is no snapshot's text. A lack of memory leaves the line.
 fn told_of(fault: SnapshotTextFault, line: &mut u64) -> CallRefusal
     ensures refusal { result ≡ read_refusal fault }
     ensures line { line.new ≡ line_told fault line.old }
@@ -55,13 +56,13 @@ pub fn text(alloc: Global, snapshot: &mut SnapshotPlace) -> Result<Vec<u8>, Call
     Ok(snapshot.with_open(alloc, |kept| snapshot_bytes(alloc, &kept.snapshot))??)
 }
 
-/// The snapshot of what the auditor has come to, which no place has yet.
-pub fn show(alloc: Global, auditor: &mut AuditorPlace) -> Result<Box<Kept>, CallRefusal>
+/// The snapshot of the graph that the auditor has come to, which no place has yet.
+pub fn show(alloc: Global, auditor: &mut AuditorPlace) -> Result<Box<KeptSnapshot>, CallRefusal>
     ensures shown { IfOk result (λ kept. Shows auditor.old auditor.new (Ok kept.value.snapshot)) }
     ensures refused { IfErr result (λ why. Shows auditor.old auditor.new (Err why)) }
 {
     let shown = auditor.with_open(alloc, |audit| audit.show())?;
-    Ok(Box::new(alloc, Kept { snapshot: shown? })?)
+    Ok(Box::new(alloc, KeptSnapshot { snapshot: shown? })?)
 }
 
 /// An audit that goes on from the snapshot, which no place has yet.

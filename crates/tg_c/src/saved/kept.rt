@@ -3,6 +3,6 @@ use tg_snapshot::Snapshot;
 
 /// A snapshot of a graph, at a place of its history.
 #[derive(Drop)]
-pub struct Kept {
+pub struct KeptSnapshot {
     pub snapshot: Snapshot,
 }

@@ -1,13 +1,13 @@
-//! The place of a snapshot in the memory of C, as `crate::held` tells.
+//! The place of a snapshot in the memory of C, built as `crate::held` says.
 ghost use Rattle.std.specs.Prelude.{◌≡◌, Bool};
-ghost use Rattle.tg_c.specs.declared.saved.kept.Kept.{Kept as KeptValue};
-ghost use Rattle.tg_c.specs.contracts.saved.kept.Kept.{the_row};
+ghost use Rattle.tg_c.specs.declared.saved.kept.KeptSnapshot.{KeptSnapshot as KeptValue};
+ghost use Rattle.tg_c.specs.contracts.saved.kept.KeptSnapshot.{the_row};
 ghost use Rattle.tg_c.specs.Held.{held_by};
 ghost use Rattle.tg_c.specs.Inner.Places.{Holds};
 
 use crate::handle::Handle;
 use crate::held::{Held, Holder};
-use crate::saved::kept::Kept;
+use crate::saved::kept::KeptSnapshot;
 use std::alloc::Global;
 use std::marker::Model;
 
@@ -27,12 +27,15 @@ impl Model for SnapshotHandle {
 
 impl SnapshotHandle {
     // Returns the handle with this box, or none, and the box that the handle had. C doesn't see the pointer's type.
-    fn exchange(self, with: Handle<Kept, Global>) -> (SnapshotHandle, Handle<Kept, Global>)
+    fn exchange(
+        self,
+        with: Handle<KeptSnapshot, Global>,
+    ) -> (SnapshotHandle, Handle<KeptSnapshot, Global>)
         ensures { Holds self.is_open self.opened result.1.opened × Holds result.0.is_open result.0.opened with.opened }
     {
         let SnapshotHandle { at, alloc } = self;
         let had = Handle {
-            at: at as *mut Kept,
+            at: at as *mut KeptSnapshot,
             alloc,
         };
         let Handle { at, alloc } = with;
@@ -44,8 +47,8 @@ impl SnapshotHandle {
     }
 }
 
-/// A snapshot that C holds, in 16 bytes. All bytes zero is a closed one. It may be moved, and of two copies only one
-/// may be used: nothing checks that.
+/// A snapshot that C holds, in 16 bytes. A closed place has only zero bytes. The place may be moved. Of two copies only
+/// one may be used, and nothing checks this.
 #[repr(C)]
 #[derive(Drop)]
 pub struct SnapshotPlace {
@@ -56,12 +59,12 @@ pub struct SnapshotPlace {
     pub ghost agrees: { handle.is_open ≡ is_open },
 }
 
-impl Holder<Kept> for SnapshotPlace {
+impl Holder<KeptSnapshot> for SnapshotPlace {
     ghost is_open = { λ p. p.is_open };
 
     ghost opened = { λ p. p.handle.opened };
 
-    fn exchange(self, with: Held<Kept>) -> (SnapshotPlace, Held<Kept>)
+    fn exchange(self, with: Held<KeptSnapshot>) -> (SnapshotPlace, Held<KeptSnapshot>)
         ensures { Holds self.is_open self.handle.opened result.1.handle.opened × Holds result.0.is_open result.0.handle.opened with.handle.opened }
     {
         let (handle, had) = self.handle.exchange(with.handle);

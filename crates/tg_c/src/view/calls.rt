@@ -14,10 +14,16 @@ use crate::view::sight::Sight;
 use std::alloc::Global;
 use tg_rights::Right;
 
-/// Opens a view, which no place has yet, of the store in a place, where the silent ones take no turns, as if these
-/// edges were there too. What is asked for is looked at as a question's is (`crate::foresee`): the edges' rights, and
-/// whether the view's place is open; then whether the store's is, whether the silent ones are workers, and with memory
-/// whether each edge joins two different vertices that workers reach. The store is as it was.
+/// Opens a view, which no place has yet, of the store in a place. The silent workers take no turns, and the edges of
+/// `as_if` are supposed to be there too. The checks are those of a question (`crate::foresee`), in this order:
+///
+/// 1. the rights of the edges,
+/// 2. whether the view's place is closed, by `is_open`,
+/// 3. whether the store's place is open,
+/// 4. whether each silent name is a worker,
+/// 5. with memory, whether each edge joins two different vertices that workers reach.
+///
+/// The store is as it was.
 pub fn open_view(
     alloc: Global,
     place: &mut StorePlace,
@@ -41,7 +47,7 @@ pub fn open_view(
     seen
 }
 
-/// The kind of what a view tells of the question whether x could ever come to hold the right of this bit over y.
+/// The kind of the view's answer to the question whether x could ever come to hold the right of this bit over y.
 pub fn ask_view(
     alloc: Global,
     view: &mut ViewPlace,

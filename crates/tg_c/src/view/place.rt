@@ -1,4 +1,4 @@
-//! The view's place in the memory of C, as `crate::held` tells.
+//! The view's place in the memory of C, built as `crate::held` says.
 ghost use Rattle.std.specs.Prelude.{◌≡◌, Bool};
 ghost use Rattle.tg_c.specs.declared.view.sight.Sight.{Sight as SightValue};
 ghost use Rattle.tg_c.specs.contracts.view.sight.Sight.{the_row};
@@ -44,8 +44,8 @@ impl ViewHandle {
     }
 }
 
-/// A view that C holds, in 16 bytes. All bytes zero is a closed one. It may be moved, and of two copies only one
-/// may be used: nothing checks that.
+/// A view that C holds, in 16 bytes. A closed place has only zero bytes. The place may be moved. Of two copies only one
+/// may be used, and nothing checks this.
 #[repr(C)]
 #[derive(Drop)]
 pub struct ViewPlace {

@@ -1,4 +1,4 @@
-//! What a view's handle leads to.
+//! The value that the handle of a view points to.
 ghost use Rattle.std.specs.Prelude.{◌≡◌, ◌↔◌, ◌<◌, ℕ, List, false, IfOk, IfErr, IsTrue};
 ghost use Rattle.std.specs.List.{Contains};
 ghost use Rattle.tg_could.specs.Reached.{IsReachedPicture, JoinReached, with_edges};
@@ -13,35 +13,36 @@ use tg_could::{Chance, Question, Scene, View, join_reached, supposing};
 use tg_model::{Edge, Picture};
 use tg_rights::Right;
 
-/// What could come about on what the active subjects of a graph reach, as of the moment when it was made.
+/// What could come about among the vertices that the active subjects of a graph reach, as of the moment when it was
+/// made.
 #[derive(Drop)]
 pub struct Sight {
-    // None where no subject is active: nobody is reached then, and nothing comes about any more.
-    seen: Option<Seen>,
+    // It is `None` if no subject is active. Then no vertex is reached, and no right comes about any more.
+    seen: Option<ReachedView>,
     // How many vertices were made.
     made: u64,
 }
 
-// Where a subject is active: the view, and the names of those whom one reaches.
+// The view of a graph with an active subject, and the names of the vertices that an active subject reaches.
 #[derive(Drop)]
-struct Seen {
+struct ReachedView {
     view: View,
     reached: IndexSet<u64>,
 }
 
-/// What is told of a question by a view.
+/// The answer of a view to a question.
 #[derive(Clone, Copy, Debug, PartialEq, Eq, Drop)]
 pub enum Glimpse {
     /// It never comes about.
     Never,
     /// No active subject reaches x, which was made.
     Unreached,
-    /// Nothing is told.
+    /// The view doesn't decide it.
     Perhaps,
 }
 
 impl Glimpse {
-    /// The number of its kind, as an answer has it: 0 never, 4 that x isn't reached; 6 that nothing is told.
+    /// The number of its kind, as an answer has it: 0 never, 4 that x isn't reached, 6 perhaps.
     pub fn kind(self) -> u64
         ensures { result ≡ kind_seen self }
     {
@@ -54,8 +55,8 @@ impl Glimpse {
 }
 
 impl Sight {
-    /// The view of the graph with these edges too, of whose reached part this is a picture, where the silent ones take
-    /// no turns. Each edge has to join two different vertices that active subjects reach.
+    /// The view of a graph whose reached part the picture shows, with the supposed edges too. The silent subjects take
+    /// no turns. Each supposed edge has to join two different vertices that active subjects reach.
     pub fn of(
         alloc: Global,
         picture: &Picture,
@@ -82,13 +83,13 @@ impl Sight {
         };
         let view = View::open(alloc, &scene)?;
         Ok(Sight {
-            seen: Some(Seen { view, reached }),
+            seen: Some(ReachedView { view, reached }),
             made,
         })
     }
 
-    /// What is told of the question whether x could ever come to hold a right over y. Takes no memory, and time in
-    /// proportion to the edges to y.
+    /// Answers whether x could ever come to hold a right over y. Takes no memory, and time in proportion to the edges
+    /// to y.
     pub fn could(&self, x: u64, right: Right, y: u64) -> Glimpse
         ensures { (silent : List ℕ) (g : ProtectionGraph) → IsSightOf silent g self.now → IsGlimpse silent g x right y result }
     {
@@ -122,7 +123,7 @@ impl Sight {
     }
 }
 
-// The names of those whom a picture shows as reached. Fails only when out of memory.
+// The names of the vertices that a picture shows as reached. Fails only when out of memory.
 fn names_shown(alloc: Global, picture: &Picture) -> Result<IndexSet<u64>, AllocError>
     ensures { IfOk result (λ names. AreShown picture.now names.keys) }
 {

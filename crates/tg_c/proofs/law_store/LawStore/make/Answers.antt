@@ -6,7 +6,7 @@ use Rattle.tg_c.proofs.MakeLaws.{no_worker_is_no_cell, no_worker_is_no_subject, 
 use Rattle.tg_c.specs.Calls.{Makes}
 use Rattle.tg_c.proofs.law_store.LawStore.make.Goals as goal
 
--- memory is wanting, and who isn't a worker is told so
+-- memory runs out, and who isn't a worker is told so
 pub returns-in_default : goal.returns-in_default
 returns-in_default c = record {
   entry = tt;
@@ -31,7 +31,7 @@ returns-in_default c = record {
   collections = refl;
 }
 
--- a worker is told that memory is wanting
+-- a worker is told that memory runs out
 pub returns-then-is_subject : goal.returns-then-is_subject
 returns-then-is_subject c = record {
   entry = tt;

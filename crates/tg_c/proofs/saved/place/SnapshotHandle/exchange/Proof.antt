@@ -6,7 +6,7 @@ use contract.Running.{tables, tables_of}
 use denote.Triple.Spec.{triple_of}
 use denote.Triple.Table.{entered}
 use Rattle.tg_c.proofs.Exchanges.{Meets-exchange}
-use Rattle.tg_c.specs.contracts.saved.kept.Kept as Of
+use Rattle.tg_c.specs.contracts.saved.kept.KeptSnapshot as Of
 use Rattle.tg_c.specs.contracts.saved.place.SnapshotHandle as Ours
 use Rattle.tg_c.specs.contracts.saved.place.SnapshotHandle.exchange as F
 use Rattle.tg_c.specs.contracts.saved.place.SnapshotHandle.exchange.Key.{name as #self}

@@ -3,7 +3,7 @@ use Rattle.std.proofs.lemmas.Bool.{false≢true}
 use Rattle.tg_model.specs.Picture.{Shown}
 use Rattle.tg_could.specs.View.{IsViewOf}
 use Rattle.tg_could.specs.Reached.{JoinReached}
-use Rattle.tg_c.specs.declared.view.sight.Seen.{Seen}
+use Rattle.tg_c.specs.declared.view.sight.ReachedView.{ReachedView}
 use Rattle.tg_c.proofs.SightLaws.{none_there, sight_of_nobody, sight_on}
 use Rattle.tg_c.proofs.view.sight.Sight.of.Goals as goal
 
@@ -21,7 +21,7 @@ returns-then-is_empty-clause-seen c g sound picture =
 
 pub returns-clause-seen : goal.returns-clause-seen
 returns-clause-seen c g sound picture =
-    let seen : Seen = record { view = c.in_ok-view.view; reached = c.in_ok-reached.reached } in
+    let seen : ReachedView = record { view = c.in_ok-view.view; reached = c.in_ok-reached.reached } in
     let all : JoinReached g c.args.as_if.now = (c.join_reached.ensures g picture).0 c.if-not-join_reached.false in (
       all,
       sight_on g sound c.args.as_if.now all c.args.picture.now picture c.args.silent.now (record { seen = Some seen; made = c.made-made.result }) c.made-made.ensures seen refl c.in_ok-reached.ensures

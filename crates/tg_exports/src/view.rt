@@ -1,0 +1,64 @@
+//! The functions that C calls on a view.
+ghost use Rattle.std.specs.Prelude.{◌≡◌, false, true};
+ghost use Rattle.tg_c.specs.Statuses.{TellsNumber, status_of};
+ghost use Rattle.tg_c.specs.View.{Glances, OpensView};
+
+use std::alloc::Global;
+use tg_c::forms::EdgeIn;
+use tg_c::held::Holder;
+use tg_c::place::StorePlace;
+use tg_c::refusal::CallRefusal;
+use tg_c::tell::{DONE, tell_number};
+use tg_c::view::calls;
+use tg_c::view::place::ViewPlace;
+
+/// Opens a view in the place, of the vertices that the workers of the store reach. The silent workers take no turns,
+/// and the edges of `as_if` are supposed to be there too. The store is as it was, and its journal gets no entry. A
+/// refused place is as it was.
+#[unsafe(no_mangle)]
+pub extern "C" fn tg_view_open(
+    alloc: Global,
+    store: &mut StorePlace,
+    silent: &[u64],
+    as_if: &[EdgeIn],
+    view: &mut ViewPlace,
+) -> u32
+    ensures { OpensView store.old store.new silent.now as_if.now view.old view.new result }
+{
+    match calls::open_view(alloc, store, silent, as_if, view.is_open) {
+        Ok(opened) => {
+            view.put(opened);
+            DONE
+        }
+        Err(refusal) => refusal.status(),
+    }
+}
+
+/// Asks a view whether x could ever come to hold a right over y. The answer goes to `kind`: 0 never, 4 that x isn't
+/// reached, 6 unknown. Takes no memory.
+#[unsafe(no_mangle)]
+pub extern "C" fn tg_view_could(
+    alloc: Global,
+    view: &mut ViewPlace,
+    x: u64,
+    right: u64,
+    y: u64,
+    kind: &mut u64,
+) -> u32
+    ensures { Glances view.old view.new x right y (TellsNumber result kind.old kind.new) }
+{
+    tell_number(calls::ask_view(alloc, view, x, right, y), kind)
+}
+
+/// Gives back all memory of a view. The place is closed then, whether it was open or not.
+#[unsafe(no_mangle)]
+pub extern "C" fn tg_view_close(alloc: Global, view: &mut ViewPlace) -> u32
+    ensures closed { view.new.is_open ≡ false }
+    ensures done { view.old.is_open ≡ true → result ≡ 0 }
+    ensures not_open { view.old.is_open ≡ false → result ≡ status_of CallRefusal.NotOpen }
+{
+    match view.take(alloc) {
+        Some(_sight) => DONE,
+        None => CallRefusal::NotOpen.status(),
+    }
+}
